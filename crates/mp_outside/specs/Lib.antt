@@ -1,0 +1,5 @@
+pub mod Outside
+pub mod MemFiles
+pub mod MemSink
+pub mod RealSink
+pub mod Samples
