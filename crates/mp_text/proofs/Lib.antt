@@ -1,0 +1,4 @@
+pub mod TextLemmas
+pub mod ReadingLemmas
+pub mod GrammarLemmas
+pub mod ReportLemmas

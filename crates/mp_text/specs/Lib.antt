@@ -1,0 +1,5 @@
+pub mod Text
+pub mod Ahead
+pub mod Grammar
+pub mod Reading
+pub mod Report

@@ -1,0 +1,47 @@
+-- What a report holds: lines of tokens, with one blank between two tokens and a line feed at the end of a line.
+use Rattle.std.specs.Prelude.{ℕ, ◌+◌, Bool, ◌&&◌, ◌||◌, not, if◌then◌else◌, List, [], ◌∷◌, ◌++◌}
+use Rattle.std.specs.List.{list_all, join_with_byte, flat_map}
+use Rattle.mp_text.specs.Text.{Row, is_blank, is_feed, is_filled, is_passed}
+
+-- the last byte of a text, or this one before it
+abbrev pub last_or : ℕ → List ℕ → ℕ
+last_or b [] = b
+last_or b (c ∷ cs) = last_or c cs
+
+-- whether a text is empty or ends with a line feed, so that what is appended begins a line
+abbrev pub is_line_start : List ℕ → Bool
+is_line_start text = is_feed (last_or 10 text)
+
+-- a text with one token more: a blank stands before it, unless it begins a line
+abbrev pub with_token : List ℕ → List ℕ → List ℕ
+with_token text token = if is_line_start text then text ++ token else text ++ 32 ∷ token
+
+-- a text with some tokens more
+abbrev pub with_tokens : List ℕ → List (List ℕ) → List ℕ
+with_tokens text [] = text
+with_tokens text (token ∷ tokens) = with_tokens (with_token text token) tokens
+
+-- a line of tokens
+abbrev pub line_text : List (List ℕ) → List ℕ
+line_text tokens = join_with_byte 32 tokens ++ 10 ∷ []
+
+-- lines, one after another
+abbrev pub text_of_lines : List (List (List ℕ)) → List ℕ
+text_of_lines lines = flat_map line_text lines
+
+-- a byte of a token: it parts neither tokens nor lines
+abbrev pub is_plain : ℕ → Bool
+is_plain b = not (is_blank b || is_feed b)
+
+-- bytes that are one token
+abbrev pub is_token : List ℕ → Bool
+is_token token = is_filled token && list_all is_plain token
+
+-- tokens that make a line that counts: at least one, and the first begins no comment
+abbrev pub is_counted : Bool → List (List ℕ) → Bool
+is_counted hash tokens = list_all is_token tokens && not (is_passed hash tokens)
+
+-- lines with their numbers, from this number on
+abbrev pub numbered_from : ℕ → List (List (List ℕ)) → List Row
+numbered_from n [] = []
+numbered_from n (tokens ∷ lines) = record { number = n; tokens = tokens } ∷ numbered_from (n + 1) lines

@@ -1,0 +1,131 @@
+ghost use Rattle.std.specs.Prelude.{◌≡◌, ◌≤◌, ◌+◌, ℕ, length, ◌<◌, [], ◌∷◌, MatchOption, IfNone, IfSome, OnSome};
+ghost use Rattle.std.specs.List.{position_or_len};
+ghost use Rattle.mp_text.specs.Text.{is_feed, is_passed, lines_of, tokens_of};
+ghost use Rattle.mp_text.specs.Ahead.{Ahead, rows_of, past_of, row};
+
+use crate::split::tokens;
+use std::marker::Model;
+
+/// A line of a text, with its number.
+#[derive(Clone, Copy, Debug)]
+pub struct Line<'a> {
+    /// From 1.
+    pub number: u64,
+    /// The bytes of the line, without the line feed that ends it.
+    pub text: &'a [u8],
+}
+
+/// The lines of a text that are left. A line ends at a line feed; a last line with none counts where it is not empty.
+#[derive(Drop)]
+pub struct Lines<'a> {
+    rest: &'a [u8],
+    number: u64,
+    hash: bool,
+}
+
+impl<'a> Model for Lines<'a> {
+    ghost use Rattle.std.specs.Prelude.{◌≤◌, ◌+◌, ◌^◌, length};
+    ghost use Rattle.mp_text.specs.Text.{lines_of};
+    ghost use Rattle.mp_text.specs.Ahead.{Ahead};
+
+    ghost Value = { Ahead };
+
+    ghost view = { λ s. record { number = s.number; lines = lines_of s.rest.now; hash = s.hash } };
+
+    ghost invariant = { λ s. s.number + length s.rest.now ≤ 2 ^ 63 };
+}
+
+// Whether a line has no token, or begins a comment.
+fn is_passed(line: &[u8], hash: bool) -> bool
+    ensures { result ≡ is_passed hash (tokens_of line.now) }
+{
+    match tokens(line).next() {
+        None => true,
+        Some(token) => match token {
+            [b'%', ..] => true,
+            [b'#', ..] => hash,
+            _ => false,
+        },
+    }
+}
+
+// How many bytes stand before the first line feed.
+fn line_len(bytes: &[u8]) -> usize
+    ensures within { result ≤ length bytes.now }
+    ensures value { result ≡ position_or_len is_feed bytes.now }
+{
+    bytes.iter().take_while(|b| **b != b'\n').count()
+}
+
+// The first line, and what follows its line feed.
+fn first_line(bytes: &[u8]) -> (&[u8], &[u8])
+    requires { 0 < length bytes.now }
+    ensures value { lines_of bytes.now ≡ result.0.now ∷ lines_of result.1.now }
+    ensures shorter { length result.1.now < length bytes.now }
+{
+    let (line, after) = bytes.split_at(line_len(bytes));
+    match after {
+        [] => (line, after),
+        [_, rest @ ..] => (line, rest),
+    }
+}
+
+impl<'a> Lines<'a> {
+    /// The lines of a text, from the first on. `hash` says whether a line that begins with `#` is a comment, as one that
+    /// begins with `%` always is.
+    pub fn new(bytes: &'a [u8], hash: bool) -> Lines<'a>
+        ensures { result ≡ record { number = 1; lines = lines_of bytes.now; hash = hash } }
+    {
+        Lines {
+            rest: bytes,
+            number: 1,
+            hash,
+        }
+    }
+
+    /// The next line, of whatever kind, if one is left.
+    pub fn raw(&mut self) -> Option<Line<'a>>
+        ensures none { IfNone result ((self.old.lines ≡ []) × (self.new ≡ self.old)) }
+        ensures line { IfSome result (λ line. (line.number ≡ self.old.number) × (self.old.lines ≡ line.text.now ∷ self.new.lines)) }
+        ensures next { OnSome result ((self.new.number ≡ self.old.number + 1) × (self.new.hash ≡ self.old.hash)) }
+    {
+        if self.rest.is_empty() {
+            return None;
+        }
+        let number = self.number;
+        let (text, rest) = first_line(self.rest);
+        self.rest = rest;
+        self.number = number + 1;
+        Some(Line { number, text })
+    }
+
+    /// The next line that is neither blank nor a comment, if one is left.
+    pub fn next_line(&mut self) -> Option<Line<'a>>
+        ensures rows { MatchOption result (rows_of self.old ≡ []) (λ line. rows_of self.old ≡ row line.number line.text.now ∷ rows_of self.new) }
+        ensures none { IfNone result (rows_of self.new ≡ []) }
+        ensures past { past_of self.new ≡ past_of self.old }
+        ensures hash { self.new.hash ≡ self.old.hash }
+    {
+        let hash = self.hash;
+        while let Some(line) = self.raw() {
+            if !is_passed(line.text, hash) {
+                return Some(line);
+            }
+        }
+        None
+    }
+
+    /// The number of lines plus 1. It takes time in what is left of the text, so none at the end.
+    pub fn past(&self) -> u64
+        ensures { result ≡ past_of self.now }
+    {
+        let mut number = self.number;
+        let mut rest = self.rest;
+        while !rest.is_empty() {
+            let (_, after) = first_line(rest);
+            rest = after;
+            number += 1;
+        }
+        number
+    }
+}
