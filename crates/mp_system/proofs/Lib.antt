@@ -1,0 +1,9 @@
+pub mod Present
+pub mod Sums
+pub mod Chains
+pub mod Walks
+pub mod Running
+pub mod Counts
+pub mod Legal
+pub mod Peaks
+pub mod Orders

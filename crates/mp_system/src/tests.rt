@@ -1,0 +1,95 @@
+ghost use Rattle.std.specs.Prelude.{◌≡◌, IfOk};
+ghost use Rattle.mp_system.specs.Samples as samples;
+
+use crate::{Item, NoMemory, OrderFault, OrderKind, Replay, ReplayRefusal, System, Task, replay};
+use std::alloc::Global;
+use std::rt::HostRuntime;
+use std::test::Fail;
+
+fn task(extra: u64, share: u64) -> Task
+    ensures { result ≡ samples.task extra share }
+{
+    Task {
+        extra,
+        share,
+        time: 1,
+    }
+}
+
+fn item(size: u64, from: Option<u32>, to: Option<u32>) -> Item
+    ensures { result ≡ samples.item size from to }
+{
+    Item { size, from, to }
+}
+
+// A tree of five nodes: 5 has the children 2 and 4, which have the children 1 and 3.
+fn tree(alloc: Global) -> Result<System, NoMemory>
+    ensures { IfOk result (λ system. system ≡ samples.tree) }
+{
+    let tasks = vec![in alloc; task(9, 0), task(0, 0), task(9, 0), task(0, 0), task(0, 0)]?;
+    let items = vec![in alloc;
+        item(1, Some(1), Some(2)),
+        item(5, Some(2), Some(5)),
+        item(1, Some(3), Some(4)),
+        item(5, Some(4), Some(5)),
+        item(0, Some(5), None),
+    ]?;
+    Ok(System::new(tasks, items))
+}
+
+// A node with one child, whose block of size 4 it takes over into its own memory.
+fn shared(alloc: Global) -> Result<System, NoMemory>
+    ensures { IfOk result (λ system. system ≡ samples.shared) }
+{
+    let tasks = vec![in alloc; task(0, 0), task(2, 4)]?;
+    let items = vec![in alloc; item(4, Some(1), Some(2)), item(3, Some(2), None)]?;
+    Ok(System::new(tasks, items))
+}
+
+fn fault(place: u64, kind: OrderKind) -> Result<u64, ReplayRefusal> {
+    Err(ReplayRefusal::Order(OrderFault { place, kind }))
+}
+
+#[test]
+fn peaks_and_first_faults(rt: HostRuntime) -> Result<(), Fail> {
+    let system = tree(rt.alloc())?;
+    let rows: [(&[u32], Result<u64, ReplayRefusal>); 7] = [
+        (&[1, 3, 2, 4, 5], Ok(11)),
+        (&[1, 2, 3, 4, 5], Ok(15)),
+        (&[1, 1], fault(2, OrderKind::Repeated)),
+        (&[9], fault(1, OrderKind::Unknown)),
+        (&[0], fault(1, OrderKind::Unknown)),
+        (&[1, 2, 3, 4], fault(5, OrderKind::Missing)),
+        (&[2, 1, 3, 4, 5], fault(1, OrderKind::TooEarly)),
+    ];
+    for (order, answer) in rows {
+        assert_eq!(rt; replay(rt.alloc(), &system, order), answer);
+    }
+    let system = shared(rt.alloc())?;
+    assert_eq!(rt; replay(rt.alloc(), &system, &[1, 2]), Ok(5));
+    Ok(())
+}
+
+#[test]
+fn memory_step_by_step(rt: HostRuntime) -> Result<(), Fail> {
+    let system = tree(rt.alloc())?;
+    assert_eq!(rt; system.tasks().len(), 5);
+    assert_eq!(rt; system.items().len(), 5);
+    let mut replay = Replay::new(rt.alloc(), &system)?;
+    assert_eq!(rt; replay.memory(), 0);
+    let rows = [
+        (1, Ok(10), 1),
+        (1, Err(OrderKind::Repeated), 1),
+        (3, Ok(11), 2),
+        (5, Err(OrderKind::TooEarly), 2),
+        (6, Err(OrderKind::Unknown), 2),
+        (2, Ok(7), 6),
+        (4, Ok(11), 10),
+        (5, Ok(10), 0),
+    ];
+    for (task, answer, memory) in rows {
+        assert_eq!(rt; replay.step(&system, task), answer);
+        assert_eq!(rt; replay.memory(), memory);
+    }
+    Ok(())
+}
