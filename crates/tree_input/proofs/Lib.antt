@@ -1,0 +1,10 @@
+pub mod Steps
+pub mod AscentLemmas
+pub mod ShareLemmas
+pub mod FormLemmas
+pub mod StatedLemmas
+pub mod FileLemmas
+pub mod ItemLemmas
+pub mod SystemLemmas
+pub mod PrintingLemmas
+pub mod PrintedLemmas

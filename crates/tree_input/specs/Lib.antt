@@ -1,0 +1,9 @@
+pub mod Fields
+pub mod Tree
+pub mod TreeFile
+pub mod TreeText
+pub mod Ascent
+pub mod Stated
+pub mod Reader
+pub mod ReaderLaws
+pub mod Samples

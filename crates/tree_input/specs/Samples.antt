@@ -1,0 +1,97 @@
+-- Worked examples: a tree of five nodes, one of two nodes with a share, and files that are refused.
+use Rattle.std.specs.Prelude.{◌≡◌, ℕ, true, List, [], ◌∷◌, ◌++◌, Option, Some, None, codes, refl}
+use Rattle.std.specs.Fmt.{digits}
+use Rattle.mp_text.specs.declared.refusals.Refusal.{Refusal}
+use Rattle.mp_text.specs.declared.refusals.Refusal.TheVariants as refusals
+use Rattle.mp_text.specs.declared.refusals.LimitName.TheVariants as limits
+use Rattle.mp_text.specs.Text.{lines_of, tokens_of, number_of, number_from, rows_from}
+use Rattle.mp_text.specs.Ahead.{rows_of_bytes, past_of_bytes}
+use Rattle.mp_text.specs.Grammar.{first_failure, tests_of_all}
+use Rattle.mp_system.specs.declared.system.Task.{Task}
+use Rattle.mp_system.specs.declared.system.Item.{Item}
+use Rattle.tree_input.specs.declared.node.Node.{Node}
+use Rattle.tree_input.specs.declared.node.TreeKind.{TreeKind}
+use Rattle.tree_input.specs.declared.node.TreeKind.TheVariants as kinds
+use Rattle.tree_input.specs.Fields.{fields_stated, number_at, share_at}
+use Rattle.tree_input.specs.Tree.{ancestor, children_out, system_of_nodes}
+use Rattle.tree_input.specs.TreeFile.{fault_at, nodes_stated, line_stating, tree_line_tests, tree_end_tests}
+use Rattle.tree_input.specs.TreeText.{text_of, text2_of}
+
+abbrev pub node : ℕ → ℕ → ℕ → ℕ → Node
+node parent out extra share = record { parent = parent; out = out; extra = extra; share = share; time = 1 }
+
+-- 5 has the children 2 and 4, which have the children 1 and 3
+abbrev pub five : List Node
+five = node 2 1 9 0 ∷ node 5 5 0 0 ∷ node 4 1 9 0 ∷ node 5 5 0 0 ∷ node 0 0 0 0 ∷ []
+
+-- 2 takes over 4 from the block of its child
+abbrev pub shared : List Node
+shared = node 2 4 0 0 ∷ node 0 3 2 4 ∷ []
+
+-- ---- printing
+
+pub five_text : text_of five ≡ codes "tree 1\nnodes 5\n2 1 9 1\n5 5 0 1\n4 1 9 1\n5 5 0 1\n0 0 0 1\nend\n"
+unfolding digits
+five_text = refl
+
+pub five_text2 : text2_of five ≡ codes "tree 2\nnodes 5\n2 1 9 0 1\n5 5 0 0 1\n4 1 9 0 1\n5 5 0 0 1\n0 0 0 0 1\nend\n"
+unfolding digits
+five_text2 = refl
+
+pub shared_text : text_of shared ≡ codes "tree 2\nnodes 2\n2 4 0 0 1\n0 3 2 4 1\nend\n"
+unfolding digits
+shared_text = refl
+
+-- ---- reading
+
+pub stated : nodes_stated (rows_of_bytes true (codes "# two nodes\n\ntree 2\nnodes 2\n2 4 0 0 1\n\t0 03 2 4 1\r\nend")) ≡ shared
+unfolding lines_of tokens_of number_of number_from rows_from fields_stated number_at share_at
+stated = refl
+
+pub stating : line_stating (rows_of_bytes true (codes "# two nodes\n\ntree 2\nnodes 2\n2 4 0 0 1\n\t0 03 2 4 1\r\nend")) 2 ≡ 6
+unfolding lines_of tokens_of number_of number_from rows_from
+stating = refl
+
+-- the first test of a file's lines and of its end that fails, if one does
+abbrev pub refusal_of : List ℕ → Option (Refusal TreeKind)
+refusal_of bytes =
+    let rows = rows_of_bytes true bytes in
+    first_failure (tests_of_all tree_line_tests [] rows ++ tree_end_tests rows (past_of_bytes bytes))
+
+pub well_formed : refusal_of (codes "tree 1\nnodes 1\n0 3 2 1\nend\n") ≡ None
+unfolding lines_of tokens_of number_of number_from rows_from fields_stated number_at share_at
+well_formed = refl
+
+pub without_end : refusal_of (codes "tree 1\nnodes 1\n0 3 2 1\n") ≡ Some (fault_at 4 kinds.NoEnd)
+unfolding lines_of tokens_of number_of number_from rows_from fields_stated number_at share_at
+without_end = refl
+
+pub three_numbers : refusal_of (codes "tree 1\nnodes 1\n0 3 2\nend\n") ≡ Some (fault_at 3 kinds.Number)
+unfolding lines_of tokens_of number_of number_from rows_from fields_stated number_at share_at
+three_numbers = refl
+
+pub parent_past_all : refusal_of (codes "tree 1\nnodes 1\n2 3 2 1\nend\n") ≡ Some (fault_at 3 kinds.Parent)
+unfolding lines_of tokens_of number_of number_from rows_from fields_stated number_at share_at
+parent_past_all = refl
+
+pub too_many : refusal_of (codes "tree 1\nnodes 1000001\n") ≡ Some (refusals.Limit limits.Tasks)
+unfolding lines_of tokens_of number_of number_from rows_from
+too_many = refl
+
+-- ---- ancestors, and the system
+
+pub above : ancestor five 1 1 ∷ ancestor five 2 1 ∷ ancestor five 3 1 ∷ ancestor five 4 1 ∷ [] ≡ 2 ∷ 5 ∷ 0 ∷ 0 ∷ []
+unfolding ancestor
+above = refl
+
+pub below : children_out five 5 ∷ children_out five 4 ∷ children_out five 3 ∷ [] ≡ 10 ∷ 1 ∷ 0 ∷ []
+below = refl
+
+abbrev pub task : ℕ → ℕ → Task
+task extra share = record { extra = extra; share = share; time = 1 }
+
+abbrev pub item : ℕ → ℕ → Option ℕ → Item
+item size from to = record { size = size; from = Some from; to = to }
+
+pub shared_system : system_of_nodes shared ≡ record { tasks = task 0 0 ∷ task 2 4 ∷ []; items = item 4 1 (Some 2) ∷ item 3 2 None ∷ [] }
+shared_system = refl

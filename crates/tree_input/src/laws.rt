@@ -1,0 +1,50 @@
+//! Laws of trees and tree files: what holds of each, without a call.
+
+ghost use Rattle.std.specs.Prelude.{◌≡◌, ◌⊎◌, ◌+◌, ◌-◌, ℕ, List};
+ghost use Rattle.mp_text.specs.declared.refusals.Refusal.{Refusal};
+ghost use Rattle.mp_system.specs.System.{IsSystem, inputs_of, outputs_of, need_of};
+ghost use Rattle.tree_input.specs.declared.node.Node.{Node};
+ghost use Rattle.tree_input.specs.declared.node.TreeKind.{TreeKind};
+ghost use Rattle.tree_input.specs.Tree.{IsNode, IsTree, node_at, children_out, system_of_nodes};
+ghost use Rattle.tree_input.specs.TreeFile.{ReadsTree, RefusesTree};
+ghost use Rattle.tree_input.specs.TreeText.{text_of, text2_of};
+
+use crate::node::TreeKind;
+use mp_text::laws as text_laws;
+
+/// A file is read as a tree or refused, never both; it is read as one tree only, and refused with one refusal only.
+pub fn exactly_one()
+    ensures some { (bytes : List ℕ) →
+        ((nodes : List Node) × ReadsTree bytes nodes) ⊎ ((refusal : Refusal TreeKind) × RefusesTree bytes refusal) }
+    ensures not_both { (bytes : List ℕ) (nodes : List Node) (refusal : Refusal TreeKind) →
+        ReadsTree bytes nodes → RefusesTree bytes refusal → ⊥ }
+    ensures one_tree { (bytes : List ℕ) (one two : List Node) → ReadsTree bytes one → ReadsTree bytes two → one ≡ two }
+    ensures one_refusal { (bytes : List ℕ) (one two : Refusal TreeKind) →
+        RefusesTree bytes one → RefusesTree bytes two → one ≡ two }
+{
+    text_laws::exactly_one::<TreeKind>();
+}
+
+/// The text of a tree, and its text in version 2, are read as that tree.
+pub fn printed_tree()
+    ensures text { (nodes : List Node) → IsTree nodes → ReadsTree (text_of nodes) nodes }
+    ensures text_2 { (nodes : List Node) → IsTree nodes → ReadsTree (text2_of nodes) nodes }
+{
+    text_laws::printed_number();
+    text_laws::printed_file();
+}
+
+/// What a file is read as is a tree within the limits.
+pub fn read_is_tree()
+    ensures { (bytes : List ℕ) (nodes : List Node) → ReadsTree bytes nodes → IsTree nodes }
+{}
+
+/// The system of a tree is within the limits of systems. A task consumes what its children leave, produces the out of its node, and
+/// needs its extra and its out, less its share.
+pub fn tree_system()
+    ensures system { (nodes : List Node) → IsTree nodes → IsSystem (system_of_nodes nodes) }
+    ensures inputs { (nodes : List Node) (v : ℕ) → IsNode nodes v → inputs_of (system_of_nodes nodes) v ≡ children_out nodes v }
+    ensures outputs { (nodes : List Node) (v : ℕ) → IsNode nodes v → outputs_of (system_of_nodes nodes) v ≡ (node_at nodes v).out }
+    ensures need { (nodes : List Node) (v : ℕ) → IsNode nodes v →
+        need_of (system_of_nodes nodes) v ≡ (node_at nodes v).extra + (node_at nodes v).out - (node_at nodes v).share }
+{}

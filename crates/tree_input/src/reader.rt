@@ -1,0 +1,130 @@
+ghost use Rattle.std.specs.Prelude.{◌≡◌, [], IfOk, IfErr, MatchResult};
+ghost use Rattle.mp_text.specs.Ahead.{row, rows_of_bytes, past_of_bytes};
+
+use crate::lines::{count_on, fault, header_on, last_on, node_on};
+use crate::node::{Node, TreeKind};
+use crate::stage::Stage;
+use mp_text::{Line, Reader, Refusal};
+use std::alloc::Global;
+use std::marker::Model;
+
+/// What the lines of a tree file stated so far.
+#[derive(Drop)]
+pub struct TreeReader {
+    stage: Stage,
+    with_share: bool,
+    count: u64,
+    pub nodes: Vec<Node>,
+    pub lines: Vec<u64>,
+    total: u64,
+}
+
+impl Model for TreeReader {
+    ghost use Rattle.tree_input.specs.Reader.{ReaderState};
+
+    ghost Value = { ReaderState };
+
+    ghost view = { λ s. record { stage = s.stage; with_share = s.with_share; count = s.count; nodes = s.nodes.items; lines = s.lines.items; total = s.total } };
+
+    ghost use Rattle.tree_input.specs.Reader.{IsReaderState};
+
+    ghost invariant = { λ s. IsReaderState (record { stage = s.stage; with_share = s.with_share; count = s.count; nodes = s.nodes.items; lines = s.lines.items; total = s.total }) };
+}
+
+impl TreeReader {
+    ghost use Rattle.std.specs.Prelude.{length, nat_lt};
+    ghost use Rattle.tree_input.specs.Reader.{body_step, with_node, start};
+    ghost use Rattle.tree_input.specs.TreeFile.{node_tests};
+    ghost use Rattle.mp_text.specs.Reading.{Steps, tested};
+
+    /// A reader of which nothing was read.
+    pub fn new(alloc: Global) -> TreeReader
+        ensures { result ≡ start }
+    {
+        TreeReader {
+            stage: Stage::Header,
+            with_share: false,
+            count: 0,
+            nodes: Vec::new(alloc),
+            lines: Vec::new(alloc),
+            total: 0,
+        }
+    }
+
+    // Takes a node line.
+    fn node_line(&mut self, line: Line<'_>) -> Result<(), Refusal<TreeKind>>
+        ensures { let r = row line.entry.number line.entry.text.now in Steps (tested (node_tests self.old.with_share self.old.count self.old.total r) (with_node self.old r)) result self.new }
+    {
+        let node = node_on(self.with_share, self.count, self.total, line)?;
+        self.lines.push(line.number)?;
+        self.nodes.push(node)?;
+        self.total += node.out + node.extra;
+        Ok(())
+    }
+
+    // Whether a node is still to come.
+    fn lacks_nodes(&self) -> bool
+        ensures { result ≡ nat_lt (length self.now.nodes) self.now.count }
+    {
+        (self.nodes.len() as u64) < self.count
+    }
+
+    // Takes a line after the second.
+    fn body_line(&mut self, line: Line<'_>) -> Result<(), Refusal<TreeKind>>
+        requires { self.old.stage ≡ Stage.Nodes }
+        ensures { Steps (body_step self.old (row line.entry.number line.entry.text.now)) result self.new }
+    {
+        if self.lacks_nodes() {
+            return self.node_line(line);
+        }
+        last_on(line)?;
+        self.stage = Stage::Ended;
+        Ok(())
+    }
+}
+
+impl Reader for TreeReader {
+    type Kind = TreeKind;
+
+    ghost use Rattle.tree_input.specs.Reader.{tree_step, tree_end, took};
+    ghost use Rattle.tree_input.specs.TreeFile.{tree_format};
+    ghost use Rattle.tree_input.specs.ReaderLaws.{step_follows, end_follows as the_end_follows};
+
+    ghost step = { tree_step };
+
+    ghost end_step = { tree_end };
+
+    ghost format = { λ _. tree_format };
+
+    ghost took = { took };
+
+    #[tactic(auto, unfolding(crate::specs::Reader::tree_step))]
+    fn line(&mut self, line: Line<'_>) -> Result<(), Refusal<TreeKind>> {
+        match self.stage {
+            Stage::Header => {
+                self.with_share = header_on(line)?;
+                self.stage = Stage::Count;
+                Ok(())
+            }
+            Stage::Count => {
+                self.count = count_on(line)?;
+                self.stage = Stage::Nodes;
+                Ok(())
+            }
+            Stage::Nodes => self.body_line(line),
+            Stage::Ended => Err(fault(line.number, TreeKind::Count)),
+        }
+    }
+
+    #[tactic(auto, unfolding(crate::specs::Reader::tree_end))]
+    fn end(&mut self, past: u64) -> Result<(), Refusal<TreeKind>> {
+        match self.stage {
+            Stage::Ended => Ok(()),
+            _ => Err(fault(past, TreeKind::NoEnd)),
+        }
+    }
+
+    ghost line_follows = { step_follows };
+
+    ghost end_follows = { the_end_follows };
+}
