@@ -1,0 +1,2 @@
+pub mod OrderFile
+pub mod OrderReader
