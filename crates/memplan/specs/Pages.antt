@@ -1,0 +1,16 @@
+-- What the code's pages say, as answers.
+use Rattle.memplan.specs.declared.page.Page.{Page}
+use Rattle.memplan.specs.declared.page.PageKind.{PageKind}
+use Rattle.memplan.specs.declared.page.PageKind.TheVariants as kinds
+use Rattle.memplan.specs.declared.status.Status.{Status}
+use Rattle.memplan.specs.declared.status.Status.TheVariants as status
+use Rattle.memplan.specs.Answer.{Answer}
+
+abbrev pub status_of : PageKind → Status
+status_of kinds.Done = status.Done
+status_of kinds.No = status.No
+status_of kinds.Format = status.Format
+status_of kinds.Limit = status.Limit
+
+abbrev pub answer_of : Page → Answer
+answer_of page = record { status = status_of page.kind; text = page.report }

@@ -1,0 +1,63 @@
+//! The words of refusals, as they are printed.
+
+ghost use Rattle.std.specs.Prelude.{◌≡◌, IsTrue};
+ghost use Rattle.mp_text.specs.Report.{is_token};
+ghost use Rattle.memplan.specs.Refusals as words;
+
+use mp_system::OrderKind;
+use mp_text::LimitName;
+use ordering::OrderFileKind;
+use tree_input::TreeKind;
+
+pub fn limit_word(limit: LimitName) -> &'static str
+    ensures word { result.now ≡ words.limit_word limit }
+    ensures token { IsTrue (is_token result.now) }
+{
+    match limit {
+        LimitName::Bytes => "bytes",
+        LimitName::Order => "order",
+        LimitName::Entries => "entries",
+        LimitName::Mindeg => "mindeg",
+        LimitName::Tasks => "tasks",
+        LimitName::Positions => "positions",
+        LimitName::Size => "size",
+        LimitName::Total => "total",
+        LimitName::Time => "time",
+    }
+}
+
+pub fn tree_word(kind: TreeKind) -> &'static str
+    ensures word { result.now ≡ words.tree_word kind }
+    ensures token { IsTrue (is_token result.now) }
+{
+    match kind {
+        TreeKind::Header => "header",
+        TreeKind::Number => "number",
+        TreeKind::Parent => "parent",
+        TreeKind::Cycle => "cycle",
+        TreeKind::Count => "count",
+        TreeKind::NoEnd => "no-end",
+        TreeKind::Share => "share",
+    }
+}
+
+pub fn order_file_word(kind: OrderFileKind) -> &'static str
+    ensures word { result.now ≡ words.order_file_word kind }
+    ensures token { IsTrue (is_token result.now) }
+{
+    match kind {
+        OrderFileKind::Number => "number",
+    }
+}
+
+pub fn order_word(kind: OrderKind) -> &'static str
+    ensures word { result.now ≡ words.order_word kind }
+    ensures token { IsTrue (is_token result.now) }
+{
+    match kind {
+        OrderKind::Unknown => "unknown",
+        OrderKind::Repeated => "repeated",
+        OrderKind::TooEarly => "too-early",
+        OrderKind::Missing => "missing",
+    }
+}

@@ -1,0 +1,78 @@
+ghost use Rattle.std.specs.Prelude.{◌≡◌, ◌↔◌, ◌⊎◌, ℕ, Some, None, map, string_bytes};
+ghost use Rattle.mp_outside.specs.Outside.{Rose};
+ghost use Rattle.memplan.specs.Request.{Request, request_of, files_of};
+ghost use Rattle.memplan.specs.Pages.{status_of};
+ghost use Rattle.memplan.specs.Clauses.{HasText, IsAnswered, IsCutShort, HasFailed, AreQuiet};
+
+use crate::page::PageKind;
+use crate::report::{Stop, report};
+use crate::request::request_of;
+use crate::status::Status;
+use mp_outside::{Files, Gate, Sink, write_all};
+use std::alloc::Global;
+use std::thread::Threads;
+
+/// Does what the words ask for: reads the files that they name, and writes the report or the refusal to the sink, whole before its
+/// first byte is written.
+///
+/// `words` are the words after the program's name. `rt` and `gate` are for the checker's threads, and unused so far.
+pub fn run_words<R: Threads + Sync, F: Files, S: Sink, G: Gate>(
+    _rt: &R,
+    alloc: Global,
+    words: &[String],
+    files: &mut F,
+    sink: &mut S,
+    _gate: &G,
+) -> Status
+    // with a status that has a text, the status and the bytes appended are an answer
+    ensures answered { HasText result → (request : Request) × (request_of (map (λ w. string_bytes w) words.now) ≡ Some request)
+        × IsAnswered (F.bytes_of files.old) request result (S.written sink.old) (S.written sink.new) }
+
+    // nothing is appended at usage, read fault and want of memory
+    ensures silent { (result ≡ Status.Usage) ⊎ ((result ≡ Status.ReadFault) ⊎ (result ≡ Status.NoMemory)) → S.written sink.new ≡ S.written sink.old }
+
+    // at a write fault a proper prefix of an answer was appended
+    ensures proper_prefix { result ≡ Status.WriteFault → (request : Request) × (request_of (map (λ w. string_bytes w) words.now) ≡ Some request)
+        × IsCutShort (F.bytes_of files.old) request (S.written sink.old) (S.written sink.new) }
+
+    // a fault comes only where the count of a file that the words name rose, or the sink's
+    ensures fault_cause { (result ≡ Status.ReadFault → (request : Request) × (request_of (map (λ w. string_bytes w) words.now) ≡ Some request)
+        × HasFailed (F.bytes_of files.old) (F.faults_of files.old) (F.faults_of files.new) (files_of request))
+        × (result ≡ Status.WriteFault → Rose (S.faults sink.old) (S.faults sink.new)) }
+
+    // usage is for words without a request, and they have it or want of memory
+    ensures usage_cause { (result ≡ Status.Usage → request_of (map (λ w. string_bytes w) words.now) ≡ None)
+        × (request_of (map (λ w. string_bytes w) words.now) ≡ None → (result ≡ Status.Usage) ⊎ (result ≡ Status.NoMemory)) }
+
+    // a request without a fault has an answer, or memory ran out
+    ensures complete { (request : Request) → request_of (map (λ w. string_bytes w) words.now) ≡ Some request
+        → AreQuiet (F.faults_of files.old) (F.faults_of files.new) (files_of request) → ¬ Rose (S.faults sink.old) (S.faults sink.new)
+        → HasText result ⊎ (result ≡ Status.NoMemory) }
+{
+    let names = match request_of(alloc, words) {
+        Ok(Some(names)) => names,
+        Ok(None) => return Status::Usage,
+        Err(_) => return Status::NoMemory,
+    };
+    let page = match report(alloc, files, names) {
+        Ok(page) => page,
+        Err(Stop::ReadFault) => return Status::ReadFault,
+        Err(Stop::NoMemory) => return Status::NoMemory,
+    };
+    match write_all(sink, page.report.bytes()) {
+        Ok(()) => status_of(page.kind),
+        Err(_) => Status::WriteFault,
+    }
+}
+
+// The status of a page that was written.
+fn status_of(kind: PageKind) -> Status
+    ensures { result ≡ status_of kind }
+{
+    match kind {
+        PageKind::Done => Status::Done,
+        PageKind::No => Status::No,
+        PageKind::Format => Status::Format,
+        PageKind::Limit => Status::Limit,
+    }
+}
