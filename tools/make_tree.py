@@ -1,0 +1,34 @@
+#!/usr/bin/env python3
+"""Makes a tree file and an order file of so many nodes, to measure with.
+
+usage: make_tree.py NODES TREE_FILE ORDER_FILE
+
+The parent of node i is one of the eight nodes after it, and node NODES is the root, so the order 1, 2, .. is a traversal.
+The numbers come from a small generator with a fixed seed: the same call makes the same files.
+"""
+import sys
+
+
+def words(seed):
+    """Numbers of 32 bits, one after another."""
+    state = seed
+    while True:
+        state = (state * 6364136223846793005 + 1442695040888963407) % 2**64
+        yield state >> 32
+
+
+def main():
+    count, tree, order = int(sys.argv[1]), sys.argv[2], sys.argv[3]
+    draw = words(1)
+    with open(tree, "w") as out:
+        out.write(f"tree 1\nnodes {count}\n")
+        for node in range(1, count + 1):
+            parent = node + 1 + next(draw) % min(count - node, 8) if node < count else 0
+            out.write(f"{parent} {1 + next(draw) % 1000} {next(draw) % 1000} {1 + next(draw) % 16}\n")
+        out.write("end\n")
+    with open(order, "w") as out:
+        for node in range(1, count + 1):
+            out.write(f"{node}\n")
+
+
+main()
