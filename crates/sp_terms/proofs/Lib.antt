@@ -1,0 +1,9 @@
+pub mod Stacks
+pub mod ValuesLemmas
+pub mod SidesLemmas
+pub mod SystemLemmas
+pub mod BuilderLemmas
+pub mod ReadLemmas
+pub mod PrintingLemmas
+pub mod Standing
+pub mod PrintedLemmas

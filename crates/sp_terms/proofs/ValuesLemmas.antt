@@ -1,0 +1,226 @@
+-- The values of the term that ends at a position, from those of the terms that end before it.
+use Rattle.std.proofs.Common.{◌≡◌, ℕ, suc, ◌+◌, ◌-◌, ◌<◌, ◌≤◌, ◌^◌, min, refl, sym, subst, ap, arith, ◌∙◌, List, [], ◌∷◌, ◌++◌, length, length-append, take, drop, get_or, Some, append_assoc, length-take}
+use Rattle.std.specs.List.{sum_by}
+use Rattle.std.proofs.lemmas.List.{append-nil}
+use Rattle.std.proofs.lemmas.Grind.{common_steps}
+use Rattle.std.proofs.lemmas.List.Sums.{sum_by-append}
+use Rattle.mp_system.specs.declared.system.Task.{Task}
+use Rattle.sp_terms.specs.declared.position.Position.{Position}
+use Rattle.sp_terms.specs.declared.position.Values.{Values}
+use Rattle.sp_terms.specs.declared.position.Position.TheVariants.{Hold, Par}
+use Rattle.sp_terms.specs.declared.position.Position.TheVariants as at
+use Rattle.sp_terms.specs.Term.{Term, hold, series, par, Parts, no_parts, part, count, width_of, width_of_parts, Direction, forward, backward, first_memory, first_memory_of_parts, least_of, least_of_parts}
+use Rattle.sp_terms.specs.Postfix.{gather, push_all, postfix, all_postfix, at_task}
+use Rattle.sp_terms.specs.Values.{stack_from, top_of, term_at, IsTerms, AreValues, values_of, added_size, IsTask}
+use Rattle.sp_terms.proofs.Stacks.{none_some, some_same, onto, Pushed, held, ran, beside, place, under, length-all_postfix, take_drop}
+
+-- what a position is, and what it found
+pub as_task : (p : Position) (before after : List Term) → Pushed p before after → IsTask p → (v : Task) × (a b : Term) × (stack : List Term) × (before ≡ b ∷ a ∷ stack) × (after ≡ series a v b ∷ stack)
+as_task p before after (held size stack) h = absurd h
+as_task p before after (ran v a b stack) h = (v, a, b, stack, refl, refl)
+as_task p before after (beside ts stack e) h = absurd h
+
+hold_par : {size k : ℕ} → Hold size ≡ Par k → ⊥
+hold_par e = cc
+
+task_par : {x s t k : ℕ} → at.Task x s t ≡ Par k → ⊥
+task_par e = cc
+
+hold_same : {x y : ℕ} → Hold x ≡ Hold y → x ≡ y
+hold_same e = cc
+
+task_hold : {x s t k : ℕ} → at.Task x s t ≡ Hold k → ⊥
+task_hold e = cc
+
+par_hold : {x y : ℕ} → Par x ≡ Hold y → ⊥
+par_hold e = cc
+
+par_same : {x y : ℕ} → Par x ≡ Par y → x ≡ y
+par_same e = cc
+
+pub as_hold : (p : Position) (before after : List Term) → Pushed p before after → (size : ℕ) → p ≡ Hold size → after ≡ hold size ∷ before
+as_hold p before after (held size stack) n e = ap (λ z. hold z ∷ before) (hold_same e)
+as_hold p before after (ran v a b stack) n e = absurd (task_hold e)
+as_hold p before after (beside ts stack g) n e = absurd (par_hold e)
+
+pub as_par : (p : Position) (before after : List Term) → Pushed p before after → (k : ℕ) → p ≡ Par k → (ts : Parts) × (stack : List Term) × (count ts ≡ k) × (before ≡ onto ts stack) × (after ≡ par ts ∷ stack) × (gather k before no_parts ≡ Some (ts, stack))
+as_par p before after (held size stack) k e = absurd (hold_par e)
+as_par p before after (ran v a b stack) k e = absurd (task_par e)
+as_par p before after (beside ts stack g) k e = (ts, stack, par_same e, refl, refl, subst (λ n. gather n before no_parts ≡ Some (ts, stack)) (par_same e) g)
+
+-- the term that ends before a place
+pub ends : (ps : List Position) (n : ℕ) (t : Term) (stack : List Term) → 0 < n → push_all (take n ps) [] ≡ Some (t ∷ stack) → term_at ps (n - 1) ≡ t
+ends ps n t stack lt e =
+    let one : suc (n - 1) ≡ n = omega arith in
+    ap (λ m. top_of (stack_from (push_all (take m ps) []))) one ∙ ap (λ o. top_of (stack_from o)) e
+
+-- bounds
+
+mutual
+  pub first-le-weight : (d : Direction) (t : Term) → first_memory d t ≤ sum_by added_size (postfix t)
+  first-le-weight d (hold size) = omega arith
+  first-le-weight forward (series a v b) = omega (arith, sum_by-append added_size (postfix a) (postfix b ++ at_task v ∷ []), first-le-weight forward a)
+  first-le-weight backward (series a v b) = omega (arith, sum_by-append added_size (postfix a) (postfix b ++ at_task v ∷ []), sum_by-append added_size (postfix b) (at_task v ∷ []), first-le-weight backward b)
+  first-le-weight d (par ts) = omega (arith, sum_by-append added_size (all_postfix ts) (Par (count ts) ∷ []), all_first-le-weight d ts)
+
+  pub all_first-le-weight : (d : Direction) (ts : Parts) → first_memory_of_parts d ts ≤ sum_by added_size (all_postfix ts)
+  all_first-le-weight d no_parts = omega arith
+  all_first-le-weight d (part t ts) = omega (arith, sum_by-append added_size (postfix t) (all_postfix ts), first-le-weight d t, all_first-le-weight d ts)
+
+mutual
+  pub least-le-first : (t : Term) → least_of t ≤ first_memory forward t
+  least-le-first (hold size) = omega arith
+  least-le-first (series a v b) = omega (arith, least-le-first a)
+  least-le-first (par ts) = all_least-le-first ts
+
+  pub all_least-le-first : (ts : Parts) → least_of_parts ts ≤ first_memory_of_parts forward ts
+  all_least-le-first no_parts = omega arith
+  all_least-le-first (part t ts) = omega (arith, least-le-first t, all_least-le-first ts)
+
+pub weight-take : (ps : List Position) (n : ℕ) → sum_by added_size (take n ps) ≤ sum_by added_size ps
+weight-take ps n = omega (arith, ap (sum_by added_size) (take_drop ps n), sum_by-append added_size (take n ps) (drop n ps))
+
+-- a series
+
+pub record SeriesAt (ps : List Position) (values : List Values) (at : ℕ) : Type 0 where
+  pub left : Values
+  pub right : Values
+  pub some : 0 < at
+  pub is_right : (d : Values) → get_or values (at - 1) d ≡ right
+  pub room : right.width ≤ at - 1
+  pub is_left : (d : Values) → get_or values (at - 1 - right.width) d ≡ left
+  pub few : left.width + right.width ≤ at
+  pub own : record { initial = left.initial; fin = right.fin; least = min left.least right.least; width = left.width + right.width + 1 } ≡ values_of (term_at ps at)
+
+pub series_at : (ps : List Position) (values : List Values) (at : ℕ) → IsTerms ps → at < length ps → AreValues ps values at → ((d : Position) → IsTask (get_or ps at d)) → SeriesAt ps values at
+series_at ps values at h lt known task =
+    let p = place ps _ at (Par 0) h.is lt in
+    let (v, a, b, stack, e, f) = as_task _ p.before p.after p.step (task (Par 0)) in
+    let u = under ps at b (a ∷ stack) (omega arith) (p.is ∙ ap Some e) in
+    let w = under ps (at - width_of b) a stack (omega arith) u.is in
+    let right_is : term_at ps (at - 1) ≡ b = ends ps at b (a ∷ stack) (omega (arith, u.room, u.some)) (p.is ∙ ap Some e) in
+    let left_is : term_at ps (at - width_of b - 1) ≡ a = ends ps (at - width_of b) a stack (omega (arith, w.room, w.some)) u.is in
+    let own_is : term_at ps at ≡ series a v b = ap (λ o. top_of (stack_from o)) p.then ∙ ap top_of f in
+    let same : at - 1 - width_of b ≡ at - width_of b - 1 = omega arith in
+    record {
+      left = values_of a;
+      right = values_of b;
+      some = omega (arith, u.room, u.some);
+      is_right = λ d. known (at - 1) d (omega (arith, u.room, u.some)) ∙ ap values_of right_is;
+      room = omega (arith, u.room, w.room, w.some);
+      is_left = λ d. ap (λ n. get_or values n d) same ∙ known (at - width_of b - 1) d (omega (arith, u.room, u.some)) ∙ ap values_of left_is;
+      few = omega (arith, u.room, w.room);
+      own = ap (λ n. record { initial = first_memory forward a; fin = first_memory backward b; least = min (least_of a) (least_of b); width = n }) (more (width_of a) (width_of b)) ∙ sym (ap values_of own_is);
+    }
+  where
+    more : (m n : ℕ) → m + n + 1 ≡ suc (m + n)
+    more m n = omega arith
+
+-- a parallel composition: parts that were taken, from the last one on
+
+abbrev pub all_values : Parts → Values
+all_values ts = record { initial = first_memory_of_parts forward ts; fin = first_memory_of_parts backward ts; least = least_of_parts ts; width = suc (width_of_parts ts) }
+
+pub record Taken (ps : List Position) (at left end : ℕ) (all : Values) : Type 0 where
+  pub parts : Parts
+  pub whole : Parts
+  pub stack : List Term
+  pub rest : List Term
+  pub few : end ≤ at
+  pub is : push_all (take end ps) [] ≡ Some stack
+  pub gathers : gather left stack parts ≡ Some (whole, rest)
+  pub top : term_at ps at ≡ par whole
+  pub cut : take end ps ++ all_postfix parts ≡ take at ps
+  pub all_is : all ≡ all_values parts
+
+pub taken_none : (ps : List Position) (at k : ℕ) → IsTerms ps → at < length ps → ((d : Position) → get_or ps at d ≡ Par k) → Taken ps at k at (record { initial = 0; fin = 0; least = 0; width = 1 })
+taken_none ps at k h lt is =
+    let p = place ps _ at (Par 0) h.is lt in
+    let (ts, stack, n, e, f, g) = as_par _ p.before p.after p.step k (is (Par 0)) in
+    record {
+      parts = no_parts;
+      whole = ts;
+      stack = p.before;
+      rest = stack;
+      few = omega arith;
+      is = p.is;
+      gathers = g;
+      top = ap (λ o. top_of (stack_from o)) p.then ∙ ap top_of f;
+      cut = append-nil (take at ps);
+      all_is = refl;
+    }
+
+pub taken_all : (ps : List Position) (at left end : ℕ) (all : Values) → Taken ps at left end all → left ≡ 0 → all ≡ values_of (term_at ps at)
+taken_all ps at left end all h zero_left =
+    let same : Some (h.parts, h.stack) ≡ Some (h.whole, h.rest) = subst (λ n. gather n h.stack h.parts ≡ Some (h.whole, h.rest)) zero_left h.gathers in
+    let parts : h.parts ≡ h.whole = ap (λ p. p.0) (some_same same) in
+    h.all_is ∙ ap (λ ts. values_of (par ts)) parts ∙ sym (ap values_of h.top)
+
+pub record Take (ps : List Position) (values : List Values) (at left end : ℕ) (all : Values) : Type 0 where
+  pub next : Values
+  pub some : 0 < end
+  pub is_next : (d : Values) → get_or values (end - 1) d ≡ next
+  pub room : next.width ≤ end
+  pub few : all.width + next.width ≤ at + 1
+  pub initial : all.initial + next.initial ≤ 2 ^ 60
+  pub fin : all.fin + next.fin ≤ 2 ^ 60
+  pub least : all.least + next.least ≤ 2 ^ 60
+  pub taken : Taken ps at (left - 1) (end - next.width) (record { initial = all.initial + next.initial; fin = all.fin + next.fin; least = all.least + next.least; width = all.width + next.width })
+
+pub take_next : (ps : List Position) (values : List Values) (at left end : ℕ) (all : Values) → IsTerms ps → at < length ps → AreValues ps values at → 0 < left → Taken ps at left end all → Take ps values at left end all
+take_next ps values at left end all h lt known some_left k =
+    let more : left ≡ suc (left - 1) = omega arith in
+    go k.stack k.is (subst (λ n. gather n k.stack k.parts ≡ Some (k.whole, k.rest)) more k.gathers)
+  where
+    go : (stack : List Term) → push_all (take end ps) [] ≡ Some stack → gather (suc (left - 1)) stack k.parts ≡ Some (k.whole, k.rest) → Take ps values at left end all
+    go [] e g = absurd (none_some g)
+    go (t ∷ stack) e g =
+        let u = under ps end t stack (omega (arith, k.few)) e in
+        let top_is : term_at ps (end - 1) ≡ t = ends ps end t stack (omega (arith, u.room, u.some)) e in
+        let cut : take (end - width_of t) ps ++ (postfix t ++ all_postfix k.parts) ≡ take at ps = sym (append_assoc (take (end - width_of t) ps) (postfix t) (all_postfix k.parts)) ∙ ap (λ z. z ++ all_postfix k.parts) u.cut ∙ k.cut in
+        let total : sum_by added_size (take at ps) ≤ 2 ^ 60 = omega (arith, weight-take ps at, h.total) in
+        let fits : sum_by added_size (postfix t ++ all_postfix k.parts) ≤ 2 ^ 60 = omega (arith, total, ap (sum_by added_size) cut, sum_by-append added_size (take (end - width_of t) ps) (postfix t ++ all_postfix k.parts)) in
+        let lens : end + width_of_parts k.parts ≡ at = omega (arith, ap length k.cut, length-append (take end ps) (all_postfix k.parts), length-take end ps, length-take at ps, k.few, length-all_postfix k.parts) in
+        let a_initial : all.initial ≡ first_memory_of_parts forward k.parts = ap (λ (v : Values). v.initial) k.all_is in
+        let a_fin : all.fin ≡ first_memory_of_parts backward k.parts = ap (λ (v : Values). v.fin) k.all_is in
+        let a_least : all.least ≡ least_of_parts k.parts = ap (λ (v : Values). v.least) k.all_is in
+        let a_width : all.width ≡ suc (width_of_parts k.parts) = ap (λ (v : Values). v.width) k.all_is in
+        let b_initial : first_memory_of_parts forward (part t k.parts) ≤ 2 ^ 60 = omega (arith, fits, all_first-le-weight forward (part t k.parts)) in
+        let b_fin : first_memory_of_parts backward (part t k.parts) ≤ 2 ^ 60 = omega (arith, fits, all_first-le-weight backward (part t k.parts)) in
+        let b_least : least_of_parts (part t k.parts) ≤ 2 ^ 60 = omega (arith, b_initial, all_least-le-first (part t k.parts)) in
+        let e_initial : all.initial + first_memory forward t ≡ first_memory_of_parts forward (part t k.parts) = omega (arith, a_initial) in
+        let e_fin : all.fin + first_memory backward t ≡ first_memory_of_parts backward (part t k.parts) = omega (arith, a_fin) in
+        let e_least : all.least + least_of t ≡ least_of_parts (part t k.parts) = omega (arith, a_least) in
+        let e_width : all.width + width_of t ≡ suc (width_of_parts (part t k.parts)) = omega (arith, a_width) in
+        record {
+          next = values_of t;
+          some = omega (arith, u.room, u.some);
+          is_next = λ d. known (end - 1) d (omega (arith, u.room, u.some, k.few)) ∙ ap values_of top_is;
+          room = u.room;
+          few = omega (arith, a_width, lens, u.room);
+          initial = omega (arith, e_initial, b_initial);
+          fin = omega (arith, e_fin, b_fin);
+          least = omega (arith, e_least, b_least);
+          taken = record {
+            parts = part t k.parts;
+            whole = k.whole;
+            stack = stack;
+            rest = k.rest;
+            few = omega (arith, k.few);
+            is = u.is;
+            gathers = g;
+            top = k.top;
+            cut = cut;
+            all_is = λ i. record { initial = e_initial i; fin = e_fin i; least = e_least i; width = e_width i };
+          };
+        }
+
+pub hold_at : (ps : List Position) (at size : ℕ) (d : Position) → IsTerms ps → at < length ps → get_or ps at d ≡ Hold size → record { initial = size; fin = size; least = size; width = 1 } ≡ values_of (term_at ps at)
+hold_at ps at size d h lt is =
+    let p = place ps _ at d h.is lt in
+    let top : term_at ps at ≡ hold size = ap (λ o. top_of (stack_from o)) p.then ∙ ap top_of (as_hold _ p.before p.after p.step size is) in
+    sym (ap values_of top)
+
+-- one more value
+pub values_more : (ps : List Position) (values : List Values) (n : ℕ) (v : Values) → length values ≡ n → AreValues ps values n → v ≡ values_of (term_at ps n) → AreValues ps (values ++ v ∷ []) (n + 1)
+values_more ps values n v len known e j d lt = grind (arith, common_steps, known j d)

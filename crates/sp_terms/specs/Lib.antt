@@ -1,0 +1,13 @@
+pub mod Term
+pub mod Postfix
+pub mod SystemOfTerm
+pub mod Values
+pub mod Builder
+pub mod Ends
+pub mod Sides
+pub mod Fields
+pub mod WorkflowFile
+pub mod Reader
+pub mod ReaderLaws
+pub mod WorkflowText
+pub mod Samples

@@ -1,0 +1,53 @@
+//! Laws over the definitions: each contract is a law, and each body is empty or names the laws that it stands on.
+ghost use Rattle.std.specs.Prelude.{◌≡◌, ◌⊎◌, ℕ, List};
+ghost use Rattle.mp_text.specs.declared.refusals.Refusal.{Refusal};
+ghost use Rattle.mp_system.specs.System.{IsSystem};
+ghost use Rattle.sp_terms.specs.declared.kind.WorkflowKind.{WorkflowKind};
+ghost use Rattle.sp_terms.specs.declared.position.Position.{Position};
+ghost use Rattle.sp_terms.specs.Term.{Term, IsAllowed};
+ghost use Rattle.sp_terms.specs.Postfix.{Denotes, postfix};
+ghost use Rattle.sp_terms.specs.SystemOfTerm.{system_of_term};
+ghost use Rattle.sp_terms.specs.Values.{IsTerms, term_of};
+ghost use Rattle.sp_terms.specs.WorkflowFile.{ReadsWorkflow, RefusesWorkflow};
+ghost use Rattle.sp_terms.specs.WorkflowText.{text_of, text2_of};
+
+use crate::kind::WorkflowKind;
+use mp_text::laws as text_laws;
+
+/// A file is read as terms or refused, never both; it is read as one list of positions only, and refused with one refusal only.
+pub fn exactly_one()
+    ensures some { (bytes : List ℕ) →
+        ((positions : List Position) × ReadsWorkflow bytes positions) ⊎ ((refusal : Refusal WorkflowKind) × RefusesWorkflow bytes refusal) }
+    ensures not_both { (bytes : List ℕ) (positions : List Position) (refusal : Refusal WorkflowKind) →
+        ReadsWorkflow bytes positions → RefusesWorkflow bytes refusal → ⊥ }
+    ensures one_workflow { (bytes : List ℕ) (one two : List Position) →
+        ReadsWorkflow bytes one → ReadsWorkflow bytes two → one ≡ two }
+    ensures one_refusal { (bytes : List ℕ) (one two : Refusal WorkflowKind) →
+        RefusesWorkflow bytes one → RefusesWorkflow bytes two → one ≡ two }
+{
+    text_laws::exactly_one::<WorkflowKind>();
+}
+
+/// What a file is read as denotes one term within the limits.
+pub fn read_law()
+    ensures { (bytes : List ℕ) (positions : List Position) → ReadsWorkflow bytes positions → IsTerms positions }
+{}
+
+/// The text of a workflow, and its text in version 2, are read as that workflow.
+pub fn printed_workflow()
+    ensures text { (positions : List Position) → IsTerms positions → ReadsWorkflow (text_of positions) positions }
+    ensures text_2 { (positions : List Position) → IsTerms positions → ReadsWorkflow (text2_of positions) positions }
+{
+    text_laws::printed_number();
+    text_laws::printed_file();
+}
+
+/// Positions within the limits denote a term whose shares are allowed, and whose system is within the limits of systems. A list of
+/// positions denotes a term exactly where it is its postfix form.
+pub fn terms_law()
+    ensures denotes { (positions : List Position) → IsTerms positions → Denotes positions (term_of positions) }
+    ensures allowed { (positions : List Position) → IsTerms positions → IsAllowed (term_of positions) }
+    ensures system { (positions : List Position) → IsTerms positions → IsSystem (system_of_term (term_of positions)) }
+    ensures form { (t : Term) → Denotes (postfix t) t }
+    ensures only { (positions : List Position) (t : Term) → Denotes positions t → positions ≡ postfix t }
+{}

@@ -1,0 +1,161 @@
+ghost use Rattle.std.specs.Prelude.{◌≡◌, [], IfOk, MatchResult};
+ghost use Rattle.mp_text.specs.Ahead.{row};
+ghost use Rattle.sp_terms.specs.Reader.{refusal_at};
+ghost use Rattle.sp_terms.specs.WorkflowFile.{ReadsWorkflow, IsWorkflowRefusal};
+
+use crate::builder::{PushRefusal, TermBuilder};
+use crate::kind::{Stage, Word, WorkflowKind};
+use crate::lines::{count_on, data_on, fault, header_on, last_on, par_on, task_on, word_on};
+use crate::position::Position;
+use crate::terms::Terms;
+use mp_text::{Line, Reader, Refusal, read_with};
+use std::alloc::Global;
+use std::marker::Model;
+
+// What the lines of a workflow file stated so far.
+#[derive(Drop)]
+struct WorkflowReader {
+    stage: Stage,
+    with_share: bool,
+    count: u64,
+    builder: TermBuilder,
+}
+
+impl Model for WorkflowReader {
+    ghost use Rattle.sp_terms.specs.Reader.{ReaderState};
+
+    ghost Value = { ReaderState };
+
+    ghost view = { λ s. record { stage = s.stage; with_share = s.with_share; count = s.count; positions = s.builder } };
+}
+
+// The refusal of a line whose position is not taken.
+fn refusal_at(line: u64, refusal: PushRefusal) -> Refusal<WorkflowKind>
+    ensures { result ≡ refusal_at line refusal }
+{
+    match refusal {
+        PushRefusal::Short => fault(line, WorkflowKind::StackShort),
+        PushRefusal::Limit(name) => Refusal::Limit(name),
+        PushRefusal::Share => fault(line, WorkflowKind::Share),
+        PushRefusal::NoMemory => Refusal::NoMemory,
+    }
+}
+
+impl WorkflowReader {
+    ghost use Rattle.sp_terms.specs.Builder.{IsPosition};
+    ghost use Rattle.sp_terms.specs.Reader.{pushed, worded_step, start};
+    ghost use Rattle.sp_terms.specs.WorkflowFile.{word_of};
+    ghost use Rattle.mp_text.specs.Reading.{Steps};
+
+    // A reader of which nothing was read.
+    fn new(alloc: Global) -> WorkflowReader
+        ensures { result ≡ start }
+    {
+        WorkflowReader {
+            stage: Stage::Header,
+            with_share: false,
+            count: 0,
+            builder: TermBuilder::new(alloc),
+        }
+    }
+
+    // Takes the position of a line.
+    fn push(&mut self, line: u64, position: Position) -> Result<(), Refusal<WorkflowKind>>
+        requires { IsPosition position }
+        ensures { Steps (pushed self.old line position) result self.new }
+    {
+        match self.builder.push(position) {
+            Ok(()) => Ok(()),
+            Err(refusal) => Err(refusal_at(line, refusal)),
+        }
+    }
+
+    // Takes a line after the second, where positions are read.
+    fn body_line(&mut self, line: Line<'_>) -> Result<(), Refusal<WorkflowKind>>
+        ensures { let r = row line.entry.number line.entry.text.now in Steps (worded_step (word_of r) self.old r) result self.new }
+    {
+        let Some(word) = word_on(line) else {
+            return Err(fault(line.number, WorkflowKind::Word));
+        };
+        let height = self.builder.height();
+        let tasks = self.builder.tasks();
+        match word {
+            Word::Data => {
+                let position = data_on(line)?;
+                self.push(line.number, position)
+            }
+            Word::Task => {
+                let position = task_on(self.with_share, self.count, height, tasks, line)?;
+                self.push(line.number, position)
+            }
+            Word::Par => {
+                let position = par_on(height, line)?;
+                self.push(line.number, position)
+            }
+            Word::End => {
+                last_on(self.count, height, tasks, line)?;
+                self.stage = Stage::Ended;
+                Ok(())
+            }
+        }
+    }
+}
+
+impl Reader for WorkflowReader {
+    type Kind = WorkflowKind;
+
+    ghost use Rattle.sp_terms.specs.Reader.{workflow_step, workflow_end, took};
+    ghost use Rattle.sp_terms.specs.WorkflowFile.{workflow_format};
+    ghost use Rattle.sp_terms.specs.ReaderLaws.{step_follows, end_follows as the_end_follows};
+
+    ghost step = { workflow_step };
+
+    ghost end_step = { workflow_end };
+
+    ghost format = { λ _. workflow_format };
+
+    ghost took = { took };
+
+    #[tactic(auto, unfolding(crate::specs::Reader::workflow_step))]
+    fn line(&mut self, line: Line<'_>) -> Result<(), Refusal<WorkflowKind>> {
+        match self.stage {
+            Stage::Header => {
+                self.with_share = header_on(line)?;
+                self.stage = Stage::Count;
+                Ok(())
+            }
+            Stage::Count => {
+                self.count = count_on(line)?;
+                self.stage = Stage::Positions;
+                Ok(())
+            }
+            Stage::Positions => self.body_line(line),
+            Stage::Ended => Err(fault(line.number, WorkflowKind::Word)),
+        }
+    }
+
+    #[tactic(auto, unfolding(crate::specs::Reader::workflow_end))]
+    fn end(&mut self, past: u64) -> Result<(), Refusal<WorkflowKind>> {
+        match self.stage {
+            Stage::Ended => Ok(()),
+            _ => Err(fault(past, WorkflowKind::NoEnd)),
+        }
+    }
+
+    ghost line_follows = { step_follows };
+
+    ghost end_follows = { the_end_follows };
+}
+
+/// The terms that a workflow file of version 1 or 2 states, or why it is refused: the first test that fails in the first line that
+/// fails, or at the end of the text.
+pub fn read_workflow(alloc: Global, bytes: &[u8]) -> Result<Terms, Refusal<WorkflowKind>>
+    ensures { MatchResult result (λ terms. ReadsWorkflow bytes.now terms) (IsWorkflowRefusal bytes.now) }
+{
+    let reader = read_with(bytes, true, WorkflowReader::new(alloc))?;
+    let WorkflowReader { builder, .. } = reader;
+    match builder.finish() {
+        Ok(terms) => Ok(terms),
+        Err(_) => unreachable!(),
+    }
+}

@@ -1,0 +1,59 @@
+ghost use Rattle.std.specs.Prelude.{◌≡◌, ◌≤◌, ◌-◌, length, slice_index_or};
+ghost use Rattle.sp_terms.specs.Values.{IsTerms};
+ghost use Rattle.sp_terms.specs.declared.position.Position.{Position};
+
+use crate::position::Position;
+use std::marker::Model;
+
+/// A list of positions in postfix order that denotes one term by the stack rule: at most 4,000,001 positions, 10^6 tasks, sizes and
+/// times of at most 2^40, and at most 2^60 of sizes in all. The tasks are numbered from 1 in the order of their positions.
+#[derive(Drop)]
+pub struct Terms {
+    positions: Vec<Position>,
+}
+
+impl Model for Terms {
+    ghost use Rattle.std.specs.Prelude.{List};
+    ghost use Rattle.sp_terms.specs.Values.{IsTerms};
+    ghost use Rattle.sp_terms.specs.declared.position.Position.{Position};
+
+    ghost Value = { List Position };
+
+    ghost view = { λ t. t.positions.items };
+
+    ghost invariant = { λ t. IsTerms t.positions.items };
+}
+
+impl Terms {
+    /// These positions.
+    pub(crate) fn of(positions: Vec<Position>) -> Terms
+        requires { IsTerms positions.items }
+        ensures { result ≡ positions.items }
+    {
+        Terms { positions }
+    }
+
+    /// The number of positions, at least 1.
+    pub fn len(&self) -> u32
+        ensures value { result ≡ length self.now }
+        ensures terms { IsTerms self.now }
+    {
+        self.positions.len() as u32
+    }
+
+    /// A position, counted from 1.
+    pub fn at(&self, position: u32) -> Position
+        requires { (1 ≤ position) × (position ≤ length self.now) }
+        ensures { (d : Position) → result ≡ slice_index_or self.now (position - 1) d }
+    {
+        self.positions[position as usize - 1]
+    }
+
+    /// All positions.
+    pub(crate) fn positions(&self) -> &[Position]
+        ensures value { result.now ≡ self.now }
+        ensures terms { IsTerms self.now }
+    {
+        &self.positions
+    }
+}
