@@ -1,0 +1,17 @@
+pub mod Words
+pub mod Parts
+pub mod Walks
+pub mod At
+pub mod Ends
+pub mod Next
+pub mod Orders
+pub mod Back
+pub mod Every
+pub mod SideLaws
+pub mod Ways
+pub mod Named
+pub mod Forth
+pub mod Trails
+pub mod Composed
+pub mod InTurn
+pub mod Runs
