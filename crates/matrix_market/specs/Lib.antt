@@ -1,0 +1,6 @@
+pub mod Pattern
+pub mod MatrixFile
+pub mod Table
+pub mod Partners
+pub mod Stated
+pub mod Plain

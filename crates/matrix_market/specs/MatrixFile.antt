@@ -1,0 +1,163 @@
+-- Matrix files: the coordinate format of Matrix Market (Boisvert, Pozo and Remington 1996, NIST), with the field words `double` and
+-- `unsigned-integer` besides. What a file reads as, and what it is refused with.
+use Rattle.std.specs.Prelude.{◌==◌, ℕ, Bool, false, ◌&&◌, ◌||◌, not, nat_lt, nat_le, is_some, unwrap_or, Option, Some, None, List, [], ◌∷◌, length, map, codes, if◌then◌else◌, slice_index_or}
+use Rattle.std.specs.Char.{to_ascii_lowercase}
+use Rattle.std.specs.Str.{bytes_eq}
+use Rattle.mp_text.specs.declared.refusals.LimitName.TheVariants as limits
+use Rattle.mp_text.specs.declared.refusals.Refusal.{Refusal}
+use Rattle.mp_text.specs.declared.refusals.Refusal.TheVariants as refusals
+use Rattle.mp_text.specs.Text.{Row, number_of, lines_of, rows_from}
+use Rattle.mp_text.specs.Ahead.{row, past_of_bytes}
+use Rattle.mp_text.specs.Grammar.{Test, test, Format, IsWellFormed, Refuses}
+use Rattle.matrix_market.specs.Pattern.{IsPatternOf}
+use Rattle.matrix_market.specs.declared.kind.MatrixKind.{MatrixKind}
+use Rattle.matrix_market.specs.declared.kind.MatrixKind.TheVariants as kinds
+
+abbrev pub fault_at : ℕ → MatrixKind → Refusal MatrixKind
+fault_at line kind = refusals.Format (record { line = line; kind = kind })
+
+abbrev pub fault : MatrixKind → Row → Refusal MatrixKind
+fault kind row = fault_at row.number kind
+
+-- ---- the lines that count: the first, of whatever kind, and after it those that are neither blank nor begin with %
+
+abbrev pub matrix_lines : List (List ℕ) → List Row
+matrix_lines [] = []
+matrix_lines (line ∷ lines) = row 1 line ∷ rows_from false 2 lines
+
+abbrev pub matrix_rows : List ℕ → List Row
+matrix_rows bytes = matrix_lines (lines_of bytes)
+
+-- ---- line 1: `%%MatrixMarket matrix coordinate FIELD SYMMETRY`
+
+-- the token at a place, counted from 0
+abbrev pub token_at : ℕ → Row → List ℕ
+token_at place row = slice_index_or row.tokens place []
+
+-- whether a token is this word, without regard to case
+unfoldable pub is_word : List ℕ → List ℕ → Bool
+is_word word token = bytes_eq (map to_ascii_lowercase token) (map to_ascii_lowercase word)
+
+-- how many values an entry of this field has
+abbrev pub values_of_field : List ℕ → Option ℕ
+values_of_field token =
+    if is_word (codes "pattern") token then Some 0
+    else (if is_word (codes "real") token || is_word (codes "double") token || is_word (codes "integer") token || is_word (codes "unsigned-integer") token then Some 1
+    else (if is_word (codes "complex") token then Some 2
+    else None))
+
+abbrev pub is_symmetry : List ℕ → Bool
+is_symmetry token =
+    is_word (codes "general") token || is_word (codes "symmetric") token || is_word (codes "hermitian") token || is_word (codes "skew-symmetric") token
+
+abbrev pub banner_tests : Row → List (Test MatrixKind)
+banner_tests row =
+    test (nat_le 5 (length row.tokens) && is_word (codes "%%MatrixMarket") (token_at 0 row)) (fault kinds.Banner row)
+    ∷ test (is_word (codes "matrix") (token_at 1 row)) (fault kinds.NotMatrix row)
+    ∷ test (not (is_word (codes "array") (token_at 2 row))) (fault kinds.ArrayFormat row)
+    ∷ test (is_word (codes "coordinate") (token_at 2 row)) (fault kinds.Banner row)
+    ∷ test (is_some (values_of_field (token_at 3 row))) (fault kinds.Field row)
+    ∷ test (is_symmetry (token_at 4 row)) (fault kinds.Symmetry row)
+    ∷ []
+
+abbrev pub values_stated : Row → ℕ
+values_stated banner = unwrap_or (values_of_field (token_at 3 banner)) 0
+
+-- ---- numbers that stand in a row
+
+-- what follows where a number was there
+infixl 10 ◌>>?◌
+abbrev pub ◌>>?◌ : {A B : Type 0} → Option A → (A → Option B) → Option B
+(Some x) >>? f = f x
+None >>? f = None
+
+-- the number that the first token spells, and the tokens after it
+unfoldable pub number_at : List (List ℕ) → Option (ℕ × List (List ℕ))
+number_at [] = None
+number_at (token ∷ tokens) = number_of token >>? λ n. Some (n, tokens)
+
+-- ---- the size line: `ROWS COLUMNS ENTRIES`
+
+pub record Size : Type 0 where
+  pub rows : ℕ
+  pub columns : ℕ
+  pub entries : ℕ
+
+-- three tokens, all numbers
+unfoldable pub size_stated : List (List ℕ) → Option Size
+size_stated tokens =
+    number_at tokens >>? λ rows. number_at rows.1 >>? λ columns. number_at columns.1 >>? λ entries.
+    if length entries.1 == 0 then Some (record { rows = rows.0; columns = columns.0; entries = entries.0 }) else None
+
+abbrev pub size_of : Row → Size
+size_of row = unwrap_or (size_stated row.tokens) (record { rows = 0; columns = 0; entries = 0 })
+
+abbrev pub size_tests : Row → List (Test MatrixKind)
+size_tests row =
+    test (is_some (size_stated row.tokens) && (not ((size_of row).rows == 0) && not ((size_of row).columns == 0))) (fault kinds.SizeLine row)
+    ∷ test ((size_of row).rows == (size_of row).columns) (fault kinds.NotSquare row)
+    ∷ test (nat_le (size_of row).rows 1000000) (refusals.Limit limits.Order)
+    ∷ test (nat_le (size_of row).entries 10000000) (refusals.Limit limits.Entries)
+    ∷ []
+
+-- ---- an entry: `I J`, and the values of its field
+
+-- two numbers, and as many tokens as there are values
+unfoldable pub entry_stated : ℕ → List (List ℕ) → Option (ℕ × ℕ)
+entry_stated values tokens =
+    number_at tokens >>? λ i. number_at i.1 >>? λ j.
+    if length j.1 == values then Some (i.0, j.0) else None
+
+abbrev pub pair_of : ℕ → Row → ℕ × ℕ
+pair_of values row = unwrap_or (entry_stated values row.tokens) (0, 0)
+
+abbrev pub is_index : ℕ → ℕ → Bool
+is_index order i = nat_le 1 i && nat_le i order
+
+-- with the values of an entry, the order, the stated number of entries, and how many lines came before
+abbrev pub entry_tests : ℕ → ℕ → ℕ → ℕ → Row → List (Test MatrixKind)
+entry_tests values order stated taken row =
+    test (nat_lt taken stated) (fault kinds.TooMany row)
+    ∷ test (is_some (entry_stated values row.tokens)) (fault kinds.Entry row)
+    ∷ test (is_index order (pair_of values row).0 && is_index order (pair_of values row).1) (fault kinds.Index row)
+    ∷ []
+
+-- ---- the whole file
+
+abbrev pub matrix_line_tests : List Row → Row → List (Test MatrixKind)
+matrix_line_tests [] row = banner_tests row
+matrix_line_tests (banner ∷ []) row = size_tests row
+matrix_line_tests (banner ∷ size ∷ entries) row = entry_tests (values_stated banner) (size_of size).rows (size_of size).entries (length entries) row
+
+abbrev pub matrix_end_tests : List Row → ℕ → List (Test MatrixKind)
+matrix_end_tests [] past = test false (fault_at past kinds.Banner) ∷ []
+matrix_end_tests (banner ∷ []) past = test false (fault_at past kinds.SizeLine) ∷ []
+matrix_end_tests (banner ∷ size ∷ entries) past = test (length entries == (size_of size).entries) (fault_at past kinds.TooFew) ∷ []
+
+abbrev pub matrix_format : Format MatrixKind
+matrix_format = record { line_tests = matrix_line_tests; end_tests = matrix_end_tests }
+
+-- the order that the lines state, and the pairs of indices of their entries
+abbrev pub order_stated : List Row → ℕ
+order_stated [] = 0
+order_stated (banner ∷ []) = 0
+order_stated (banner ∷ size ∷ entries) = (size_of size).rows
+
+abbrev pub pairs_stated : List Row → List (ℕ × ℕ)
+pairs_stated [] = []
+pairs_stated (banner ∷ []) = []
+pairs_stated (banner ∷ size ∷ entries) = map (pair_of (values_stated banner)) entries
+
+-- every line passes, and the pattern is that of the order and the pairs stated
+pub record ReadsPattern (bytes : List ℕ) (rows : List (List ℕ)) : Type 0 where
+  pub form : IsWellFormed matrix_format (matrix_rows bytes) (past_of_bytes bytes)
+  pub pattern : IsPatternOf (order_stated (matrix_rows bytes)) (pairs_stated (matrix_rows bytes)) rows
+
+abbrev pub RefusesPattern : List ℕ → Refusal MatrixKind → Type 0
+RefusesPattern bytes refusal = Refuses matrix_format (matrix_rows bytes) (past_of_bytes bytes) refusal
+
+-- an answer that is no pattern: a refusal of the file, or memory ran out
+abbrev pub IsMatrixRefusal : List ℕ → Refusal MatrixKind → Type 0
+IsMatrixRefusal bytes refusals.NoMemory = Unit {0}
+IsMatrixRefusal bytes (refusals.Format f) = RefusesPattern bytes (refusals.Format f)
+IsMatrixRefusal bytes (refusals.Limit l) = RefusesPattern bytes (refusals.Limit l)

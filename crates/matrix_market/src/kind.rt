@@ -1,0 +1,26 @@
+/// What is wrong with a matrix file.
+#[derive(Clone, Copy, Debug, PartialEq, Eq)]
+pub enum MatrixKind {
+    /// Line 1 is not `%%MatrixMarket` and four more words, or its format is neither `coordinate` nor `array`.
+    Banner,
+    /// The object is not `matrix`.
+    NotMatrix,
+    /// The format is `array`, which is not read.
+    ArrayFormat,
+    /// The field is none of `pattern`, `real`, `double`, `integer`, `unsigned-integer`, `complex`.
+    Field,
+    /// The symmetry is none of `general`, `symmetric`, `hermitian`, `skew-symmetric`.
+    Symmetry,
+    /// The size line is not three numbers of which the first two are not 0, or it is missing.
+    SizeLine,
+    /// There are more rows than columns, or fewer.
+    NotSquare,
+    /// An entry is not two numbers and the values of its field.
+    Entry,
+    /// An index is 0 or greater than the order.
+    Index,
+    /// There are fewer entries than stated.
+    TooFew,
+    /// There are more entries than stated.
+    TooMany,
+}

@@ -1,0 +1,17 @@
+//! Patterns of symmetric matrices, and matrix files in the coordinate format of Matrix Market.
+#![tactic(auto)]
+
+mod kind;
+pub mod laws;
+mod lines;
+mod pairs;
+mod pattern;
+mod reader;
+mod table;
+#[cfg(test)]
+mod tests;
+
+pub use kind::MatrixKind;
+pub use pattern::Pattern;
+pub use reader::read_pattern;
+pub use table::NoMemory;

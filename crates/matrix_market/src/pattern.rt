@@ -1,0 +1,65 @@
+//! Patterns of symmetric matrices.
+
+ghost use Rattle.std.specs.Prelude.{◌≡◌, ◌≤◌, ◌+◌, All, length, IfOk};
+
+use crate::pairs::{partner_counts, partner_lists, turned};
+use crate::table::{ListTable, NoMemory};
+use std::alloc::Global;
+use std::marker::Model;
+
+/// The pattern of a symmetric matrix without its diagonal: 1 to 10^6 vertices, numbered from 1, and the neighbours of each in rising
+/// order.
+#[derive(Drop)]
+pub struct Pattern {
+    // a list for each number up to the order; that of 0 is not read
+    table: ListTable,
+}
+
+impl Model for Pattern {
+    ghost use Rattle.std.specs.Prelude.{ℕ, List, drop};
+    ghost use Rattle.matrix_market.specs.Pattern.{IsPattern};
+
+    ghost Value = { List (List ℕ) };
+
+    ghost view = { λ p. drop 1 p.table.lists };
+
+    ghost invariant = { λ p. IsPattern (drop 1 p.table.lists) };
+}
+
+impl Pattern {
+    ghost use Rattle.matrix_market.specs.Pattern.{IsPattern, IsPatternOf, IsPairWithin, neighbours_of};
+
+    /// How many vertices there are, 1 to 10^6.
+    pub fn order(&self) -> u32
+        ensures value { result ≡ length self.now }
+        ensures pattern { IsPattern self.now }
+    {
+        (self.table.count() - 1) as u32
+    }
+
+    /// The neighbours of a vertex, in rising order.
+    pub fn neighbours(&self, v: u32) -> &[u32]
+        requires { (1 ≤ v) × (v ≤ length self.now) }
+        ensures { result.now ≡ neighbours_of self.now v }
+    {
+        self.table.list(v)
+    }
+
+    /// The pattern of so many vertices that joins these pairs. Repeated pairs count once, and a pair of a vertex with itself joins
+    /// nothing. Linear in the vertices and pairs: two passes of counting, and no comparison sort.
+    pub fn from_pairs(
+        alloc: Global,
+        order: u32,
+        pairs: Vec<(u32, u32)>,
+    ) -> Result<Pattern, NoMemory>
+        requires order { (1 ≤ order) × (order ≤ 1000000) }
+        requires few { length pairs.items ≤ 10000000 }
+        requires within { All (IsPairWithin order) pairs.items }
+        ensures { IfOk result (λ pattern. IsPatternOf order pairs.items pattern) }
+    {
+        let counts = partner_counts(alloc, order as usize + 1, &pairs)?;
+        let partners = partner_lists(alloc, &counts, pairs)?;
+        let table = turned(alloc, &counts, &partners)?;
+        Ok(Pattern { table })
+    }
+}
