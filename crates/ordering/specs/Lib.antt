@@ -1,2 +1,6 @@
 pub mod OrderFile
 pub mod OrderReader
+pub mod Perm
+pub mod PermTables
+pub mod PermFile
+pub mod PermReader

@@ -32,7 +32,7 @@ token_follows line numbers before token stated =
     let long : length numbers ≡ length before = ap length stated ∙ length-map before value_of in
     rw (long, stated) (tested-follows (order_token_tests line (length before) token) (map value_of before ++ value_of token ∷ []) (λ next. next ≡ map value_of (before ++ token ∷ [])) (λ _. sym (map_push value_of before token)))
 
-tokens-push : (rows : List Row) (row : Row) → tokens_of_rows (rows ++ row ∷ []) ≡ tokens_of_rows rows ++ row.tokens
+pub tokens-push : (rows : List Row) (row : Row) → tokens_of_rows (rows ++ row ∷ []) ≡ tokens_of_rows rows ++ row.tokens
 tokens-push rows row = flat_map-append (λ (r : Row). r.tokens) rows (row ∷ []) ∙ ap (λ (ts : List (List ℕ)). tokens_of_rows rows ++ ts) (append-nil row.tokens)
 
 pub step_follows : (numbers : List ℕ) (before : List Row) (row : Row) → took numbers before → ArePassed order_format before →

@@ -1,11 +1,15 @@
-//! Laws of order files: what holds of each, without a call.
+//! Laws of order files, permutation files and permutations: what holds of each, without a call.
 
-ghost use Rattle.std.specs.Prelude.{◌≡◌, ◌⊎◌, ℕ, List};
+ghost use Rattle.std.specs.Prelude.{◌≡◌, ◌≤◌, ◌⊎◌, ℕ, List};
 ghost use Rattle.mp_text.specs.declared.refusals.Refusal.{Refusal};
 ghost use Rattle.ordering.specs.OrderFile.{ReadsOrder, RefusesOrder};
+ghost use Rattle.ordering.specs.Perm.{IsPerm, vertex_at, place_of};
+ghost use Rattle.ordering.specs.PermFile.{ReadsPerm, RefusesPerm};
 ghost use Rattle.ordering.specs.declared.order_file.OrderFileKind.{OrderFileKind};
+ghost use Rattle.ordering.specs.declared.perm_file.PermKind.{PermKind};
 
 use crate::order_file::OrderFileKind;
+use crate::perm_file::PermKind;
 use mp_text::laws as text_laws;
 
 /// A file is read as an order or refused, never both; it is read as one order only, and refused with one refusal only.
@@ -20,3 +24,27 @@ pub fn exactly_one()
 {
     text_laws::exactly_one::<OrderFileKind>();
 }
+
+/// A file is read as a permutation or refused, never both; it is read as one permutation only, and refused with one refusal only.
+pub fn exactly_one_perm()
+    ensures some { (n : ℕ) (bytes : List ℕ) →
+        ((order : List ℕ) × ReadsPerm n bytes order) ⊎ ((refusal : Refusal PermKind) × RefusesPerm n bytes refusal) }
+    ensures not_both { (n : ℕ) (bytes order : List ℕ) (refusal : Refusal PermKind) →
+        ReadsPerm n bytes order → RefusesPerm n bytes refusal → ⊥ }
+    ensures one_order { (n : ℕ) (bytes one two : List ℕ) → ReadsPerm n bytes one → ReadsPerm n bytes two → one ≡ two }
+    ensures one_refusal { (n : ℕ) (bytes : List ℕ) (one two : Refusal PermKind) →
+        RefusesPerm n bytes one → RefusesPerm n bytes two → one ≡ two }
+{
+    text_laws::exactly_one::<PermKind>();
+}
+
+/// What a file is read as is a permutation: it holds each of 1 to n once.
+pub fn read_is_perm()
+    ensures { (n : ℕ) (bytes order : List ℕ) → ReadsPerm n bytes order → IsPerm n order }
+{}
+
+/// The vertices by place and the places by vertex are inverse to each other.
+pub fn places_are_inverse()
+    ensures vertex { (n : ℕ) (order : List ℕ) → IsPerm n order → (v : ℕ) → v ≤ n → vertex_at order (place_of order v) ≡ v }
+    ensures place { (n : ℕ) (order : List ℕ) → IsPerm n order → (k : ℕ) → k ≤ n → place_of order (vertex_at order k) ≡ k }
+{}

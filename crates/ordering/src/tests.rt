@@ -1,4 +1,4 @@
-use crate::{OrderFileKind, read_order};
+use crate::{OrderFileKind, PermKind, identity, read_order, read_perm};
 use mp_text::{Fault, Refusal};
 use std::test::Fail;
 
@@ -25,6 +25,73 @@ fn order_files(rt: HostRuntime) -> Result<(), Fail> {
             }
             _ => assert!(rt; false, "{text}"),
         }
+    }
+    Ok(())
+}
+
+#[test]
+fn permutation_files(rt: HostRuntime) -> Result<(), Fail> {
+    // the text, the vertices by place, and the places by vertex
+    let rows: [(&str, [u32; 4], [u32; 4]); 4] = [
+        ("2 3 1 4\n", [2, 3, 1, 4], [3, 1, 2, 4]),
+        ("1 2 3 4", [1, 2, 3, 4], [1, 2, 3, 4]),
+        (
+            "# by hand\r\n4 1\r\n\r\n% more\n  03\t2",
+            [4, 1, 3, 2],
+            [2, 4, 3, 1],
+        ),
+        ("4\n3\n2\n1\n", [4, 3, 2, 1], [4, 3, 2, 1]),
+    ];
+    for (text, vertices, places) in rows {
+        let perm = read_perm(rt.alloc(), text.as_bytes(), 4)?;
+        assert_eq!(rt; perm.len(), 4, "{text}");
+        assert_eq!(rt; (perm.at(0), perm.place(0)), (0, 0), "{text}");
+        for k in 1..=4u32 {
+            assert_eq!(rt; perm.at(k), vertices[k as usize - 1], "{text}");
+            assert_eq!(rt; perm.place(k), places[k as usize - 1], "{text}");
+        }
+    }
+    Ok(())
+}
+
+#[test]
+fn refused_permutation_files(rt: HostRuntime) -> Result<(), Fail> {
+    // the text, and what is wrong with it as an order of 4 vertices, in which line
+    let rows: [(&str, PermKind, u64); 16] = [
+        ("2 2 1 4\n", PermKind::Repeated, 1),
+        ("5 1 2 3\n", PermKind::Range, 1),
+        ("x\n", PermKind::Number, 1),
+        ("1 2 3 4 5\n", PermKind::Count, 1),
+        ("2 3 1\n", PermKind::Count, 2),
+        ("", PermKind::Count, 1),
+        ("# none\n\n", PermKind::Count, 3),
+        ("0 1 2 3", PermKind::Range, 1),
+        ("1 2\n3\n2\n", PermKind::Repeated, 3),
+        ("1 2\r\n3 5\r\n", PermKind::Range, 2),
+        ("1 2 3 4\n1\n", PermKind::Count, 2),
+        ("1 2 3 4\nx\n", PermKind::Number, 2),
+        ("18446744073709551617 1 2 3", PermKind::Number, 1),
+        ("4294967297 1 2 3", PermKind::Range, 1),
+        ("1 2 3 # 4", PermKind::Number, 1),
+        ("-1 2 3 4", PermKind::Number, 1),
+    ];
+    for (text, kind, line) in rows {
+        match read_perm(rt.alloc(), text.as_bytes(), 4) {
+            Ok(_) => assert!(rt; false, "{text}"),
+            Err(refusal) => {
+                assert_eq!(rt; refusal, Refusal::Format(Fault { line, kind }), "{text}");
+            }
+        }
+    }
+    Ok(())
+}
+
+#[test]
+fn the_identity(rt: HostRuntime) -> Result<(), Fail> {
+    let perm = identity(rt.alloc(), 3)?;
+    assert_eq!(rt; perm.len(), 3);
+    for k in 0..=3u32 {
+        assert_eq!(rt; (perm.at(k), perm.place(k)), (k, k));
     }
     Ok(())
 }

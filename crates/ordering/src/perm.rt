@@ -1,0 +1,80 @@
+ghost use Rattle.std.specs.Prelude.{◌≡◌, ℕ, ◌+◌, ◌≤◌, length, IfOk};
+ghost use Rattle.std.specs.List.{range_with_len};
+ghost use Rattle.ordering.specs.Perm.{IsPerm, vertex_at, place_of};
+
+use std::alloc::{AllocError, Global};
+use std::marker::Model;
+
+/// Want of memory: an allocation was refused.
+pub type NoMemory = AllocError;
+
+/// An order of elimination: each of the vertices 1 to n once, and with it the place of each. Contracts see the list of the vertices.
+#[derive(Drop)]
+pub struct Perm {
+    // by place; at 0 stands 0
+    pub(crate) vertices: Vec<u32>,
+    // by vertex; at 0 stands 0
+    pub(crate) places: Vec<u32>,
+}
+
+impl Model for Perm {
+    ghost use Rattle.std.specs.Prelude.{ℕ, List};
+
+    ghost Value = { List ℕ };
+
+    ghost use Rattle.ordering.specs.PermTables.{order_in, ArePermTables};
+
+    ghost view = { λ p. order_in p.vertices.items };
+
+    ghost invariant = { λ p. ArePermTables p.vertices.items p.places.items };
+}
+
+impl Perm {
+    /// How many vertices there are.
+    pub fn len(&self) -> u32
+        ensures value { result ≡ length self.now }
+        // each of them stands in the order once
+        ensures perm { IsPerm result self.now }
+    {
+        (self.vertices.len() - 1) as u32
+    }
+
+    /// The vertex that is eliminated `k`-th, from 1; 0 for 0.
+    pub fn at(&self, k: u32) -> u32
+        requires { k ≤ length self.now }
+        ensures value { result ≡ vertex_at self.now k }
+        ensures vertex { result ≤ length self.now }
+    {
+        self.vertices[k as usize]
+    }
+
+    /// The place at which a vertex is eliminated, from 1; 0 for 0. It undoes `at`.
+    pub fn place(&self, v: u32) -> u32
+        requires { v ≤ length self.now }
+        ensures value { result ≡ place_of self.now v }
+        ensures place { result ≤ length self.now }
+    {
+        self.places[v as usize]
+    }
+}
+
+// The numbers 0, 1, .., n.
+fn count_up(alloc: Global, n: u32) -> Result<Vec<u32>, NoMemory>
+    ensures { IfOk result (λ numbers. numbers.items ≡ range_with_len 0 (n + 1)) }
+{
+    let mut numbers = Vec::with_capacity(alloc, n as usize + 1)?;
+    for number in 0..=n {
+        numbers.push(number)?;
+    }
+    Ok(numbers)
+}
+
+/// The order 1, 2, .., n.
+pub fn identity(alloc: Global, n: u32) -> Result<Perm, NoMemory>
+    ensures order { IfOk result (λ perm. perm ≡ range_with_len 1 n) }
+    ensures vertices { IfOk result (λ perm. (k : ℕ) → k ≤ n → vertex_at perm k ≡ k) }
+{
+    let vertices = count_up(alloc, n)?;
+    let places = count_up(alloc, n)?;
+    Ok(Perm { vertices, places })
+}
