@@ -1,0 +1,28 @@
+-- Older ropes stand for the same lists.
+use Rattle.std.proofs.Common.{◌≡◌, ℕ, List, [], ◌∷◌, ◌++◌, refl}
+use Rattle.std.proofs.lemmas.Grind.{common_steps}
+use Rattle.std.proofs.Common.{arith}
+use Rattle.hill_valley.specs.declared.ropes.Rope.{Rope}
+use Rattle.hill_valley.specs.declared.side.Seg.{Seg}
+use Rattle.hill_valley.specs.Ropes.{list_of, IsRope, Extends}
+use Rattle.hill_valley.specs.Sides.{HaveRopes, runs_of}
+
+pub list_kept : (old new : List (List ℕ)) (r : Rope) → IsRope old r → Extends old new → list_of new r ≡ list_of old r
+list_kept old new r h (more, e) = rw e (grind (arith, common_steps))
+
+pub rope_kept : (old new : List (List ℕ)) (r : Rope) → IsRope old r → Extends old new → IsRope new r
+rope_kept old new r h (more, e) = rw e (grind (arith, common_steps))
+
+pub runs_kept : (old new : List (List ℕ)) (ss : List Seg) → HaveRopes old ss → Extends old new → runs_of new ss ≡ runs_of old ss
+runs_kept old new [] h k = refl
+runs_kept old new (s ∷ ss) h k = rw (list_kept old new s.tasks h.0 k, runs_kept old new ss h.1 k) refl
+
+pub ropes_kept : (old new : List (List ℕ)) (ss : List Seg) → HaveRopes old ss → Extends old new → HaveRopes new ss
+ropes_kept old new [] h k = tt
+ropes_kept old new (s ∷ ss) h k = (rope_kept old new s.tasks h.0 k, ropes_kept old new ss h.1 k)
+
+pub extends_on : (a b c : List (List ℕ)) → Extends a b → Extends b c → Extends a c
+extends_on a b c (m, e) (n, f) = (m ++ n, rw (f, e) (grind (arith, common_steps)))
+
+pub extends_self : (a : List (List ℕ)) → Extends a a
+extends_self a = ([], grind (arith, common_steps))

@@ -1,0 +1,26 @@
+//! Sides of a hill-valley decomposition: segments that lead from a level of memory down to the least memory of a part,
+//! and ropes, the lists of tasks that they run (Liu 1987).
+//!
+//! Contracts see a [`Side`] as the list of its segments in rising order of `up`, and [`Ropes`] as the lists that its ropes
+//! stand for. A bound is met as the limit above it: the memory within a bound is the memory below `bound + 1`.
+//!
+//! A call of a law, such as `laws::one_side()`, does nothing: it hands the law to the proof of the function that calls it.
+#![tactic(auto)]
+
+#[cfg(test)]
+mod bench;
+pub mod laws;
+#[cfg(test)]
+mod plain;
+mod ropes;
+mod side;
+mod steps;
+#[cfg(test)]
+mod tests;
+
+pub use ropes::{Rope, Ropes};
+pub use side::{Seg, Side};
+pub use steps::Step;
+
+/// No memory was found for what a call had to add.
+pub type NoMemory = std::alloc::AllocError;

@@ -1,0 +1,65 @@
+-- Lists of sides: older ropes, and sums.
+use Rattle.std.proofs.Common.{◌≡◌, ℕ, ◌+◌, List, [], ◌∷◌, ◌++◌, refl, ap, arith, length, reverse}
+use Rattle.std.proofs.lemmas.Grind.{common_steps}
+use Rattle.hill_valley.specs.declared.side.Seg.{Seg}
+use Rattle.hill_valley.specs.Ropes.{Extends}
+use Rattle.segment_merge.specs.Merging.{all_runs_of, AllHaveRopes, net_sum_all, segment_count}
+use Rattle.segment_merge.specs.Below.{LawsBelow}
+
+module _ (laws : LawsBelow) where
+  pub each_kept : (old new : List (List ℕ)) (sides : List (List Seg)) → AllHaveRopes old sides → Extends old new → all_runs_of new sides ≡ all_runs_of old sides
+  each_kept old new [] h k = refl
+  each_kept old new (side ∷ sides) h k = rw ((laws.stay old new side h.0 k).1, each_kept old new sides h.1 k) refl
+
+  pub all_kept : (old new : List (List ℕ)) (sides : List (List Seg)) → AllHaveRopes old sides → Extends old new → AllHaveRopes new sides
+  all_kept old new [] h k = tt
+  all_kept old new (side ∷ sides) h k = ((laws.stay old new side h.0 k).0, all_kept old new sides h.1 k)
+
+pub each_append : (lists : List (List ℕ)) (a b : List (List Seg)) → all_runs_of lists (a ++ b) ≡ all_runs_of lists a ++ all_runs_of lists b
+each_append lists [] b = refl
+each_append lists (side ∷ a) b = rw (each_append lists a b) refl
+
+pub ropes_front : (lists : List (List ℕ)) (a b : List (List Seg)) → AllHaveRopes lists (a ++ b) → AllHaveRopes lists a
+ropes_front lists [] b h = tt
+ropes_front lists (side ∷ a) b h = (h.0, ropes_front lists a b h.1)
+
+pub ropes_last : (lists : List (List ℕ)) (a b : List (List Seg)) → AllHaveRopes lists (a ++ b) → AllHaveRopes lists b
+ropes_last lists [] b h = h
+ropes_last lists (side ∷ a) b h = ropes_last lists a b h.1
+
+pub ropes_append : (lists : List (List ℕ)) (a b : List (List Seg)) → AllHaveRopes lists a → AllHaveRopes lists b → AllHaveRopes lists (a ++ b)
+ropes_append lists [] b ha hb = hb
+ropes_append lists (side ∷ a) b ha hb = (ha.0, ropes_append lists a b ha.1 hb)
+
+pub net_append : (a b : List (List Seg)) → net_sum_all (a ++ b) ≡ net_sum_all a + net_sum_all b
+net_append [] b = omega arith
+net_append (side ∷ a) b = omega (arith, net_append a b)
+
+pub count_append : (a b : List (List Seg)) → segment_count (a ++ b) ≡ segment_count a + segment_count b
+count_append [] b = omega arith
+count_append (side ∷ a) b = omega (arith, count_append a b)
+
+pub reverse_first : (side : List Seg) (sides : List (List Seg)) → reverse (side ∷ sides) ≡ reverse sides ++ side ∷ []
+reverse_first side sides = grind (arith, common_steps)
+
+pub reverse_last : (front : List (List Seg)) (side : List Seg) → reverse (front ++ side ∷ []) ≡ side ∷ reverse front
+reverse_last front side = grind (arith, common_steps)
+
+pub reverse_twice : (sides : List (List Seg)) → reverse (reverse sides) ≡ sides
+reverse_twice sides = grind (arith, common_steps)
+
+pub ropes_reverse : (lists : List (List ℕ)) (a : List (List Seg)) → AllHaveRopes lists a → AllHaveRopes lists (reverse a)
+ropes_reverse lists [] h = tt
+ropes_reverse lists (side ∷ a) h = rw (reverse_first side a) (ropes_append lists (reverse a) (side ∷ []) (ropes_reverse lists a h.1) (h.0, tt))
+
+pub net_reverse : (a : List (List Seg)) → net_sum_all (reverse a) ≡ net_sum_all a
+net_reverse [] = refl
+net_reverse (side ∷ a) = omega (arith, ap net_sum_all (reverse_first side a), net_append (reverse a) (side ∷ []), net_reverse a)
+
+pub count_reverse : (a : List (List Seg)) → segment_count (reverse a) ≡ segment_count a
+count_reverse [] = refl
+count_reverse (side ∷ a) = omega (arith, ap segment_count (reverse_first side a), count_append (reverse a) (side ∷ []), count_reverse a)
+
+pub nil_from_length : {X : Type 0} (xs : List X) → length xs ≡ 0 → xs ≡ []
+nil_from_length [] h = refl
+nil_from_length (x ∷ xs) h = absurd (omega arith)

@@ -1,0 +1,11 @@
+pub mod Profiles
+pub mod Order
+pub mod Behind
+pub mod Crossing
+pub mod Interleaving
+pub mod Kept
+pub mod Moving
+pub mod Earlier
+pub mod Later
+pub mod Longest
+pub mod Merged

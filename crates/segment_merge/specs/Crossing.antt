@@ -1,0 +1,21 @@
+-- Runs put behind a side, and a side that goes on over a hill to another, with the tasks.
+use Rattle.std.specs.Prelude.{ℕ, ◌+◌, ◌-◌, max, if◌then◌else◌, nat_le, List, [], ◌∷◌, ◌++◌}
+use Rattle.hill_valley.specs.Sides.{Run, append_run}
+
+-- with the runs of `far` at the end of `near`, one after another
+abbrev pub append_runs : List Run → List Run → List Run
+append_runs [] near = near
+append_runs (s ∷ far) near = append_runs far (append_run s near)
+
+-- the run over a hill, from the level `end` up to `hill` and down to `level`
+abbrev pub hill_run : ℕ → ℕ → ℕ → List ℕ → Run
+hill_run end hill level tasks = record { up = hill - end; net = end - level; tasks = tasks }
+
+-- `near` ends at the level `end`. From there the tasks lead over a hill up to `hill` and down to `level`, from where `far` leads on.
+-- As long as the level is above `end` the next run of `far` belongs to the hill
+abbrev pub cross_hill_runs : ℕ → ℕ → ℕ → List ℕ → List Run → List Run → List Run
+cross_hill_runs end hill level tasks [] near = append_run (hill_run end hill level tasks) near
+cross_hill_runs end hill level tasks (s ∷ far) near =
+    if nat_le level end
+    then append_runs (s ∷ far) (append_run (hill_run end hill level tasks) near)
+    else cross_hill_runs end (max hill (level + s.up)) (level - s.net) (tasks ++ s.tasks) far near

@@ -1,0 +1,4 @@
+pub mod Merging
+pub mod Crossing
+pub mod Below
+pub mod Laws

@@ -1,0 +1,168 @@
+//! The longest side takes in the sides before it, the nearest first, and then those after it.
+
+ghost use Rattle.std.specs.Prelude.{◌≡◌, ℕ, ◌+◌, ◌-◌, ◌≤◌, ◌<◌, [], ◌∷◌, ◌++◌, length, reverse, get_or, IfOk, OnOk, OnErr};
+ghost use Rattle.side_laws.specs.Segments.{net_sum, lowest, top};
+ghost use Rattle.side_laws.specs.Merging.{AreStuckAt, IsLeastTogether, IsInterleaving, merge_segments};
+ghost use Rattle.hill_valley.specs.Ropes.{Extends};
+ghost use Rattle.hill_valley.specs.Sides.{greatest_memory, profile, IsSide, HaveRopes, runs_of, tasks_of};
+ghost use Rattle.segment_merge.specs.Merging.{insert_runs, merge_runs, move_runs, all_tasks_of, all_runs_of, profiles, AllHaveRopes, AllSides, net_sum_all, segment_count, longest};
+
+use crate::NoMemory;
+use crate::laws::below;
+use hill_valley::{Ropes, Side};
+use side_laws::laws;
+use std::alloc::Global;
+use std::sync::ledger::Ledger;
+use step_count::Steps;
+
+/// The segments of all sides in rising order of `up`, a tie to the earlier side. Those of one `up` are joined to one, with
+/// the sum of their `net` values and their lists in the order of the sides. The ropes of the sides are of these ropes, and
+/// all `net` values sum to at most 2^60. Each segment that is moved from one side into another is a step: those of all sides
+/// but the longest. Where memory is wanting the ropes may hold more, and what was counted stays.
+pub fn merge<L: Ledger>(
+    alloc: Global,
+    sides: Vec<Side>,
+    ropes: &mut Ropes,
+    steps: &mut Steps<L>,
+) -> Result<Side, NoMemory>
+    requires ropes { AllHaveRopes ropes.old sides.items }
+    requires net { net_sum_all sides.items ≤ greatest_memory }
+    ensures segments { IfOk result (λ side. runs_of ropes.new side ≡ merge_runs (all_runs_of ropes.old sides.items)) }
+    // the merged list has the tasks of all sides, those of each in their order
+    ensures interleaved { IfOk result (λ side.
+        IsInterleaving (all_tasks_of (all_runs_of ropes.old sides.items)) (tasks_of (runs_of ropes.new side))) }
+    ensures net { IfOk result (λ side. net_sum (profile side) ≡ net_sum_all sides.items) }
+    ensures profile { IfOk result (λ side. profile side ≡ merge_segments (profiles sides.items)) }
+    // under every limit, the lowest level is where all sides together are stuck, whichever of them goes on
+    ensures lowest { IfOk result (λ side. (limit level : ℕ) → net_sum_all sides.items ≤ level
+        → AreStuckAt limit level (profiles sides.items) (lowest limit level (profile side))) }
+    // the top is the least memory within which all sides together pass
+    ensures top { IfOk result (λ side. (level : ℕ) → net_sum_all sides.items ≤ level
+        → IsLeastTogether level (profiles sides.items) (top level (profile side))) }
+    ensures ropes { IfOk result (λ side. HaveRopes ropes.new side) }
+    ensures kept { Extends ropes.old ropes.new }
+    // one step for each segment of all sides but the longest
+    ensures steps { OnOk result (steps.new + longest sides.items ≡ steps.old + segment_count sides.items) }
+    ensures most_steps { steps.new + longest sides.items ≤ steps.old + segment_count sides.items }
+    ensures ticks_stay { steps.old ≤ steps.new }
+{
+    below();
+    laws::merging();
+    let mut before = sides;
+    let end = longest_end(&before);
+    let mut after = before.split_off(end)?;
+    after.reverse();
+    match before.pop() {
+        Some(side) => {
+            let mut merged = side;
+            take_before(before, &mut merged, ropes, steps)?;
+            take_after(after, &mut merged, ropes, steps)?;
+            Ok(merged)
+        }
+        None => Ok(Side::new(alloc)),
+    }
+}
+
+// How many sides stand up to a longest one, which is the last of them, and 0 where there are none.
+fn longest_end(sides: &[Side]) -> usize
+    ensures within { result ≤ length sides.now }
+    ensures some { 0 < length sides.now → 0 < result }
+    ensures longest { longest sides.now ≡ length (get_or sides.now (result - 1) []) }
+    ensures sides { AllSides sides.now }
+{
+    let mut end = sides.len().min(1);
+    let mut most = 0;
+    for (i, side) in sides.iter().enumerate() {
+        let len = side.len();
+        if most < len {
+            end = i + 1;
+            most = len;
+        }
+    }
+    end
+}
+
+// Moves earlier sides into one, the nearest first.
+fn take_before<L: Ledger>(
+    sides: Vec<Side>,
+    into: &mut Side,
+    ropes: &mut Ropes,
+    steps: &mut Steps<L>,
+) -> Result<(), NoMemory>
+    requires sides { AllHaveRopes ropes.old sides.items }
+    requires into { HaveRopes ropes.old into.old }
+    requires net { net_sum_all sides.items + net_sum (profile into.old) ≤ greatest_memory }
+    ensures segments { OnOk result (
+        runs_of ropes.new into.new ≡ insert_runs (merge_runs (all_runs_of ropes.old sides.items)) (runs_of ropes.old into.old)) }
+    ensures net { OnOk result (net_sum (profile into.new) ≡ net_sum_all sides.items + net_sum (profile into.old)) }
+    ensures ropes { HaveRopes ropes.new into.new }
+    ensures kept { Extends ropes.old ropes.new }
+    ensures steps { OnOk result (steps.new ≡ steps.old + segment_count sides.items) }
+    ensures most_steps { steps.new ≤ steps.old + segment_count sides.items }
+    ensures ticks_stay { steps.old ≤ steps.new }
+{
+    below();
+    let mut sides = sides;
+    while let Some(side) = sides.pop() {
+        move_all(side, into, true, ropes, steps)?;
+    }
+    Ok(())
+}
+
+// Moves later sides into one. The nearest of them stands last.
+fn take_after<L: Ledger>(
+    sides: Vec<Side>,
+    into: &mut Side,
+    ropes: &mut Ropes,
+    steps: &mut Steps<L>,
+) -> Result<(), NoMemory>
+    requires sides { AllHaveRopes ropes.old sides.items }
+    requires into { HaveRopes ropes.old into.old }
+    requires net { net_sum_all sides.items + net_sum (profile into.old) ≤ greatest_memory }
+    ensures segments { OnOk result (
+        runs_of ropes.new into.new ≡ insert_runs (runs_of ropes.old into.old) (merge_runs (all_runs_of ropes.old (reverse sides.items)))) }
+    ensures ropes { HaveRopes ropes.new into.new }
+    ensures kept { Extends ropes.old ropes.new }
+    ensures steps { OnOk result (steps.new ≡ steps.old + segment_count sides.items) }
+    ensures most_steps { steps.new ≤ steps.old + segment_count sides.items }
+    ensures ticks_stay { steps.old ≤ steps.new }
+{
+    below();
+    let mut sides = sides;
+    while let Some(side) = sides.pop() {
+        move_all(side, into, false, ropes, steps)?;
+    }
+    let _rising = into.len();
+    Ok(())
+}
+
+// Moves each segment of one side into another, a step for each.
+fn move_all<L: Ledger>(
+    from: Side,
+    into: &mut Side,
+    before: bool,
+    ropes: &mut Ropes,
+    steps: &mut Steps<L>,
+) -> Result<(), NoMemory>
+    requires from { HaveRopes ropes.old from }
+    requires into { HaveRopes ropes.old into.old }
+    requires net { net_sum (profile from) + net_sum (profile into.old) ≤ greatest_memory }
+    ensures from { IsSide (profile from) }
+    ensures into { IsSide (profile into.old) }
+    ensures segments { OnOk result (runs_of ropes.new into.new ≡ move_runs before (runs_of ropes.old from) (runs_of ropes.old into.old)) }
+    ensures net { OnOk result (net_sum (profile into.new) ≡ net_sum (profile from) + net_sum (profile into.old)) }
+    ensures ropes { HaveRopes ropes.new into.new }
+    ensures kept { Extends ropes.old ropes.new }
+    ensures steps { OnOk result (steps.new ≡ steps.old + length from) }
+    ensures most_steps { steps.new ≤ steps.old + length from }
+    ensures ticks_stay { steps.old ≤ steps.new }
+{
+    below();
+    let _sides = (from.len(), into.len());
+    let mut from = from;
+    while let Some(seg) = from.take_first() {
+        steps.tick();
+        into.insert(ropes, seg, before)?;
+    }
+    Ok(())
+}

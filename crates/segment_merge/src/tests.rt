@@ -1,0 +1,136 @@
+//! Worked examples, by hand, and random sides against a plain merge.
+
+use crate::NoMemory;
+use crate::bench::{One, Row, merged_rows, three_steps};
+use std::alloc::Global;
+use std::marker::Brand;
+use std::process::Abort;
+use std::sync::ledger::Blank;
+use std::test::Fail;
+
+// A list of segments, from their numbers.
+fn ones(alloc: Global, numbers: &[(u64, u64, u32)]) -> Result<Vec<One>, NoMemory> {
+    let mut list = Vec::new(alloc);
+    for (up, net, task) in numbers {
+        list.push(One {
+            up: *up,
+            net: *net,
+            task: *task,
+        })?;
+    }
+    Ok(list)
+}
+
+// Three sides with three, two and one segments.
+fn three_two_one(alloc: Global) -> Result<Vec<Vec<One>>, NoMemory> {
+    let mut lists = Vec::new(alloc);
+    lists.push(ones(alloc, &[(2, 1, 1), (5, 2, 2), (9, 4, 3)])?)?;
+    lists.push(ones(alloc, &[(1, 0, 4), (5, 3, 5)])?)?;
+    lists.push(ones(alloc, &[(9, 6, 6)])?)?;
+    Ok(lists)
+}
+
+// The row has these numbers and tasks.
+fn assert_row(rt: &impl Abort, row: &Row, up: u64, net: u64, tasks: &[u32]) {
+    assert_eq!(rt; row.up, up);
+    assert_eq!(rt; row.net, net);
+    assert_eq!(rt; row.tasks.as_slice(), tasks);
+}
+
+#[test]
+fn sides_are_merged_in_rising_order(rt: HostRuntime) -> Result<(), Fail> {
+    let alloc = rt.alloc();
+    let lists = three_two_one(alloc)?;
+    let rows = merged_rows::<Brand>(alloc, Blank::new(1), &lists)?;
+    assert_eq!(rt; rows.len(), 4);
+    assert_row(&rt, &rows[0], 1, 0, &[4]);
+    assert_row(&rt, &rows[1], 2, 1, &[1]);
+    assert_row(&rt, &rows[2], 5, 5, &[2, 5]);
+    assert_row(&rt, &rows[3], 9, 10, &[3, 6]);
+    let none = Vec::new(alloc);
+    assert!(rt; merged_rows::<Brand>(alloc, Blank::new(1), &none)?.is_empty());
+    Ok(())
+}
+
+// That the steps are at most three is proved of `three_steps`.
+#[test]
+fn three_two_and_one_segments_take_three_steps(rt: HostRuntime) -> Result<(), Fail> {
+    let alloc = rt.alloc();
+    let lists = three_two_one(alloc)?;
+    assert_eq!(rt;
+        three_steps::<Brand>(alloc, Blank::new(1), &lists)?,
+        Some(4)
+    );
+    Ok(())
+}
+
+// The segments of this `up` of all lists, in the order of the lists.
+fn row_at(alloc: Global, up: u64, lists: &[Vec<One>]) -> Result<Row, NoMemory> {
+    let mut net = 0u64;
+    let mut tasks = Vec::new(alloc);
+    for list in lists {
+        for one in list {
+            if one.up == up {
+                net = net.saturating_add(one.net);
+                tasks.push(one.task)?;
+            }
+        }
+    }
+    Ok(Row { up, net, tasks })
+}
+
+// A number below `below`, by a linear congruential generator.
+fn next(state: &mut u64, below: u64) -> u64 {
+    *state = state
+        .wrapping_mul(6364136223846793005)
+        .wrapping_add(1442695040888963407);
+    (*state >> 33) % below.max(1)
+}
+
+// At most five lists of at most six segments, whose `up` values rise below 19.
+fn random_lists(alloc: Global, state: &mut u64) -> Result<Vec<Vec<One>>, NoMemory> {
+    let mut lists = Vec::new(alloc);
+    let mut task = 0u32;
+    for _ in 0..next(state, 6) {
+        let mut list = Vec::new(alloc);
+        let mut up = 0u64;
+        for _ in 0..next(state, 7) {
+            up = up.saturating_add(next(state, 3)).saturating_add(1);
+            list.push(One {
+                up,
+                net: next(state, 4),
+                task,
+            })?;
+            task = task.saturating_add(1);
+        }
+        lists.push(list)?;
+    }
+    Ok(lists)
+}
+
+// The merged rows are those of each `up` in turn.
+fn compare(rt: &impl Abort, alloc: Global, lists: &[Vec<One>]) -> Result<(), Fail> {
+    let rows = merged_rows::<Brand>(alloc, Blank::new(1), lists)?;
+    let mut place = 0;
+    for up in 0..20 {
+        let row = row_at(alloc, up, lists)?;
+        if !row.tasks.is_empty() {
+            assert!(rt; place < rows.len());
+            assert_row(rt, &rows[place], up, row.net, row.tasks.as_slice());
+            place += 1;
+        }
+    }
+    assert_eq!(rt; place, rows.len());
+    Ok(())
+}
+
+#[test]
+fn random_sides_are_merged_as_plainly(rt: HostRuntime) -> Result<(), Fail> {
+    let alloc = rt.alloc();
+    let mut state = 1;
+    for _ in 0..100 {
+        let lists = random_lists(alloc, &mut state)?;
+        compare(&rt, alloc, &lists)?;
+    }
+    Ok(())
+}
