@@ -12,11 +12,16 @@ use Rattle.mp_system.specs.Traversal.{IsTraversal, first_fault}
 use Rattle.tree_input.specs.declared.node.Node.{Node}
 use Rattle.tree_input.specs.Tree.{system_of_nodes}
 use Rattle.tree_input.specs.TreeFile.{ReadsTree, RefusesTree}
+use Rattle.sp_terms.specs.declared.position.Position.{Position}
+use Rattle.sp_terms.specs.Term.{Term}
+use Rattle.sp_terms.specs.Postfix.{Denotes}
+use Rattle.sp_terms.specs.SystemOfTerm.{system_of_term}
+use Rattle.sp_terms.specs.WorkflowFile.{ReadsWorkflow, RefusesWorkflow}
 use Rattle.ordering.specs.OrderFile.{ReadsOrder, RefusesOrder}
 use Rattle.memplan.specs.declared.status.Status.{Status}
 use Rattle.memplan.specs.declared.status.Status.TheVariants as status
-use Rattle.memplan.specs.Request.{Request, replay_tree, FileRole, tree_file, order_file, NamedFile, files_of}
-use Rattle.memplan.specs.Refusals.{limit_word, tree_word, order_file_word, order_word}
+use Rattle.memplan.specs.Request.{Request, replay, FileRole, tree_file, workflow_file, order_file, NamedFile, input_file, files_of}
+use Rattle.memplan.specs.Refusals.{limit_word, tree_word, workflow_word, order_file_word, order_word}
 
 pub record Answer : Type 0 where
   pub status : Status
@@ -57,18 +62,30 @@ IsRefusedFile {K} file word refuses text answer =
 abbrev pub IsTree : List ℕ → List Node → Type 0
 IsTree text nodes = IsWithinBytes text × ReadsTree text nodes
 
+abbrev pub IsWorkflow : List ℕ → List Position → Type 0
+IsWorkflow text positions = IsWithinBytes text × ReadsWorkflow text positions
+
 abbrev pub IsOrder : List ℕ → List ℕ → Type 0
 IsOrder text numbers = IsWithinBytes text × ReadsOrder text numbers
 
 -- the file is refused with this answer, after these texts of earlier files
 abbrev pub IsRefused : FileRole → List (List ℕ) → List ℕ → Answer → Type 0
 IsRefused tree_file earlier text answer = IsRefusedFile (codes "tree") tree_word (RefusesTree text) text answer
+IsRefused workflow_file earlier text answer = IsRefusedFile (codes "workflow") workflow_word (RefusesWorkflow text) text answer
 IsRefused order_file earlier text answer = IsRefusedFile (codes "order") order_file_word (RefusesOrder text) text answer
 
 -- the file has a value, after these texts of earlier files
 abbrev pub IsAccepted : FileRole → List (List ℕ) → List ℕ → Type 0
 IsAccepted tree_file earlier text = (nodes : List Node) × IsTree text nodes
+IsAccepted workflow_file earlier text = (positions : List Position) × IsWorkflow text positions
 IsAccepted order_file earlier text = (numbers : List ℕ) × IsOrder text numbers
+
+-- the system of an input: of a tree, or of the term that a workflow's positions denote
+abbrev pub IsSystemOf : FileRole → List ℕ → TaskSystem → Type 0
+IsSystemOf tree_file text system = (nodes : List Node) × IsTree text nodes × (system ≡ system_of_nodes nodes)
+IsSystemOf workflow_file text system =
+    (positions : List Position) × (term : Term) × IsWorkflow text positions × Denotes positions term × (system ≡ system_of_term term)
+IsSystemOf order_file text system = ⊥
 
 -- ---- all files of a request, in turn
 
@@ -98,9 +115,9 @@ IsReplay system order answer =
 
 -- what is answered where all files have values
 abbrev pub IsReport : Request → List (List ℕ) → Answer → Type 0
-IsReport (replay_tree _ _) (tree ∷ order ∷ []) answer =
-    (nodes : List Node) × (numbers : List ℕ) × IsTree tree nodes × IsOrder order numbers × IsReplay (system_of_nodes nodes) numbers answer
-IsReport (replay_tree _ _) _ answer = ⊥
+IsReport (replay input order_name) (text ∷ order ∷ []) answer =
+    (system : TaskSystem) × (numbers : List ℕ) × IsSystemOf (input_file input).role text system × IsOrder order numbers × IsReplay system numbers answer
+IsReport (replay input order_name) _ answer = ⊥
 
 -- the answer to a request over the texts of its files
 abbrev pub IsAnswer : Request → List (List ℕ) → Answer → Type 0

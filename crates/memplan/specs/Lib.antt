@@ -1,6 +1,7 @@
 pub mod Words
 pub mod GivenViews
 pub mod Request
+pub mod RequestViews
 pub mod Refusals
 pub mod Answer
 pub mod Clauses

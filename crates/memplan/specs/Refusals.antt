@@ -6,6 +6,8 @@ use Rattle.mp_system.specs.declared.system.OrderKind.{OrderKind}
 use Rattle.mp_system.specs.declared.system.OrderKind.TheVariants as orders
 use Rattle.tree_input.specs.declared.node.TreeKind.{TreeKind}
 use Rattle.tree_input.specs.declared.node.TreeKind.TheVariants as trees
+use Rattle.sp_terms.specs.declared.kind.WorkflowKind.{WorkflowKind}
+use Rattle.sp_terms.specs.declared.kind.WorkflowKind.TheVariants as workflows
 use Rattle.ordering.specs.declared.order_file.OrderFileKind.{OrderFileKind}
 use Rattle.ordering.specs.declared.order_file.OrderFileKind.TheVariants as order_files
 
@@ -28,6 +30,16 @@ tree_word trees.Cycle = codes "cycle"
 tree_word trees.Count = codes "count"
 tree_word trees.NoEnd = codes "no-end"
 tree_word trees.Share = codes "share"
+
+abbrev pub workflow_word : WorkflowKind → List ℕ
+workflow_word workflows.Header = codes "header"
+workflow_word workflows.Word = codes "word"
+workflow_word workflows.Number = codes "number"
+workflow_word workflows.StackShort = codes "stack-short"
+workflow_word workflows.NotOneTerm = codes "not-one-term"
+workflow_word workflows.TaskCount = codes "task-count"
+workflow_word workflows.NoEnd = codes "no-end"
+workflow_word workflows.Share = codes "share"
 
 abbrev pub order_file_word : OrderFileKind → List ℕ
 order_file_word order_files.Number = codes "number"

@@ -7,6 +7,7 @@ ghost use Rattle.memplan.specs.Refusals as words;
 use mp_system::OrderKind;
 use mp_text::LimitName;
 use ordering::OrderFileKind;
+use sp_terms::WorkflowKind;
 use tree_input::TreeKind;
 
 pub fn limit_word(limit: LimitName) -> &'static str
@@ -38,6 +39,22 @@ pub fn tree_word(kind: TreeKind) -> &'static str
         TreeKind::Count => "count",
         TreeKind::NoEnd => "no-end",
         TreeKind::Share => "share",
+    }
+}
+
+pub fn workflow_word(kind: WorkflowKind) -> &'static str
+    ensures word { result.now ≡ words.workflow_word kind }
+    ensures token { IsTrue (is_token result.now) }
+{
+    match kind {
+        WorkflowKind::Header => "header",
+        WorkflowKind::Word => "word",
+        WorkflowKind::Number => "number",
+        WorkflowKind::StackShort => "stack-short",
+        WorkflowKind::NotOneTerm => "not-one-term",
+        WorkflowKind::TaskCount => "task-count",
+        WorkflowKind::NoEnd => "no-end",
+        WorkflowKind::Share => "share",
     }
 }
 

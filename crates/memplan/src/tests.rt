@@ -3,6 +3,7 @@
 mod faults;
 mod limits;
 mod rows;
+mod workflows;
 
 use crate::{Status, run_words};
 use mp_outside::{MemFiles, MemSink, NoGate};
@@ -21,21 +22,32 @@ fn words_of(alloc: Global, words: &[&str]) -> Result<Vec<String>, AllocError> {
     Ok(all)
 }
 
-// Files with a tree under the name `t` and an order under the name `o`.
-fn files_of(alloc: Global, tree: &[u8], order: &[u8]) -> Result<MemFiles, AllocError> {
+// Files with an input under the name `t` and an order under the name `o`.
+fn files_of(alloc: Global, input: &[u8], order: &[u8]) -> Result<MemFiles, AllocError> {
     let mut files = MemFiles::new(alloc)?;
-    files.put("t", tree)?;
+    files.put("t", input)?;
     files.put("o", order)?;
     Ok(files)
 }
 
-// Runs `replay --tree t --order o` on these files, into this sink.
+// Runs `replay` on these files, of which `t` is the input by this option, into this sink.
+fn replay_input<R: Threads + Sync>(
+    rt: &R,
+    alloc: Global,
+    option: &str,
+    files: &mut MemFiles,
+    sink: &mut MemSink,
+) -> Result<Status, AllocError> {
+    let words = words_of(alloc, &["replay", option, "t", "--order", "o"])?;
+    Ok(run_words(rt, alloc, &words, files, sink, &NoGate))
+}
+
+// The same for a tree.
 fn replay_into<R: Threads + Sync>(
     rt: &R,
     alloc: Global,
     files: &mut MemFiles,
     sink: &mut MemSink,
 ) -> Result<Status, AllocError> {
-    let words = words_of(alloc, &["replay", "--tree", "t", "--order", "o"])?;
-    Ok(run_words(rt, alloc, &words, files, sink, &NoGate))
+    replay_input(rt, alloc, "--tree", files, sink)
 }

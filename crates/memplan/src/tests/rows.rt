@@ -121,7 +121,7 @@ fn replays_of_trees(rt: HostRuntime) -> Result<(), Fail> {
 
 #[test]
 fn words_without_a_request(rt: HostRuntime) -> Result<(), Fail> {
-    let rows: [&[&str]; 16] = [
+    let rows: [&[&str]; 18] = [
         &[],
         &["replay"],
         &["replay", "--tree", "t"],
@@ -138,6 +138,8 @@ fn words_without_a_request(rt: HostRuntime) -> Result<(), Fail> {
         &["Replay", "--tree", "t", "--order", "o"],
         &["--tree", "t", "replay", "--order", "o"],
         &["plan", "--tree", "t"],
+        &["replay", "--tree", "t", "--workflow", "t", "--order", "o"],
+        &["replay", "--workflow", "t"],
     ];
     for row in rows {
         let words = words_of(rt.alloc(), row)?;

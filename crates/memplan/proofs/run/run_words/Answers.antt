@@ -1,6 +1,7 @@
 use Rattle.std.proofs.Common.{◌≡◌, ◌∙◌, ℕ, ◌<◌, List, length, take, map, string_bytes, Some, sym, ap, subst, refl}
 use Rattle.mp_outside.specs.Outside.{Appended}
-use Rattle.memplan.specs.Request.{Request, replay_tree, files_of, request_of}
+use Rattle.memplan.specs.Request.{Request, replay, files_of, request_of}
+use Rattle.memplan.specs.RequestViews.{input_view}
 use Rattle.memplan.specs.Clauses.{AreQuiet}
 use Rattle.memplan.specs.Answer.{Answer}
 use Rattle.memplan.proofs.AnswerLemmas.{quiet_has_not_failed}
@@ -8,7 +9,7 @@ use Rattle.memplan.proofs.run.run_words.Goals as goal
 
 pub returns-in-Err-ReadFault-clause-complete : goal.returns-in-Err-ReadFault-clause-complete
 returns-in-Err-ReadFault-clause-complete g c = λ request has quiet _.
-    let mine = replay_tree c.in-Ok-Some.names.tree.now c.in-Ok-Some.names.order.now in
+    let mine = replay (input_view c.in-Ok-Some.names.input) c.in-Ok-Some.names.order.now in
     let has_mine : request_of (map (λ w. string_bytes w) c.args.words.now) ≡ Some mine = rw c.in-Ok-Some.field-0-is at c.in-Ok-Some.ensures in
     let same : request ≡ mine = cc (sym has ∙ has_mine) in
     absurd (quiet_has_not_failed (g.F.Files.bytes_of c.args.files.now) (g.F.Files.faults_of c.args.files.now) (g.F.Files.faults_of c.report.new.files) (files_of mine)
@@ -18,7 +19,7 @@ returns-in-Err-ReadFault-clause-complete g c = λ request has quiet _.
 pub returns-in-Ok-write_all-clause-answered : goal.returns-in-Ok-write_all-clause-answered
 returns-in-Ok-write_all-clause-answered g c = λ _.
     let appended = λ (text : List ℕ). Appended (g.S.Sink.written c.args.sink.now) (g.S.Sink.written c.write_all.new.sink) text in (
-      replay_tree c.in-Ok-Some.names.tree.now c.in-Ok-Some.names.order.now,
+      replay (input_view c.in-Ok-Some.names.input) c.in-Ok-Some.names.order.now,
       rw c.in-Ok-Some.field-0-is at c.in-Ok-Some.ensures,
       λ texts are.
           let a = c.in-Ok.ensures.told texts are in (
@@ -34,7 +35,7 @@ returns-in-Ok-write_all-clause-answered g c = λ _.
 pub returns-clause-proper_prefix : goal.returns-clause-proper_prefix
 returns-clause-proper_prefix g c = λ _.
     let cut = λ (text : List ℕ). (n : ℕ) × (n < length text) × Appended (g.S.Sink.written c.args.sink.now) (g.S.Sink.written c.write_all.new.sink) (take n text) in (
-      replay_tree c.in-Ok-Some.names.tree.now c.in-Ok-Some.names.order.now,
+      replay (input_view c.in-Ok-Some.names.input) c.in-Ok-Some.names.order.now,
       rw c.in-Ok-Some.field-0-is at c.in-Ok-Some.ensures,
       λ texts are.
           let a = c.in-Ok.ensures.told texts are in
