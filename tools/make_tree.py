@@ -8,13 +8,7 @@ The numbers come from a small generator with a fixed seed: the same call makes t
 """
 import sys
 
-
-def words(seed):
-    """Numbers of 32 bits, one after another."""
-    state = seed
-    while True:
-        state = (state * 6364136223846793005 + 1442695040888963407) % 2**64
-        yield state >> 32
+from numbers_from_a_seed import words
 
 
 def main():
