@@ -5,3 +5,4 @@ pub mod TableLemmas
 pub mod PermLemmas
 pub mod PermFileLemmas
 pub mod IdentityLemmas
+pub mod FillLemmas

@@ -4,3 +4,5 @@ pub mod Perm
 pub mod PermTables
 pub mod PermFile
 pub mod PermReader
+pub mod Fill
+pub mod Samples

@@ -1,7 +1,8 @@
-//! Laws of order files, permutation files and permutations: what holds of each, without a call.
+//! Laws of order files, permutation files, permutations and the fill: what holds of each, without a call.
 
-ghost use Rattle.std.specs.Prelude.{◌≡◌, ◌≤◌, ◌⊎◌, ℕ, List};
+ghost use Rattle.std.specs.Prelude.{◌≡◌, ◌≤◌, ◌⊎◌, ℕ, Bool, List};
 ghost use Rattle.mp_text.specs.declared.refusals.Refusal.{Refusal};
+ghost use Rattle.ordering.specs.Fill.{graph_at, filled, parent_of, IsParent};
 ghost use Rattle.ordering.specs.OrderFile.{ReadsOrder, RefusesOrder};
 ghost use Rattle.ordering.specs.Perm.{IsPerm, vertex_at, place_of};
 ghost use Rattle.ordering.specs.PermFile.{ReadsPerm, RefusesPerm};
@@ -47,4 +48,15 @@ pub fn read_is_perm()
 pub fn places_are_inverse()
     ensures vertex { (n : ℕ) (order : List ℕ) → IsPerm n order → (v : ℕ) → v ≤ n → vertex_at order (place_of order v) ≡ v }
     ensures place { (n : ℕ) (order : List ℕ) → IsPerm n order → (k : ℕ) → k ≤ n → place_of order (vertex_at order k) ≡ k }
+{}
+
+/// To eliminate the columns below j leaves the pairs that are there once their later neighbours were joined: the fill has two definitions.
+pub fn filling_is_elimination()
+    ensures { (joined : ℕ → ℕ → Bool) (j a b : ℕ) → j ≤ a → j ≤ b → filled joined j a b ≡ graph_at joined j a b }
+{}
+
+/// The parent of a column is the first column after it in its structure, or 0 where there is none, and no other number is that.
+pub fn parent_is_first()
+    ensures parent { (joined : ℕ → ℕ → Bool) (n j : ℕ) → IsParent joined n j (parent_of joined n j) }
+    ensures one { (joined : ℕ → ℕ → Bool) (n j p q : ℕ) → IsParent joined n j p → IsParent joined n j q → p ≡ q }
 {}

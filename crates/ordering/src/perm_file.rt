@@ -6,9 +6,9 @@ ghost use Rattle.ordering.specs.Perm.{IsVertex, place_of};
 ghost use Rattle.ordering.specs.PermFile.{fault_at, perm_token_tests, ReadsPerm, IsPermRefusal};
 ghost use Rattle.ordering.specs.PermReader.{perm_token_step};
 
-use crate::perm::Perm;
+use crate::perm::{NoMemory, Perm};
 use mp_text::{Fault, Line, Reader, Refusal, number, read_with, tokens};
-use std::alloc::{AllocError, Global};
+use std::alloc::Global;
 use std::marker::Model;
 
 /// What is wrong with a permutation file.
@@ -51,7 +51,7 @@ impl Model for PermReader {
 }
 
 impl PermReader {
-    fn new(alloc: Global, n: u32) -> Result<PermReader, AllocError>
+    fn new(alloc: Global, n: u32) -> Result<PermReader, NoMemory>
         ensures { IfOk result (λ reader. reader ≡ record { n = n; numbers = [] }) }
     {
         let mut vertices = Vec::with_capacity(alloc, n as usize + 1)?;

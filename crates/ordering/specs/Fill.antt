@@ -1,0 +1,53 @@
+-- The fill of a symmetric pattern: what a sparse factorization fills in as the vertices are eliminated one after another, and with it the
+-- structure, the parent and the count of each column. Rose 1972; Liu, The role of elimination trees in sparse factorization, 1990.
+--
+-- A pattern is a test of two vertices: whether they are joined. Columns are the vertices by the order in which they are eliminated, so column j
+-- is the j-th, and both are counted from 1.
+use Rattle.std.specs.Prelude.{◌==◌, ℕ, zero, suc, ◌+◌, ◌-◌, ◌<◌, ◌≤◌, Bool, not, nat_lt, ◌&&◌, ◌||◌, IsTrue, List, find, unwrap_or}
+use Rattle.std.specs.List.{range_with_len, count_by}
+use Rattle.ordering.specs.Perm.{vertex_at}
+
+-- pairs are unordered, and of different vertices
+pub record IsPattern (joined : ℕ → ℕ → Bool) : Type 0 where
+  pub symmetric : (a b : ℕ) → IsTrue (joined a b) → IsTrue (joined b a)
+  pub irreflexive : (a : ℕ) → ¬ (IsTrue (joined a a))
+
+-- the pattern by columns: of the vertices in the order in which they are eliminated
+abbrev pub renamed : (ℕ → ℕ → Bool) → List ℕ → ℕ → ℕ → Bool
+renamed joined order a b = joined (vertex_at order a) (vertex_at order b)
+
+-- the pattern without a vertex, whose neighbours are joined to each other
+unfoldable pub eliminate : (ℕ → ℕ → Bool) → ℕ → ℕ → ℕ → Bool
+eliminate joined v a b = not (a == v) && (not (b == v) && (joined a b || (not (a == b) && (joined v a && joined v b))))
+
+-- the pattern as column j is eliminated: each column below it was, from the lowest on
+unfoldable pub graph_at : (ℕ → ℕ → Bool) → ℕ → ℕ → ℕ → Bool
+graph_at joined zero a b = joined a b
+graph_at joined (suc j) a b = eliminate (graph_at joined j) j a b
+
+-- whether a row is in the structure of column j: j itself, or a neighbour of j as j is eliminated
+abbrev pub structure_of : (ℕ → ℕ → Bool) → ℕ → ℕ → Bool
+structure_of joined j i = i == j || graph_at joined j j i
+
+-- of n columns, those after j
+abbrev pub columns_after : ℕ → ℕ → List ℕ
+columns_after n j = range_with_len (j + 1) (n - j)
+
+-- the parent of column j: the first after it in its structure, or 0
+abbrev pub parent_of : (ℕ → ℕ → Bool) → ℕ → ℕ → ℕ
+parent_of joined n j = unwrap_or (find (structure_of joined j) (columns_after n j)) 0
+
+-- the count of column j: the size of its structure
+abbrev pub count_of : (ℕ → ℕ → Bool) → ℕ → ℕ → ℕ
+count_of joined n j = count_by (structure_of joined j) (range_with_len 1 n)
+
+-- the same without an elimination: the pattern once for each column below j, from the lowest on, all pairs of its later neighbours were put in
+unfoldable pub filled : (ℕ → ℕ → Bool) → ℕ → ℕ → ℕ → Bool
+filled joined zero a b = joined a b
+filled joined (suc j) a b =
+    filled joined j a b || (nat_lt j a && (nat_lt j b && (not (a == b) && (filled joined j j a && filled joined j j b))))
+
+-- p is the first column after j in its structure, or 0 where there is none
+pub record IsParent (joined : ℕ → ℕ → Bool) (n j p : ℕ) : Type 0 where
+  pub reached : 0 < p → (j < p) × (p ≤ n) × IsTrue (structure_of joined j p)
+  pub least : (i : ℕ) → j < i → i ≤ n → IsTrue (structure_of joined j i) → (0 < p) × (p ≤ i)
