@@ -1,5 +1,5 @@
 -- Every state of a term stands after some of its tasks, and whatever was done can be completed.
-use Rattle.std.proofs.Common.{◌≡◌, ℕ, ◌+◌, ◌<◌, ◌≤◌, inl, inr, Bool, true, false, cond, refl, sym, subst, ap, arith, ◌∙◌, List, [], ◌∷◌, ◌++◌, length, append_assoc, Option, Some, None}
+use Rattle.std.proofs.Common.{◌≡◌, ℕ, ◌+◌, ◌≤◌, inl, inr, Bool, true, false, cond, refl, sym, subst, ap, arith, ◌∙◌, List, [], ◌∷◌, ◌++◌, length, append_assoc, Option, Some, None}
 use Rattle.std.specs.Prelude.{◌==◌, ◌||◌, not, All}
 use Rattle.std.specs.List.{count_by, list_all}
 use Rattle.std.proofs.lemmas.Bool.{eqb-true}

@@ -3,7 +3,6 @@ use Rattle.std.proofs.Common.{◌≡◌, ℕ, suc, ◌+◌, ◌-◌, ◌<◌, �
 use Rattle.std.specs.Prelude.{◌==◌, ◌||◌, All}
 use Rattle.std.proofs.lemmas.Bool.{eqb-true}
 use Rattle.std.proofs.lemmas.List.Elements.{All-head, All-tail}
-use Rattle.std.specs.List.{count_by}
 use Rattle.std.proofs.lemmas.List.Folds.{list_any-append}
 use Rattle.mp_system.specs.Memory.{stands_in}
 use Rattle.mp_system.specs.System.{IsTask, TaskSystem, need_of}
@@ -16,10 +15,10 @@ use Rattle.sp_term_laws.proofs.Words.{is_there, need_with, no_task}
 use Rattle.sp_term_laws.specs.Along.{memory_while, memory_after}
 use Rattle.sp_term_laws.specs.Moves.{State, States, memory_of, memory_of_parts, first_state, first_states}
 use Rattle.sp_term_laws.proofs.At.{Ended, held-append, held-fresh, held-ended}
-use Rattle.sp_term_laws.proofs.Ends.{split2, clash}
+use Rattle.sp_term_laws.proofs.Ends.{clash}
 use Rattle.sp_term_laws.proofs.Walks.{mem-first, least-le}
-use Rattle.sp_term_laws.proofs.Next.{ne-eqb, eqb_same, made-outside, made-first, length-tasks, need-left, need-right, need-first, need-last, ended-at}
-use Rattle.sp_term_laws.proofs.Orders.{all-here, has-count, bool_cases, memory_at, start_at, traversal-ended}
+use Rattle.sp_term_laws.proofs.Next.{ne-eqb, made-outside, made-first, length-tasks, need-left, need-right, need-first, need-last, ended-at}
+use Rattle.sp_term_laws.proofs.Orders.{all-here, bool_cases, memory_at, start_at, traversal-ended}
 use Rattle.sp_term_laws.proofs.Trails.{Trail, walks, trail-legal, trail-join, second-trail}
 use Rattle.sp_term_laws.proofs.SideLaws.{lt_cases}
 use Rattle.sp_term_laws.proofs.Composed.{held-same, made-same, eqb-iff}

@@ -12,11 +12,10 @@ use Rattle.mp_system.specs.declared.system.Item.{Item}
 use Rattle.sp_terms.specs.SystemOfTerm.{own_number, task_count, task_count_of_parts, system_of_term}
 use Rattle.sp_terms.specs.Term.{Term, hold, series, par, Parts, no_parts, part, forward, backward}
 use Rattle.sp_term_laws.proofs.Parts.{HasParts}
-use Rattle.sp_term_laws.proofs.Words.{done_or}
 use Rattle.sp_term_laws.specs.Along.{memory_after}
 use Rattle.sp_term_laws.specs.Moves.{State, States, memory_of, first_state, first_states}
 use Rattle.sp_term_laws.proofs.At.{Ended, At, AllAt, held-at}
-use Rattle.sp_term_laws.proofs.Ends.{In, clash, split2}
+use Rattle.sp_term_laws.proofs.Ends.{In, clash}
 use Rattle.sp_term_laws.proofs.Next.{Ready, fresh-at}
 
 -- each task in turn is new, and its producers are done

@@ -1,14 +1,14 @@
 -- The traversals of a term's system are the ways through its states from the first to the last.
-use Rattle.std.proofs.Common.{◌≡◌, ℕ, ◌+◌, ◌-◌, ◌<◌, ◌≤◌, inl, inr, max, refl, sym, subst, ap, arith, ◌∙◌, List, [], ◌∷◌, ◌++◌, length, reverse, append_assoc, None}
+use Rattle.std.proofs.Common.{◌≡◌, ℕ, ◌+◌, ◌<◌, ◌≤◌, inl, inr, max, refl, sym, subst, ap, arith, ◌∙◌, List, [], ◌∷◌, ◌++◌, length, reverse, append_assoc, None}
 use Rattle.std.specs.Prelude.{◌↔◌}
 use Rattle.std.proofs.lemmas.List.{append-nil}
 use Rattle.mp_system.specs.System.{TaskSystem}
 use Rattle.mp_system.specs.Memory.{peak_from, peak_of}
 use Rattle.mp_system.specs.Traversal.{IsTraversal}
-use Rattle.sp_terms.specs.SystemOfTerm.{own_number, task_count, task_count_of_parts, tasks_of_term, items_of_term, system_of_term}
-use Rattle.sp_terms.specs.Term.{Term, hold, series, par, Parts, no_parts, part, Direction, forward, backward, initial_of, final_of, hill_of, IsAllowed, AreAllowed}
+use Rattle.sp_terms.specs.SystemOfTerm.{own_number, task_count, tasks_of_term, items_of_term, system_of_term}
+use Rattle.sp_terms.specs.Term.{Term, hold, series, par, Parts, no_parts, part, Direction, forward, backward, IsAllowed, AreAllowed}
 use Rattle.sp_term_laws.specs.Along.{memory_after, memory_while}
-use Rattle.sp_term_laws.specs.Moves.{other, State, States, memory_of, memory_of_parts, first_state, first_states, Step, Steps, Reached, begin, next}
+use Rattle.sp_term_laws.specs.Moves.{State, States, memory_of, memory_of_parts, first_state, Step, Steps, Reached, begin, next}
 use Rattle.sp_term_laws.specs.Ways.{Run, Runs, Way, still, onward}
 use Rattle.sp_term_laws.proofs.At.{At, Ended}
 use Rattle.sp_term_laws.proofs.Every.{legal_traversal, legal_append}

@@ -1,11 +1,11 @@
 -- Walks with the tasks that they run and the greatest memory on them.
-use Rattle.std.proofs.Common.{◌≡◌, ℕ, ◌+◌, ◌≤◌, ◌⊎◌, inl, inr, max, refl, sym, subst, ap, arith, ◌∙◌, List, [], ◌∷◌, ◌++◌, reverse, append_assoc}
+use Rattle.std.proofs.Common.{◌≡◌, ℕ, ◌+◌, ◌≤◌, inl, inr, max, refl, sym, subst, ap, arith, ◌∙◌, List, [], ◌∷◌, ◌++◌, reverse, append_assoc}
 use Rattle.std.proofs.lemmas.List.{append-nil, reverse-append}
 use Rattle.mp_system.specs.declared.system.Task.{Task}
-use Rattle.sp_terms.specs.SystemOfTerm.{own_number, task_count}
-use Rattle.sp_terms.specs.Term.{Term, hold, series, par, Parts, no_parts, part, Direction, forward, backward, hill_of}
+use Rattle.sp_terms.specs.SystemOfTerm.{task_count}
+use Rattle.sp_terms.specs.Term.{Term, hold, series, par, Parts, no_parts, part, Direction, forward, backward}
 use Rattle.sp_term_laws.specs.Moves.{other}
-use Rattle.sp_term_laws.specs.Moves.{State, States, memory_of, memory_of_parts, first_state}
+use Rattle.sp_term_laws.specs.Moves.{State, States, memory_of, memory_of_parts}
 use Rattle.sp_term_laws.specs.Ways.{Run, Runs, Way, still, onward, Ways, stills, onwards}
 
 mutual

@@ -1,4 +1,3 @@
-use Rattle.std.proofs.Common.{◌∙◌}
 use Rattle.sp_terms.specs.Term.{par, series}
 use Rattle.sp_term_laws.proofs.Parts.{has_parts}
 use Rattle.sp_term_laws.proofs.Trails.{series-walks, par-walks}
