@@ -2,7 +2,7 @@
 use Rattle.std.proofs.Common.{◌≡◌, ℕ, zero, suc, ◌+◌, ◌≤◌, inl, inr, Bool, true, false, not, ◌||◌, ◌&&◌, eqb, List, [], ◌∷◌, length, drop, refl, sym, ap, ◌∙◌, arith, All, length-drop}
 use Rattle.std.specs.List.{list_any}
 use Rattle.std.specs.List.Sorted.{IsStrictlyIncreasing}
-use Rattle.std.proofs.lemmas.Bool.{cases_eq, cases_lt, cases_Bool, eqb-true, and_parts, or_cases, not-true, false_from_ne_true}
+use Rattle.std.proofs.lemmas.Bool.{eq-eqb, cases_eq, cases_lt, cases_Bool, eqb-true, and_parts, or_cases, false_from_ne_true}
 use Rattle.std.proofs.lemmas.List.Folds.{list_any-append}
 use Rattle.std.proofs.lemmas.Grind.{get_or_after_one}
 use Rattle.std.proofs.lemmas.Bool.Decides.{nat_tests}
@@ -29,8 +29,8 @@ names_flip a b pair = or_flip (eqb pair.0 a && eqb pair.1 b) (eqb pair.0 b && eq
 pub named_flip : (pairs : List (ℕ × ℕ)) (a b : ℕ) → are_named pairs a b ≡ are_named pairs b a
 named_flip pairs a b = rw (eqb-same a b, any_same (names a b) (names b a) pairs (names_flip a b)) refl
 
-pub named_differ : (pairs : List (ℕ × ℕ)) (a b : ℕ) → are_named pairs a b ≡ true → eqb a b ≡ false
-named_differ pairs a b named = not-true (eqb a b) (and_parts (not (eqb a b)) (list_any (names a b) pairs) named).0
+never_itself : (pairs : List (ℕ × ℕ)) (a : ℕ) → are_named pairs a a ≡ false
+never_itself pairs a = rw (eq-eqb a a refl) refl
 
 All-head : {X : Type 0} (P : X → Type 0) (x : X) (xs : List X) → All P (x ∷ xs) → P x
 All-head P x xs all = all 0 x (omega arith)
@@ -92,7 +92,7 @@ is_pattern_of order pairs rows few within order_is rising joined = record {
     rising = rising;
     inside = λ a b there. let w = named_within order pairs a b within (sym (joined a b) ∙ there) in (w.1.0, omega (arith, w.1.1));
     symmetric = λ a b there. joined b a ∙ named_flip pairs b a ∙ sym (joined a b) ∙ there;
-    irreflexive = λ a b there. named_differ pairs a b (sym (joined a b) ∙ there);
+    irreflexive = λ a. joined a a ∙ never_itself pairs a;
   };
   joined = joined;
 }

@@ -23,7 +23,7 @@ pub record IsPattern (rows : List (List ℕ)) : Type 0 where
   pub rising : (v : ℕ) → IsStrictlyIncreasing (neighbours_of rows v)
   pub inside : (a b : ℕ) → is_joined rows a b ≡ true → (1 ≤ b) × (b ≤ length rows)
   pub symmetric : (a b : ℕ) → is_joined rows a b ≡ true → is_joined rows b a ≡ true
-  pub irreflexive : (a b : ℕ) → is_joined rows a b ≡ true → (a == b) ≡ false
+  pub irreflexive : (a : ℕ) → is_joined rows a a ≡ false
 
 -- ---- the pattern of a list of pairs
 
