@@ -4,3 +4,4 @@ pub mod Merging
 pub mod Levels
 pub mod Counting
 pub mod Laws
+pub mod Samples
