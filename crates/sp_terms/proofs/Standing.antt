@@ -24,7 +24,7 @@ step_back p stack out (held size st) g = g.1
 step_back p stack out (ran v a b st) g = let (x, y, ga, gb) = g.0 in (gb, (ga, g.1))
 step_back p stack out (beside ts st e) g = all_onto ts st g.0.1 g.1
 
-back_allowed : (ps : List Position) (stack out : List Term) → push_all ps stack ≡ Some out → AllAllowed out → AllAllowed stack
+pub back_allowed : (ps : List Position) (stack out : List Term) → push_all ps stack ≡ Some out → AllAllowed out → AllAllowed stack
 back_allowed [] stack out e g = subst AllAllowed (sym (some_same e)) g
 back_allowed (p ∷ ps) stack out e g = go (push p stack) refl (λ next h. back_allowed ps next out h g) e
   where

@@ -2,6 +2,7 @@ pub mod Term
 pub mod Postfix
 pub mod SystemOfTerm
 pub mod Values
+pub mod Places
 pub mod Builder
 pub mod Ends
 pub mod Sides

@@ -63,3 +63,7 @@ values_are = refl
 -- the second task of a half runs when the first part leaves 1, needs 6 beside, and 3 are produced
 pub hill_is : hill_of (series (hold 4) (task 0) (hold 1)) (task 6) (hold 3) ≡ 10
 hill_is = refl
+
+-- the same task where it takes over the 1 that the first part leaves
+pub hill_with_a_share_is : hill_of (series (hold 4) (task 0) (hold 1)) (record { extra = 6; share = 1; time = 1 }) (hold 3) ≡ 9
+hill_with_a_share_is = refl

@@ -26,7 +26,7 @@ pub use reader::read_workflow;
 use std::alloc::AllocError;
 pub use system::system_of;
 pub use terms::Terms;
-pub use value::{values, values_at};
+pub use value::{hill, values, values_at};
 
 /// No memory was found for what a call had to keep.
 pub type NoMemory = AllocError;

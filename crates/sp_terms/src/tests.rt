@@ -1,10 +1,10 @@
 ghost use Rattle.sp_terms.specs.Builder.{IsPosition};
 
 use crate::{
-    Position, PushRefusal, TermBuilder, Terms, Values, WorkflowKind, laws, print_workflow,
+    Position, PushRefusal, TermBuilder, Terms, Values, WorkflowKind, hill, laws, print_workflow,
     print_workflow_2, read_workflow, system_of, values, values_at,
 };
-use mp_system::{Item, replay};
+use mp_system::{Item, Task, replay};
 use mp_text::{Fault, LimitName, Refusal, Report};
 use std::alloc::Global;
 use std::test::Fail;
@@ -324,4 +324,30 @@ fn a_text_that_ends_early_has_no_end(rt: HostRuntime) {
     }
     assert_eq!(rt; lines, 13);
     assert_eq!(rt; read_workflow(alloc, WORKFLOW).err(), None);
+}
+
+#[test]
+fn hill_of_the_second_task_of_a_half(rt: HostRuntime) -> Result<(), Fail> {
+    let first = Values {
+        initial: 4,
+        fin: 1,
+        least: 1,
+        width: 3,
+    };
+    let second = Values {
+        initial: 3,
+        fin: 3,
+        least: 3,
+        width: 1,
+    };
+    // the share, and the hill: 1 that is left, 6 beside it and 3 that are produced, without the share
+    for (share, memory) in [(0, 10), (1, 9)] {
+        let task = Task {
+            extra: 6,
+            share,
+            time: 1,
+        };
+        assert_eq!(rt; hill(&first, &task, &second), memory);
+    }
+    Ok(())
 }

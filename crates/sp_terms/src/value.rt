@@ -1,4 +1,5 @@
-ghost use Rattle.std.specs.Prelude.{◌≡◌, ◌≤◌, ◌<◌, ◌-◌, length, vec_len, slice_index_or, IfOk};
+ghost use Rattle.std.specs.Prelude.{◌≡◌, ◌≤◌, ◌<◌, ◌+◌, ◌-◌, ◌^◌, length, vec_len, slice_index_or, IfOk};
+ghost use Rattle.sp_terms.specs.Term.{Term, hill_of};
 ghost use Rattle.sp_terms.specs.Values.{IsTask, IsTerms, AreValues, values_of, term_at};
 ghost use Rattle.sp_terms.specs.declared.position.Position.{Position};
 ghost use Rattle.sp_terms.specs.declared.position.Position.TheVariants.{Hold, Par};
@@ -6,6 +7,7 @@ ghost use Rattle.sp_terms.specs.declared.position.Position.TheVariants.{Hold, Pa
 use crate::NoMemory;
 use crate::position::{Position, Values};
 use crate::terms::Terms;
+use mp_system::Task;
 use std::alloc::Global;
 
 /// The values of the term that ends at each position, in the order of the positions.
@@ -90,4 +92,13 @@ fn par_values(positions: &[Position], before: &[Values], at: usize, parts: u32) 
         left -= 1;
     }
     all
+}
+
+/// The hill of a series: the memory while its task runs, from the values of the two terms between which it stands.
+pub fn hill(first: &Values, task: &Task, second: &Values) -> u64
+    requires small { first.now.fin + (task.now.extra + second.now.initial) < 2 ^ 64 }
+    requires share { task.now.share ≤ task.now.extra + second.now.initial }
+    ensures { (a b : Term) → first.now ≡ values_of a → second.now ≡ values_of b → result ≡ hill_of a task.now b }
+{
+    first.fin + (task.extra + second.initial - task.share)
 }
