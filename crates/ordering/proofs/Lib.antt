@@ -6,3 +6,4 @@ pub mod PermLemmas
 pub mod PermFileLemmas
 pub mod IdentityLemmas
 pub mod FillLemmas
+pub mod InverseLemmas

@@ -3,7 +3,7 @@
 --
 -- A pattern is a test of two vertices: whether they are joined. Columns are the vertices by the order in which they are eliminated, so column j
 -- is the j-th, and both are counted from 1.
-use Rattle.std.specs.Prelude.{◌==◌, ℕ, zero, suc, ◌+◌, ◌-◌, ◌<◌, ◌≤◌, Bool, not, nat_lt, ◌&&◌, ◌||◌, IsTrue, List, find, unwrap_or}
+use Rattle.std.specs.Prelude.{◌==◌, ℕ, zero, suc, ◌+◌, ◌-◌, ◌<◌, ◌≤◌, Bool, not, nat_lt, ◌&&◌, ◌||◌, IsTrue, List, find, unwrap_or, map}
 use Rattle.std.specs.List.{range_with_len, count_by}
 use Rattle.ordering.specs.Perm.{vertex_at}
 
@@ -40,6 +40,13 @@ parent_of joined n j = unwrap_or (find (structure_of joined j) (columns_after n 
 -- the count of column j: the size of its structure
 abbrev pub count_of : (ℕ → ℕ → Bool) → ℕ → ℕ → ℕ
 count_of joined n j = count_by (structure_of joined j) (range_with_len 1 n)
+
+-- parents and counts of n columns, from the first on
+abbrev pub parents_of : (ℕ → ℕ → Bool) → ℕ → List ℕ
+parents_of joined n = map (parent_of joined n) (range_with_len 1 n)
+
+abbrev pub counts_of : (ℕ → ℕ → Bool) → ℕ → List ℕ
+counts_of joined n = map (count_of joined n) (range_with_len 1 n)
 
 -- the same without an elimination: the pattern once for each column below j, from the lowest on, all pairs of its later neighbours were put in
 unfoldable pub filled : (ℕ → ℕ → Bool) → ℕ → ℕ → ℕ → Bool

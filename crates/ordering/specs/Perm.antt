@@ -1,6 +1,6 @@
 -- Permutations: the order in which the vertices of a matrix are eliminated. The vertices of n are 1 to n, and a permutation lists each of
 -- them once: the k-th is the one that is eliminated k-th. Places are counted from 1 too, and 0 is no place and no vertex.
-use Rattle.std.specs.Prelude.{◌≡◌, ◌==◌, ℕ, zero, suc, ◌+◌, ◌≤◌, List, length, slice_index_or, Option, Some, None}
+use Rattle.std.specs.Prelude.{◌≡◌, ◌==◌, ℕ, zero, suc, ◌+◌, ◌<◌, ◌≤◌, List, length, slice_index, slice_index_or, Option, Some, None}
 use Rattle.std.specs.List.{All, count_by, position}
 
 -- the vertex at a place
@@ -29,3 +29,11 @@ pub record IsPerm (n : ℕ) (order : List ℕ) : Type 0 where
   pub len : length order ≡ n
   pub vertices : All (IsVertex n) order
   pub once : (v : ℕ) → IsVertex n v → times order v ≡ 1
+
+-- two tables, of the vertex at each place and of the place of each vertex, undo each other; both have a place 0, which holds 0
+pub record AreInverse (vertices places : List ℕ) : Type 0 where
+  pub some : 0 < length vertices
+  pub same_length : length places ≡ length vertices
+  pub unused : slice_index vertices 0 ≡ 0
+  pub vertex : (k : ℕ) → k < length vertices → (slice_index vertices k < length vertices) × (slice_index places (slice_index vertices k) ≡ k)
+  pub place : (v : ℕ) → v < length vertices → (slice_index places v < length vertices) × (slice_index vertices (slice_index places v) ≡ v)

@@ -2,18 +2,11 @@
 use Rattle.std.specs.Prelude.{◌≡◌, ◌==◌, ℕ, Bool, true, false, ◌&&◌, ◌||◌, List, [], ◌∷◌, map, refl}
 use Rattle.std.specs.List.{range_with_len, list_any}
 use Rattle.ordering.specs.Perm.{vertex_at, place_of}
-use Rattle.ordering.specs.Fill.{eliminate, graph_at, filled, structure_of, renamed, parent_of, count_of}
+use Rattle.ordering.specs.Fill.{eliminate, graph_at, filled, structure_of, renamed, parents_of, counts_of}
 
 -- the pattern of some pairs
 abbrev pub joined_by : List (ℕ × ℕ) → ℕ → ℕ → Bool
 joined_by pairs a b = list_any (λ pair. (pair.0 == a && pair.1 == b) || (pair.0 == b && pair.1 == a)) pairs
-
--- parents and counts of n columns
-abbrev pub parents_of : (ℕ → ℕ → Bool) → ℕ → List ℕ
-parents_of joined n = map (parent_of joined n) (range_with_len 1 n)
-
-abbrev pub counts_of : (ℕ → ℕ → Bool) → ℕ → List ℕ
-counts_of joined n = map (count_of joined n) (range_with_len 1 n)
 
 -- ---- an order and its places
 

@@ -1,6 +1,6 @@
-ghost use Rattle.std.specs.Prelude.{◌≡◌, ℕ, ◌+◌, ◌≤◌, length, IfOk};
+ghost use Rattle.std.specs.Prelude.{◌≡◌, ℕ, ◌+◌, ◌≤◌, ◌^◌, length, drop, slice_index, IfOk};
 ghost use Rattle.std.specs.List.{range_with_len};
-ghost use Rattle.ordering.specs.Perm.{IsPerm, vertex_at, place_of};
+ghost use Rattle.ordering.specs.Perm.{AreInverse, IsPerm, vertex_at, place_of};
 
 use std::alloc::{AllocError, Global};
 use std::marker::Model;
@@ -30,6 +30,19 @@ impl Model for Perm {
 }
 
 impl Perm {
+    /// The order of two tables that undo each other: the vertex at each place, and the place of each vertex, both from 1, with 0 at 0.
+    /// It takes no memory.
+    pub fn from_tables(vertices: Vec<u32>, places: Vec<u32>) -> Perm
+        requires inverse { AreInverse vertices.items places.items }
+        requires small { length vertices.items ≤ 2 ^ 32 }
+        ensures order { result ≡ drop 1 vertices.items }
+        ensures perm { IsPerm (length result) result }
+        ensures len { length result + 1 ≡ length vertices.items }
+        ensures places { (v : ℕ) → place_of result v ≡ slice_index places.items v }
+    {
+        Self { vertices, places }
+    }
+
     /// How many vertices there are.
     pub fn len(&self) -> u32
         ensures value { result ≡ length self.now }

@@ -1,4 +1,4 @@
-use crate::{OrderFileKind, PermKind, identity, read_order, read_perm};
+use crate::{OrderFileKind, Perm, PermKind, identity, read_order, read_perm};
 use mp_text::{Fault, Refusal};
 use std::test::Fail;
 
@@ -93,5 +93,22 @@ fn the_identity(rt: HostRuntime) -> Result<(), Fail> {
     for k in 0..=3u32 {
         assert_eq!(rt; (perm.at(k), perm.place(k)), (k, k));
     }
+    Ok(())
+}
+
+#[test]
+fn an_order_of_its_tables(rt: HostRuntime) -> Result<(), Fail> {
+    let vertices = vec![in rt.alloc(); 0u32, 2, 3, 1, 4]?;
+    let places = vec![in rt.alloc(); 0u32, 3, 1, 2, 4]?;
+    let perm = Perm::from_tables(vertices, places);
+    assert_eq!(rt; perm.len(), 4);
+    assert_eq!(rt;
+        (perm.at(1), perm.at(2), perm.at(3), perm.at(4)),
+        (2, 3, 1, 4)
+    );
+    assert_eq!(rt;
+        (perm.place(1), perm.place(2), perm.place(3), perm.place(4)),
+        (3, 1, 2, 4)
+    );
     Ok(())
 }
