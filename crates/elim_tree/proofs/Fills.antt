@@ -1,0 +1,132 @@
+-- What an elimination does to the pairs of a pattern, and where the pairs that stand as a column is eliminated come from.
+use Rattle.std.proofs.Common.{sym, ◌-◌, add-zero, add-suc, ◌+◌, ◌≡◌, ◌≢◌, ◌⊎◌, inl, inr, ℕ, zero, suc, ◌<◌, ◌≤◌, Bool, true, not, ◌==◌, arith}
+use Rattle.std.proofs.lemmas.Bool.{and_parts, or_cases, and_from, or_left, or_right, eqb-false, ne_eqb, not-true, not_from_false}
+use Rattle.ordering.specs.Fill.{eliminate, graph_at, IsPattern}
+use Rattle.elim_tree.specs.Reaches.{Reaches}
+
+-- ---- one elimination
+ne_from_not : (a b : ℕ) → not (a == b) ≡ true → a ≡ b → ⊥
+ne_from_not a b h = eqb-false a b (not-true (a == b) h)
+
+not_from_ne : (a b : ℕ) → (a ≡ b → ⊥) → not (a == b) ≡ true
+not_from_ne a b h = not_from_false (a == b) (ne_eqb a b h)
+
+-- what an edge of the graph after an elimination comes from
+pub record Kept (joined : ℕ → ℕ → Bool) (v a b : ℕ) : Type 0 where
+  pub left : a ≢ v
+  pub right : b ≢ v
+  pub from : (joined a b ≡ true) ⊎ ((a ≢ b) × (joined v a ≡ true) × (joined v b ≡ true))
+
+pub kept : (joined : ℕ → ℕ → Bool) (v a b : ℕ) → eliminate joined v a b ≡ true → Kept joined v a b
+unfolding eliminate
+kept joined v a b h =
+    let p = and_parts (not (a == v)) _ h in
+    let q = and_parts (not (b == v)) _ p.1 in
+    record {
+      left = ne_from_not a v p.0;
+      right = ne_from_not b v q.0;
+      from = elim (or_cases (joined a b) _ q.1) [
+        | inl e ↦ inl e
+        | inr f ↦ inr (let r = and_parts (not (a == b)) _ f in let s = and_parts (joined v a) (joined v b) r.1 in (ne_from_not a b r.0, s.0, s.1))
+      ];
+    }
+
+pub keep_old : (joined : ℕ → ℕ → Bool) (v a b : ℕ) → a ≢ v → b ≢ v → joined a b ≡ true → eliminate joined v a b ≡ true
+unfolding eliminate
+keep_old joined v a b ha hb h =
+    and_from _ _ (not_from_ne a v ha) (and_from _ _ (not_from_ne b v hb) (or_left _ _ h))
+
+pub keep_new : (joined : ℕ → ℕ → Bool) (v a b : ℕ) → a ≢ v → b ≢ v → a ≢ b → joined v a ≡ true → joined v b ≡ true → eliminate joined v a b ≡ true
+unfolding eliminate
+keep_new joined v a b ha hb hab hva hvb =
+    and_from _ _ (not_from_ne a v ha) (and_from _ _ (not_from_ne b v hb) (or_right _ _ (and_from _ _ (not_from_ne a b hab) (and_from _ _ hva hvb))))
+
+-- ---- the graph at each moment
+pub at_suc : (joined : ℕ → ℕ → Bool) (j a b : ℕ) → graph_at joined (suc j) a b ≡ true → Kept (graph_at joined j) j a b
+unfolding graph_at
+at_suc joined j a b h = kept (graph_at joined j) j a b h
+
+pub at_zero : (joined : ℕ → ℕ → Bool) (a b : ℕ) → graph_at joined zero a b ≡ true → joined a b ≡ true
+unfolding graph_at
+at_zero joined a b h = h
+
+pub to_zero : (joined : ℕ → ℕ → Bool) (a b : ℕ) → joined a b ≡ true → graph_at joined zero a b ≡ true
+unfolding graph_at
+to_zero joined a b h = h
+
+pub to_suc_old : (joined : ℕ → ℕ → Bool) (j a b : ℕ) → a ≢ j → b ≢ j → graph_at joined j a b ≡ true → graph_at joined (suc j) a b ≡ true
+unfolding graph_at
+to_suc_old joined j a b ha hb h = keep_old (graph_at joined j) j a b ha hb h
+
+pub to_suc_new : (joined : ℕ → ℕ → Bool) (j a b : ℕ) → a ≢ j → b ≢ j → a ≢ b → graph_at joined j j a ≡ true → graph_at joined j j b ≡ true → graph_at joined (suc j) a b ≡ true
+unfolding graph_at
+to_suc_new joined j a b ha hb hab hja hjb = keep_new (graph_at joined j) j a b ha hb hab hja hjb
+
+-- edges join vertices that are not eliminated yet
+pub later : (joined : ℕ → ℕ → Bool) (k a b : ℕ) → graph_at joined k a b ≡ true → (k ≤ a) × (k ≤ b)
+later joined zero a b h = (omega arith, omega arith)
+later joined (suc j) a b h =
+    let q = at_suc joined j a b h in
+    let na = q.left in
+    let nb = q.right in
+    elim q.from [
+      | inl e ↦ let le = later joined j a b e in (omega arith, omega arith)
+      | inr f ↦ let la = later joined j j a f.1 in let lb = later joined j j b f.2 in (omega arith, omega arith)
+    ]
+
+-- an edge between two vertices stays while neither is eliminated
+pub stays : (joined : ℕ → ℕ → Bool) (k m a b : ℕ) → graph_at joined k a b ≡ true → k + m ≤ a → k + m ≤ b → graph_at joined (k + m) a b ≡ true
+stays joined k zero a b h ha hb = rw add-zero h
+stays joined k (suc m) a b h ha hb =
+    let ih = stays joined k m a b h (omega arith) (omega arith) in
+    rw add-suc (to_suc_old joined (k + m) a b (omega arith) (omega arith) ih)
+
+-- whoever is reached is among the vertices that are joined to some
+pub within : (joined : ℕ → ℕ → Bool) (n : ℕ) → ((a b : ℕ) → joined a b ≡ true → b < n) → (k a b : ℕ) → graph_at joined k a b ≡ true → b < n
+within joined n h zero a b e = h a b (at_zero joined a b e)
+within joined n h (suc j) a b e =
+    elim (at_suc joined j a b e).from [ inl f ↦ within joined n h j a b f | inr f ↦ within joined n h j j b f.2 ]
+
+-- a pattern stays symmetric and irreflexive
+module _ (joined : ℕ → ℕ → Bool) (pattern : IsPattern joined) where
+  pub different : (k a b : ℕ) → graph_at joined k a b ≡ true → a ≢ b
+  different zero a b h = λ e. pattern.irreflexive a (let x = at_zero joined a b h in rw (← e) at x)
+  different (suc j) a b h =
+      elim (at_suc joined j a b h).from [ inl e ↦ different j a b e | inr f ↦ f.0 ]
+
+  pub symmetric_at : (k a b : ℕ) → graph_at joined k a b ≡ true → graph_at joined k b a ≡ true
+  symmetric_at zero a b h = to_zero joined b a (pattern.symmetric a b (at_zero joined a b h))
+  symmetric_at (suc j) a b h =
+      let q = at_suc joined j a b h in
+      elim q.from [
+        | inl e ↦ to_suc_old joined j b a q.right q.left (symmetric_at j a b e)
+        | inr f ↦ to_suc_new joined j b a q.right q.left (λ e. f.0 (sym e)) f.2 f.1
+      ]
+
+  -- the later neighbours of j are joined to each other
+  pub clique : (j a b : ℕ) → Reaches joined j a → Reaches joined j b → a < b → Reaches joined a b
+  clique j a b ha hb lt =
+      let la = later joined j j a ha in
+      let lb = later joined j j b hb in
+      let na = different j j a ha in
+      let nb = different j j b hb in
+      let start = to_suc_new joined j a b (λ e. na (sym e)) (λ e. nb (sym e)) (omega arith) ha hb in
+      let d : suc j + (a - suc j) ≡ a = omega arith in
+      let far = stays joined (suc j) (a - suc j) a b start (omega arith) (omega arith) in
+      rw d at far
+
+  -- an edge of the pattern stands when its lower end is eliminated
+  pub from_pattern : (j i : ℕ) → joined j i ≡ true → j < i → Reaches joined j i
+  from_pattern j i h lt =
+      let far = stays joined zero j j i (to_zero joined j i h) (omega arith) (omega arith) in
+      let d : zero + j ≡ j = omega arith in
+      rw d at far
+
+  -- where an edge comes from
+  pub origin : (k a b : ℕ) → graph_at joined k a b ≡ true → (joined a b ≡ true) ⊎ ((m : ℕ) × (m < k) × Reaches joined m a × Reaches joined m b)
+  origin zero a b h = inl (at_zero joined a b h)
+  origin (suc j) a b h =
+      elim (at_suc joined j a b h).from [
+        | inl e ↦ elim (origin j a b e) [ inl x ↦ inl x | inr y ↦ inr (y.0, omega arith, y.2, y.3) ]
+        | inr f ↦ inr (j, omega arith, f.1, f.2)
+      ]

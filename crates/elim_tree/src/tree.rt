@@ -1,0 +1,83 @@
+//! The elimination tree, by compressed ways to the roots.
+
+ghost use Rattle.std.specs.Prelude.{◌≡◌, ℕ, ◌+◌, ◌<◌, ◌≤◌, length, slice_index, IfOk};
+ghost use Rattle.matrix_market.specs.Pattern.{is_joined};
+ghost use Rattle.ordering.specs.Fill.{renamed, parents_of};
+ghost use Rattle.elim_tree.specs.Forests.{Rooted, CanLink, IsLinked, CanTake, IsTaken, at};
+ghost use Rattle.elim_tree.specs.Reaches.{IsFirst};
+
+use crate::parents::{NoMemory, Parents};
+use matrix_market::Pattern;
+use ordering::Perm;
+use ordering::laws::{parent_is_first, places_are_inverse};
+use std::alloc::Global;
+
+// Goes from `start` to the root of its tree, and puts that root under k. Whoever is passed gets k for its ancestor, so that later ways
+// are short.
+fn link(parents: &mut [u32], ancestors: &mut [u32], start: u32, k: u32)
+    requires room { (k < length parents.old) × (length ancestors.old ≡ length parents.old) }
+    requires start { (forest : Rooted) × CanLink forest k start parents.old ancestors.old }
+    ensures { (forest : Rooted) → CanLink forest k start parents.old ancestors.old → IsLinked forest k start parents.new ancestors.new }
+{
+    let mut column = start;
+    'way: loop {
+        let next = ancestors[column as usize];
+        if next == k {
+            return;
+        }
+        ancestors[column as usize] = k;
+        if next == 0 {
+            parents[column as usize] = k;
+            return;
+        }
+        column = next;
+    }
+}
+
+// Puts the trees of the earlier columns of a row under k.
+fn take_row(parents: &mut [u32], ancestors: &mut [u32], row: &[u32], perm: &Perm, k: u32)
+    requires room { (k < length parents.old) × (length ancestors.old ≡ length parents.old) }
+    requires vertices { (j : ℕ) → j < length row.now → slice_index row.now j ≤ length perm.now }
+    requires start { (forest : Rooted) × CanTake forest k row.now perm.now parents.old ancestors.old }
+    ensures { (forest : Rooted) → CanTake forest k row.now perm.now parents.old ancestors.old →
+        IsTaken forest k row.now perm.now (length row.now) parents.new ancestors.new }
+{
+    for vertex in row {
+        let column = perm.place(*vertex);
+        if column < k {
+            link(parents, ancestors, column, k);
+        }
+    }
+}
+
+// Lets each column in turn take its children.
+fn grow(parents: &mut [u32], ancestors: &mut [u32], pattern: &Pattern, perm: &Perm)
+    requires room { (length parents.old ≡ length perm.now + 1) × (length ancestors.old ≡ length perm.now + 1) }
+    requires clear { (x : ℕ) → (at parents.old x ≡ 0) × (at ancestors.old x ≡ 0) }
+    requires len { length perm.now ≡ length pattern.now }
+    ensures len { length parents.new ≡ length parents.old }
+    ensures firsts { (j : ℕ) → j ≤ length perm.now → IsFirst (renamed (is_joined pattern.now) perm.now) j (at parents.new j) }
+{
+    places_are_inverse();
+    let _order = pattern.order();
+    let n = perm.len();
+    for k in 1..=n {
+        let row = pattern.neighbours(perm.at(k));
+        take_row(parents, ancestors, row, perm, k);
+    }
+}
+
+/// The elimination tree of a pattern whose vertices are eliminated in this order: the parents of all columns. Liu 1986 and 1990, by
+/// compressed ways to the roots: near linear in the entries.
+pub fn etree(alloc: Global, pattern: &Pattern, perm: &Perm) -> Result<Parents, NoMemory>
+    requires { length perm.now ≡ length pattern.now }
+    ensures { IfOk result (λ parents. parents ≡ parents_of (renamed (is_joined pattern.now) perm.now) (length perm.now)) }
+{
+    parent_is_first();
+    let _order = pattern.order();
+    let columns = perm.len() as usize;
+    let mut table = vec![in alloc; 0u32; columns + 1]?;
+    let mut ancestors = vec![in alloc; 0u32; columns + 1]?;
+    grow(&mut table, &mut ancestors, pattern, perm);
+    Ok(Parents { table })
+}
