@@ -1,0 +1,211 @@
+-- The rows of the factor, by ways up from earlier neighbours, and what marking them all counts.
+use Rattle.std.proofs.Common.{sym, ◌∙◌, subst, ap, ◌+◌, ◌-◌, ◌≡◌, ◌≢◌, ◌↔◌, inl, inr, refl, ℕ, zero, suc, ◌<◌, ◌≤◌, Bool, true, false, IsTrue, ◌==◌, List, [], ◌∷◌, ◌++◌, length, get_or, drop, arith}
+use Rattle.std.specs.List.{range_with_len, count_by}
+use Rattle.std.proofs.lemmas.Bool.{cases_eq, or_cases, or_left, eqb-true, eq-eqb}
+use Rattle.std.proofs.lemmas.List.{ext_get_or}
+use Rattle.std.proofs.lemmas.List.Folds.{list_any_at}
+use Rattle.std.proofs.lemmas.List.FromFn.{get_or-map-range_with_len, length-map-range_with_len, length-range_with_len}
+use Rattle.std.proofs.lemmas.List.Sums.{sum_by_push, count_by-le-length}
+use Rattle.matrix_market.specs.Pattern as rows_of
+use Rattle.matrix_market.specs.Pattern.{neighbours_of, has, is_joined}
+use Rattle.ordering.specs.Perm.{IsVertex, vertex_at, place_of}
+use Rattle.ordering.specs.Fill.{graph_at, structure_of, parent_of, parents_of, count_of, counts_of, renamed, IsPattern, IsParent}
+use Rattle.elim_tree.specs.Paths.{IsWithin, IsInRowSubtree}
+use Rattle.elim_tree.specs.Trees.{parent_at, IsForest, IsAbove, self, step}
+use Rattle.column_counts.specs.Marks.{Row, IsFactorRow, IsMarked, CanMarkRow, IsMarkedRow, column_in, bit, at}
+
+-- ---- counts over ranges
+
+range_more : (a m : ℕ) → range_with_len a (suc m) ≡ range_with_len a m ++ (a + m) ∷ []
+range_more a zero = ap (λ (x : ℕ). x ∷ []) (omega arith)
+range_more a (suc m) = ap (λ (xs : List ℕ). a ∷ xs) (range_more (a + 1) m ∙ ap (λ (x : ℕ). range_with_len (a + 1) m ++ x ∷ []) (omega arith))
+
+count_more : (test : ℕ → Bool) (m : ℕ) → count_by test (range_with_len 1 (suc m)) ≡ count_by test (range_with_len 1 m) + bit (test (suc m))
+count_more test m =
+    ap (count_by test) (range_more 1 m ∙ ap (λ (x : ℕ). range_with_len 1 m ++ x ∷ []) (omega arith)) ∙ sum_by_push (λ x. bit (test x)) (range_with_len 1 m) (suc m)
+
+count_to : (test : ℕ → Bool) (i : ℕ) → 0 < i → count_by test (range_with_len 1 i) ≡ count_by test (range_with_len 1 (i - 1)) + bit (test i)
+count_to test zero some = absurd (omega arith)
+count_to test (suc m) some = let e : suc m - 1 ≡ m = omega arith in rw e (count_more test m)
+
+-- row i of the factor, with the counts of the rows before it
+abbrev pub row_of : (ℕ → ℕ → Bool) → ℕ → Row
+row_of joined i = record {
+  holds = λ x. structure_of joined x i;
+  before = λ x. count_by (structure_of joined x) (range_with_len 1 (i - 1));
+}
+
+-- ---- what is in a list
+
+place_in : (xs : List ℕ) (b : ℕ) → has xs b ≡ true → (j : ℕ) × (j < length xs) × (get_or xs j 0 ≡ b)
+place_in [] b h = absurd cc
+place_in (x ∷ xs) b h =
+    elim (or_cases (x == b) _ h) [
+      | inl e ↦ (0, omega arith, eqb-true x b e)
+      | inr r ↦ (let f = place_in xs b r in (suc f.0, omega (arith, f.1), f.2))
+    ]
+
+is_in : (xs : List ℕ) (b j : ℕ) → j < length xs → get_or xs j 0 ≡ b → has xs b ≡ true
+is_in xs b j lt e = list_any_at (λ x. x == b) xs j 0 lt (eq-eqb _ b e)
+
+same_from_true : (a b : Bool) → (a ≡ true → b ≡ true) → (b ≡ true → a ≡ true) → a ≡ b
+same_from_true true b to from = sym (to refl)
+same_from_true false true to from = from refl
+same_from_true false false to from = refl
+
+-- ---- ways up
+
+above_on : {parents : List ℕ} {a b : ℕ} → IsAbove parents a b → 0 < parent_at parents b → IsAbove parents a (parent_at parents b)
+above_on self some = step some self
+above_on (step s way) some = step s (above_on way some)
+
+above_le : {parents : List ℕ} {a b : ℕ} → IsForest parents → IsAbove parents a b → a ≤ b
+above_le forest self = omega arith
+above_le {parents} {a} {b} forest (step s way) = let up = (forest.rising a s).0 in let rest = above_le forest way in omega arith
+
+-- on the way up from a marked column all before i are marked
+marked_above : (row : Row) (parents : List ℕ) → IsForest parents → (i : ℕ) (counts marks : ℕ → ℕ) → IsMarked row (parent_at parents) i i counts marks
+    → {k x : ℕ} → IsAbove parents k x → marks k ≡ i → x < i → marks x ≡ i
+marked_above row parents forest i counts marks m self e lt = e
+marked_above row parents forest i counts marks m {k} {x} (step some way) e lt =
+    let up = (forest.rising k some).0 in
+    let le = above_le forest way in
+    elim (m.closed k e (omega arith)) [
+      | inl next ↦ marked_above row parents forest i counts marks m way next lt
+      | inr last ↦ absurd (omega arith)
+    ]
+
+pub length_parents : (joined : ℕ → ℕ → Bool) (n : ℕ) (parents : List ℕ) → parents ≡ parents_of joined n → length parents ≡ n
+length_parents joined n parents tree = ap length tree ∙ length-map-range_with_len (parent_of joined n) 1 n
+
+-- a table of all counts, without its place 0
+pub are_counts : (joined : ℕ → ℕ → Bool) (n : ℕ) (table : List ℕ) → length table ≡ suc n → ((x : ℕ) → at table x ≡ count_of joined n x) → drop 1 table ≡ counts_of joined n
+are_counts joined n [] long all = absurd (omega arith)
+are_counts joined n (unused ∷ counts) long all =
+    ext_get_or 0 counts (counts_of joined n) (let len = length-map-range_with_len (count_of joined n) 1 n in omega arith)
+    (λ i lt. all (suc i) ∙ sym (get_or-map-range_with_len (count_of joined n) 1 n i (suc i) 0 (omega arith) (omega arith)))
+
+-- ---- what the laws say of structures and parents
+
+abbrev pub SubtreesLaw : Type 0
+SubtreesLaw = (joined : ℕ → ℕ → Bool) (n i x : ℕ) → IsPattern joined → IsWithin n joined → x < i → IsTrue (structure_of joined x i) ↔ IsInRowSubtree joined n i x
+
+abbrev pub ParentsLaw : Type 0
+ParentsLaw = (joined : ℕ → ℕ → Bool) (n j : ℕ) → IsParent joined n j (parent_of joined n j)
+
+abbrev pub LaterLaw : Type 0
+LaterLaw = (joined : ℕ → ℕ → Bool) (j i : ℕ) → IsTrue (structure_of joined j i) → j ≤ i
+
+module _ (subtrees : SubtreesLaw) (firsts : ParentsLaw) (later : LaterLaw) (joined : ℕ → ℕ → Bool) (pattern : IsPattern joined) (n : ℕ) (inside : IsWithin n joined)
+    (parents : List ℕ) (forest : IsForest parents) (tree : parents ≡ parents_of joined n) where
+  vertex_of : (x i : ℕ) → IsTrue (structure_of joined x i) → x ≢ i → i ≤ n → IsVertex n x
+  unfolding graph_at
+  vertex_of zero i h ne le =
+      elim (or_cases (i == 0) _ h) [
+        | inl e ↦ absurd (ne (sym (eqb-true i 0 e)))
+        | inr r ↦ (let some = (inside 0 i r).0 in absurd (omega arith))
+      ]
+  vertex_of (suc x) i h ne le = let low = later joined (suc x) i h in (omega arith, omega arith)
+
+  parent_of_vertex : (j : ℕ) → IsVertex n j → parent_at parents j ≡ parent_of joined n j
+  parent_of_vertex zero vertex = absurd (let some = vertex.0 in omega arith)
+  parent_of_vertex (suc j) vertex =
+      let le = vertex.1 in
+      ap (λ ps. parent_at ps (suc j)) tree ∙ get_or-map-range_with_len (parent_of joined n) 1 n j (suc j) 0 (omega arith) (omega arith)
+
+  way_of : (x i : ℕ) → x < i → IsTrue (structure_of joined x i) → (k : ℕ) × IsTrue (joined i k) × (k < i) × IsAbove parents k x
+  way_of x i lt h = let w = (subtrees joined n i x pattern inside lt).0 h in (w.0, w.1, w.2, subst (λ ps. IsAbove ps w.0 x) (sym tree) w.3)
+
+  of_way : (x i k : ℕ) → x < i → IsTrue (joined i k) → k < i → IsAbove parents k x → IsTrue (structure_of joined x i)
+  of_way x i k lt h below way = (subtrees joined n i x pattern inside lt).1 (k, h, below, subst (λ ps. IsAbove ps k x) tree way)
+
+  pub factor_row : (i : ℕ) → i ≤ n → IsFactorRow (parent_at parents) i (λ x. structure_of joined x i)
+  factor_row i le = record {
+    own = or_left _ _ (eq-eqb i i refl);
+    up = λ x h ne.
+        let low = later joined x i h in
+        let lt : x < i = omega arith in
+        let vertex = vertex_of x i h ne le in
+        let is = parent_of_vertex x vertex in
+        let first = firsts joined n x in
+        let least = first.least i lt le h in
+        let up = (first.reached least.0).0 in
+        let some = least.0 in
+        let most = least.1 in
+        let here : 0 < parent_at parents x = omega arith in
+        let way = way_of x i lt h in (
+          lt,
+          omega arith,
+          omega arith,
+          elim (cases_eq (parent_at parents x) i) [
+            | inl e ↦ or_left _ _ (eq-eqb i (parent_at parents x) (sym e))
+            | inr other ↦ of_way (parent_at parents x) i way.0 (omega arith) way.1 way.2 (above_on way.3 here)
+          ],
+        );
+  }
+
+  earlier_in_row : (i k : ℕ) → IsTrue (joined i k) → k < i → IsTrue (structure_of joined k i)
+  earlier_in_row i k h lt = of_way k i k lt h lt self
+
+  -- marked are just the columns that hold the row
+  marks_complete : (row : Row) (i : ℕ) (counts marks : ℕ → ℕ) → IsMarked row (parent_at parents) i i counts marks → ((k : ℕ) → k < i → IsTrue (joined i k) → marks k ≡ i)
+      → (x : ℕ) → IsTrue (structure_of joined x i) → marks x ≡ i
+  marks_complete row i counts marks m done x h =
+      let low = later joined x i h in
+      elim (cases_eq x i) [
+        | inl e ↦ ap marks e ∙ m.own
+        | inr ne ↦ (
+            let way = way_of x i (omega arith) h in
+            marked_above row parents forest i counts marks m way.3 (done way.0 way.2 way.1) (omega arith)
+            )
+      ]
+
+  counted : (i : ℕ) → 0 < i → (counts marks : ℕ → ℕ) → IsMarked (row_of joined i) (parent_at parents) i i counts marks → ((k : ℕ) → k < i → IsTrue (joined i k) → marks k ≡ i)
+      → (x : ℕ) → counts x ≡ count_by (structure_of joined x) (range_with_len 1 i)
+  counted i some counts marks m done x =
+      let same : (marks x == i) ≡ structure_of joined x i = same_from_true (marks x == i) (structure_of joined x i)
+      (λ e. m.sound x (eqb-true (marks x) i e)) (λ h. eq-eqb (marks x) i (marks_complete (row_of joined i) i counts marks m done x h)) in
+      m.count x ∙ ap (λ b. count_by (structure_of joined x) (range_with_len 1 (i - 1)) + bit b) same ∙ sym (count_to (structure_of joined x) i some)
+
+-- ---- rows as lists of neighbours
+
+module _ (subtrees : SubtreesLaw) (firsts : ParentsLaw) (later : LaterLaw) (rows : List (List ℕ)) (order : List ℕ) (rows_pattern : rows_of.IsPattern rows)
+    (pattern : IsPattern (renamed (is_joined rows) order)) (n : ℕ) (inside : IsWithin n (renamed (is_joined rows) order)) (same : n ≡ length rows)
+    (vertex_back : (v : ℕ) → v ≤ n → vertex_at order (place_of order v) ≡ v) (place_back : (k : ℕ) → k ≤ n → place_of order (vertex_at order k) ≡ k)
+    (parents : List ℕ) (forest : IsForest parents) (tree : parents ≡ parents_of (renamed (is_joined rows) order) n)
+    (i : ℕ) (list : List ℕ) (e : list ≡ neighbours_of rows (vertex_at order i)) where
+  pub vertex_in_list : (j : ℕ) → j < length list → at list j ≤ n
+  vertex_in_list j lt =
+      let there : has (neighbours_of rows (vertex_at order i)) (at list j) ≡ true = subst (λ xs. has xs (at list j) ≡ true) e (is_in list (at list j) j lt refl) in
+      let low = (rows_pattern.inside (vertex_at order i) (at list j) there).1 in
+      omega arith
+
+  joined_in_list : (j : ℕ) → j < length list → IsTrue (renamed (is_joined rows) order i (column_in list order j))
+  joined_in_list j lt =
+      subst (λ v. is_joined rows (vertex_at order i) v ≡ true) (sym (vertex_back (at list j) (vertex_in_list j lt)))
+      (subst (λ xs. has xs (at list j) ≡ true) e (is_in list (at list j) j lt refl))
+
+  pub can_mark : i ≤ n → n ≤ 1000000 → (counts marks : List ℕ) → ((x : ℕ) → (at counts x ≡ (row_of (renamed (is_joined rows) order) i).before x) × (at marks x < i))
+      → CanMarkRow (row_of (renamed (is_joined rows) order) i) i list order parents counts marks
+  can_mark le few counts marks before = (
+    factor_row subtrees firsts later (renamed (is_joined rows) order) pattern n inside parents forest tree i le,
+    λ x.
+        let most = count_by-le-length (structure_of (renamed (is_joined rows) order) x) (range_with_len 1 (i - 1)) in
+        let long = length-range_with_len 1 (i - 1) in
+        omega arith,
+    λ j lt below. earlier_in_row subtrees firsts later (renamed (is_joined rows) order) pattern n inside parents forest tree i (column_in list order j) (joined_in_list j lt) below,
+    before,
+  )
+
+  pub all_marked : 0 < i → (counts marks : List ℕ) → IsMarkedRow (row_of (renamed (is_joined rows) order) i) i list order (length list) parents counts marks
+      → (x : ℕ) → (at counts x ≡ count_by (structure_of (renamed (is_joined rows) order) x) (range_with_len 1 i)) × (at marks x < i + 1)
+  all_marked some counts marks m x = (
+    counted subtrees firsts later (renamed (is_joined rows) order) pattern n inside parents forest tree i some (at counts) (at marks) m.0
+        (λ k lt h.
+        let f = place_in list (vertex_at order k) (subst (λ xs. has xs (vertex_at order k) ≡ true) (sym e) h) in
+        let le = (inside k i (pattern.symmetric i k h)).1 in
+        let is : column_in list order f.0 ≡ k = ap (place_of order) f.2 ∙ place_back k le in
+        subst (λ c. at marks c ≡ i) is (m.1 f.0 f.1 (omega arith)))
+        x,
+    (let low = m.0.low x in omega arith),
+  )
