@@ -1,0 +1,211 @@
+-- The fronts of an assembly tree are a tree within the limits.
+use Rattle.std.proofs.Common.{◌≡◌, ℕ, zero, suc, ◌+◌, ◌-◌, ◌<◌, ◌≤◌, Bool, true, false, cond, eqb, max, List, [], ◌∷◌, ◌++◌, length, get_or, set, take, map, filter, fold, refl, sym, ap, ◌∙◌, subst, inl, inr, arith, All}
+use Rattle.std.specs.List.{sum_by, range_with_len}
+use Rattle.std.proofs.lemmas.List.{get_or_default, get_or-set_same, get_or-set_other, append-nil, map_push, same_lists}
+use Rattle.std.proofs.lemmas.List.Elements.{filter_more}
+use Rattle.std.proofs.lemmas.List.Sums.{sum_by-cons, sum_by-le, fold_push}
+use Rattle.std.proofs.lemmas.List.FromFn.{length-map-range_with_len, get_or-map-range_with_len}
+use Rattle.std.proofs.lemmas.Nat.{mul-le}
+use Rattle.std.proofs.Math.Nat.{max-le}
+use Rattle.std.proofs.lemmas.Bool.{cases_eq, cases_Bool, eq-eqb, ne_eqb, eqb-true}
+use Rattle.tree_input.specs.declared.node.Node.{Node}
+use Rattle.tree_input.specs.Tree.{IsNode, IsTree, IsNodeWithin, node_at, node_size, ancestor, out_below, children_out}
+use Rattle.assembly_tree.specs.declared.assembly.Super.{Super}
+use Rattle.assembly_tree.specs.declared.front.Shape.{Shape}
+use Rattle.assembly_tree.specs.declared.front.Shape.TheVariants.{Triangle, Square}
+use Rattle.assembly_tree.specs.Assembly.{AssemblyTree, IsSuper, IsAssembly, no_super, super_at, front_of}
+use Rattle.assembly_tree.specs.Fronts.{size_of, block_of, share_of, front_node, front_at, fronts_of}
+use Rattle.assembly_tree.proofs.ListLemmas.{sum_by-map}
+use Rattle.assembly_tree.proofs.RunLemmas.{supers-le, last-all}
+
+-- ---- sizes
+
+pub size-le : (shape : Shape) (r t : ℕ) → r ≤ t → size_of shape r ≤ size_of shape t
+size-le Triangle r t le = omega (arith, mul-le r (r + 1) t (t + 1) le (omega arith))
+size-le Square r t le = mul-le r r t t le le
+
+pub size-small : (shape : Shape) (r : ℕ) → r ≤ 1000000 → size_of shape r ≤ 1000000000000
+size-small Triangle r le = omega (arith, mul-le r (r + 1) 1000000 1000001 le (omega arith))
+size-small Square r le = mul-le r r 1000000 1000000 le le
+
+-- ---- lists by number
+
+pub map-range_same : {X : Type 0} (f g : ℕ → X) (n : ℕ) → ((s : ℕ) → 1 ≤ s → s ≤ n → f s ≡ g s) → map f (range_with_len 1 n) ≡ map g (range_with_len 1 n)
+map-range_same {X} f g n same =
+    let lf = length-map-range_with_len f 1 n in
+    let lg = length-map-range_with_len g 1 n in
+    same_lists (map f (range_with_len 1 n)) (map g (range_with_len 1 n)) (lf ∙ sym lg) (λ k d lt.
+    let in_range : k < n = omega (arith, lt, lf) in
+    let at : 1 + k ≡ suc k = omega arith in
+    get_or-map-range_with_len f 1 n k (suc k) d in_range at ∙ same (suc k) (omega arith) (omega arith) ∙ sym (get_or-map-range_with_len g 1 n k (suc k) d in_range at))
+
+supers-range : (supers : List Super) → map (super_at supers) (range_with_len 1 (length supers)) ≡ supers
+supers-range supers =
+    let len = length-map-range_with_len (super_at supers) 1 (length supers) in
+    same_lists (map (super_at supers) (range_with_len 1 (length supers))) supers len (λ k d lt.
+    let in_range : k < length supers = omega (arith, lt, len) in
+    get_or-map-range_with_len (super_at supers) 1 (length supers) k (1 + k) d in_range refl ∙ (let back : 1 + k - 1 ≡ k = omega arith in ap (λ (i : ℕ). get_or supers i no_super) back) ∙ get_or_default supers k no_super d in_range)
+
+-- ---- shares
+
+-- the greatest of the blocks is at most their sum, and at most what bounds each
+share-sum : (shape : Shape) (p : Super → Bool) (xs : List Super) (a : ℕ) → fold max a (map (block_of shape) (filter p xs)) ≤ a + sum_by (λ x. cond (p x) (block_of shape x) 0) xs
+share-sum shape p [] a = omega arith
+share-sum shape p (x ∷ xs) a =
+    let f = λ (y : Super). cond (p y) (block_of shape y) 0 in
+    let cons = sum_by-cons f x xs in
+    let kept = λ (b : Bool). fold max a (map (block_of shape) (cond b (x ∷ filter p xs) (filter p xs))) ≤ a + sum_by f (x ∷ xs) in
+    elim (cases_Bool (p x)) [
+      | inl passes ↦ (
+          let rest = share-sum shape p xs (max a (block_of shape x)) in
+          let one : f x ≡ block_of shape x = rw passes refl in
+          let fact : fold max (max a (block_of shape x)) (map (block_of shape) (filter p xs)) ≤ a + sum_by f (x ∷ xs) = omega (arith, rest, cons, one) in
+          subst kept (sym passes) fact
+          )
+      | inr other ↦ (
+          let rest = share-sum shape p xs a in
+          let fact : fold max a (map (block_of shape) (filter p xs)) ≤ a + sum_by f (x ∷ xs) = omega (arith, rest, cons) in
+          subst kept (sym other) fact
+          )
+    ]
+
+share-bound : (shape : Shape) (p : Super → Bool) (m : ℕ) (xs : List Super) (a : ℕ) → a ≤ m → ((k : ℕ) → k < length xs → p (get_or xs k no_super) ≡ true → block_of shape (get_or xs k no_super) ≤ m) → fold max a (map (block_of shape) (filter p xs)) ≤ m
+share-bound shape p m [] a le each = le
+share-bound shape p m (x ∷ xs) a le each =
+    let later = λ (k : ℕ) (lt : k < length xs) (passes : p (get_or xs k no_super) ≡ true). each (suc k) (omega arith) passes in
+    elim (cases_Bool (p x)) [
+      | inl passes ↦ rw passes (share-bound shape p m xs (max a (block_of shape x)) (max-le le (each zero (omega arith) passes)) later)
+      | inr other ↦ rw other (share-bound shape p m xs a le later)
+    ]
+
+-- ---- ways up
+
+ancestor-none : (nodes : List Node) (k : ℕ) → ancestor nodes k 0 ≡ 0
+unfolding ancestor
+ancestor-none nodes zero = refl
+ancestor-none nodes (suc k) = ancestor-none nodes k
+
+rising_leads : (nodes : List Node) → ((v : ℕ) → IsNode nodes v → 0 < (node_at nodes v).parent → (v < (node_at nodes v).parent) × ((node_at nodes v).parent ≤ length nodes)) → (k v : ℕ) → IsNode nodes v → length nodes < v + k → ancestor nodes k v ≡ 0
+unfolding ancestor
+rising_leads nodes rising zero v is far = absurd (omega (arith, is.1, far))
+rising_leads nodes rising (suc k) zero is far = absurd (omega (arith, is.0))
+rising_leads nodes rising (suc k) (suc i) is far =
+    elim (cases_eq (node_at nodes (suc i)).parent 0) [
+      | inl root ↦ rw root (ancestor-none nodes k)
+      | inr child ↦ (
+          let above = rising (suc i) is (omega (arith, child)) in
+          rising_leads nodes rising k (node_at nodes (suc i)).parent (omega (arith, above.0), above.1) (omega (arith, above.0, far))
+          )
+    ]
+
+-- ---- the tree
+
+module _ (shape : Shape) (inplace : Bool) (assembly : AssemblyTree) (is : IsAssembly assembly) where
+  len : length (fronts_of shape inplace assembly.supers) ≡ length assembly.supers
+  len = length-map-range_with_len (front_at shape inplace assembly.supers) 1 (length assembly.supers)
+
+  at : (i : ℕ) (d : Node) → i < length assembly.supers → get_or (fronts_of shape inplace assembly.supers) i d ≡ front_at shape inplace assembly.supers (1 + i)
+  at i d lt = get_or-map-range_with_len (front_at shape inplace assembly.supers) 1 (length assembly.supers) i (1 + i) d lt refl
+
+  at_node : (v : ℕ) → IsSuper assembly.supers v → node_at (fronts_of shape inplace assembly.supers) v ≡ front_at shape inplace assembly.supers v
+  at_node v h = (let back : 1 + (v - 1) ≡ v = omega (arith, h.0) in at (v - 1) _ (omega (arith, h.0, h.1)) ∙ ap (front_at shape inplace assembly.supers) back)
+
+  few : length assembly.supers ≤ 1000000
+  few = omega (arith, supers-le assembly.supers (length assembly.supers) (λ k h. (is.each k h).some) (omega arith), last-all assembly.supers, is.total, is.few)
+
+  some : 1 ≤ length assembly.supers
+  some = (let first = is.nodes 1 (omega arith, is.some) in omega (arith, first.0, first.1))
+
+  inside : (s : ℕ) → IsSuper assembly.supers s → (super_at assembly.supers s).parent ≤ length assembly.supers
+  inside s h = elim (cases_eq (super_at assembly.supers s).parent 0) [ inl root ↦ omega (arith, root) | inr child ↦ ((is.each s h).parent (omega (arith, child))).1 ]
+
+  small : (s : ℕ) → IsSuper assembly.supers s → size_of shape (front_of (super_at assembly.supers s)) ≤ 1000000000000
+  small s h = size-small shape (front_of (super_at assembly.supers s)) (omega (arith, is.fits s h, is.few))
+
+  below : (s : ℕ) → block_of shape (super_at assembly.supers s) ≤ size_of shape (front_of (super_at assembly.supers s))
+  below s = size-le shape (super_at assembly.supers s).rest (front_of (super_at assembly.supers s)) (omega arith)
+
+  sizes : (s : ℕ) → IsSuper assembly.supers s → node_size (front_at shape inplace assembly.supers s) ≤ 1000000000000
+  sizes s h = omega (arith, small s h, below s)
+
+  number : (i : ℕ) → i < length assembly.supers → IsSuper assembly.supers (1 + i)
+  number i lt = (omega arith, omega (arith, lt))
+
+  outs : (s : ℕ) → children_out (fronts_of shape inplace assembly.supers) s ≡ sum_by (λ x. cond (eqb x.parent s) (block_of shape x) 0) assembly.supers
+  outs s =
+      let g = λ (x : Super). cond (eqb x.parent s) (block_of shape x) 0 in
+      sum_by-map (out_below s) (front_at shape inplace assembly.supers) (range_with_len 1 (length assembly.supers)) ∙ sym (sum_by-map g (super_at assembly.supers) (range_with_len 1 (length assembly.supers))) ∙ ap (sum_by g) (supers-range assembly.supers)
+
+  share : (s : ℕ) → IsSuper assembly.supers s → (cond inplace (share_of shape assembly.supers s) 0 ≤ children_out (fronts_of shape inplace assembly.supers) s) × (cond inplace (share_of shape assembly.supers s) 0 ≤ size_of shape (front_of (super_at assembly.supers s)))
+  share s h =
+      let sum = share-sum shape (λ x. eqb x.parent s) assembly.supers 0 in
+      let bound = share-bound shape (λ x. eqb x.parent s) (size_of shape (front_of (super_at assembly.supers s))) assembly.supers 0 (omega arith) (λ k lt passes.
+      let c = number k lt in
+      let back : 1 + k - 1 ≡ k = omega arith in
+      let here : super_at assembly.supers (1 + k) ≡ get_or assembly.supers k no_super = ap (λ (i : ℕ). get_or assembly.supers i no_super) back in
+      let up : (super_at assembly.supers (1 + k)).parent ≡ s = ap (λ (x : Super). x.parent) here ∙ eqb-true (get_or assembly.supers k no_super).parent s passes in
+      let rest = (is.each (1 + k) c).rest (omega (arith, up, h.0)) in
+      let parent = ap (λ (i : ℕ). front_of (super_at assembly.supers i)) up in
+      let child = ap (λ (x : Super). x.rest) here in
+      size-le shape (get_or assembly.supers k no_super).rest (front_of (super_at assembly.supers s)) (omega (arith, rest, parent, child))) in
+      let whole = outs s in
+      elim inplace as (λ b. (cond b (share_of shape assembly.supers s) 0 ≤ children_out (fronts_of shape inplace assembly.supers) s) × (cond b (share_of shape assembly.supers s) 0 ≤ size_of shape (front_of (super_at assembly.supers s)))) [
+        | true ↦ (omega (arith, sum, whole), bound)
+        | false ↦ (omega arith, omega arith)
+      ]
+
+  pub fronts_tree : IsTree (fronts_of shape inplace assembly.supers)
+  fronts_tree = record {
+    some = omega (arith, len, some);
+    few = omega (arith, len, few);
+    each = λ k d lt. (
+        let in_range : k < length assembly.supers = omega (arith, lt, len) in
+        let h = number k in_range in
+        let s = 1 + k in
+        subst (IsNodeWithin (fronts_of shape inplace assembly.supers)) (sym (at k d in_range)) (record {
+          parent = omega (arith, inside s h, len);
+          out = omega (arith, small s h, below s);
+          extra = omega (arith, small s h);
+          time = ((is.each s h).some, omega (arith, is.fits s h, is.few));
+        })
+        );
+    total = (
+        let each : All (λ (x : Node). node_size x ≤ 1000000000000) (fronts_of shape inplace assembly.supers) = λ k d lt. (let in_range : k < length assembly.supers = omega (arith, lt, len) in omega (arith, ap node_size (at k d in_range), sizes (1 + k) (number k in_range))) in
+        omega (arith, sum_by-le node_size 1000000000000 (fronts_of shape inplace assembly.supers) each, len, few)
+        );
+    roots = λ v h. (
+        let in_range : IsSuper assembly.supers v = (h.0, omega (arith, h.1, len)) in
+        rising_leads (fronts_of shape inplace assembly.supers) (λ w node some.
+        let super_w : IsSuper assembly.supers w = (node.0, omega (arith, node.1, len)) in
+        let up = ap (λ (x : Node). x.parent) (at_node w super_w) in
+        let above = (is.each w super_w).parent (omega (arith, up, some)) in
+        (omega (arith, up, above.0), omega (arith, up, above.1, len))) (length (fronts_of shape inplace assembly.supers)) v h (omega (arith, h.0))
+        );
+    shares = λ v h. (
+        let in_range : IsSuper assembly.supers v = (h.0, omega (arith, h.1, len)) in
+        let here = at_node v in_range in
+        let fit = share v in_range in
+        (omega (arith, ap (λ (x : Node). x.share) here, fit.0), omega (arith, ap (λ (x : Node). x.share) here, ap node_size here, fit.1, below v))
+        );
+  }
+
+pub parents_inside : (assembly : AssemblyTree) → IsAssembly assembly → All (λ (x : Super). x.parent ≤ length assembly.supers) assembly.supers
+parents_inside assembly is k d lt =
+    let back : 1 + k - 1 ≡ k = omega arith in
+    let here : (super_at assembly.supers (1 + k)).parent ≡ (get_or assembly.supers k d).parent = ap (λ (i : ℕ). (get_or assembly.supers i no_super).parent) back ∙ ap (λ (x : Super). x.parent) (get_or_default assembly.supers k no_super d lt) in
+    omega (arith, here, inside Triangle false assembly is (1 + k) (omega arith, omega (arith, lt)))
+
+pub fronts_inside : (assembly : AssemblyTree) → IsAssembly assembly → All (λ (x : Super). front_of x ≤ 1000000) assembly.supers
+fronts_inside assembly is k d lt =
+    let back : 1 + k - 1 ≡ k = omega arith in
+    let here : front_of (super_at assembly.supers (1 + k)) ≡ front_of (get_or assembly.supers k d) = ap (λ (i : ℕ). front_of (get_or assembly.supers i no_super)) back ∙ ap front_of (get_or_default assembly.supers k no_super d lt) in
+    omega (arith, here, is.fits (1 + k) (omega arith, omega (arith, lt)), is.few)
+
+pub supers_few : (assembly : AssemblyTree) → IsAssembly assembly → length assembly.supers ≤ 1000000
+supers_few assembly is = few Triangle false assembly is
+
+-- the fronts with the shares of a table
+pub fronts_with : (shape : Shape) (inplace : Bool) (supers : List Super) (shares : List ℕ) → ((s : ℕ) → s ≤ length supers → get_or shares s 0 ≡ cond inplace (share_of shape supers s) 0)
+    → map (λ (s : ℕ). front_node shape (get_or shares s 0) (super_at supers s)) (range_with_len 1 (length supers)) ≡ fronts_of shape inplace supers
+fronts_with shape inplace supers shares are =
+    map-range_same (λ (s : ℕ). front_node shape (get_or shares s 0) (super_at supers s)) (front_at shape inplace supers) (length supers) (λ s low high. ap (λ (share : ℕ). front_node shape share (super_at supers s)) (are s high))

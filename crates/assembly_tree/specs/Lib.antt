@@ -1,0 +1,7 @@
+pub mod Amalgamation
+pub mod Assembly
+pub mod Fronts
+pub mod MergeTables
+pub mod RunTables
+pub mod Samples
+pub mod Supernodes

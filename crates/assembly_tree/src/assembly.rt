@@ -1,0 +1,75 @@
+ghost use Rattle.std.specs.Prelude.{◌≡◌, ◌≤◌, length};
+ghost use Rattle.assembly_tree.specs.Assembly.{IsAssembly, node_of};
+
+use std::alloc::AllocError;
+use std::marker::Model;
+
+/// Want of memory: an allocation was refused.
+pub type NoMemory = AllocError;
+
+/// A supernode: columns of the factor that are kept and eliminated together, in one front.
+#[derive(Clone, Copy, Debug, PartialEq, Eq)]
+pub struct Super {
+    /// How many columns it has, at least 1.
+    pub columns: u32,
+    /// How many rows its front has beside those of its columns: the order of its contribution block.
+    pub rest: u32,
+    /// The number of its parent, from 1; 0 for none.
+    pub parent: u32,
+}
+
+/// An assembly tree: its supernodes, each numbered before its parent, and the supernode of each of the 1 to 10^6 columns.
+#[derive(Drop)]
+pub struct Assembly {
+    pub(crate) supers: Vec<Super>,
+    // by column, of which the first stands at 0
+    pub(crate) nodes: Vec<u32>,
+}
+
+impl Model for Assembly {
+    ghost use Rattle.assembly_tree.specs.Assembly.{AssemblyTree, IsAssembly};
+
+    ghost Value = { AssemblyTree };
+
+    ghost view = { λ a. record { supers = a.supers.items; nodes = a.nodes.items } };
+
+    ghost invariant = { λ a. IsAssembly (record { supers = a.supers.items; nodes = a.nodes.items }) };
+}
+
+// The supernode of a column, from 1; 0 for column 0.
+pub(crate) fn node_in(nodes: &[u32], column: u32) -> u32
+    requires { column ≤ length nodes.now }
+    ensures { result ≡ node_of nodes.now column }
+{
+    if column == 0 {
+        0
+    } else {
+        nodes[column as usize - 1]
+    }
+}
+
+impl Assembly {
+    /// How many columns there are, 1 to 10^6.
+    pub fn columns(&self) -> u32
+        ensures { result ≡ length self.now.nodes }
+    {
+        self.nodes.len() as u32
+    }
+
+    /// The supernodes, of which the first has the number 1.
+    pub fn supers(&self) -> &[Super]
+        ensures value { result.now ≡ self.now.supers }
+        ensures assembly { IsAssembly self.now }
+    {
+        &self.supers
+    }
+
+    /// The number of the supernode that has a column, from 1; 0 for column 0.
+    pub fn node_of(&self, column: u32) -> u32
+        requires { column ≤ length self.now.nodes }
+        ensures value { result ≡ node_of self.now.nodes column }
+        ensures node { result ≤ length self.now.supers }
+    {
+        node_in(&self.nodes, column)
+    }
+}
