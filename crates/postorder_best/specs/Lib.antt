@@ -1,0 +1,4 @@
+pub mod Postorder
+pub mod BestPostorder
+pub mod Rows
+pub mod Samples

@@ -1,0 +1,14 @@
+//! The best postorder of a tree (Liu 1986): the children of each node by falling peak minus out, and the theorem that no postorder
+//! has a lower peak.
+#![tactic(auto)]
+
+mod best;
+mod children;
+pub mod laws;
+mod peaks;
+mod tables;
+#[cfg(test)]
+mod tests;
+mod walking;
+
+pub use best::{NoMemory, Post, best_postorder};
