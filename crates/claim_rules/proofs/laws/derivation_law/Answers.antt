@@ -1,0 +1,17 @@
+use Rattle.claim_rules.proofs.Reaching.{StateLaws}
+use Rattle.claim_rules.proofs.Soundness.{WayLaws, derived_sound}
+use Rattle.claim_rules.proofs.laws.derivation_law.Goals as goal
+
+pub returns : goal.returns
+returns c =
+    let states : StateLaws = record { first = c.state_law.ensures.first; least = c.state_law.ensures.least; back = c.state_law.ensures.back } in
+    let ways : WayLaws = record {
+      traversal = c.run_law.ensures.traversal;
+      way = c.run_law.ensures.way;
+      cut = c.run_law.ensures.cut;
+      joined = c.run_law.ensures.joined;
+      back = c.way_law.ensures.back;
+      each = c.way_law.ensures.each;
+      reached = c.way_law.ensures.reached;
+    } in
+    λ t claim allowed derives. derived_sound states ways t claim allowed derives

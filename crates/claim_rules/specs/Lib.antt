@@ -1,0 +1,5 @@
+pub mod Claims
+pub mod Rules
+pub mod Derivations
+pub mod Placed
+pub mod Samples
