@@ -1,0 +1,4 @@
+pub mod PrintingLemmas
+pub mod RankLemmas
+pub mod FormLemmas
+pub mod PrintedLemmas

@@ -1,0 +1,7 @@
+pub mod Plan
+pub mod PlanFile
+pub mod Printed
+pub mod Reader
+pub mod ReaderLaws
+pub mod Ranking
+pub mod Samples

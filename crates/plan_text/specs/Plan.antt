@@ -1,0 +1,69 @@
+-- Plans: an order of the tasks of a term, its peak, claims on the term that certify that no order has a lower peak, and a priority of the
+-- tasks. Plan files are this project's own format.
+use Rattle.std.specs.Prelude.{◌≡◌, ◌==◌, ℕ, ◌^◌, ◌<◌, ◌≤◌, All, List, [], ◌∷◌, length, if◌then◌else◌, Option, Some, None, unsigned_abs, ◌⊎◌}
+use Rattle.std.specs.List.{count_by}
+use Rattle.sp_terms.specs.Term.{Direction, forward, backward}
+use Rattle.claim_rules.specs.Claims.{Claim as RuleClaim}
+use Rattle.plan_text.specs.declared.claim.Claim.{Claim}
+use Rattle.plan_text.specs.declared.claim.Dir.{Dir}
+use Rattle.plan_text.specs.declared.claim.Dir.TheVariants.{F, R}
+
+-- what a plan file says
+pub record PlanText : Type 0 where
+  pub order : List ℕ
+  pub peak : ℕ
+  pub claims : List Claim
+  pub priority : List ℕ
+
+-- ---- claims of a file, as claims on a term
+
+abbrev pub direction_of : Dir → Direction
+direction_of F = forward
+direction_of R = backward
+
+abbrev pub claim_of : Claim → RuleClaim
+claim_of c = record { direction = direction_of c.dir; bound = c.bound; rest = c.rest }
+
+-- the claim that stands at a position, if one does
+abbrev pub claim_at : List Claim → ℕ → Option RuleClaim
+claim_at [] position = None
+claim_at (c ∷ cs) position = if c.position == position then Some (claim_of c) else claim_at cs position
+
+-- ---- plans within the limits
+
+-- what each claim keeps to: its bound is from -2^60 to 2^60
+pub record IsClaimWithin (c : Claim) : Type 0 where
+  pub position : c.position ≤ 4294967295
+  pub bound : unsigned_abs c.bound ≤ 2 ^ 60
+  pub rest : c.rest ≤ 2 ^ 60
+
+-- each position is greater than the one before, and the first than this number
+abbrev pub RiseFrom : ℕ → List Claim → Type 0
+RiseFrom n [] = Unit {0}
+RiseFrom n (c ∷ cs) = (n < c.position) × RiseFrom c.position cs
+
+-- how often a task stands in a list
+abbrev pub times : List ℕ → ℕ → ℕ
+times tasks v = count_by (λ x. x == v) tasks
+
+abbrev pub IsTask : ℕ → ℕ → Type 0
+IsTask n v = (1 ≤ v) × (v ≤ n)
+
+-- the list holds each of 1 to n once, and nothing else
+pub record RanksAll (n : ℕ) (priority : List ℕ) : Type 0 where
+  pub len : length priority ≡ n
+  pub tasks : All (IsTask n) priority
+  pub once : (v : ℕ) → IsTask n v → times priority v ≡ 1
+
+-- a priority of n tasks, which a plan may leave out
+abbrev pub IsPriority : ℕ → List ℕ → Type 0
+IsPriority n priority = (priority ≡ []) ⊎ RanksAll n priority
+
+pub record IsPlan (plan : PlanText) : Type 0 where
+  pub few_tasks : length plan.order ≤ 1000000
+  pub tasks : All (λ v. v ≤ 4294967295) plan.order
+  pub peak : plan.peak ≤ 2 ^ 60
+  pub few_claims : length plan.claims ≤ 4000001
+  pub claims : All IsClaimWithin plan.claims
+  pub rising : RiseFrom 0 plan.claims
+  pub priority : IsPriority (length plan.order) plan.priority

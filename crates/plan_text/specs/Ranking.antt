@@ -1,0 +1,14 @@
+-- The priority lines so far, as the reader keeps them: the tasks in order, and a table of marks of those that were there. No public clause
+-- names this.
+use Rattle.std.specs.Prelude.{◌≡◌, ◌==◌, ℕ, ◌-◌, ◌≤◌, Bool, false, not, List, length, slice_index_or}
+use Rattle.plan_text.specs.Plan.{times}
+
+-- how many tasks are ranked, and those of the lines so far
+pub record RankingState : Type 0 where
+  pub tasks : ℕ
+  pub ranked : List ℕ
+
+-- task v is marked where it stands in the list
+pub record AreMarks (tasks : ℕ) (ranked : List ℕ) (marks : List Bool) : Type 0 where
+  pub len : length marks ≡ tasks
+  pub marked : (v : ℕ) → 1 ≤ v → v ≤ tasks → slice_index_or marks (v - 1) false ≡ not (times ranked v == 0)

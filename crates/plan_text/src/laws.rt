@@ -1,0 +1,38 @@
+//! Laws of plan files: what holds of each, without a call.
+
+ghost use Rattle.std.specs.Prelude.{◌≡◌, ◌⊎◌, ℕ, List};
+ghost use Rattle.mp_text.specs.declared.refusals.Refusal.{Refusal};
+ghost use Rattle.plan_text.specs.declared.claim.PlanKind.{PlanKind};
+ghost use Rattle.plan_text.specs.Plan.{PlanText, IsPlan};
+ghost use Rattle.plan_text.specs.PlanFile.{ReadsPlan, RefusesPlan};
+ghost use Rattle.plan_text.specs.Printed.{text_of, text2_of};
+
+use crate::claim::PlanKind;
+use mp_text::laws as text_laws;
+
+/// A file is read as a plan or refused, never both; it is read as one plan only, and refused with one refusal only.
+pub fn exactly_one()
+    ensures some { (bytes : List ℕ) →
+        ((plan : PlanText) × ReadsPlan bytes plan) ⊎ ((refusal : Refusal PlanKind) × RefusesPlan bytes refusal) }
+    ensures not_both { (bytes : List ℕ) (plan : PlanText) (refusal : Refusal PlanKind) →
+        ReadsPlan bytes plan → RefusesPlan bytes refusal → ⊥ }
+    ensures one_plan { (bytes : List ℕ) (one two : PlanText) → ReadsPlan bytes one → ReadsPlan bytes two → one ≡ two }
+    ensures one_refusal { (bytes : List ℕ) (one two : Refusal PlanKind) →
+        RefusesPlan bytes one → RefusesPlan bytes two → one ≡ two }
+{
+    text_laws::exactly_one::<PlanKind>();
+}
+
+/// What a file is read as is a plan within the limits.
+pub fn read_law()
+    ensures { (bytes : List ℕ) (plan : PlanText) → ReadsPlan bytes plan → IsPlan plan }
+{}
+
+/// The text of a plan, and its text in version 2, are read as that plan.
+pub fn printed_plan()
+    ensures text { (plan : PlanText) → IsPlan plan → ReadsPlan (text_of plan) plan }
+    ensures text_2 { (plan : PlanText) → IsPlan plan → ReadsPlan (text2_of plan) plan }
+{
+    text_laws::printed_number();
+    text_laws::printed_file();
+}

@@ -1,0 +1,17 @@
+//! Plans that certify themselves: plan files of versions 1 and 2, their reader and their printers.
+#![tactic(auto)]
+
+mod claim;
+pub mod laws;
+mod lines;
+mod plan;
+mod printing;
+mod ranking;
+mod reader;
+mod stage;
+#[cfg(test)]
+mod tests;
+
+pub use claim::{Claim, Dir, PlanKind};
+pub use plan::{PlanFile, read_plan};
+pub use printing::{NoMemory, print_plan, print_plan_2};

@@ -1,0 +1,90 @@
+ghost use Rattle.std.specs.Prelude.{◌≡◌, MatchResult};
+ghost use Rattle.plan_text.specs.PlanFile.{ReadsPlan, IsPlanRefusal};
+
+use crate::claim::{Claim, PlanKind};
+use crate::reader::PlanReader;
+use mp_text::{Refusal, read_with};
+use std::alloc::Global;
+use std::marker::Model;
+
+/// A plan within the limits: an order of at most 10^6 tasks, its peak of at most 2^60, at most 4,000,001 claims whose positions rise, and a
+/// priority, which is empty or ranks each task of the order once.
+#[derive(Drop)]
+pub struct PlanFile {
+    order: Vec<u32>,
+    peak: u64,
+    claims: Vec<Claim>,
+    priority: Vec<u32>,
+}
+
+impl Model for PlanFile {
+    ghost use Rattle.plan_text.specs.Plan.{PlanText, IsPlan};
+
+    ghost Value = { PlanText };
+
+    ghost view = { λ p. record { order = p.order.items; peak = p.peak; claims = p.claims.items; priority = p.priority.items } };
+
+    ghost invariant = { λ p. IsPlan (record { order = p.order.items; peak = p.peak; claims = p.claims.items; priority = p.priority.items }) };
+}
+
+impl PlanFile {
+    ghost use Rattle.plan_text.specs.Plan.{PlanText, IsPlan};
+
+    /// A plan of these parts.
+    pub fn new(order: Vec<u32>, peak: u64, claims: Vec<Claim>, priority: Vec<u32>) -> PlanFile
+        requires { IsPlan (record { order = order.items; peak = peak; claims = claims.items; priority = priority.items }) }
+        ensures { result ≡ record { order = order.items; peak = peak; claims = claims.items; priority = priority.items } }
+    {
+        PlanFile {
+            order,
+            peak,
+            claims,
+            priority,
+        }
+    }
+
+    /// The tasks in the order in which they run, each at most 4,294,967,295.
+    pub fn order(&self) -> &[u32]
+        ensures value { result.now ≡ self.now.order }
+        ensures plan { IsPlan self.now }
+    {
+        &self.order
+    }
+
+    /// The peak that the plan states, at most 2^60.
+    pub fn peak(&self) -> u64
+        ensures { result ≡ self.now.peak }
+    {
+        self.peak
+    }
+
+    /// The claims, by rising positions.
+    pub fn claims(&self) -> &[Claim]
+        ensures { result.now ≡ self.now.claims }
+    {
+        &self.claims
+    }
+
+    /// The tasks in the order in which they claim a worker: each task once, or none where the plan leaves it out.
+    pub fn priority(&self) -> &[u32]
+        ensures { result.now ≡ self.now.priority }
+    {
+        &self.priority
+    }
+}
+
+/// The plan that a file of version 1 or 2 states, or why it is refused: the first test that fails in the first line that fails, or that
+/// the text ends early. Linear in the bytes.
+pub fn read_plan(alloc: Global, bytes: &[u8]) -> Result<PlanFile, Refusal<PlanKind>>
+    ensures { MatchResult result (λ plan. ReadsPlan bytes.now plan) (IsPlanRefusal bytes.now) }
+{
+    let reader = read_with(bytes, true, PlanReader::new(alloc))?;
+    let PlanReader {
+        order,
+        ranking,
+        peak,
+        claims,
+        ..
+    } = reader;
+    Ok(PlanFile::new(order, peak, claims, ranking.into_ranked()))
+}

@@ -1,0 +1,88 @@
+ghost use Rattle.std.specs.Prelude.{◌≡◌, ◌==◌, ◌+◌, ◌≤◌, ℕ, [], ◌∷◌, ◌++◌, length, not, OnOk};
+ghost use Rattle.plan_text.specs.Plan.{times};
+
+use crate::printing::NoMemory;
+use std::alloc::Global;
+use std::marker::Model;
+
+/// The tasks of the priority lines so far, with a table of marks, so that each line is judged at once.
+#[derive(Drop)]
+pub struct Ranking {
+    tasks: u32,
+    ranked: Vec<u32>,
+    marks: Vec<bool>,
+}
+
+impl Model for Ranking {
+    ghost use Rattle.plan_text.specs.Ranking.{RankingState, AreMarks};
+
+    ghost Value = { RankingState };
+
+    ghost view = { λ s. record { tasks = s.tasks; ranked = s.ranked.items } };
+
+    ghost invariant = { λ s. AreMarks s.tasks s.ranked.items s.marks.items };
+}
+
+impl Ranking {
+    /// A ranking of no tasks.
+    pub fn new(alloc: Global) -> Ranking
+        ensures { result ≡ record { tasks = 0; ranked = [] } }
+    {
+        Ranking {
+            tasks: 0,
+            ranked: Vec::new(alloc),
+            marks: Vec::new(alloc),
+        }
+    }
+
+    /// Begins to rank this many tasks.
+    pub fn begin(&mut self, tasks: u32) -> Result<(), NoMemory>
+        ensures { OnOk result (self.new ≡ record { tasks = tasks; ranked = [] }) }
+    {
+        self.tasks = 0;
+        self.ranked.clear();
+        self.marks.clear();
+        self.marks.resize(tasks as usize, false)?;
+        self.tasks = tasks;
+        Ok(())
+    }
+
+    /// Whether a task was ranked.
+    pub fn has(&self, task: u32) -> bool
+        requires { (1 ≤ task) × (task ≤ self.now.tasks) }
+        ensures { result ≡ not (times self.now.ranked task == 0) }
+    {
+        self.marks[task as usize - 1]
+    }
+
+    /// Ranks a task.
+    pub fn push(&mut self, task: u32) -> Result<(), NoMemory>
+        requires { (1 ≤ task) × (task ≤ self.old.tasks) }
+        ensures ok { OnOk result (self.new ≡ record { tasks = self.old.tasks; ranked = self.old.ranked ++ task ∷ [] }) }
+    {
+        self.ranked.push(task)?;
+        self.marks[task as usize - 1] = true;
+        Ok(())
+    }
+
+    /// How many tasks are ranked so far.
+    pub fn len(&self) -> usize
+        ensures { result ≡ length self.now.ranked }
+    {
+        self.ranked.len()
+    }
+
+    /// How many tasks there are.
+    pub fn tasks(&self) -> u32
+        ensures { result ≡ self.now.tasks }
+    {
+        self.tasks
+    }
+
+    /// The tasks that were ranked.
+    pub fn into_ranked(self) -> Vec<u32>
+        ensures { result.items ≡ self.ranked }
+    {
+        self.ranked
+    }
+}

@@ -1,0 +1,198 @@
+ghost use Rattle.std.specs.Prelude.{◌≡◌, ◌≤◌, nat_lt, length};
+ghost use Rattle.mp_text.specs.Ahead.{row};
+ghost use Rattle.mp_text.specs.Reading.{Steps, tested};
+
+use crate::claim::{Claim, PlanKind};
+use crate::lines::{
+    claim_on, claims_section_on, fault, header_on, last_on, order_on, order_section_on, peak_on,
+    priority_on, priority_section_on,
+};
+use crate::ranking::Ranking;
+use crate::stage::Stage;
+use mp_text::{Line, Reader, Refusal};
+use std::alloc::Global;
+use std::marker::Model;
+
+/// What the lines of a plan file stated so far.
+#[derive(Drop)]
+pub struct PlanReader {
+    stage: Stage,
+    with_priority: bool,
+    count: u64,
+    pub order: Vec<u32>,
+    pub ranking: Ranking,
+    pub peak: u64,
+    pub claims: Vec<Claim>,
+}
+
+impl Model for PlanReader {
+    ghost use Rattle.plan_text.specs.PlanFile.{Stated};
+
+    ghost Value = { Stated };
+
+    ghost view = { λ s. record { stage = s.stage; with_priority = s.with_priority; count = s.count; tasks = s.ranking.tasks; order = s.order.items; priority = s.ranking.ranked; peak = s.peak; claims = s.claims.items } };
+
+    ghost use Rattle.std.specs.Prelude.{◌≤◌};
+
+    ghost invariant = { λ s. s.count ≤ 4000001 };
+}
+
+impl PlanReader {
+    ghost use Rattle.plan_text.specs.PlanFile.{nothing, peak_tests, priority_section_tests, order_tests, priority_tests, claim_tests, staged_tests};
+    ghost use Rattle.plan_text.specs.Reader.{peak_next, ranks_next, with_task, with_rank, with_claim, staged_next};
+
+    /// A reader of which nothing was read.
+    pub fn new(alloc: Global) -> PlanReader
+        ensures { result ≡ nothing }
+    {
+        PlanReader {
+            stage: Stage::Header,
+            with_priority: false,
+            count: 0,
+            order: Vec::new(alloc),
+            ranking: Ranking::new(alloc),
+            peak: 0,
+            claims: Vec::new(alloc),
+        }
+    }
+
+    // Takes `peak P`.
+    fn peak_line(&mut self, line: Line<'_>) -> Result<(), Refusal<PlanKind>>
+        ensures { let r = row line.entry.number line.entry.text.now in Steps (tested (peak_tests r) (peak_next self.old r)) result self.new }
+    {
+        self.peak = peak_on(line)?;
+        self.stage = Stage::ClaimsSection;
+        Ok(())
+    }
+
+    // Takes `priority M`.
+    fn priority_section(&mut self, line: Line<'_>) -> Result<(), Refusal<PlanKind>>
+        ensures { let r = row line.entry.number line.entry.text.now in Steps (tested (priority_section_tests self.old.count r) (ranks_next self.old r)) result self.new }
+    {
+        let count = priority_section_on(self.count, line)?;
+        self.ranking.begin(self.count as u32)?;
+        self.count = count;
+        self.stage = Stage::Priority;
+        Ok(())
+    }
+
+    // Takes an order line.
+    fn task_line(&mut self, line: Line<'_>) -> Result<(), Refusal<PlanKind>>
+        ensures { let r = row line.entry.number line.entry.text.now in Steps (tested (order_tests r) (with_task self.old r)) result self.new }
+    {
+        let task = order_on(line)?;
+        self.order.push(task)?;
+        Ok(())
+    }
+
+    // Takes a line after `order N`.
+    fn order_line(&mut self, line: Line<'_>) -> Result<(), Refusal<PlanKind>>
+        requires { self.old.stage ≡ Stage.Order }
+        ensures { let r = row line.entry.number line.entry.text.now in Steps (tested (staged_tests Stage.Order self.old r) (staged_next Stage.Order self.old r)) result self.new }
+    {
+        if (self.order.len() as u64) < self.count {
+            return self.task_line(line);
+        }
+        if self.with_priority {
+            self.priority_section(line)
+        } else {
+            self.peak_line(line)
+        }
+    }
+
+    // Takes a priority line.
+    fn rank_line(&mut self, line: Line<'_>) -> Result<(), Refusal<PlanKind>>
+        ensures { let r = row line.entry.number line.entry.text.now in Steps (tested (priority_tests self.old.tasks self.old.priority r) (with_rank self.old r)) result self.new }
+    {
+        let task = priority_on(&self.ranking, line)?;
+        self.ranking.push(task)?;
+        Ok(())
+    }
+
+    // Takes a line after `priority M`.
+    fn priority_line(&mut self, line: Line<'_>) -> Result<(), Refusal<PlanKind>>
+        requires { self.old.stage ≡ Stage.Priority }
+        ensures { let r = row line.entry.number line.entry.text.now in Steps (tested (staged_tests Stage.Priority self.old r) (staged_next Stage.Priority self.old r)) result self.new }
+    {
+        if (self.ranking.len() as u64) < self.count {
+            self.rank_line(line)
+        } else {
+            self.peak_line(line)
+        }
+    }
+
+    // Takes a claim line.
+    fn claim_line(&mut self, line: Line<'_>) -> Result<(), Refusal<PlanKind>>
+        ensures { let r = row line.entry.number line.entry.text.now in Steps (tested (claim_tests self.old.claims r) (with_claim self.old r)) result self.new }
+    {
+        let claim = claim_on(&self.claims, line)?;
+        self.claims.push(claim)?;
+        Ok(())
+    }
+
+    // Takes a line after `claims C`.
+    fn body_line(&mut self, line: Line<'_>) -> Result<(), Refusal<PlanKind>>
+        requires { self.old.stage ≡ Stage.Claims }
+        ensures { let r = row line.entry.number line.entry.text.now in Steps (tested (staged_tests Stage.Claims self.old r) (staged_next Stage.Claims self.old r)) result self.new }
+    {
+        if (self.claims.len() as u64) < self.count {
+            return self.claim_line(line);
+        }
+        last_on(line)?;
+        self.stage = Stage::Ended;
+        Ok(())
+    }
+}
+
+impl Reader for PlanReader {
+    type Kind = PlanKind;
+
+    ghost use Rattle.plan_text.specs.Reader.{plan_step, plan_end, took};
+    ghost use Rattle.plan_text.specs.PlanFile.{plan_format};
+    ghost use Rattle.plan_text.specs.ReaderLaws.{step_follows, end_follows as the_end_follows};
+
+    ghost step = { plan_step };
+
+    ghost end_step = { plan_end };
+
+    ghost format = { λ _. plan_format };
+
+    ghost took = { took };
+
+    #[tactic(auto, unfolding(crate::specs::Reader::plan_step))]
+    fn line(&mut self, line: Line<'_>) -> Result<(), Refusal<PlanKind>> {
+        match self.stage {
+            Stage::Header => {
+                self.with_priority = header_on(line)?;
+                self.stage = Stage::OrderSection;
+                Ok(())
+            }
+            Stage::OrderSection => {
+                self.count = order_section_on(line)?;
+                self.stage = Stage::Order;
+                Ok(())
+            }
+            Stage::Order => self.order_line(line),
+            Stage::Priority => self.priority_line(line),
+            Stage::ClaimsSection => {
+                self.count = claims_section_on(line)?;
+                self.stage = Stage::Claims;
+                Ok(())
+            }
+            Stage::Claims => self.body_line(line),
+            Stage::Ended => Err(fault(line.number, PlanKind::NoEnd)),
+        }
+    }
+
+    #[tactic(auto, unfolding(crate::specs::Reader::plan_end))]
+    fn end(&mut self, past: u64) -> Result<(), Refusal<PlanKind>> {
+        match self.stage {
+            Stage::Ended => Ok(()),
+            _ => Err(fault(past, PlanKind::NoEnd)),
+        }
+    }
+
+    ghost line_follows = { step_follows };
+
+    ghost end_follows = { the_end_follows };
+}
