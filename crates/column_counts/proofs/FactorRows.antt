@@ -1,8 +1,8 @@
 -- The rows of the factor, by ways up from earlier neighbours, and what marking them all counts.
-use Rattle.std.proofs.Common.{sym, ◌∙◌, subst, ap, ◌+◌, ◌-◌, ◌≡◌, ◌≢◌, ◌↔◌, inl, inr, refl, ℕ, zero, suc, ◌<◌, ◌≤◌, Bool, true, false, IsTrue, ◌==◌, List, [], ◌∷◌, ◌++◌, length, get_or, drop, arith}
+use Rattle.std.proofs.Common.{sym, ◌∙◌, subst, ap, ◌+◌, ◌-◌, ◌≡◌, ◌≢◌, ◌↔◌, inl, inr, refl, ℕ, zero, suc, ◌<◌, ◌≤◌, Bool, true, false, IsTrue, ◌==◌, List, [], ◌∷◌, ◌++◌, length, get_or, drop, map, arith}
 use Rattle.std.specs.List.{range_with_len, count_by}
 use Rattle.std.proofs.lemmas.Bool.{cases_eq, or_cases, or_left, eqb-true, eq-eqb}
-use Rattle.std.proofs.lemmas.List.{ext_get_or}
+use Rattle.std.proofs.lemmas.List.{ext_get_or, map_push}
 use Rattle.std.proofs.lemmas.List.Folds.{list_any_at}
 use Rattle.std.proofs.lemmas.List.FromFn.{get_or-map-range_with_len, length-map-range_with_len, length-range_with_len}
 use Rattle.std.proofs.lemmas.List.Sums.{sum_by_push, count_by-le-length}
@@ -20,13 +20,19 @@ range_more : (a m : ℕ) → range_with_len a (suc m) ≡ range_with_len a m ++ 
 range_more a zero = ap (λ (x : ℕ). x ∷ []) (omega arith)
 range_more a (suc m) = ap (λ (xs : List ℕ). a ∷ xs) (range_more (a + 1) m ∙ ap (λ (x : ℕ). range_with_len (a + 1) m ++ x ∷ []) (omega arith))
 
-count_more : (test : ℕ → Bool) (m : ℕ) → count_by test (range_with_len 1 (suc m)) ≡ count_by test (range_with_len 1 m) + bit (test (suc m))
+pub count_more : (test : ℕ → Bool) (m : ℕ) → count_by test (range_with_len 1 (suc m)) ≡ count_by test (range_with_len 1 m) + bit (test (suc m))
 count_more test m =
     ap (count_by test) (range_more 1 m ∙ ap (λ (x : ℕ). range_with_len 1 m ++ x ∷ []) (omega arith)) ∙ sum_by_push (λ x. bit (test x)) (range_with_len 1 m) (suc m)
 
 count_to : (test : ℕ → Bool) (i : ℕ) → 0 < i → count_by test (range_with_len 1 i) ≡ count_by test (range_with_len 1 (i - 1)) + bit (test i)
 count_to test zero some = absurd (omega arith)
 count_to test (suc m) some = let e : suc m - 1 ≡ m = omega arith in rw e (count_more test m)
+
+pub map_to : (f : ℕ → ℕ) (x : ℕ) → 0 < x → map f (range_with_len 1 (x + 1 - 1)) ≡ map f (range_with_len 1 (x - 1)) ++ f x ∷ []
+map_to f x some =
+    let e : x + 1 - 1 ≡ suc (x - 1) = omega arith in
+    let last : 1 + (x - 1) ≡ x = omega arith in
+    ap (λ (m : ℕ). map f (range_with_len 1 m)) e ∙ ap (map f) (range_more 1 (x - 1)) ∙ map_push f (range_with_len 1 (x - 1)) (1 + (x - 1)) ∙ ap (λ (y : ℕ). map f (range_with_len 1 (x - 1)) ++ f y ∷ []) last
 
 -- row i of the factor, with the counts of the rows before it
 abbrev pub row_of : (ℕ → ℕ → Bool) → ℕ → Row
@@ -37,7 +43,7 @@ row_of joined i = record {
 
 -- ---- what is in a list
 
-place_in : (xs : List ℕ) (b : ℕ) → has xs b ≡ true → (j : ℕ) × (j < length xs) × (get_or xs j 0 ≡ b)
+pub place_in : (xs : List ℕ) (b : ℕ) → has xs b ≡ true → (j : ℕ) × (j < length xs) × (get_or xs j 0 ≡ b)
 place_in [] b h = absurd cc
 place_in (x ∷ xs) b h =
     elim (or_cases (x == b) _ h) [
@@ -45,21 +51,21 @@ place_in (x ∷ xs) b h =
       | inr r ↦ (let f = place_in xs b r in (suc f.0, omega (arith, f.1), f.2))
     ]
 
-is_in : (xs : List ℕ) (b j : ℕ) → j < length xs → get_or xs j 0 ≡ b → has xs b ≡ true
+pub is_in : (xs : List ℕ) (b j : ℕ) → j < length xs → get_or xs j 0 ≡ b → has xs b ≡ true
 is_in xs b j lt e = list_any_at (λ x. x == b) xs j 0 lt (eq-eqb _ b e)
 
-same_from_true : (a b : Bool) → (a ≡ true → b ≡ true) → (b ≡ true → a ≡ true) → a ≡ b
+pub same_from_true : (a b : Bool) → (a ≡ true → b ≡ true) → (b ≡ true → a ≡ true) → a ≡ b
 same_from_true true b to from = sym (to refl)
 same_from_true false true to from = from refl
 same_from_true false false to from = refl
 
 -- ---- ways up
 
-above_on : {parents : List ℕ} {a b : ℕ} → IsAbove parents a b → 0 < parent_at parents b → IsAbove parents a (parent_at parents b)
+pub above_on : {parents : List ℕ} {a b : ℕ} → IsAbove parents a b → 0 < parent_at parents b → IsAbove parents a (parent_at parents b)
 above_on self some = step some self
 above_on (step s way) some = step s (above_on way some)
 
-above_le : {parents : List ℕ} {a b : ℕ} → IsForest parents → IsAbove parents a b → a ≤ b
+pub above_le : {parents : List ℕ} {a b : ℕ} → IsForest parents → IsAbove parents a b → a ≤ b
 above_le forest self = omega arith
 above_le {parents} {a} {b} forest (step s way) = let up = (forest.rising a s).0 in let rest = above_le forest way in omega arith
 
@@ -113,10 +119,10 @@ module _ (subtrees : SubtreesLaw) (firsts : ParentsLaw) (later : LaterLaw) (join
       let le = vertex.1 in
       ap (λ ps. parent_at ps (suc j)) tree ∙ get_or-map-range_with_len (parent_of joined n) 1 n j (suc j) 0 (omega arith) (omega arith)
 
-  way_of : (x i : ℕ) → x < i → IsTrue (structure_of joined x i) → (k : ℕ) × IsTrue (joined i k) × (k < i) × IsAbove parents k x
+  pub way_of : (x i : ℕ) → x < i → IsTrue (structure_of joined x i) → (k : ℕ) × IsTrue (joined i k) × (k < i) × IsAbove parents k x
   way_of x i lt h = let w = (subtrees joined n i x pattern inside lt).0 h in (w.0, w.1, w.2, subst (λ ps. IsAbove ps w.0 x) (sym tree) w.3)
 
-  of_way : (x i k : ℕ) → x < i → IsTrue (joined i k) → k < i → IsAbove parents k x → IsTrue (structure_of joined x i)
+  pub of_way : (x i k : ℕ) → x < i → IsTrue (joined i k) → k < i → IsAbove parents k x → IsTrue (structure_of joined x i)
   of_way x i k lt h below way = (subtrees joined n i x pattern inside lt).1 (k, h, below, subst (λ ps. IsAbove ps k x) tree way)
 
   pub factor_row : (i : ℕ) → i ≤ n → IsFactorRow (parent_at parents) i (λ x. structure_of joined x i)
@@ -180,7 +186,7 @@ module _ (subtrees : SubtreesLaw) (firsts : ParentsLaw) (later : LaterLaw) (rows
       let low = (rows_pattern.inside (vertex_at order i) (at list j) there).1 in
       omega arith
 
-  joined_in_list : (j : ℕ) → j < length list → IsTrue (renamed (is_joined rows) order i (column_in list order j))
+  pub joined_in_list : (j : ℕ) → j < length list → IsTrue (renamed (is_joined rows) order i (column_in list order j))
   joined_in_list j lt =
       subst (λ v. is_joined rows (vertex_at order i) v ≡ true) (sym (vertex_back (at list j) (vertex_in_list j lt)))
       (subst (λ xs. has xs (at list j) ≡ true) e (is_in list (at list j) j lt refl))

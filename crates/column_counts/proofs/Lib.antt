@@ -1,3 +1,10 @@
 pub mod MarkLemmas
 pub mod RowLemmas
 pub mod FactorRows
+pub mod SumLemmas
+pub mod RowLeaves
+pub mod Jumps
+pub mod SpanRows
+pub mod LeafCounts
+pub mod ColumnLemmas
+pub mod ColumnRows

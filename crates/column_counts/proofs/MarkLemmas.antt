@@ -1,5 +1,6 @@
 -- One way up a row of the factor: what is marked, and what it takes to go on.
-use Rattle.std.proofs.Common.{sym, ◌∙◌, subst, ap, ◌+◌, ◌^◌, ◌≡◌, ◌≢◌, inl, inr, ℕ, ◌<◌, ◌≤◌, IsTrue, List, length, set, get_or-set_other, get_or-set_same, arith, ◌==◌}
+use Rattle.std.proofs.Common.{sym, ◌∙◌, subst, ap, ◌+◌, ◌^◌, ◌≡◌, ◌≢◌, inl, inr, ℕ, ◌<◌, ◌≤◌, IsTrue, List, ◌++◌, length, take, set, get_or-set_other, get_or-set_same, arith, ◌==◌}
+use Rattle.std.proofs.Math.Seq.{take-append_seam}
 use Rattle.std.proofs.lemmas.Bool.{cases_eq, eq-eqb, ne_eqb}
 use Rattle.column_counts.specs.Marks.{Row, IsFactorRow, IsMarked, CanGoOn, bit, at}
 
@@ -10,6 +11,10 @@ at_other xs i v x ne = rw get_or-set_other
 
 pub at_here : (xs : List ℕ) (i v : ℕ) → i < length xs → at (set xs i v) i ≡ v
 at_here xs i v lt = rw get_or-set_same
+
+-- what was written through the slice is the whole table
+pub written : (new rest : List ℕ) (len : ℕ) → len ≡ length new → take len (new ++ rest) ≡ new
+written new rest len e = ap (λ n. take n (new ++ rest)) e ∙ take-append_seam new rest
 
 -- ---- one step up
 

@@ -3,8 +3,12 @@
 //! The definitions stand in the crates `ordering` (`Fill`) and `elim_tree` (`Trees`, `Paths`).
 #![tactic(auto)]
 
+mod ancestors;
 mod counting;
+mod leaves;
 mod marking;
+mod spans;
+mod sums;
 #[cfg(test)]
 mod tests;
 

@@ -14,20 +14,21 @@ fn check_counts(
     alloc: Global,
     pattern: &Pattern,
     perm: &Perm,
-    wanted: [u32; 4],
+    wanted: &[u32],
 ) -> Result<(), Fail> {
     pattern_of_rows();
-    assert_eq!(rt; pattern.order(), 4);
-    assert_eq!(rt; perm.len(), 4);
+    let columns = wanted.len();
+    assert_eq!(rt; pattern.order() as usize, columns);
+    assert_eq!(rt; perm.len() as usize, columns);
     let parents = etree(alloc, pattern, perm)?;
-    assert_eq!(rt; parents.len(), 4);
+    assert_eq!(rt; parents.len() as usize, columns);
     let post = postorder(alloc, &parents)?;
     let numbered = renumber(alloc, perm, &parents, &post)?;
-    assert_eq!(rt; numbered.perm.len(), 4);
+    assert_eq!(rt; numbered.perm.len() as usize, columns);
     let found = counts(alloc, pattern, &numbered.perm, &numbered.parents)?;
-    assert_eq!(rt; found.as_slice(), wanted.as_slice());
+    assert_eq!(rt; found.as_slice(), wanted);
     let marked = counts_by_marking(alloc, pattern, &numbered.perm, &numbered.parents)?;
-    assert_eq!(rt; marked.as_slice(), wanted.as_slice());
+    assert_eq!(rt; marked.as_slice(), wanted);
     Ok(())
 }
 
@@ -50,7 +51,25 @@ fn small_patterns(rt: HostRuntime) -> Result<(), Fail> {
         )?;
         let pattern = read_pattern(alloc, matrix.as_bytes())?;
         let perm = read_perm(alloc, order.as_bytes(), 4)?;
-        check_counts(&rt, alloc, &pattern, &perm, wanted)?;
+        check_counts(&rt, alloc, &pattern, &perm, wanted.as_slice())?;
     }
+    Ok(())
+}
+
+#[test]
+fn rows_of_several_leaves(rt: HostRuntime) -> Result<(), Fail> {
+    let alloc = rt.alloc();
+    // the ways up from 1 and 2 meet in 3, below row 5; those from 4 go through it
+    let entries =
+        "%%MatrixMarket matrix coordinate pattern symmetric\n5 5 6\n3 1\n3 2\n4 3\n5 1\n5 2\n5 4\n";
+    let pattern = read_pattern(alloc, entries.as_bytes())?;
+    let perm = read_perm(alloc, b"1 2 3 4 5", 5)?;
+    check_counts(&rt, alloc, &pattern, &perm, &[3, 3, 3, 2, 1])?;
+    // row 6 has the leaves 1, 2 and 4, whose ways up meet in 3 and in 5; its entry 3 is no leaf
+    let entries =
+        "%%MatrixMarket matrix coordinate pattern symmetric\n6 6 8\n3 1\n3 2\n5 3\n5 4\n6 1\n6 2\n6 3\n6 4\n";
+    let pattern = read_pattern(alloc, entries.as_bytes())?;
+    let perm = read_perm(alloc, b"1 2 3 4 5 6", 6)?;
+    check_counts(&rt, alloc, &pattern, &perm, &[3, 3, 3, 3, 2, 1])?;
     Ok(())
 }

@@ -1,15 +1,12 @@
-use Rattle.std.proofs.Common.{◌≡◌, ◌-◌, ◌++◌, ℕ, suc, List, [], ◌∷◌, length, take, drop, refl, ap, ◌∙◌, arith}
-use Rattle.std.proofs.Math.Seq.{take-append_seam, take-length}
+use Rattle.std.proofs.Common.{◌≡◌, ◌-◌, ℕ, suc, List, [], ◌∷◌, length, take, drop, refl, ap, ◌∙◌, arith}
+use Rattle.std.proofs.Math.Seq.{take-length}
 use Rattle.std.proofs.lemmas.Result.{IfOk-weaker}
 use Rattle.matrix_market.specs.Pattern.{is_joined}
 use Rattle.ordering.specs.Fill.{renamed, counts_of}
+use Rattle.column_counts.proofs.MarkLemmas.{written}
 use Rattle.column_counts.proofs.FactorRows.{are_counts}
 use Rattle.column_counts.proofs.marking.counts_by_marking.Goals as goal
 use Rattle.column_counts.proofs.marking.counts_by_marking.Goals.{After-mark_rows}
-
--- what was written through the slice is the whole table
-written : (new rest : List ℕ) (len : ℕ) → len ≡ length new → take len (new ++ rest) ≡ new
-written new rest len e = ap (λ n. take n (new ++ rest)) e ∙ take-append_seam new rest
 
 without_first : (xs : List ℕ) → take (length xs - 1) (drop 1 xs) ≡ drop 1 xs
 without_first [] = refl

@@ -1,0 +1,135 @@
+-- Tests and sums over a span.
+use Rattle.std.proofs.Common.{sym, ◌∙◌, subst, ap, ◌+◌, ◌*◌, ◌≡◌, ◌≢◌, ◌⊎◌, inl, inr, ℕ, zero, suc, ◌<◌, ◌≤◌, Bool, true, false, arith, refl, ◌&&◌, nat_le}
+use Rattle.std.proofs.Math.Nat.{mul-suc}
+use Rattle.std.proofs.lemmas.Bool.{cases_eq, cases_lt, cases_Bool, both_ways, and_parts, or_cases, and_from, or_left, or_right, le-leb, lt-leb, leb-true, cond-true, cond-false, false_from_ne_true}
+use Rattle.column_counts.specs.Marks.{bit}
+use Rattle.column_counts.specs.Sums.{any_in, sum_in, passing}
+
+pub any_from : (p : ℕ → Bool) (a n y : ℕ) → a ≤ y → y < n → p y ≡ true → any_in p a n ≡ true
+unfolding any_in
+any_from p a zero y le lt h = absurd (omega arith)
+any_from p a (suc n) y le lt h =
+    elim (cases_eq y n) [
+      | inl e ↦ or_left _ _ (and_from _ _ (le-leb a n (omega arith)) (subst (λ v. p v ≡ true) e h))
+      | inr ne ↦ or_right _ _ (any_from p a n y le (omega arith) h)
+    ]
+
+pub any_to : (p : ℕ → Bool) (a n : ℕ) → any_in p a n ≡ true → (y : ℕ) × (a ≤ y) × (y < n) × (p y ≡ true)
+unfolding any_in
+any_to p a zero h = cc
+any_to p a (suc n) h =
+    elim (or_cases (nat_le a n && p n) _ h) [
+      | inl e ↦ let q = and_parts (nat_le a n) (p n) e in (n, leb-true a n q.0, omega arith, q.1)
+      | inr r ↦ let f = any_to p a n r in (f.0, f.1, omega arith, f.3)
+    ]
+
+-- two tests that hit alike
+pub any_same : (p q : ℕ → Bool) (a n b m : ℕ) → (any_in p a n ≡ true → any_in q b m ≡ true) → (any_in q b m ≡ true → any_in p a n ≡ true) → any_in p a n ≡ any_in q b m
+any_same p q a n b m to from =
+    elim (cases_Bool (any_in p a n)) [
+      | inl t ↦ t ∙ sym (to t)
+      | inr f ↦ f ∙ sym (false_from_ne_true (any_in q b m) (λ t. both_ways _ f (from t)))
+    ]
+
+pub sum_in_at : (h : ℕ → ℕ) (a n : ℕ) → a ≤ n → sum_in h a (suc n) ≡ h n + sum_in h a n
+unfolding sum_in
+sum_in_at h a n le = ap (λ v. v + sum_in h a n) (cond-true (nat_le a n) (h n) 0 (le-leb a n le))
+
+pub sum_in_below : (h : ℕ → ℕ) (a n : ℕ) → n < a → sum_in h a (suc n) ≡ sum_in h a n
+unfolding sum_in
+sum_in_below h a n lt = ap (λ v. v + sum_in h a n) (cond-false (nat_le a n) (h n) 0 (lt-leb a n lt)) ∙ omega arith
+
+pub sum_in_zero : (h : ℕ → ℕ) (a : ℕ) → sum_in h a zero ≡ 0
+unfolding sum_in
+sum_in_zero h a = refl
+
+-- a sum where one term has grown by one
+pub sum_in_out : (h h' : ℕ → ℕ) (c a n : ℕ) → ((d : ℕ) → d ≢ c → h' d ≡ h d) → (c < a ⊎ (n ≤ c)) → sum_in h' a n ≡ sum_in h a n
+sum_in_out h h' c a zero same out = sum_in_zero h' a ∙ sym (sum_in_zero h a)
+sum_in_out h h' c a (suc n) same out =
+    let ih = sum_in_out h h' c a n same (elim out [ inl l ↦ inl l | inr r ↦ inr (omega arith) ]) in
+    elim (cases_lt n a) [
+      | inl lt ↦ sum_in_below h' a n lt ∙ ih ∙ sym (sum_in_below h a n lt)
+      | inr le ↦
+          let ne : n ≢ c = elim out [ inl l ↦ omega arith | inr r ↦ omega arith ] in
+          let x = same n ne in
+          let l = sum_in_at h' a n le in let r = sum_in_at h a n le in omega arith
+    ]
+
+pub sum_in_more : (h h' : ℕ → ℕ) (c a n : ℕ) → ((d : ℕ) → d ≢ c → h' d ≡ h d) → h' c ≡ h c + 1 → a ≤ c → c < n → sum_in h' a n ≡ sum_in h a n + 1
+sum_in_more h h' c a zero same here le lt = absurd (omega arith)
+sum_in_more h h' c a (suc n) same here le lt =
+    elim (cases_eq n c) [
+      | inl e ↦
+          let l = sum_in_at h' a n (omega arith) in let r = sum_in_at h a n (omega arith) in
+          let s = sum_in_out h h' c a n same (inr (omega arith)) in
+          let x : h' n ≡ h n + 1 = subst (λ v. h' v ≡ h v + 1) (sym e) here in
+          omega arith
+      | inr ne ↦
+          let l = sum_in_at h' a n (omega arith) in let r = sum_in_at h a n (omega arith) in
+          let ih = sum_in_more h h' c a n same here le (omega arith) in
+          let x = same n ne in
+          omega arith
+    ]
+
+pub passing_same : (p q : ℕ → Bool) (n : ℕ) → ((i : ℕ) → i < n → p i ≡ q i) → passing p n ≡ passing q n
+unfolding passing
+passing_same p q zero h = refl
+passing_same p q (suc n) h =
+    let ih = passing_same p q n (λ i lt. h i (omega arith)) in
+    ap (λ b. bit b + passing p n) (h n (omega arith)) ∙ ap (λ v. bit (q n) + v) ih
+
+pub passing_more : (p q : ℕ → Bool) (i n : ℕ) → i < n → p i ≡ false → q i ≡ true → ((k : ℕ) → k < n → k ≢ i → q k ≡ p k) → passing q n ≡ passing p n + 1
+unfolding passing
+passing_more p q i zero lt hp hq h = absurd (omega arith)
+passing_more p q i (suc n) lt hp hq h =
+    elim (cases_eq n i) [
+      | inl e ↦
+          let ep : bit (p n) ≡ 0 = ap bit (subst (λ v. p v ≡ false) (sym e) hp) in
+          let eq : bit (q n) ≡ 1 = ap bit (subst (λ v. q v ≡ true) (sym e) hq) in
+          let s = passing_same q p n (λ k l. h k (omega arith) (omega arith)) in
+          omega arith
+      | inr ne ↦
+          let s : bit (q n) ≡ bit (p n) = ap bit (h n (omega arith) ne) in
+          let ih = passing_more p q i n (omega arith) hp hq (λ k l kn. h k (omega arith) kn) in
+          omega arith
+    ]
+
+-- a span that ends before it begins
+pub sum_in_past : (h : ℕ → ℕ) (a n : ℕ) → n ≤ a → sum_in h a n ≡ 0
+sum_in_past h a zero le = sum_in_zero h a
+sum_in_past h a (suc n) le = sum_in_below h a n (omega arith) ∙ sum_in_past h a n (omega arith)
+
+-- a sum in two parts
+pub sum_in_split : (h : ℕ → ℕ) (a m : ℕ) → a ≤ m → sum_in h 0 m ≡ sum_in h 0 a + sum_in h a m
+sum_in_split h a zero le = let e : a ≡ 0 = omega arith in let z = sum_in_zero h 0 in let y = sum_in_zero h a in subst (λ b. sum_in h 0 zero ≡ sum_in h 0 b + sum_in h a zero) (sym e) (omega arith)
+sum_in_split h a (suc m) le =
+    let all = sum_in_at h 0 m (omega arith) in
+    elim (cases_lt m a) [
+      | inl last ↦ (
+          let e : a ≡ suc m = omega arith in
+          subst (λ b. sum_in h 0 (suc m) ≡ sum_in h 0 b + sum_in h b (suc m)) (sym e) (let z = sum_in_past h (suc m) (suc m) (omega arith) in omega arith)
+          )
+      | inr more ↦ (let part = sum_in_at h a m more in let ih = sum_in_split h a m more in omega arith)
+    ]
+
+pub sum_in_bound : (h : ℕ → ℕ) (b n : ℕ) → ((x : ℕ) → h x ≤ b) → sum_in h 0 n ≤ b * n
+sum_in_bound h b zero most = let z = sum_in_zero h 0 in omega arith
+sum_in_bound h b (suc n) most = let e = sum_in_at h 0 n (omega arith) in let ih = sum_in_bound h b n most in let m = most n in let d : b * suc n ≡ b * n + b = mul-suc b n in omega arith
+
+pub sum_in_none : (h : ℕ → ℕ) (a n : ℕ) → ((x : ℕ) → h x ≡ 0) → sum_in h a n ≡ 0
+sum_in_none h a zero none = sum_in_zero h a
+sum_in_none h a (suc n) none =
+    let ih = sum_in_none h a n none in
+    elim (cases_lt n a) [
+      | inl lt ↦ sum_in_below h a n lt ∙ ih
+      | inr le ↦ (let e = sum_in_at h a n le in let z = none n in omega arith)
+    ]
+
+pub passing_none : (p : ℕ → Bool) (m : ℕ) → ((i : ℕ) → i < m → p i ≡ false) → passing p m ≡ 0
+unfolding passing
+passing_none p zero h = refl
+passing_none p (suc m) h = let z : bit (p m) ≡ 0 = ap bit (h m (omega arith)) in let ih = passing_none p m (λ i lt. h i (omega arith)) in omega arith
+
+pub any_in_none : (a n : ℕ) → any_in (λ y. false) a n ≡ false
+any_in_none a n = false_from_ne_true (any_in (λ y. false) a n) (λ h. let y = any_to (λ y. false) a n h in absurd (let f = y.3 in cc))
