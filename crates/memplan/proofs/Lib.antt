@@ -1,2 +1,4 @@
-pub mod WordLemmas
+pub mod AnalysisLemmas
 pub mod AnswerLemmas
+pub mod PageLemmas
+pub mod WordLemmas

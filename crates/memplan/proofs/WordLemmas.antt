@@ -1,9 +1,9 @@
 -- Tests of options, seen by the code and as plain lists.
-use Rattle.std.proofs.Common.{◌≡◌, ◌∙◌, ℕ, Bool, not, ◌&&◌, ◌||◌, List, [], ◌∷◌, map, refl, sym, ap}
+use Rattle.std.proofs.Common.{◌≡◌, ◌∙◌, ℕ, Bool, not, ◌&&◌, ◌||◌, List, [], ◌∷◌, ◌++◌, map, refl, sym, ap}
 use Rattle.std.specs.List.{list_any, list_all}
 use Rattle.std.specs.Str.{bytes_eq}
 use Rattle.std.specs.Borrow.{Bor}
-use Rattle.std.proofs.lemmas.List.Folds.{list_all-map}
+use Rattle.std.proofs.lemmas.List.Folds.{list_all-map, list_any-append}
 use Rattle.memplan.specs.Words as words
 use Rattle.memplan.specs.Words.{are_distinct, are_among}
 use Rattle.memplan.specs.GivenViews.{given_view, given_views}
@@ -25,8 +25,11 @@ list_all-same : {X : Type 0} (p q : X → Bool) (xs : List X) → ((x : X) → p
 list_all-same p q [] same = refl
 list_all-same p q (x ∷ xs) same = ap (λ (b : Bool). b && list_all p xs) (same x) ∙ ap (λ (b : Bool). q x && b) (list_all-same p q xs same)
 
-pub are_among-views : (names : List (Bor (List ℕ))) (options : List Given)
-    → list_all (λ (o : Given). list_any (λ (name : Bor (List ℕ)). bytes_eq o.name.now name.now) names) options ≡ are_among (map (λ s. s.now) names) (given_views options)
-are_among-views names options =
-    list_all-same _ _ options (λ o. sym (list_any-map (λ (name : List ℕ). bytes_eq o.name.now name) (λ (s : Bor (List ℕ)). s.now) names))
-    ∙ sym (list_all-map (λ (o : words.Given). list_any (λ (name : List ℕ). bytes_eq o.name name) (map (λ s. s.now) names)) given_view options)
+pub are_among-views : (first second : List (Bor (List ℕ))) (options : List Given)
+    → list_all (λ (o : Given). list_any (λ (name : Bor (List ℕ)). bytes_eq o.name.now name.now) first || list_any (λ (name : Bor (List ℕ)). bytes_eq o.name.now name.now) second) options
+    ≡ are_among (map (λ s. s.now) first ++ map (λ s. s.now) second) (given_views options)
+are_among-views first second options =
+    list_all-same _ _ options (λ o. let test = λ (name : List ℕ). bytes_eq o.name.now name in
+    (λ i. sym (list_any-map test (λ (s : Bor (List ℕ)). s.now) first) i || sym (list_any-map test (λ (s : Bor (List ℕ)). s.now) second) i)
+    ∙ sym (list_any-append test (map (λ s. s.now) first) (map (λ s. s.now) second)))
+    ∙ sym (list_all-map (λ (o : words.Given). list_any (λ (name : List ℕ). bytes_eq o.name name) (map (λ s. s.now) first ++ map (λ s. s.now) second)) given_view options)

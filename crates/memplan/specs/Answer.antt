@@ -1,10 +1,11 @@
 -- What is answered to a request over the contents of its files: a status and a text. There is one answer for a first refusal,
 -- in the order of the files, and else the report.
-use Rattle.std.specs.Prelude.{◌≡◌, ℕ, ◌<◌, ◌≤◌, List, [], ◌∷◌, ◌++◌, length, Some, codes, decimal, ◌⊎◌}
+use Rattle.std.specs.Prelude.{◌≡◌, ℕ, ◌<◌, ◌≤◌, List, [], ◌∷◌, ◌++◌, length, map, Option, Some, None, codes, decimal, ◌⊎◌}
+use Rattle.std.specs.List.{range_with_len}
 use Rattle.mp_text.specs.declared.refusals.Refusal.{Refusal}
 use Rattle.mp_text.specs.declared.refusals.Refusal.TheVariants as refusals
 use Rattle.mp_text.specs.declared.refusals.LimitName.TheVariants as limits
-use Rattle.mp_text.specs.Report.{line_text}
+use Rattle.mp_text.specs.Report.{line_text, text_of_lines}
 use Rattle.mp_system.specs.declared.system.OrderKind.{OrderKind}
 use Rattle.mp_system.specs.System.{TaskSystem}
 use Rattle.mp_system.specs.Memory.{peak_of}
@@ -12,16 +13,21 @@ use Rattle.mp_system.specs.Traversal.{IsTraversal, first_fault}
 use Rattle.tree_input.specs.declared.node.Node.{Node}
 use Rattle.tree_input.specs.Tree.{system_of_nodes}
 use Rattle.tree_input.specs.TreeFile.{ReadsTree, RefusesTree}
+use Rattle.tree_input.specs.TreeText.{text_of}
+use Rattle.matrix_market.specs.MatrixFile.{ReadsPattern, RefusesPattern}
+use Rattle.postorder_best.specs.BestPostorder.{IsBestPostorder}
 use Rattle.sp_terms.specs.declared.position.Position.{Position}
 use Rattle.sp_terms.specs.Term.{Term}
 use Rattle.sp_terms.specs.Postfix.{Denotes}
 use Rattle.sp_terms.specs.SystemOfTerm.{system_of_term}
 use Rattle.sp_terms.specs.WorkflowFile.{ReadsWorkflow, RefusesWorkflow}
 use Rattle.ordering.specs.OrderFile.{ReadsOrder, RefusesOrder}
+use Rattle.ordering.specs.PermFile.{ReadsPerm, RefusesPerm}
+use Rattle.memplan.specs.Analysis.{IsFrontTree}
 use Rattle.memplan.specs.declared.status.Status.{Status}
 use Rattle.memplan.specs.declared.status.Status.TheVariants as status
-use Rattle.memplan.specs.Request.{Request, replay, FileRole, tree_file, workflow_file, order_file, NamedFile, input_file, files_of}
-use Rattle.memplan.specs.Refusals.{limit_word, tree_word, workflow_word, order_file_word, order_word}
+use Rattle.memplan.specs.Request.{Matrix, TreeInput, tree_named, matrix_named, Input, tree_input, workflow_named, Request, replay, tree, post, FileRole, tree_file, workflow_file, matrix_file, perm_file, order_file, NamedFile, files_of}
+use Rattle.memplan.specs.Refusals.{limit_word, tree_word, workflow_word, matrix_word, perm_word, order_file_word, order_word}
 
 pub record Answer : Type 0 where
   pub status : Status
@@ -65,27 +71,71 @@ IsTree text nodes = IsWithinBytes text × ReadsTree text nodes
 abbrev pub IsWorkflow : List ℕ → List Position → Type 0
 IsWorkflow text positions = IsWithinBytes text × ReadsWorkflow text positions
 
+abbrev pub IsMatrix : List ℕ → List (List ℕ) → Type 0
+IsMatrix text rows = IsWithinBytes text × ReadsPattern text rows
+
+-- an order of elimination of n vertices
+abbrev pub IsPerm : ℕ → List ℕ → List ℕ → Type 0
+IsPerm n text order = IsWithinBytes text × ReadsPerm n text order
+
 abbrev pub IsOrder : List ℕ → List ℕ → Type 0
 IsOrder text numbers = IsWithinBytes text × ReadsOrder text numbers
+
+-- a permutation file stands after the matrix file whose vertices it orders
+abbrev pub IsRefusedPerm : List (List ℕ) → List ℕ → Answer → Type 0
+IsRefusedPerm [] text answer = ⊥
+IsRefusedPerm (matrix ∷ earlier) text answer =
+    (rows : List (List ℕ)) × IsMatrix matrix rows × IsRefusedFile (codes "perm") perm_word (RefusesPerm (length rows) text) text answer
+
+abbrev pub IsAcceptedPerm : List (List ℕ) → List ℕ → Type 0
+IsAcceptedPerm [] text = ⊥
+IsAcceptedPerm (matrix ∷ earlier) text = (rows : List (List ℕ)) × (order : List ℕ) × IsMatrix matrix rows × IsPerm (length rows) text order
 
 -- the file is refused with this answer, after these texts of earlier files
 abbrev pub IsRefused : FileRole → List (List ℕ) → List ℕ → Answer → Type 0
 IsRefused tree_file earlier text answer = IsRefusedFile (codes "tree") tree_word (RefusesTree text) text answer
 IsRefused workflow_file earlier text answer = IsRefusedFile (codes "workflow") workflow_word (RefusesWorkflow text) text answer
+IsRefused matrix_file earlier text answer = IsRefusedFile (codes "matrix") matrix_word (RefusesPattern text) text answer
+IsRefused perm_file earlier text answer = IsRefusedPerm earlier text answer
 IsRefused order_file earlier text answer = IsRefusedFile (codes "order") order_file_word (RefusesOrder text) text answer
 
 -- the file has a value, after these texts of earlier files
 abbrev pub IsAccepted : FileRole → List (List ℕ) → List ℕ → Type 0
 IsAccepted tree_file earlier text = (nodes : List Node) × IsTree text nodes
 IsAccepted workflow_file earlier text = (positions : List Position) × IsWorkflow text positions
+IsAccepted matrix_file earlier text = (rows : List (List ℕ)) × IsMatrix text rows
+IsAccepted perm_file earlier text = IsAcceptedPerm earlier text
 IsAccepted order_file earlier text = (numbers : List ℕ) × IsOrder text numbers
 
+-- ---- inputs
+
+-- the order of elimination that a matrix comes with: of its permutation file, or 1, 2, .., n
+abbrev pub IsOrderOf : Option (List ℕ) → ℕ → List (List ℕ) → List ℕ → Type 0
+IsOrderOf None n [] order = order ≡ range_with_len 1 n
+IsOrderOf None n (text ∷ texts) order = ⊥
+IsOrderOf (Some name) n [] order = ⊥
+IsOrderOf (Some name) n (text ∷ []) order = IsPerm n text order
+IsOrderOf (Some name) n (text ∷ more ∷ texts) order = ⊥
+
+-- the tree of a matrix, over the texts of its files
+abbrev pub IsMatrixTree : Matrix → List (List ℕ) → List Node → Type 0
+IsMatrixTree m [] nodes = ⊥
+IsMatrixTree m (text ∷ texts) nodes =
+    (rows : List (List ℕ)) × (order : List ℕ) × IsMatrix text rows × IsOrderOf m.perm (length rows) texts order × IsFrontTree m rows order nodes
+
+abbrev pub IsTreeOf : TreeInput → List (List ℕ) → List Node → Type 0
+IsTreeOf (tree_named name) [] nodes = ⊥
+IsTreeOf (tree_named name) (text ∷ []) nodes = IsTree text nodes
+IsTreeOf (tree_named name) (text ∷ more ∷ texts) nodes = ⊥
+IsTreeOf (matrix_named m) texts nodes = IsMatrixTree m texts nodes
+
 -- the system of an input: of a tree, or of the term that a workflow's positions denote
-abbrev pub IsSystemOf : FileRole → List ℕ → TaskSystem → Type 0
-IsSystemOf tree_file text system = (nodes : List Node) × IsTree text nodes × (system ≡ system_of_nodes nodes)
-IsSystemOf workflow_file text system =
+abbrev pub IsSystemOf : Input → List (List ℕ) → TaskSystem → Type 0
+IsSystemOf (tree_input input) texts system = (nodes : List Node) × IsTreeOf input texts nodes × (system ≡ system_of_nodes nodes)
+IsSystemOf (workflow_named name) [] system = ⊥
+IsSystemOf (workflow_named name) (text ∷ []) system =
     (positions : List Position) × (term : Term) × IsWorkflow text positions × Denotes positions term × (system ≡ system_of_term term)
-IsSystemOf order_file text system = ⊥
+IsSystemOf (workflow_named name) (text ∷ more ∷ texts) system = ⊥
 
 -- ---- all files of a request, in turn
 
@@ -113,11 +163,33 @@ IsReplay system order answer =
     (IsTraversal system order × (answer ≡ peak_answer (peak_of system order)))
     ⊎ ((place : ℕ) × (kind : OrderKind) × (first_fault system order ≡ Some (place, kind)) × (answer ≡ order_refused place kind))
 
+-- the tree file of a tree
+abbrev pub tree_answer : List Node → Answer
+tree_answer nodes = record { status = status.Done; text = text_of nodes }
+
+-- `peak PEAK`, `order N`, the nodes, `end`
+abbrev pub post_lines : ℕ → List ℕ → List (List (List ℕ))
+post_lines peak order =
+    (codes "peak" ∷ decimal peak ∷ []) ∷ (codes "order" ∷ decimal (length order) ∷ []) ∷ map (λ v. decimal v ∷ []) order ++ (codes "end" ∷ []) ∷ []
+
+abbrev pub post_answer : ℕ → List ℕ → Answer
+post_answer peak order = record { status = status.Done; text = text_of_lines (post_lines peak order) }
+
+-- the best postorder of a tree, with its peak
+abbrev pub IsPost : List Node → Answer → Type 0
+IsPost nodes answer = (order : List ℕ) × IsBestPostorder nodes order × (answer ≡ post_answer (peak_of (system_of_nodes nodes) order) order)
+
+-- a replay: the texts of the input's files, and that of the order
+abbrev pub IsReplayOf : Input → List (List ℕ) → Answer → Type 0
+IsReplayOf input texts answer =
+    (mine : List (List ℕ)) × (order : List ℕ) × (system : TaskSystem) × (numbers : List ℕ)
+    × (texts ≡ mine ++ order ∷ []) × IsSystemOf input mine system × IsOrder order numbers × IsReplay system numbers answer
+
 -- what is answered where all files have values
 abbrev pub IsReport : Request → List (List ℕ) → Answer → Type 0
-IsReport (replay input order_name) (text ∷ order ∷ []) answer =
-    (system : TaskSystem) × (numbers : List ℕ) × IsSystemOf (input_file input).role text system × IsOrder order numbers × IsReplay system numbers answer
-IsReport (replay input order_name) _ answer = ⊥
+IsReport (replay input order) texts answer = IsReplayOf input texts answer
+IsReport (tree m) texts answer = (nodes : List Node) × IsMatrixTree m texts nodes × (answer ≡ tree_answer nodes)
+IsReport (post input) texts answer = (nodes : List Node) × IsTreeOf input texts nodes × IsPost nodes answer
 
 -- the answer to a request over the texts of its files
 abbrev pub IsAnswer : Request → List (List ℕ) → Answer → Type 0

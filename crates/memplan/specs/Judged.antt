@@ -1,17 +1,38 @@
--- What a judgement of one file says of its text.
-use Rattle.std.specs.Prelude.{ℕ, List}
-use Rattle.memplan.specs.declared.judge.JudgedSystem.{JudgedSystem}
-use Rattle.memplan.specs.declared.judge.JudgedSystem.TheVariants as systems
-use Rattle.memplan.specs.declared.judge.JudgedOrder.{JudgedOrder}
-use Rattle.memplan.specs.declared.judge.JudgedOrder.TheVariants as orders
-use Rattle.memplan.specs.Request.{FileRole, order_file}
-use Rattle.memplan.specs.Answer.{IsSystemOf, IsOrder, IsRefused}
+-- What a judgement of files says of their texts.
+use Rattle.std.specs.Prelude.{◌≡◌, ℕ, ◌<◌, ◌≤◌, List, [], ◌∷◌, Option, Some, None, length, codes}
+use Rattle.mp_outside.specs.Outside.{Rose}
+use Rattle.memplan.specs.declared.judge.Judged.{Judged}
+use Rattle.memplan.specs.declared.judge.Judged.TheVariants.{Taken, Refused}
+use Rattle.memplan.specs.declared.judge.Loaded.{Loaded}
+use Rattle.memplan.specs.declared.judge.Loaded.TheVariants.{Whole, TooLong}
+use Rattle.memplan.specs.Request.{NamedFile}
+use Rattle.ordering.specs.PermFile.{RefusesPerm}
+use Rattle.memplan.specs.Refusals.{perm_word}
+use Rattle.memplan.specs.Answer.{Answer, IsRefusedFile, IsFirstRefusal}
+use Rattle.memplan.specs.Clauses.{AreTold}
 use Rattle.memplan.specs.Pages.{answer_of}
 
-abbrev pub IsJudgedSystem : FileRole → List ℕ → JudgedSystem → Type 0
-IsJudgedSystem role text (systems.Taken system) = IsSystemOf role text system
-IsJudgedSystem role text (systems.Refused page) = (earlier : List (List ℕ)) → IsRefused role earlier text (answer_of page)
+-- a text of at most 2^28 bytes, or one that is longer
+abbrev pub IsLoaded : List ℕ → Loaded → Type 0
+IsLoaded text (Whole bytes) = (bytes.items ≡ text) × (length text ≤ 268435456)
+IsLoaded text TooLong = 268435456 < length text
 
-abbrev pub IsJudgedOrder : List ℕ → JudgedOrder → Type 0
-IsJudgedOrder text (orders.Taken numbers) = IsOrder text numbers.items
-IsJudgedOrder text (orders.Refused page) = (earlier : List (List ℕ)) → IsRefused order_file earlier text (answer_of page)
+-- a value, or the page of a refusal
+abbrev pub IsJudged : {A : Type 0} → (A → Type 0) → (Answer → Type 0) → Judged A → Type 0
+IsJudged takes refuses (Taken value) = takes value
+IsJudged takes refuses (Refused page) = refuses (answer_of page)
+
+-- the same over any texts that the files tell
+abbrev pub AreJudged : {A : Type 0} → (List ℕ → Option (List ℕ)) → List NamedFile → (List (List ℕ) → A → Type 0) → Judged A → Type 0
+AreJudged told files takes judged =
+    (texts : List (List ℕ)) → AreTold told files texts → IsJudged (takes texts) (IsFirstRefusal files [] texts) judged
+
+-- a permutation file of n vertices is refused
+abbrev pub IsRefusedOrder : ℕ → List (List ℕ) → Answer → Type 0
+IsRefusedOrder n [] answer = ⊥
+IsRefusedOrder n (text ∷ texts) answer = IsRefusedFile (codes "perm") perm_word (RefusesPerm n text) text answer
+
+-- the count of the file rose, if one is named
+abbrev pub HasRisen : Option (List ℕ) → (List ℕ → ℕ) → (List ℕ → ℕ) → Type 0
+HasRisen None before after = ⊥
+HasRisen (Some name) before after = Rose (before name) (after name)

@@ -2,6 +2,7 @@ pub mod Words
 pub mod GivenViews
 pub mod Request
 pub mod RequestViews
+pub mod Analysis
 pub mod Refusals
 pub mod Answer
 pub mod Clauses

@@ -8,6 +8,10 @@ use Rattle.tree_input.specs.declared.node.TreeKind.{TreeKind}
 use Rattle.tree_input.specs.declared.node.TreeKind.TheVariants as trees
 use Rattle.sp_terms.specs.declared.kind.WorkflowKind.{WorkflowKind}
 use Rattle.sp_terms.specs.declared.kind.WorkflowKind.TheVariants as workflows
+use Rattle.matrix_market.specs.declared.kind.MatrixKind.{MatrixKind}
+use Rattle.matrix_market.specs.declared.kind.MatrixKind.TheVariants as matrices
+use Rattle.ordering.specs.declared.perm_file.PermKind.{PermKind}
+use Rattle.ordering.specs.declared.perm_file.PermKind.TheVariants as perms
 use Rattle.ordering.specs.declared.order_file.OrderFileKind.{OrderFileKind}
 use Rattle.ordering.specs.declared.order_file.OrderFileKind.TheVariants as order_files
 
@@ -40,6 +44,25 @@ workflow_word workflows.NotOneTerm = codes "not-one-term"
 workflow_word workflows.TaskCount = codes "task-count"
 workflow_word workflows.NoEnd = codes "no-end"
 workflow_word workflows.Share = codes "share"
+
+abbrev pub matrix_word : MatrixKind → List ℕ
+matrix_word matrices.Banner = codes "banner"
+matrix_word matrices.NotMatrix = codes "not-matrix"
+matrix_word matrices.ArrayFormat = codes "array-format"
+matrix_word matrices.Field = codes "field"
+matrix_word matrices.Symmetry = codes "symmetry"
+matrix_word matrices.SizeLine = codes "size-line"
+matrix_word matrices.NotSquare = codes "not-square"
+matrix_word matrices.Entry = codes "entry"
+matrix_word matrices.Index = codes "index"
+matrix_word matrices.TooFew = codes "too-few"
+matrix_word matrices.TooMany = codes "too-many"
+
+abbrev pub perm_word : PermKind → List ℕ
+perm_word perms.Number = codes "number"
+perm_word perms.Range = codes "range"
+perm_word perms.Repeated = codes "repeated"
+perm_word perms.Count = codes "count"
 
 abbrev pub order_file_word : OrderFileKind → List ℕ
 order_file_word order_files.Number = codes "number"

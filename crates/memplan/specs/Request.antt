@@ -1,40 +1,125 @@
 -- Requests: what words ask for, and the files that a request names.
-use Rattle.std.specs.Prelude.{ℕ, List, [], ◌∷◌, Option, Some, None, option_map, option_and_then, codes, if◌then◌else◌}
+use Rattle.std.specs.Prelude.{ℕ, ◌^◌, Bool, true, false, nat_le, List, [], ◌∷◌, ◌++◌, Option, Some, None, option_map, option_and_then, codes, if◌then◌else◌}
+use Rattle.std.specs.Option.{option_or}
 use Rattle.std.specs.Str.{bytes_eq}
+use Rattle.mp_text.specs.Text.{number_of}
+use Rattle.assembly_tree.specs.declared.front.Shape.{Shape}
+use Rattle.assembly_tree.specs.declared.front.Shape.TheVariants as shapes
 use Rattle.memplan.specs.Words.{Given, options_of, value_of, are_distinct, are_among}
 
--- the input of a request: the name of a file, and what it is read as
+-- a matrix, by the name of its file, and how it becomes a tree of fronts
+pub record Matrix : Type 0 where
+  pub name : List ℕ
+  -- the name of a permutation file; with none, the order of elimination is that of the file
+  pub perm : Option (List ℕ)
+  pub shape : Shape
+  -- how many explicit zeros a merge of two fronts may add; with none, no fronts are merged
+  pub zeros : Option ℕ
+  pub inplace : Bool
+
+-- what becomes a tree
+pub data TreeInput : Type 0 where
+  tree_named : List ℕ → TreeInput
+  matrix_named : Matrix → TreeInput
+
+-- what becomes a system of tasks
 pub data Input : Type 0 where
-  tree_named : List ℕ → Input
+  tree_input : TreeInput → Input
   workflow_named : List ℕ → Input
 
 pub data Request : Type 0 where
   -- the peak of the input's system in the order of a file, by its name
   replay : Input → List ℕ → Request
+  -- the tree of a matrix
+  tree : Matrix → Request
+  -- the best postorder of a tree, and its peak
+  post : TreeInput → Request
 
--- exactly one of two
-abbrev pub one_of_two : {A B : Type 0} → (A → B) → (A → B) → Option A → Option A → Option B
-one_of_two f g (Some a) None = Some (f a)
-one_of_two f g None (Some a) = Some (g a)
-one_of_two f g (Some a) (Some b) = None
-one_of_two f g None None = None
+-- ---- the options of a matrix
 
--- `--tree NAME` or `--workflow NAME`
-abbrev pub input_of : List Given → Option Input
-input_of options = one_of_two tree_named workflow_named (value_of (codes "--tree") options) (value_of (codes "--workflow") options)
+-- the value is the first word or none: false; or the second: true
+abbrev pub is_second : List ℕ → List ℕ → Option (List ℕ) → Option Bool
+is_second first second None = Some false
+is_second first second (Some word) = if bytes_eq word first then Some false else if bytes_eq word second then Some true else None
+
+-- a permutation file or the natural order, not both
+abbrev pub chooses_order : Option (List ℕ) → Option (List ℕ) → Bool
+chooses_order perm None = true
+chooses_order None (Some word) = bytes_eq word (codes "natural")
+chooses_order (Some name) (Some word) = false
+
+-- a number of zeros is at most 2^40
+abbrev pub zeros_within : ℕ → Option (Option ℕ)
+zeros_within zeros = if nat_le zeros (2 ^ 40) then Some (Some zeros) else None
+
+abbrev pub zeros_of : Option (List ℕ) → Option (Option ℕ)
+zeros_of None = Some None
+zeros_of (Some word) = option_and_then zeros_within (number_of word)
+
+abbrev pub shape_of : Bool → Shape
+shape_of false = shapes.Triangle
+shape_of true = shapes.Square
+
+abbrev pub matrix_names : List (List ℕ)
+matrix_names = codes "--matrix" ∷ codes "--perm" ∷ codes "--ordering" ∷ codes "--shape" ∷ codes "--amalgamate" ∷ codes "--inplace" ∷ []
+
+-- `--matrix NAME`, and of `--perm NAME` or `--ordering natural`, `--shape triangle|square`, `--amalgamate ZEROS` and `--inplace no|yes` what is given
+abbrev pub matrix_of : List Given → Option Matrix
+matrix_of options =
+    option_and_then (λ name.
+    option_and_then (λ square.
+    option_and_then (λ zeros.
+    option_and_then (λ inplace.
+    if chooses_order (value_of (codes "--perm") options) (value_of (codes "--ordering") options)
+    then Some (record { name = name; perm = value_of (codes "--perm") options; shape = shape_of square; zeros = zeros; inplace = inplace })
+    else None)
+    (is_second (codes "no") (codes "yes") (value_of (codes "--inplace") options)))
+    (zeros_of (value_of (codes "--amalgamate") options)))
+    (is_second (codes "triangle") (codes "square") (value_of (codes "--shape") options)))
+    (value_of (codes "--matrix") options)
+
+-- ---- inputs; each of them with these other options besides its own, so at most one of them is there
+
+abbrev pub tree_of : List (List ℕ) → List Given → Option TreeInput
+tree_of others options = if are_among (codes "--tree" ∷ others) options then option_map tree_named (value_of (codes "--tree") options) else None
+
+abbrev pub workflow_of : List (List ℕ) → List Given → Option Input
+workflow_of others options = if are_among (codes "--workflow" ∷ others) options then option_map workflow_named (value_of (codes "--workflow") options) else None
+
+abbrev pub matrix_among : List (List ℕ) → List Given → Option Matrix
+matrix_among others options = if are_among (matrix_names ++ others) options then matrix_of options else None
+
+-- a tree or a matrix
+abbrev pub tree_input_of : List (List ℕ) → List Given → Option TreeInput
+tree_input_of others options = option_or (tree_of others options) (option_map matrix_named (matrix_among others options))
+
+-- a tree, a matrix or a workflow
+abbrev pub input_of : List (List ℕ) → List Given → Option Input
+input_of others options = option_or (option_map tree_input (tree_input_of others options)) (workflow_of others options)
+
+-- ---- commands
 
 abbrev pub with_order : List Given → Input → Option Request
 with_order options input = option_map (replay input) (value_of (codes "--order") options)
 
 -- `replay`, one input, and `--order NAME`
 abbrev pub replay_of : List Given → Option Request
-replay_of options =
-    if are_among (codes "--tree" ∷ codes "--workflow" ∷ codes "--order" ∷ []) options
-    then option_and_then (with_order options) (input_of options)
-    else None
+replay_of options = option_and_then (with_order options) (input_of (codes "--order" ∷ []) options)
+
+-- `tree` and a matrix
+abbrev pub tree_request_of : List Given → Option Request
+tree_request_of options = option_map tree (matrix_among [] options)
+
+-- `post` and a tree or a matrix
+abbrev pub post_of : List Given → Option Request
+post_of options = option_map post (tree_input_of [] options)
 
 abbrev pub command_of : List ℕ → List Given → Option Request
-command_of command options = if bytes_eq command (codes "replay") then replay_of options else None
+command_of command options =
+    if bytes_eq command (codes "replay") then replay_of options
+    else if bytes_eq command (codes "tree") then tree_request_of options
+    else if bytes_eq command (codes "post") then post_of options
+    else None
 
 abbrev pub distinct_request : List ℕ → List Given → Option Request
 distinct_request command options = if are_distinct options then command_of command options else None
@@ -44,20 +129,37 @@ abbrev pub request_of : List (List ℕ) → Option Request
 request_of [] = None
 request_of (command ∷ words) = option_and_then (distinct_request command) (options_of words)
 
+-- ---- files
+
 -- what a file is read as
 pub data FileRole : Type 0 where
   tree_file : FileRole
   workflow_file : FileRole
+  matrix_file : FileRole
+  perm_file : FileRole
   order_file : FileRole
 
 pub record NamedFile : Type 0 where
   pub role : FileRole
   pub name : List ℕ
 
-abbrev pub input_file : Input → NamedFile
-input_file (tree_named name) = record { role = tree_file; name = name }
-input_file (workflow_named name) = record { role = workflow_file; name = name }
+abbrev pub perm_files : Option (List ℕ) → List NamedFile
+perm_files None = []
+perm_files (Some name) = record { role = perm_file; name = name } ∷ []
+
+abbrev pub matrix_files : Matrix → List NamedFile
+matrix_files m = record { role = matrix_file; name = m.name } ∷ perm_files m.perm
+
+abbrev pub tree_input_files : TreeInput → List NamedFile
+tree_input_files (tree_named name) = record { role = tree_file; name = name } ∷ []
+tree_input_files (matrix_named m) = matrix_files m
+
+abbrev pub input_files : Input → List NamedFile
+input_files (tree_input i) = tree_input_files i
+input_files (workflow_named name) = record { role = workflow_file; name = name } ∷ []
 
 -- the files of a request, in the order in which they are read and judged
 abbrev pub files_of : Request → List NamedFile
-files_of (replay input order) = input_file input ∷ record { role = order_file; name = order } ∷ []
+files_of (replay input order) = input_files input ++ record { role = order_file; name = order } ∷ []
+files_of (tree m) = matrix_files m
+files_of (post input) = tree_input_files input

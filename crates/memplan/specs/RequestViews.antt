@@ -1,8 +1,26 @@
 -- What the code's requests say.
+use Rattle.std.specs.Prelude.{List, ℕ, option_map}
 use Rattle.memplan.specs.Request as requests
 use Rattle.memplan.specs.declared.request.Input.{Input}
-use Rattle.memplan.specs.declared.request.Input.TheVariants.{Tree, Workflow}
+use Rattle.memplan.specs.declared.request.Input.TheVariants as inputs
+use Rattle.memplan.specs.declared.request.Matrix.{Matrix}
+use Rattle.memplan.specs.declared.request.Request.{Request}
+use Rattle.memplan.specs.declared.request.Request.TheVariants as commands
+use Rattle.memplan.specs.declared.request.TreeInput.{TreeInput}
+use Rattle.memplan.specs.declared.request.TreeInput.TheVariants as trees
+
+abbrev pub matrix_view : Matrix → requests.Matrix
+matrix_view m = record { name = m.name.now; perm = option_map (λ name. name.now) m.perm; shape = m.shape; zeros = m.zeros; inplace = m.inplace }
+
+abbrev pub tree_input_view : TreeInput → requests.TreeInput
+tree_input_view (trees.Tree name) = requests.tree_named name.now
+tree_input_view (trees.Matrix m) = requests.matrix_named (matrix_view m)
 
 abbrev pub input_view : Input → requests.Input
-input_view (Tree name) = requests.tree_named name.now
-input_view (Workflow name) = requests.workflow_named name.now
+input_view (inputs.Tree input) = requests.tree_input (tree_input_view input)
+input_view (inputs.Workflow name) = requests.workflow_named name.now
+
+abbrev pub request_view : Request → requests.Request
+request_view (commands.Replay r) = requests.replay (input_view r.input) r.order.now
+request_view (commands.Tree m) = requests.tree (matrix_view m)
+request_view (commands.Post input) = requests.post (tree_input_view input)

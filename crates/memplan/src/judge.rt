@@ -1,164 +1,165 @@
 //! A file is read whole and then judged: it has a value, or a page refuses it.
 
-ghost use Rattle.std.specs.Prelude.{◌≡◌, ◌≤◌, ℕ, List, length, Some, IfOk, Err};
+ghost use Rattle.std.specs.Prelude.{◌≡◌, ◌≤◌, ℕ, List, Some, IfOk, Err, codes, length, option_map};
 ghost use Rattle.mp_outside.specs.Outside.{Rose};
-ghost use Rattle.memplan.specs.Request.{tree_file, workflow_file, input_file};
-ghost use Rattle.memplan.specs.RequestViews.{input_view};
-ghost use Rattle.memplan.specs.Judged.{IsJudgedSystem, IsJudgedOrder};
+ghost use Rattle.tree_input.specs.TreeFile.{RefusesTree};
+ghost use Rattle.sp_terms.specs.WorkflowFile.{RefusesWorkflow};
+ghost use Rattle.matrix_market.specs.MatrixFile.{RefusesPattern};
+ghost use Rattle.ordering.specs.OrderFile.{RefusesOrder};
+ghost use Rattle.ordering.specs.PermFile.{RefusesPerm};
+ghost use Rattle.memplan.specs.Answer.{IsTree, IsWorkflow, IsMatrix, IsPerm, IsOrder, IsRefusedFile};
+ghost use Rattle.memplan.specs.Refusals.{tree_word as tree_text, workflow_word as workflow_text, matrix_word as matrix_text, perm_word as perm_text, order_file_word as order_text};
+ghost use Rattle.memplan.specs.Judged.{IsLoaded, IsJudged};
 
-use crate::kind_words::{order_file_word, tree_word, workflow_word};
+use crate::kind_words::{matrix_word, order_file_word, perm_word, tree_word, workflow_word};
 use crate::page::{Page, format_page, limit_page};
 use crate::report::Stop;
-use crate::request::Input;
+use matrix_market::{Pattern, read_pattern};
 use mp_outside::{Files, ReadRefusal, read_whole};
-use mp_system::System;
 use mp_text::{LimitName, Refusal};
-use ordering::read_order;
-use sp_terms::{read_workflow, system_of};
+use ordering::laws::read_is_perm;
+use ordering::{Perm, read_order, read_perm};
+use sp_terms::{Terms, read_workflow};
 use std::alloc::{AllocError, Global};
-use tree_input::{read_tree, system_of_tree};
+use tree_input::{Tree, read_tree};
 
-/// The system of an input, or the page that refuses its file.
+/// The text of a file of at most 2^28 bytes.
 #[derive(Drop)]
-pub enum JudgedSystem {
-    Taken(System),
+pub enum Loaded {
+    Whole(Vec<u8>),
+    TooLong,
+}
+
+/// A value, or the page that refuses a file.
+#[derive(Drop)]
+pub enum Judged<T> {
+    Taken(T),
     Refused(Page),
 }
 
-/// An order, or the page that refuses its file.
-#[derive(Drop)]
-pub enum JudgedOrder {
-    Taken(Vec<u32>),
-    Refused(Page),
-}
-
-// Judges the text of a tree file.
-fn tree_system(alloc: Global, text: &[u8]) -> Result<JudgedSystem, AllocError>
-    requires { length text.now ≤ 268435456 }
-    ensures { IfOk result (IsJudgedSystem tree_file text.now) }
+/// Reads a file whole.
+pub fn load<F: Files>(alloc: Global, files: &mut F, name: &str) -> Result<Loaded, Stop>
+    ensures told { IfOk result (λ loaded. (text : List ℕ) → F.bytes_of files.old name.now ≡ Some text → IsLoaded text loaded) }
+    ensures cause { result ≡ Err Stop.ReadFault → Rose (F.faults_of files.old name.now) (F.faults_of files.new name.now) }
+    ensures same { (other : List ℕ) → F.bytes_of files.new other ≡ F.bytes_of files.old other }
+    ensures later { (other : List ℕ) → F.faults_of files.old other ≤ F.faults_of files.new other }
 {
-    match read_tree(alloc, text) {
-        Ok(tree) => Ok(JudgedSystem::Taken(system_of_tree(alloc, &tree)?)),
+    match read_whole(alloc, files, name) {
+        Ok(text) => Ok(Loaded::Whole(text)),
+        Err(ReadRefusal::TooLong) => Ok(Loaded::TooLong),
+        Err(ReadRefusal::ReadFault) => Err(Stop::ReadFault),
+        Err(ReadRefusal::NoMemory) => Err(Stop::NoMemory),
+    }
+}
+
+/// The tree of a file.
+pub fn tree_of(alloc: Global, loaded: Loaded) -> Result<Judged<Tree>, AllocError>
+    ensures { IfOk result (λ judged. (text : List ℕ) → IsLoaded text loaded → IsJudged (IsTree text) (IsRefusedFile (codes "tree") tree_text (RefusesTree text) text) judged) }
+{
+    let Loaded::Whole(text) = loaded else {
+        let page = limit_page(alloc, "tree", LimitName::Bytes)?;
+        return Ok(Judged::Refused(page));
+    };
+    match read_tree(alloc, &text) {
+        Ok(value) => Ok(Judged::Taken(value)),
         Err(Refusal::Format(fault)) => {
             let page = format_page(alloc, "tree", tree_word(fault.kind), fault.line)?;
-            Ok(JudgedSystem::Refused(page))
+            Ok(Judged::Refused(page))
         }
         Err(Refusal::Limit(limit)) => {
             let page = limit_page(alloc, "tree", limit)?;
-            Ok(JudgedSystem::Refused(page))
+            Ok(Judged::Refused(page))
         }
         Err(Refusal::NoMemory) => Err(AllocError),
     }
 }
 
-// Judges the text of a workflow file.
-fn workflow_system(alloc: Global, text: &[u8]) -> Result<JudgedSystem, AllocError>
-    requires { length text.now ≤ 268435456 }
-    ensures { IfOk result (IsJudgedSystem workflow_file text.now) }
+/// The workflow of a file.
+pub fn workflow_of(alloc: Global, loaded: Loaded) -> Result<Judged<Terms>, AllocError>
+    ensures { IfOk result (λ judged. (text : List ℕ) → IsLoaded text loaded → IsJudged (IsWorkflow text) (IsRefusedFile (codes "workflow") workflow_text (RefusesWorkflow text) text) judged) }
 {
-    match read_workflow(alloc, text) {
-        Ok(terms) => {
-            let _positions = terms.len();
-            Ok(JudgedSystem::Taken(system_of(alloc, &terms)?))
-        }
+    let Loaded::Whole(text) = loaded else {
+        let page = limit_page(alloc, "workflow", LimitName::Bytes)?;
+        return Ok(Judged::Refused(page));
+    };
+    match read_workflow(alloc, &text) {
+        Ok(value) => Ok(Judged::Taken(value)),
         Err(Refusal::Format(fault)) => {
             let page = format_page(alloc, "workflow", workflow_word(fault.kind), fault.line)?;
-            Ok(JudgedSystem::Refused(page))
+            Ok(Judged::Refused(page))
         }
         Err(Refusal::Limit(limit)) => {
             let page = limit_page(alloc, "workflow", limit)?;
-            Ok(JudgedSystem::Refused(page))
+            Ok(Judged::Refused(page))
         }
         Err(Refusal::NoMemory) => Err(AllocError),
     }
 }
 
-// Judges the text of an order file.
-fn order_of(alloc: Global, text: &[u8]) -> Result<JudgedOrder, AllocError>
-    requires { length text.now ≤ 268435456 }
-    ensures { IfOk result (IsJudgedOrder text.now) }
+/// The pattern of a file.
+pub fn pattern_of(alloc: Global, loaded: Loaded) -> Result<Judged<Pattern>, AllocError>
+    ensures { IfOk result (λ judged. (text : List ℕ) → IsLoaded text loaded → IsJudged (IsMatrix text) (IsRefusedFile (codes "matrix") matrix_text (RefusesPattern text) text) judged) }
 {
-    match read_order(alloc, text) {
-        Ok(order) => Ok(JudgedOrder::Taken(order)),
+    let Loaded::Whole(text) = loaded else {
+        let page = limit_page(alloc, "matrix", LimitName::Bytes)?;
+        return Ok(Judged::Refused(page));
+    };
+    match read_pattern(alloc, &text) {
+        Ok(value) => Ok(Judged::Taken(value)),
+        Err(Refusal::Format(fault)) => {
+            let page = format_page(alloc, "matrix", matrix_word(fault.kind), fault.line)?;
+            Ok(Judged::Refused(page))
+        }
+        Err(Refusal::Limit(limit)) => {
+            let page = limit_page(alloc, "matrix", limit)?;
+            Ok(Judged::Refused(page))
+        }
+        Err(Refusal::NoMemory) => Err(AllocError),
+    }
+}
+
+/// The order of elimination of `n` vertices of a file.
+pub fn perm_of(alloc: Global, loaded: Loaded, n: u32) -> Result<Judged<Perm>, AllocError>
+    ensures told { IfOk result (λ judged. (text : List ℕ) → IsLoaded text loaded → IsJudged (IsPerm n text) (IsRefusedFile (codes "perm") perm_text (RefusesPerm n text) text) judged) }
+    ensures len { IfOk result (λ judged. IsJudged (λ order. length order ≡ n) (λ _. Unit {0}) judged) }
+{
+    read_is_perm();
+    let Loaded::Whole(text) = loaded else {
+        let page = limit_page(alloc, "perm", LimitName::Bytes)?;
+        return Ok(Judged::Refused(page));
+    };
+    match read_perm(alloc, &text, n) {
+        Ok(value) => Ok(Judged::Taken(value)),
+        Err(Refusal::Format(fault)) => {
+            let page = format_page(alloc, "perm", perm_word(fault.kind), fault.line)?;
+            Ok(Judged::Refused(page))
+        }
+        Err(Refusal::Limit(limit)) => {
+            let page = limit_page(alloc, "perm", limit)?;
+            Ok(Judged::Refused(page))
+        }
+        Err(Refusal::NoMemory) => Err(AllocError),
+    }
+}
+
+/// The order of a file.
+pub fn order_of(alloc: Global, loaded: Loaded) -> Result<Judged<Vec<u32>>, AllocError>
+    ensures { IfOk result (λ judged. (text : List ℕ) → IsLoaded text loaded → IsJudged (λ order. IsOrder text order.items) (IsRefusedFile (codes "order") order_text (RefusesOrder text) text) judged) }
+{
+    let Loaded::Whole(text) = loaded else {
+        let page = limit_page(alloc, "order", LimitName::Bytes)?;
+        return Ok(Judged::Refused(page));
+    };
+    match read_order(alloc, &text) {
+        Ok(value) => Ok(Judged::Taken(value)),
         Err(Refusal::Format(fault)) => {
             let page = format_page(alloc, "order", order_file_word(fault.kind), fault.line)?;
-            Ok(JudgedOrder::Refused(page))
+            Ok(Judged::Refused(page))
         }
         Err(Refusal::Limit(limit)) => {
             let page = limit_page(alloc, "order", limit)?;
-            Ok(JudgedOrder::Refused(page))
+            Ok(Judged::Refused(page))
         }
         Err(Refusal::NoMemory) => Err(AllocError),
-    }
-}
-
-// Reads a tree file and judges it.
-fn judge_tree<F: Files>(alloc: Global, files: &mut F, name: &str) -> Result<JudgedSystem, Stop>
-    ensures told { IfOk result (λ judged. (text : List ℕ) → F.bytes_of files.old name.now ≡ Some text → IsJudgedSystem tree_file text judged) }
-    ensures cause { result ≡ Err Stop.ReadFault → Rose (F.faults_of files.old name.now) (F.faults_of files.new name.now) }
-    ensures same { (other : List ℕ) → F.bytes_of files.new other ≡ F.bytes_of files.old other }
-    ensures later { (other : List ℕ) → F.faults_of files.old other ≤ F.faults_of files.new other }
-{
-    match read_whole(alloc, files, name) {
-        Ok(text) => Ok(tree_system(alloc, &text)?),
-        Err(ReadRefusal::TooLong) => {
-            let page = limit_page(alloc, "tree", LimitName::Bytes)?;
-            Ok(JudgedSystem::Refused(page))
-        }
-        Err(ReadRefusal::ReadFault) => Err(Stop::ReadFault),
-        Err(ReadRefusal::NoMemory) => Err(Stop::NoMemory),
-    }
-}
-
-// Reads a workflow file and judges it.
-fn judge_workflow<F: Files>(alloc: Global, files: &mut F, name: &str) -> Result<JudgedSystem, Stop>
-    ensures told { IfOk result (λ judged. (text : List ℕ) → F.bytes_of files.old name.now ≡ Some text → IsJudgedSystem workflow_file text judged) }
-    ensures cause { result ≡ Err Stop.ReadFault → Rose (F.faults_of files.old name.now) (F.faults_of files.new name.now) }
-    ensures same { (other : List ℕ) → F.bytes_of files.new other ≡ F.bytes_of files.old other }
-    ensures later { (other : List ℕ) → F.faults_of files.old other ≤ F.faults_of files.new other }
-{
-    match read_whole(alloc, files, name) {
-        Ok(text) => Ok(workflow_system(alloc, &text)?),
-        Err(ReadRefusal::TooLong) => {
-            let page = limit_page(alloc, "workflow", LimitName::Bytes)?;
-            Ok(JudgedSystem::Refused(page))
-        }
-        Err(ReadRefusal::ReadFault) => Err(Stop::ReadFault),
-        Err(ReadRefusal::NoMemory) => Err(Stop::NoMemory),
-    }
-}
-
-/// Reads the file of an input and judges it.
-pub fn judge_input<F: Files>(
-    alloc: Global,
-    files: &mut F,
-    input: Input<'_>,
-) -> Result<JudgedSystem, Stop>
-    ensures told { IfOk result (λ judged. (text : List ℕ) → F.bytes_of files.old (input_file (input_view input.entry)).name ≡ Some text → IsJudgedSystem (input_file (input_view input.entry)).role text judged) }
-    ensures cause { result ≡ Err Stop.ReadFault → Rose (F.faults_of files.old (input_file (input_view input.entry)).name) (F.faults_of files.new (input_file (input_view input.entry)).name) }
-    ensures same { (other : List ℕ) → F.bytes_of files.new other ≡ F.bytes_of files.old other }
-    ensures later { (other : List ℕ) → F.faults_of files.old other ≤ F.faults_of files.new other }
-{
-    match input {
-        Input::Tree(name) => judge_tree(alloc, files, name),
-        Input::Workflow(name) => judge_workflow(alloc, files, name),
-    }
-}
-
-/// Reads an order file and judges it.
-pub fn judge_order<F: Files>(alloc: Global, files: &mut F, name: &str) -> Result<JudgedOrder, Stop>
-    ensures told { IfOk result (λ judged. (text : List ℕ) → F.bytes_of files.old name.now ≡ Some text → IsJudgedOrder text judged) }
-    ensures cause { result ≡ Err Stop.ReadFault → Rose (F.faults_of files.old name.now) (F.faults_of files.new name.now) }
-    ensures same { (other : List ℕ) → F.bytes_of files.new other ≡ F.bytes_of files.old other }
-    ensures later { (other : List ℕ) → F.faults_of files.old other ≤ F.faults_of files.new other }
-{
-    match read_whole(alloc, files, name) {
-        Ok(text) => Ok(order_of(alloc, &text)?),
-        Err(ReadRefusal::TooLong) => {
-            let page = limit_page(alloc, "order", LimitName::Bytes)?;
-            Ok(JudgedOrder::Refused(page))
-        }
-        Err(ReadRefusal::ReadFault) => Err(Stop::ReadFault),
-        Err(ReadRefusal::NoMemory) => Err(Stop::NoMemory),
     }
 }

@@ -4,9 +4,10 @@ ghost use Rattle.std.specs.Prelude.{◌≡◌, IsTrue};
 ghost use Rattle.mp_text.specs.Report.{is_token};
 ghost use Rattle.memplan.specs.Refusals as words;
 
+use matrix_market::MatrixKind;
 use mp_system::OrderKind;
 use mp_text::LimitName;
-use ordering::OrderFileKind;
+use ordering::{OrderFileKind, PermKind};
 use sp_terms::WorkflowKind;
 use tree_input::TreeKind;
 
@@ -55,6 +56,37 @@ pub fn workflow_word(kind: WorkflowKind) -> &'static str
         WorkflowKind::TaskCount => "task-count",
         WorkflowKind::NoEnd => "no-end",
         WorkflowKind::Share => "share",
+    }
+}
+
+pub fn matrix_word(kind: MatrixKind) -> &'static str
+    ensures word { result.now ≡ words.matrix_word kind }
+    ensures token { IsTrue (is_token result.now) }
+{
+    match kind {
+        MatrixKind::Banner => "banner",
+        MatrixKind::NotMatrix => "not-matrix",
+        MatrixKind::ArrayFormat => "array-format",
+        MatrixKind::Field => "field",
+        MatrixKind::Symmetry => "symmetry",
+        MatrixKind::SizeLine => "size-line",
+        MatrixKind::NotSquare => "not-square",
+        MatrixKind::Entry => "entry",
+        MatrixKind::Index => "index",
+        MatrixKind::TooFew => "too-few",
+        MatrixKind::TooMany => "too-many",
+    }
+}
+
+pub fn perm_word(kind: PermKind) -> &'static str
+    ensures word { result.now ≡ words.perm_word kind }
+    ensures token { IsTrue (is_token result.now) }
+{
+    match kind {
+        PermKind::Number => "number",
+        PermKind::Range => "range",
+        PermKind::Repeated => "repeated",
+        PermKind::Count => "count",
     }
 }
 

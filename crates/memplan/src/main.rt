@@ -1,6 +1,8 @@
 //! memplan: the peak memory of an order of tasks.
 #![tactic(auto)]
 
+mod analysis;
+mod inputs;
 mod judge;
 mod kind_words;
 mod page;

@@ -1,8 +1,8 @@
 //! Pages: what is written to the sink, whole before its first byte is written.
 
-ghost use Rattle.std.specs.Prelude.{◌≡◌, ◌<◌, ◌^◌, IfOk, IsTrue};
-ghost use Rattle.mp_text.specs.Report.{is_token};
-ghost use Rattle.memplan.specs.Answer.{format_refused, limit_refused, order_refused, peak_answer};
+ghost use Rattle.std.specs.Prelude.{◌≡◌, ◌<◌, ◌^◌, ◌++◌, ◌∷◌, [], map, codes, decimal, IfOk, OnOk, IsTrue};
+ghost use Rattle.mp_text.specs.Report.{is_token, is_line_start, line_text, text_of_lines};
+ghost use Rattle.memplan.specs.Answer.{format_refused, limit_refused, order_refused, peak_answer, tree_answer, post_answer};
 ghost use Rattle.memplan.specs.Refusals.{limit_word as limit_text};
 ghost use Rattle.memplan.specs.Pages.{answer_of};
 
@@ -11,6 +11,7 @@ use mp_system::OrderFault;
 use mp_text::laws::{printed_line, printed_number};
 use mp_text::{LimitName, Report};
 use std::alloc::{AllocError, Global};
+use tree_input::{Tree, print_tree};
 
 /// What a page is.
 #[derive(Clone, Copy, Debug, PartialEq, Eq)]
@@ -95,6 +96,81 @@ pub fn peak_page(alloc: Global, peak: u64) -> Result<Page, AllocError>
     report.word("peak")?;
     report.num(peak)?;
     report.end_line()?;
+    Ok(Page {
+        kind: PageKind::Done,
+        report,
+    })
+}
+
+/// A tree file.
+pub fn tree_page(alloc: Global, tree: &Tree) -> Result<Page, AllocError>
+    ensures { IfOk result (λ page. answer_of page ≡ tree_answer tree.now) }
+{
+    let mut report = Report::new(alloc);
+    print_tree(tree, &mut report)?;
+    Ok(Page {
+        kind: PageKind::Done,
+        report,
+    })
+}
+
+// A word and a number on a line.
+fn print_count(word: &str, number: u64, report: &mut Report) -> Result<(), AllocError>
+    requires start { IsTrue (is_line_start report.old) }
+    requires token { IsTrue (is_token word.now) }
+    ensures start { OnOk result (IsTrue (is_line_start report.new)) }
+    ensures text { OnOk result (report.new ≡ report.old ++ line_text (word.now ∷ decimal number ∷ [])) }
+{
+    printed_line();
+    printed_number();
+    report.word(word)?;
+    report.num(number)?;
+    report.end_line()
+}
+
+// A number on a line of its own.
+fn print_number(number: u64, report: &mut Report) -> Result<(), AllocError>
+    requires { IsTrue (is_line_start report.old) }
+    ensures start { OnOk result (IsTrue (is_line_start report.new)) }
+    ensures text { OnOk result (report.new ≡ report.old ++ line_text (decimal number ∷ [])) }
+{
+    printed_line();
+    printed_number();
+    report.num(number)?;
+    report.end_line()
+}
+
+fn print_numbers(numbers: &[u32], report: &mut Report) -> Result<(), AllocError>
+    requires { IsTrue (is_line_start report.old) }
+    ensures start { OnOk result (IsTrue (is_line_start report.new)) }
+    ensures text { OnOk result (report.new ≡ report.old ++ text_of_lines (map (λ v. decimal v ∷ []) numbers.now)) }
+{
+    printed_line();
+    for number in numbers {
+        print_number(u64::from(*number), report)?;
+    }
+    Ok(())
+}
+
+fn print_end(report: &mut Report) -> Result<(), AllocError>
+    requires { IsTrue (is_line_start report.old) }
+    ensures { OnOk result (report.new ≡ report.old ++ line_text (codes "end" ∷ [])) }
+{
+    printed_line();
+    report.word("end")?;
+    report.end_line()
+}
+
+/// `peak PEAK`, `order N`, the nodes, `end`
+pub fn post_page(alloc: Global, peak: u64, order: &[u32]) -> Result<Page, AllocError>
+    ensures { IfOk result (λ page. answer_of page ≡ post_answer peak order.now) }
+{
+    printed_line();
+    let mut report = Report::new(alloc);
+    print_count("peak", peak, &mut report)?;
+    print_count("order", order.len() as u64, &mut report)?;
+    print_numbers(order, &mut report)?;
+    print_end(&mut report)?;
     Ok(Page {
         kind: PageKind::Done,
         report,

@@ -1,20 +1,22 @@
-//! What is reported to a request: its files are read and judged one after the other, and then the order is replayed.
+//! What is reported to a request: its files are read and judged one after the other, and then it is answered.
 
-ghost use Rattle.std.specs.Prelude.{◌≡◌, ◌≤◌, ℕ, List, Some, IfOk, Err};
+ghost use Rattle.std.specs.Prelude.{◌≡◌, ℕ, List, Some, IfOk, Err};
 ghost use Rattle.mp_outside.specs.Outside.{Rose};
-ghost use Rattle.mp_system.specs.System.{TaskSystem};
-ghost use Rattle.memplan.specs.Request.{replay, files_of};
-ghost use Rattle.memplan.specs.RequestViews.{input_view};
-ghost use Rattle.memplan.specs.Answer.{IsReplay};
+ghost use Rattle.memplan.specs.Request.{replay, tree, post, files_of};
+ghost use Rattle.memplan.specs.RequestViews.{matrix_view, tree_input_view, input_view, request_view};
+ghost use Rattle.memplan.specs.Answer.{IsOrder, IsRefusedFile, IsReplay, IsPost, tree_answer};
 ghost use Rattle.memplan.specs.Clauses.{SomeAnswer, HasFailed};
 ghost use Rattle.memplan.specs.Pages.{answer_of};
 
-use crate::judge::{JudgedOrder, JudgedSystem, judge_input, judge_order};
-use crate::page::{Page, order_page, peak_page};
-use crate::request::ReplayNames;
+use crate::inputs::{judge_input, judge_matrix, judge_tree};
+use crate::judge::{Judged, load, order_of};
+use crate::page::{Page, order_page, peak_page, post_page, tree_page};
+use crate::request::{Matrix, ReplayNames, Request, TreeInput};
 use mp_outside::Files;
 use mp_system::{ReplayRefusal, System, replay as replay_system};
+use postorder_best::best_postorder;
 use std::alloc::{AllocError, Global};
+use tree_input::Tree;
 
 /// Why no page was made.
 #[derive(Clone, Copy, Debug, PartialEq, Eq)]
@@ -45,18 +47,62 @@ fn replay_page(alloc: Global, system: &System, order: &[u32]) -> Result<Page, Al
     }
 }
 
-/// The page that answers a request.
-pub fn report<F: Files>(alloc: Global, files: &mut F, names: ReplayNames<'_>) -> Result<Page, Stop>
+// The page of the best postorder.
+fn best_page(alloc: Global, tree: &Tree) -> Result<Page, AllocError>
+    ensures { IfOk result (λ page. IsPost tree.now (answer_of page)) }
+{
+    let post = best_postorder(alloc, tree)?;
+    post_page(alloc, post.peak, &post.order)
+}
+
+fn report_replay<F: Files>(
+    alloc: Global,
+    files: &mut F,
+    names: ReplayNames<'_>,
+) -> Result<Page, Stop>
     ensures told { IfOk result (λ page. SomeAnswer (F.bytes_of files.old) (replay (input_view names.entry.input) names.entry.order.now) (λ answer. answer_of page ≡ answer)) }
     ensures cause { result ≡ Err Stop.ReadFault → HasFailed (F.bytes_of files.old) (F.faults_of files.old) (F.faults_of files.new) (files_of (replay (input_view names.entry.input) names.entry.order.now)) }
 {
     let system = match judge_input(alloc, files, names.input)? {
-        JudgedSystem::Taken(system) => system,
-        JudgedSystem::Refused(page) => return Ok(page),
+        Judged::Taken(system) => system,
+        Judged::Refused(page) => return Ok(page),
     };
-    let order = match judge_order(alloc, files, names.order)? {
-        JudgedOrder::Taken(order) => order,
-        JudgedOrder::Refused(page) => return Ok(page),
+    let loaded = load(alloc, files, names.order)?;
+    let order = match order_of(alloc, loaded)? {
+        Judged::Taken(order) => order,
+        Judged::Refused(page) => return Ok(page),
     };
     Ok(replay_page(alloc, &system, &order)?)
+}
+
+fn report_tree<F: Files>(alloc: Global, files: &mut F, matrix: Matrix<'_>) -> Result<Page, Stop>
+    ensures told { IfOk result (λ page. SomeAnswer (F.bytes_of files.old) (tree (matrix_view matrix.entry)) (λ answer. answer_of page ≡ answer)) }
+    ensures cause { result ≡ Err Stop.ReadFault → HasFailed (F.bytes_of files.old) (F.faults_of files.old) (F.faults_of files.new) (files_of (tree (matrix_view matrix.entry))) }
+{
+    match judge_matrix(alloc, files, matrix)? {
+        Judged::Taken(tree) => Ok(tree_page(alloc, &tree)?),
+        Judged::Refused(page) => Ok(page),
+    }
+}
+
+fn report_post<F: Files>(alloc: Global, files: &mut F, input: TreeInput<'_>) -> Result<Page, Stop>
+    ensures told { IfOk result (λ page. SomeAnswer (F.bytes_of files.old) (post (tree_input_view input.entry)) (λ answer. answer_of page ≡ answer)) }
+    ensures cause { result ≡ Err Stop.ReadFault → HasFailed (F.bytes_of files.old) (F.faults_of files.old) (F.faults_of files.new) (files_of (post (tree_input_view input.entry))) }
+{
+    match judge_tree(alloc, files, input)? {
+        Judged::Taken(tree) => Ok(best_page(alloc, &tree)?),
+        Judged::Refused(page) => Ok(page),
+    }
+}
+
+/// The page that answers a request.
+pub fn report<F: Files>(alloc: Global, files: &mut F, request: Request<'_>) -> Result<Page, Stop>
+    ensures told { IfOk result (λ page. SomeAnswer (F.bytes_of files.old) (request_view request.entry) (λ answer. answer_of page ≡ answer)) }
+    ensures cause { result ≡ Err Stop.ReadFault → HasFailed (F.bytes_of files.old) (F.faults_of files.old) (F.faults_of files.new) (files_of (request_view request.entry)) }
+{
+    match request {
+        Request::Replay(names) => report_replay(alloc, files, names),
+        Request::Tree(matrix) => report_tree(alloc, files, matrix),
+        Request::Post(input) => report_post(alloc, files, input),
+    }
 }

@@ -1,55 +1,211 @@
-ghost use Rattle.std.specs.Prelude.{◌≡◌, MatchOption, IfOk, Some, None, map, string_bytes};
-ghost use Rattle.memplan.specs.Request.{request_of, replay, replay_of, input_of};
-ghost use Rattle.memplan.specs.RequestViews.{input_view};
+ghost use Rattle.std.specs.Prelude.{◌≡◌, ◌++◌, List, MatchOption, IfOk, Some, None, map, string_bytes, option_map};
+ghost use Rattle.memplan.specs.Request as spec;
+ghost use Rattle.memplan.specs.Request.{is_second, chooses_order, zeros_within, zeros_of, matrix_of, matrix_among, tree_input_of, input_of, replay_of, tree_request_of, post_of, command_of, request_of};
+ghost use Rattle.memplan.specs.RequestViews.{matrix_view, tree_input_view, input_view, request_view};
 ghost use Rattle.memplan.specs.GivenViews.{given_views};
 
 use crate::words::{Given, are_among, are_distinct, options_of, value_of};
+use assembly_tree::Shape;
+use mp_text::number;
 use std::alloc::{AllocError, Global};
 
-/// The input of a request: the name of its file.
+/// A matrix, by the name of its file, and how it becomes a tree of fronts.
+#[derive(Clone, Copy, Debug)]
+pub struct Matrix<'a> {
+    pub name: &'a str,
+    /// The name of a permutation file; with none, the order of elimination is that of the file.
+    pub perm: Option<&'a str>,
+    pub shape: Shape,
+    /// How many explicit zeros a merge of two fronts may add, at most 2^40; with none, no fronts are merged.
+    pub zeros: Option<u64>,
+    /// Whether a front takes over the memory of a contribution block.
+    pub inplace: bool,
+}
+
+/// What becomes a tree: a tree file, by its name, or a matrix.
+#[derive(Clone, Copy, Debug)]
+pub enum TreeInput<'a> {
+    Tree(&'a str),
+    Matrix(Matrix<'a>),
+}
+
+/// What becomes a system of tasks: a tree, or a workflow file, by its name.
 #[derive(Clone, Copy, Debug)]
 pub enum Input<'a> {
-    Tree(&'a str),
+    Tree(TreeInput<'a>),
     Workflow(&'a str),
 }
 
-/// What the words ask for: the peak of the input's system in an order, by the name of the order's file.
+/// An input, and the name of an order file.
 #[derive(Clone, Copy, Debug)]
 pub struct ReplayNames<'a> {
     pub input: Input<'a>,
     pub order: &'a str,
 }
 
-fn input_names<'a>(options: &[Given<'a>]) -> Option<Input<'a>>
-    ensures { MatchOption result
-        (input_of (given_views options.now) ≡ None)
-        (λ input. input_of (given_views options.now) ≡ Some (input_view input)) }
+/// What the words ask for.
+#[derive(Clone, Copy, Debug)]
+pub enum Request<'a> {
+    /// The peak of the input's system in the order.
+    Replay(ReplayNames<'a>),
+    /// The tree of a matrix.
+    Tree(Matrix<'a>),
+    /// The best postorder of a tree, and its peak.
+    Post(TreeInput<'a>),
+}
+
+// ---- the options of a matrix
+
+// Whether a value is the second of two words; with no value it is the first.
+fn is_second(given: Option<&str>, first: &str, second: &str) -> Option<bool>
+    ensures { result ≡ is_second first.now second.now (option_map (λ s. s.now) given.entry) }
 {
-    match (value_of(options, "--tree"), value_of(options, "--workflow")) {
-        (Some(name), None) => Some(Input::Tree(name)),
-        (None, Some(name)) => Some(Input::Workflow(name)),
+    match given {
+        None => Some(false),
+        Some(word) if word == first => Some(false),
+        Some(word) if word == second => Some(true),
+        Some(_) => None,
+    }
+}
+
+// Whether a permutation file or the natural order is chosen, not both.
+fn chooses_order(perm: Option<&str>, ordering: Option<&str>) -> bool
+    ensures { result ≡ chooses_order (option_map (λ s. s.now) perm.entry) (option_map (λ s. s.now) ordering.entry) }
+{
+    match (perm, ordering) {
+        (_, None) => true,
+        (None, Some(word)) => word == "natural",
+        (Some(_), Some(_)) => false,
+    }
+}
+
+// How many zeros a merge may add: at most 2^40.
+fn zeros_of(given: Option<&str>) -> Option<Option<u64>>
+    ensures { result ≡ zeros_of (option_map (λ s. s.now) given.entry) }
+{
+    let Some(word) = given else {
+        return Some(None);
+    };
+    let zeros = number(word.as_bytes())?;
+    if zeros <= 1 << 40 {
+        Some(Some(zeros))
+    } else {
+        None
+    }
+}
+
+// The matrix that options state.
+fn matrix_of<'a>(options: &[Given<'a>]) -> Option<Matrix<'a>>
+    ensures { option_map matrix_view result ≡ matrix_of (given_views options.now) }
+{
+    let name = value_of(options, "--matrix")?;
+    let square = is_second(value_of(options, "--shape"), "triangle", "square")?;
+    let zeros = zeros_of(value_of(options, "--amalgamate"))?;
+    let inplace = is_second(value_of(options, "--inplace"), "no", "yes")?;
+    let perm = value_of(options, "--perm");
+    if !chooses_order(perm, value_of(options, "--ordering")) {
+        return None;
+    }
+    let shape = if square {
+        Shape::Square
+    } else {
+        Shape::Triangle
+    };
+    Some(Matrix {
+        name,
+        perm,
+        shape,
+        zeros,
+        inplace,
+    })
+}
+
+const MATRIX_NAMES: [&str; 6] = [
+    "--matrix",
+    "--perm",
+    "--ordering",
+    "--shape",
+    "--amalgamate",
+    "--inplace",
+];
+
+// ---- inputs; each of them with these other options besides its own
+
+fn matrix_among<'a>(options: &[Given<'a>], others: &[&str]) -> Option<Matrix<'a>>
+    ensures { option_map matrix_view result ≡ matrix_among (map (λ s. s.now) others.now) (given_views options.now) }
+{
+    if are_among(options, &MATRIX_NAMES, others) {
+        matrix_of(options)
+    } else {
+        None
+    }
+}
+
+// A tree or a matrix.
+fn tree_input_of<'a>(options: &[Given<'a>], others: &[&str]) -> Option<TreeInput<'a>>
+    ensures { option_map tree_input_view result ≡ tree_input_of (map (λ s. s.now) others.now) (given_views options.now) }
+{
+    if are_among(options, &["--tree"], others) {
+        if let Some(name) = value_of(options, "--tree") {
+            return Some(TreeInput::Tree(name));
+        }
+    }
+    let matrix = matrix_among(options, others)?;
+    Some(TreeInput::Matrix(matrix))
+}
+
+// A tree, a matrix or a workflow.
+fn input_of<'a>(options: &[Given<'a>], others: &[&str]) -> Option<Input<'a>>
+    ensures { option_map input_view result ≡ input_of (map (λ s. s.now) others.now) (given_views options.now) }
+{
+    if let Some(input) = tree_input_of(options, others) {
+        return Some(Input::Tree(input));
+    }
+    if are_among(options, &["--workflow"], others) {
+        let name = value_of(options, "--workflow")?;
+        return Some(Input::Workflow(name));
+    }
+    None
+}
+
+// ---- commands
+
+fn replay_of<'a>(options: &[Given<'a>]) -> Option<Request<'a>>
+    ensures { option_map request_view result ≡ replay_of (given_views options.now) }
+{
+    let input = input_of(options, &["--order"])?;
+    let order = value_of(options, "--order")?;
+    Some(Request::Replay(ReplayNames { input, order }))
+}
+
+fn tree_request_of<'a>(options: &[Given<'a>]) -> Option<Request<'a>>
+    ensures { option_map request_view result ≡ tree_request_of (given_views options.now) }
+{
+    let matrix = matrix_among(options, &[])?;
+    Some(Request::Tree(matrix))
+}
+
+fn post_of<'a>(options: &[Given<'a>]) -> Option<Request<'a>>
+    ensures { option_map request_view result ≡ post_of (given_views options.now) }
+{
+    let input = tree_input_of(options, &[])?;
+    Some(Request::Post(input))
+}
+
+fn command_of<'a>(command: &str, options: &[Given<'a>]) -> Option<Request<'a>>
+    ensures { option_map request_view result ≡ command_of command.now (given_views options.now) }
+{
+    match command {
+        "replay" => replay_of(options),
+        "tree" => tree_request_of(options),
+        "post" => post_of(options),
         _ => None,
     }
 }
 
-fn replay_names<'a>(options: &[Given<'a>]) -> Option<ReplayNames<'a>>
-    ensures { MatchOption result
-        (replay_of (given_views options.now) ≡ None)
-        (λ names. replay_of (given_views options.now) ≡ Some (replay (input_view names.input) names.order.now)) }
-{
-    if !are_among(options, &["--tree", "--workflow", "--order"]) {
-        return None;
-    }
-    let input = input_names(options)?;
-    let order = value_of(options, "--order")?;
-    Some(ReplayNames { input, order })
-}
-
 /// The request of the words after the program's name, if they have one.
-pub fn request_of(alloc: Global, words: &[String]) -> Result<Option<ReplayNames<'_>>, AllocError>
-    ensures { IfOk result (λ request. MatchOption request
-        (request_of (map (λ w. string_bytes w) words.now) ≡ None)
-        (λ names. request_of (map (λ w. string_bytes w) words.now) ≡ Some (replay (input_view names.input) names.order.now))) }
+pub fn request_of(alloc: Global, words: &[String]) -> Result<Option<Request<'_>>, AllocError>
+    ensures { IfOk result (λ request. option_map request_view request ≡ request_of (map (λ w. string_bytes w) words.now)) }
 {
     let [command, words @ ..] = words else {
         return Ok(None);
@@ -57,8 +213,9 @@ pub fn request_of(alloc: Global, words: &[String]) -> Result<Option<ReplayNames<
     let Some(options) = options_of(alloc, words)? else {
         return Ok(None);
     };
-    if !are_distinct(&options) || command.as_str() != "replay" {
-        return Ok(None);
+    if are_distinct(&options) {
+        Ok(command_of(command.as_str(), &options))
+    } else {
+        Ok(None)
     }
-    Ok(replay_names(&options))
 }

@@ -49,12 +49,12 @@ pub fn run_words<R: Threads + Sync, F: Files, S: Sink, G: Gate>(
         → AreQuiet (F.faults_of files.old) (F.faults_of files.new) (files_of request) → ¬ Rose (S.faults sink.old) (S.faults sink.new)
         → HasText result ⊎ (result ≡ Status.NoMemory) }
 {
-    let names = match request_of(alloc, words) {
-        Ok(Some(names)) => names,
+    let request = match request_of(alloc, words) {
+        Ok(Some(request)) => request,
         Ok(None) => return Status::Usage,
         Err(_) => return Status::NoMemory,
     };
-    let page = match report(alloc, files, names) {
+    let page = match report(alloc, files, request) {
         Ok(page) => page,
         Err(Stop::ReadFault) => return Status::ReadFault,
         Err(Stop::NoMemory) => return Status::NoMemory,

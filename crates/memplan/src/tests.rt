@@ -2,6 +2,7 @@
 
 mod faults;
 mod limits;
+mod matrices;
 mod rows;
 mod workflows;
 

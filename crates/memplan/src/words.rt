@@ -1,6 +1,6 @@
 //! The words of the command line.
 
-ghost use Rattle.std.specs.Prelude.{◌≡◌, MatchOption, IfOk, IfSome, IsNone, IsTrue, ◌↔◌, Some, None, List, ℕ, map, string_bytes, option_map, length, drop, slice_index_or, ◌+◌, ◌<◌};
+ghost use Rattle.std.specs.Prelude.{◌≡◌, MatchOption, IfOk, IfSome, IsNone, IsTrue, ◌↔◌, Some, None, List, ℕ, map, string_bytes, option_map, length, drop, slice_index_or, ◌+◌, ◌<◌, ◌++◌, ◌||◌};
 ghost use Rattle.std.specs.List.{list_any, list_all};
 ghost use Rattle.std.specs.Str.{bytes_eq};
 ghost use Rattle.memplan.specs.Words as words;
@@ -96,15 +96,15 @@ fn is_listed(names: &[&str], option: &Given<'_>) -> bool
     names.iter().any(|name| option.name == *name)
 }
 
-fn are_listed(names: &[&str], options: &[Given<'_>]) -> bool
-    ensures { result ≡ list_all (λ option. list_any (λ name. bytes_eq option.name.now name.now) names.now) options.now }
+fn are_listed(first: &[&str], second: &[&str], options: &[Given<'_>]) -> bool
+    ensures { result ≡ list_all (λ option. list_any (λ name. bytes_eq option.name.now name.now) first.now || list_any (λ name. bytes_eq option.name.now name.now) second.now) options.now }
 {
-    options.iter().all(|option| is_listed(names, option))
+    options.iter().all(|option| is_listed(first, option) || is_listed(second, option))
 }
 
-/// Whether every option is among these names.
-pub fn are_among(options: &[Given<'_>], names: &[&str]) -> bool
-    ensures { result ≡ are_among (map (λ s. s.now) names.now) (given_views options.now) }
+/// Whether every option is among these names, the first or the second.
+pub fn are_among(options: &[Given<'_>], first: &[&str], second: &[&str]) -> bool
+    ensures { result ≡ are_among (map (λ s. s.now) first.now ++ map (λ s. s.now) second.now) (given_views options.now) }
 {
-    are_listed(names, options)
+    are_listed(first, second, options)
 }

@@ -1,51 +1,12 @@
-use Rattle.std.proofs.Common.{◌≡◌, ◌∙◌, ℕ, List, Some, Ok, Err, sym, ap, subst}
-use Rattle.std.proofs.lemmas.Result.{err_from_is_err_and}
-use Rattle.memplan.specs.Request.{input_file}
-use Rattle.memplan.specs.RequestViews.{input_view}
+use Rattle.std.proofs.Common.{◌≡◌, sym, subst}
+use Rattle.std.specs.Result.{IfOk}
+use Rattle.memplan.specs.Clauses.{SomeAnswer}
 use Rattle.memplan.specs.Pages.{answer_of}
-use Rattle.memplan.specs.Judged.{IsJudgedSystem, IsJudgedOrder}
-use Rattle.memplan.specs.declared.judge.JudgedSystem.{JudgedSystem}
-use Rattle.memplan.specs.declared.judge.JudgedOrder.{JudgedOrder}
-use Rattle.memplan.specs.declared.report.Stop.{Stop}
-use Rattle.memplan.specs.declared.report.Stop.TheVariants as stops
-use Rattle.memplan.proofs.AnswerLemmas.{input_refused, order_refused, replayed, input_failed, order_failed, Rose-later}
+use Rattle.memplan.specs.RequestViews.{request_view}
+use Rattle.memplan.specs.declared.request.Request.{Request}
 use Rattle.memplan.proofs.report.report.Goals as goal
 
-pub returns-in_err-system-clause-cause : goal.returns-in_err-system-clause-cause
-returns-in_err-system-clause-cause g c = λ fault.
-    let p = err_from_is_err_and c.from_residual.result c.from_residual.ensures.1 in
-    let is : p.0 ≡ stops.ReadFault = cc (sym p.1 ∙ fault) in
-    let same : c.in_err-system.field-0.0 ≡ stops.ReadFault = sym p.2 ∙ is in
-    input_failed (g.F.Files.bytes_of c.args.files.now) (input_view c.args.names.input) c.args.names.order.now (g.F.Files.faults_of c.args.files.now) (g.F.Files.faults_of c.judge_input.new.files)
-    (c.in_err-system.ensures.cause (ap (λ (s : Stop). Err s) same))
-
-pub returns-in-Refused-clause-told : goal.returns-in-Refused-clause-told
-returns-in-Refused-clause-told g c =
-    let input = input_view c.args.names.input in
-    input_refused (g.F.Files.bytes_of c.args.files.now) input c.args.names.order.now (answer_of c.in-Refused.page)
-    (λ text told. subst (λ (j : JudgedSystem). IsJudgedSystem (input_file (input_view c.args.names.input)).role text j) c.in-Refused.is (c.in_ok-system.ensures.told text told))
-
-pub returns-in_err-order-clause-cause : goal.returns-in_err-order-clause-cause
-returns-in_err-order-clause-cause g c = λ fault.
-    let p = err_from_is_err_and c.from_residual-in_err-order.result c.from_residual-in_err-order.ensures.1 in
-    let is : p.0 ≡ stops.ReadFault = cc (sym p.1 ∙ fault) in
-    let same : c.in_err-order.field-0.0 ≡ stops.ReadFault = sym p.2 ∙ is in
-    order_failed (g.F.Files.bytes_of c.args.files.now) (input_view c.args.names.input) c.args.names.order.now c.in-Taken.system
-    (λ text told. subst (λ (j : JudgedSystem). IsJudgedSystem (input_file (input_view c.args.names.input)).role text j) c.in-Taken.is (c.in_ok-system.ensures.told text told))
-    (g.F.Files.faults_of c.args.files.now) (g.F.Files.faults_of c.judge_order.new.files)
-    (Rose-later _ _ _ (c.in_ok-system.ensures.later c.args.names.order.now) (c.in_err-order.ensures.cause (ap (λ (s : Stop). Err s) same)))
-
-pub returns-in-Refused-2-clause-told : goal.returns-in-Refused-2-clause-told
-returns-in-Refused-2-clause-told g c =
-    order_refused (g.F.Files.bytes_of c.args.files.now) (input_view c.args.names.input) c.args.names.order.now c.in-Taken.system
-    (λ text told. subst (λ (j : JudgedSystem). IsJudgedSystem (input_file (input_view c.args.names.input)).role text j) c.in-Taken.is (c.in_ok-system.ensures.told text told))
-    (answer_of c.in-Refused-2.page)
-    (λ text told. subst (λ (j : JudgedOrder). IsJudgedOrder text j) c.in-Refused-2.is (c.in_ok-order.ensures.told text (c.in_ok-system.ensures.same c.args.names.order.now ∙ told)))
-
-pub returns-clause-told : goal.returns-clause-told
-returns-clause-told g c =
-    replayed (g.F.Files.bytes_of c.args.files.now) (input_view c.args.names.input) c.args.names.order.now c.in-Taken.system
-    (λ text told. subst (λ (j : JudgedSystem). IsJudgedSystem (input_file (input_view c.args.names.input)).role text j) c.in-Taken.is (c.in_ok-system.ensures.told text told))
-    (answer_of c.in_ok-replay_page.field-0) c.in-Taken-2.order.items
-    (λ text told. subst (λ (j : JudgedOrder). IsJudgedOrder text j) c.in-Taken-2.is (c.in_ok-order.ensures.told text (c.in_ok-system.ensures.same c.args.names.order.now ∙ told)))
-    (rw (← c.deref.ensures.value) c.in_ok-replay_page.ensures)
+pub returns-in-Replay-clause-told : goal.returns-in-Replay-clause-told
+returns-in-Replay-clause-told g c =
+    subst (λ (r : Request). IfOk c.report_replay.result (λ page. SomeAnswer (g.F.Files.bytes_of c.args.files.now) (request_view r) (λ answer. answer_of page ≡ answer)))
+    (sym c.in-Replay.is) c.report_replay.ensures.told
