@@ -1,12 +1,17 @@
 #!/usr/bin/env python3
-"""Makes a matrix file, to measure with: a grid, or a random pattern.
+"""Makes a matrix file, to measure with: a grid, a random pattern or a band; or a permutation file for a grid.
 
 usage: make_matrices.py grid ROWS COLUMNS FILE
+       make_matrices.py dissection ROWS COLUMNS FILE
        make_matrices.py random VERTICES ENTRIES FILE
+       make_matrices.py band VERTICES WIDTH FILE
 
 The grid has the number r * COLUMNS + c + 1 for the vertex in row r and column c, both from 0, and joins each to its right and to its
 lower neighbour. The entries of a random pattern are drawn from all pairs of indices, with a value each. The numbers come from a small
-generator with a fixed seed: the same call makes the same file.
+generator with a fixed seed: the same call makes the same file. A band joins each vertex to those that are at most WIDTH numbers away.
+
+The dissection is an order of elimination of the grid: a line of vertices across its longer side comes last, after its two halves, which
+are ordered likewise (nested dissection, George 1973).
 """
 import sys
 
@@ -34,10 +39,38 @@ def random_pattern(out, vertices, entries):
         out.write(f"{1 + next(draw) % vertices} {1 + next(draw) % vertices} {next(draw) % 1000}.25\n")
 
 
+def band(out, vertices, width):
+    entries = sum(min(width, vertices - v) for v in range(1, vertices + 1))
+    out.write("%%MatrixMarket matrix coordinate pattern symmetric\n")
+    out.write(f"{vertices} {vertices} {entries}\n")
+    for v in range(1, vertices + 1):
+        for w in range(v + 1, min(v + width, vertices) + 1):
+            out.write(f"{w} {v}\n")
+
+
+def dissection(out, rows, columns):
+    order = []
+    # what is left to be ordered, the last first: a rectangle of the grid, or a line that comes as it is
+    left = [(0, rows, 0, columns, False)]
+    while left:
+        top, bottom, first, last, is_line = left.pop()
+        if bottom <= top or last <= first:
+            continue
+        if is_line or (bottom - top) * (last - first) <= 4:
+            order.extend(row * columns + column + 1 for row in range(top, bottom) for column in range(first, last))
+        elif bottom - top > last - first:
+            middle = (top + bottom) // 2
+            left += [(middle, middle + 1, first, last, True), (middle + 1, bottom, first, last, False), (top, middle, first, last, False)]
+        else:
+            middle = (first + last) // 2
+            left += [(top, bottom, middle, middle + 1, True), (top, bottom, middle + 1, last, False), (top, bottom, first, middle, False)]
+    out.write("\n".join(map(str, order)) + "\n")
+
+
 def main():
     kind, first, second, name = sys.argv[1], int(sys.argv[2]), int(sys.argv[3]), sys.argv[4]
     with open(name, "w") as out:
-        (grid if kind == "grid" else random_pattern)(out, first, second)
+        {"grid": grid, "dissection": dissection, "random": random_pattern, "band": band}[kind](out, first, second)
 
 
 main()
