@@ -1,0 +1,6 @@
+pub mod Table
+pub mod Series
+pub mod PartsOf
+pub mod Sums
+pub mod SeriesAt
+pub mod Outside

@@ -1,0 +1,4 @@
+pub mod Claimed
+pub mod Shapes
+pub mod Judged
+pub mod Accepted

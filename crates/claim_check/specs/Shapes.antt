@@ -1,0 +1,15 @@
+-- What stands at a position, as an objection names it.
+use Rattle.std.specs.Prelude.{ℕ, ◌-◌, ◌&&◌, nat_le, length, List, if◌then◌else◌, slice_index_or}
+use Rattle.sp_terms.specs.declared.position.Position.{Position}
+use Rattle.sp_terms.specs.declared.position.Position.TheVariants as at
+use Rattle.claim_check.specs.declared.shape.Shape.{Shape}
+use Rattle.claim_check.specs.declared.shape.Shape.TheVariants as shapes
+
+abbrev pub shape_of : Position → Shape
+shape_of (at.Hold size) = shapes.Hold
+shape_of (at.Task extra share time) = shapes.Series
+shape_of (at.Par k) = shapes.Par
+
+-- the positions of a term are counted from 1
+abbrev pub shape_at : List Position → ℕ → Shape
+shape_at ps k = if nat_le 1 k && nat_le k (length ps) then shape_of (slice_index_or ps (k - 1) (at.Hold 0)) else shapes.Outside

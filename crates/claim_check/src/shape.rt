@@ -1,0 +1,28 @@
+ghost use Rattle.std.specs.Prelude.{◌≡◌};
+ghost use Rattle.claim_check.specs.Shapes.{shape_of};
+
+use sp_terms::Position;
+
+/// What stands at the position of a claim that is objected to.
+#[derive(Clone, Copy, Debug, PartialEq, Eq)]
+pub enum Shape {
+    /// A data item.
+    Hold,
+    /// A task between two terms.
+    Series,
+    /// Terms side by side.
+    Par,
+    /// Nothing: the position is past the last one of the term, or 0.
+    Outside,
+}
+
+/// What stands at a position, as an objection names it.
+pub(crate) fn shape_of(position: Position) -> Shape
+    ensures { result ≡ shape_of position }
+{
+    match position {
+        Position::Hold(_) => Shape::Hold,
+        Position::Task { .. } => Shape::Series,
+        Position::Par(_) => Shape::Par,
+    }
+}
