@@ -7,3 +7,7 @@ pub mod Counts
 pub mod Legal
 pub mod Peaks
 pub mod Orders
+pub mod RenamingNames
+pub mod RenamingItems
+pub mod RenamingOrders
+pub mod RenamingSamples

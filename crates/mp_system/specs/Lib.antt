@@ -5,4 +5,5 @@ pub mod Step
 pub mod Traversal
 pub mod Replay
 pub mod Refusal
+pub mod Renaming
 pub mod Samples

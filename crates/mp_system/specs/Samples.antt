@@ -1,11 +1,14 @@
--- Worked examples: a tree of five nodes, and a node that shares memory with its input.
-use Rattle.std.specs.Prelude.{◌≡◌, ℕ, Option, Some, None, List, [], ◌∷◌, refl}
+-- Worked examples: a tree of five nodes, a node that shares memory with its input, and the tree with other numbers.
+use Rattle.std.specs.Prelude.{◌≡◌, ℕ, Option, Some, None, List, [], ◌∷◌, map, refl}
+use Rattle.std.specs.List.{filter}
+use Rattle.std.specs.List.Sorted.{apply_swaps}
 use Rattle.mp_system.specs.declared.system.Task.{Task}
 use Rattle.mp_system.specs.declared.system.Item.{Item}
 use Rattle.mp_system.specs.declared.system.OrderKind.TheVariants.{Unknown, Repeated, TooEarly, Missing}
-use Rattle.mp_system.specs.System.{TaskSystem}
+use Rattle.mp_system.specs.System.{TaskSystem, task_at}
 use Rattle.mp_system.specs.Memory.{state_memory, running_memory, stands_in, peak_of}
 use Rattle.mp_system.specs.Traversal.{first_fault}
+use Rattle.mp_system.specs.Renaming.{name_in, renamed, is_solid}
 
 abbrev pub task : ℕ → ℕ → Task
 task extra share = record { extra = extra; share = share; time = 1 }
@@ -72,3 +75,40 @@ shared = record { tasks = task 0 0 ∷ task 2 4 ∷ []; items = item 4 (Some 1) 
 
 pub shared_peak : peak_of shared (1 ∷ 2 ∷ []) ≡ 5
 shared_peak = refl
+
+-- the tree with its leaves numbered first: tasks 1 to 5 are the tree's 3, 1, 4, 2 and 5; its items stand in another order, and
+-- one more, of size 0 and without a producer, goes to task 3
+abbrev pub names : List ℕ
+names = 3 ∷ 1 ∷ 4 ∷ 2 ∷ 5 ∷ []
+
+abbrev pub leaves_numbered_first : TaskSystem
+leaves_numbered_first = record {
+  tasks = task 9 0 ∷ task 9 0 ∷ task 0 0 ∷ task 0 0 ∷ task 0 0 ∷ [];
+  items =
+      item 0 None (Some 3) ∷ item 1 (Some 1) (Some 3) ∷ item 1 (Some 2) (Some 4) ∷ item 5 (Some 3) (Some 5)
+      ∷ item 5 (Some 4) (Some 5) ∷ item 0 (Some 5) None ∷ [];
+}
+
+-- no number beside those of the tasks has a name
+pub names_of_numbers : map (name_in names) (0 ∷ 1 ∷ 2 ∷ 3 ∷ 4 ∷ 5 ∷ 6 ∷ []) ≡ 0 ∷ 3 ∷ 1 ∷ 4 ∷ 2 ∷ 5 ∷ 0 ∷ []
+names_of_numbers = refl
+
+pub tasks_by_name : map (task_at tree) names ≡ leaves_numbered_first.tasks
+tasks_by_name = refl
+
+pub items_by_name :
+    map (renamed (name_in names)) (filter is_solid leaves_numbered_first.items)
+    ≡ item 1 (Some 3) (Some 4) ∷ item 1 (Some 1) (Some 2) ∷ item 5 (Some 4) (Some 5) ∷ item 5 (Some 2) (Some 5)
+    ∷ item 0 (Some 5) None ∷ []
+items_by_name = refl
+
+-- they are the tree's items, which three exchanges of two places bring into the tree's order
+abbrev pub moves : List (ℕ × ℕ)
+moves = (2, 3) ∷ (1, 3) ∷ (0, 1) ∷ []
+
+pub items_agree : filter is_solid tree.items ≡ apply_swaps (map (renamed (name_in names)) (filter is_solid leaves_numbered_first.items)) moves
+items_agree = refl
+
+-- its order 1 to 5 is the tree's leaves first
+pub peak_by_name : peak_of leaves_numbered_first (1 ∷ 2 ∷ 3 ∷ 4 ∷ 5 ∷ []) ≡ 11
+peak_by_name = refl

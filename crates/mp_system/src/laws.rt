@@ -1,10 +1,11 @@
 //! Laws over the definitions: each contract is a law, and each body is empty.
-ghost use Rattle.std.specs.Prelude.{◌≡◌, ℕ, ◌+◌, ◌≤◌, ◌↔◌, Bool, true, List, None, length};
+ghost use Rattle.std.specs.Prelude.{◌≡◌, ℕ, ◌+◌, ◌≤◌, ◌↔◌, Bool, true, List, None, length, map};
 ghost use Rattle.mp_system.specs.System.{TaskSystem, IsSystem, IsTask, inputs_of, outputs_of};
 ghost use Rattle.mp_system.specs.Memory.{state_memory, running_memory, is_ready, peak_of};
 ghost use Rattle.mp_system.specs.Peak.{IsMemoryAlong};
 ghost use Rattle.mp_system.specs.Step.{AddsTask, CanRun};
 ghost use Rattle.mp_system.specs.Traversal.{IsTraversal, IsLeast, fault_of, first_fault};
+ghost use Rattle.mp_system.specs.Renaming.{name_in, IsRenamed};
 
 /// An order has no fault exactly where it is a traversal; then it is as long as there are tasks.
 pub fn traversal_law()
@@ -59,4 +60,18 @@ pub fn running_law()
 /// A system has at most one least peak.
 pub fn least_law()
     ensures { (system : TaskSystem) (peak other : ℕ) → IsLeast system peak → IsLeast system other → peak ≡ other }
+{}
+
+/// Systems that are the same up to names, the order of items, and items of size 0 without a producer have the same
+/// traversals under these names, with the same peaks, and the same least peak.
+pub fn renaming_law()
+    ensures traversal { (names : List ℕ) (own named : TaskSystem) (order : List ℕ) → IsRenamed names own named →
+        (IsTraversal own order ↔ IsTraversal named (map (name_in names) order)) }
+    ensures each { (names : List ℕ) (own named : TaskSystem) (order : List ℕ) → IsRenamed names own named →
+        IsTraversal named order →
+        (own_order : List ℕ) × IsTraversal own own_order × (order ≡ map (name_in names) own_order) }
+    ensures peak { (names : List ℕ) (own named : TaskSystem) (order : List ℕ) → IsRenamed names own named →
+        IsTraversal own order → peak_of named (map (name_in names) order) ≡ peak_of own order }
+    ensures least { (names : List ℕ) (own named : TaskSystem) (peak : ℕ) → IsRenamed names own named →
+        (IsLeast own peak ↔ IsLeast named peak) }
 {}

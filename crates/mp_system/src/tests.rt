@@ -1,7 +1,9 @@
 ghost use Rattle.std.specs.Prelude.{◌≡◌, IfOk};
 ghost use Rattle.mp_system.specs.Samples as samples;
 
-use crate::{Item, NoMemory, OrderFault, OrderKind, Replay, ReplayRefusal, System, Task, replay};
+use crate::{
+    Item, NoMemory, OrderFault, OrderKind, Replay, ReplayRefusal, System, Task, laws, replay,
+};
 use std::alloc::Global;
 use std::rt::HostRuntime;
 use std::test::Fail;
@@ -92,4 +94,17 @@ fn memory_step_by_step(rt: HostRuntime) -> Result<(), Fail> {
         assert_eq!(rt; replay.memory(), memory);
     }
     Ok(())
+}
+
+// The laws return nothing; they are called so that a change of what they need is seen here.
+#[test]
+fn laws_are_called() {
+    laws::traversal_law();
+    laws::peak_law();
+    laws::congruence();
+    laws::ready_law();
+    laws::state_step_law();
+    laws::running_law();
+    laws::least_law();
+    laws::renaming_law();
 }
