@@ -118,7 +118,7 @@ impl TermBuilder {
         ensures { MatchResult result (λ terms. IsOneTerm self × (terms ≡ self)) (λ back. (IsOneTerm self → ⊥) × (back ≡ self)) }
     {
         if self.ends.len() == 1 {
-            Ok(Terms::of(self.positions))
+            Ok(Terms::new(self.positions))
         } else {
             Err(self)
         }

@@ -25,8 +25,8 @@ impl Model for Terms {
 }
 
 impl Terms {
-    /// These positions.
-    pub(crate) fn of(positions: Vec<Position>) -> Terms
+    /// The term of these positions.
+    pub fn new(positions: Vec<Position>) -> Terms
         requires { IsTerms positions.items }
         ensures { result ≡ positions.items }
     {

@@ -9,19 +9,19 @@ use Rattle.tree_input.specs.Tree.{parent_of, ancestor, LeadsToRoot}
 use Rattle.tree_input.specs.TreeFile.{IsFirstWithout}
 use Rattle.tree_input.specs.Ascent.{IsAscent, unmarked}
 
-ancestor-one : (nodes : List Node) (k v : ℕ) → ancestor nodes (suc k) v ≡ ancestor nodes k (parent_of nodes v)
+pub ancestor-one : (nodes : List Node) (k v : ℕ) → ancestor nodes (suc k) v ≡ ancestor nodes k (parent_of nodes v)
 unfolding ancestor
 ancestor-one nodes k v = refl
 
-ancestor-none : (nodes : List Node) (v : ℕ) → ancestor nodes 0 v ≡ v
+pub ancestor-none : (nodes : List Node) (v : ℕ) → ancestor nodes 0 v ≡ v
 unfolding ancestor
 ancestor-none nodes v = refl
 
-ancestor-zero : (nodes : List Node) (k : ℕ) → ancestor nodes k 0 ≡ 0
+pub ancestor-zero : (nodes : List Node) (k : ℕ) → ancestor nodes k 0 ≡ 0
 ancestor-zero nodes zero = ancestor-none nodes 0
 ancestor-zero nodes (suc k) = ancestor-one nodes k 0 ∙ ancestor-zero nodes k
 
-ancestor-add : (nodes : List Node) (a b v : ℕ) → ancestor nodes (a + b) v ≡ ancestor nodes b (ancestor nodes a v)
+pub ancestor-add : (nodes : List Node) (a b v : ℕ) → ancestor nodes (a + b) v ≡ ancestor nodes b (ancestor nodes a v)
 ancestor-add nodes zero b v = (let e : 0 + b ≡ b = omega arith in ap (λ (k : ℕ). ancestor nodes k v) e) ∙ ap (ancestor nodes b) (sym (ancestor-none nodes v))
 ancestor-add nodes (suc a) b v =
     (let e : suc a + b ≡ suc (a + b) = omega arith in ap (λ (k : ℕ). ancestor nodes k v) e) ∙ ancestor-one nodes (a + b) v ∙ ancestor-add nodes a b (parent_of nodes v) ∙ ap (ancestor nodes b) (sym (ancestor-one nodes a v))

@@ -8,3 +8,11 @@ pub mod ItemLemmas
 pub mod SystemLemmas
 pub mod PrintingLemmas
 pub mod PrintedLemmas
+pub mod CountLemmas
+pub mod ForestLemmas
+pub mod RangeLemmas
+pub mod TermLemmas
+pub mod LimitLemmas
+pub mod ChainLemmas
+pub mod OrderLemmas
+pub mod PositionLemmas

@@ -1,8 +1,11 @@
 pub mod Fields
 pub mod Tree
+pub mod Forest
+pub mod TreeTerm
 pub mod TreeFile
 pub mod TreeText
 pub mod Ascent
+pub mod Chains
 pub mod Stated
 pub mod Reader
 pub mod ReaderLaws

@@ -1,16 +1,23 @@
 //! Laws of trees and tree files: what holds of each, without a call.
 
-ghost use Rattle.std.specs.Prelude.{◌≡◌, ◌⊎◌, ◌+◌, ◌-◌, ℕ, List};
+ghost use Rattle.std.specs.Prelude.{◌≡◌, ◌⊎◌, ◌+◌, ◌-◌, ℕ, List, length, IsPermutation};
+ghost use Rattle.std.specs.List.{range_with_len};
 ghost use Rattle.mp_text.specs.declared.refusals.Refusal.{Refusal};
 ghost use Rattle.mp_system.specs.System.{IsSystem, inputs_of, outputs_of, need_of};
+ghost use Rattle.mp_system.specs.Renaming.{IsRenamed};
+ghost use Rattle.sp_terms.specs.SystemOfTerm.{system_of_term};
+ghost use Rattle.sp_terms.specs.Values.{IsTerms, term_of};
 ghost use Rattle.tree_input.specs.declared.node.Node.{Node};
 ghost use Rattle.tree_input.specs.declared.node.TreeKind.{TreeKind};
 ghost use Rattle.tree_input.specs.Tree.{IsNode, IsTree, node_at, children_out, system_of_nodes};
+ghost use Rattle.tree_input.specs.Forest.{Forest, IsForestOf, all_numbers};
+ghost use Rattle.tree_input.specs.TreeTerm.{forest_positions};
 ghost use Rattle.tree_input.specs.TreeFile.{ReadsTree, RefusesTree};
 ghost use Rattle.tree_input.specs.TreeText.{text_of, text2_of};
 
 use crate::node::TreeKind;
 use mp_text::laws as text_laws;
+use sp_terms::laws as term_laws;
 
 /// A file is read as a tree or refused, never both; it is read as one tree only, and refused with one refusal only.
 pub fn exactly_one()
@@ -48,3 +55,20 @@ pub fn tree_system()
     ensures need { (nodes : List Node) (v : ℕ) → IsNode nodes v →
         need_of (system_of_nodes nodes) v ≡ (node_at nodes v).extra + (node_at nodes v).out - (node_at nodes v).share }
 {}
+
+/// The nodes of a tree form one forest, and each of them stands in it once.
+pub fn forest_law()
+    ensures some { (nodes : List Node) → IsTree nodes → (f : Forest) × IsForestOf nodes f }
+    ensures one { (nodes : List Node) (f g : Forest) → IsForestOf nodes f → IsForestOf nodes g → f ≡ g }
+    ensures each { (nodes : List Node) (f : Forest) → IsTree nodes → IsForestOf nodes f →
+        IsPermutation (all_numbers f) (range_with_len 1 (length nodes)) }
+{}
+
+/// The term of a tree is within the limits of terms. Its system is the tree's, under the names of the nodes in postorder.
+pub fn tree_term()
+    ensures terms { (nodes : List Node) (f : Forest) → IsTree nodes → IsForestOf nodes f → IsTerms (forest_positions nodes f) }
+    ensures system { (nodes : List Node) (f : Forest) → IsTree nodes → IsForestOf nodes f →
+        IsRenamed (all_numbers f) (system_of_term (term_of (forest_positions nodes f))) (system_of_nodes nodes) }
+{
+    term_laws::terms_law();
+}

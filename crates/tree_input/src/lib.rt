@@ -1,21 +1,29 @@
-//! Trees of nodes, tree files of versions 1 and 2, and the system of a tree.
+//! Trees of nodes, tree files of versions 1 and 2, the system and the term of a tree.
 #![tactic(auto)]
 
+mod chains;
 mod fields;
 pub mod laws;
 mod lines;
+mod names;
 mod node;
+mod postorder;
 mod printing;
 mod reader;
 mod roots;
 mod shares;
 mod stage;
 mod system;
+mod term;
+#[cfg(test)]
+mod term_tests;
 #[cfg(test)]
 mod tests;
 mod tree;
 
+pub use names::Names;
 pub use node::{Node, TreeKind};
 pub use printing::{NoMemory, print_tree, print_tree_2};
 pub use system::system_of_tree;
+pub use term::{Named, terms_of_tree};
 pub use tree::{Tree, read_tree};

@@ -1,0 +1,90 @@
+//! The term of a tree.
+
+ghost use Rattle.std.specs.Prelude.{◌≡◌, ◌≤◌, ◌<◌, ◌++◌, ℕ, List, IfOk, OnOk, length, slice_index_or};
+ghost use Rattle.std.specs.List.{All};
+ghost use Rattle.mp_system.specs.Renaming.{IsRenamed};
+ghost use Rattle.sp_terms.specs.SystemOfTerm.{system_of_term};
+ghost use Rattle.sp_terms.specs.Values.{term_of};
+ghost use Rattle.tree_input.specs.Tree.{IsNode, system_of_nodes};
+ghost use Rattle.tree_input.specs.Forest.{Forest, IsForestOf, all_numbers};
+ghost use Rattle.tree_input.specs.TreeTerm.{forest_positions, beside_positions};
+ghost use Rattle.tree_input.specs.Chains.{positions_of};
+
+use crate::chains::Chains;
+use crate::laws;
+use crate::names::Names;
+use crate::node::Node;
+use crate::postorder::postorder;
+use crate::printing::NoMemory;
+use crate::tree::Tree;
+use sp_terms::{Position, Terms};
+use std::alloc::Global;
+
+/// The term of a tree, and which node each of its tasks is.
+#[derive(Drop)]
+pub struct Named {
+    pub terms: Terms,
+    /// The node that task 1 is, then the one that task 2 is, and so on.
+    pub names: Names,
+}
+
+// Sets so many terms side by side.
+fn push_beside(found: &mut Vec<Position>, count: u32) -> Result<(), NoMemory>
+    ensures { OnOk result (found.new.items ≡ found.old.items ++ beside_positions count) }
+{
+    if count == 0 {
+        found.push(Position::Hold(0))?;
+    } else if count > 1 {
+        found.push(Position::Par(count))?;
+    }
+    Ok(())
+}
+
+// The positions of the nodes in postorder, from the number of children of each; the roots are counted at 0.
+fn positions(
+    alloc: Global,
+    nodes: &[Node],
+    names: &[u32],
+    counts: &[u32],
+) -> Result<Vec<Position>, NoMemory>
+    requires names { All (IsNode nodes.now) names.now }
+    requires counts { length nodes.now < length counts.now }
+    ensures { IfOk result (λ found. found.items ≡
+        positions_of nodes.now counts.now names.now ++ beside_positions (slice_index_or counts.now 0 0)) }
+{
+    let mut found: Vec<Position> = Vec::new(alloc);
+    for v in names {
+        let node = nodes[*v as usize - 1];
+        push_beside(&mut found, counts[*v as usize])?;
+        found.push(Position::Hold(node.out))?;
+        found.push(Position::Task {
+            extra: node.extra,
+            share: node.share,
+            time: node.time,
+        })?;
+    }
+    push_beside(&mut found, counts[0])?;
+    Ok(found)
+}
+
+/// The term of a tree: its nodes in postorder, roots and children in rising number. Each node is the terms of its children side by side,
+/// or `data 0` where it has none, then its block as `data`, then its task; several roots stand side by side at the end. Linear.
+pub fn terms_of_tree(alloc: Global, tree: &Tree) -> Result<Named, NoMemory>
+    // the positions and the names are those of the tree's forest
+    ensures positions { IfOk result (λ named. (f : Forest) → IsForestOf tree.now f →
+        (named.terms ≡ forest_positions tree.now f) × (named.names ≡ all_numbers f)) }
+    // the term's system, with its tasks renamed, is the tree's
+    ensures system { IfOk result (λ named.
+        IsRenamed named.names (system_of_term (term_of named.terms)) (system_of_nodes tree.now)) }
+{
+    laws::forest_law();
+    laws::tree_term();
+    let nodes = tree.nodes();
+    let children = Chains::new(alloc, nodes)?;
+    let names = postorder(alloc, &children)?;
+    let positions = positions(alloc, nodes, &names, &children.counts)?;
+    Ok(Named {
+        terms: Terms::new(positions),
+        names: Names::new(names),
+    })
+}
