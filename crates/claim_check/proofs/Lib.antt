@@ -4,3 +4,8 @@ pub mod PartsOf
 pub mod Sums
 pub mod SeriesAt
 pub mod Outside
+pub mod Chunked
+pub mod Decisions
+pub mod Objections
+pub mod Said
+pub mod Renamed

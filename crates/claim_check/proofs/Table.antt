@@ -15,7 +15,7 @@ pub record Filled (claims : List Claim) (table : List ℕ) (done passed : ℕ) :
   pub later : (k : ℕ) → done < k → claim_at claims k ≡ claim_at (drop passed claims) k
   pub is : IsTable claims table
 
-bool_cases : {X : Type 0} (b : Bool) → (b ≡ true → X) → (b ≡ false → X) → X
+pub bool_cases : {X : Type 0} (b : Bool) → (b ≡ true → X) → (b ≡ false → X) → X
 bool_cases true f g = f refl
 bool_cases false f g = g refl
 
@@ -25,7 +25,7 @@ same m n e = grind arith
 other_than : (m n : ℕ) → (m == n) ≡ false → m ≡ n → ⊥
 other_than m n e f = grind arith
 
-none_before : (n : ℕ) (cs : List Claim) (k : ℕ) → RiseFrom n cs → k ≤ n → claim_at cs k ≡ None
+pub none_before : (n : ℕ) (cs : List Claim) (k : ℕ) → RiseFrom n cs → k ≤ n → claim_at cs k ≡ None
 none_before n [] k rise le = refl
 none_before n (c ∷ cs) k rise le =
     bool_cases (c.position == k)

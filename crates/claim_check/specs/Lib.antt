@@ -1,4 +1,6 @@
 pub mod Claimed
 pub mod Shapes
 pub mod Judged
+pub mod Lowest
 pub mod Accepted
+pub mod Verdicts

@@ -1,13 +1,16 @@
-ghost use Rattle.std.specs.Prelude.{◌≡◌, ◌==◌, ◌&&◌, nat_le, ◌≤◌, ◌-◌, length, drop, vec_len, slice_index_or, slice_get, option_map, IfOk};
-ghost use Rattle.std.specs.List.{list_any};
+ghost use Rattle.std.specs.Prelude.{◌≡◌, ◌==◌, ◌&&◌, nat_le, nat_lt, ◌≤◌, ◌+◌, ◌-◌, length, drop, vec_len, slice_index_or, slice_get, option_map, IfOk};
+ghost use Rattle.std.specs.List.{list_any, find};
 ghost use Rattle.plan_text.specs.declared.claim.Claim.{Claim};
 ghost use Rattle.plan_text.specs.Plan.{claim_of, claim_at};
 ghost use Rattle.sp_terms.specs.Values.{IsTerms, values_of};
 ghost use Rattle.sp_terms.specs.Places.{term_of_position};
 ghost use Rattle.sp_terms.specs.declared.position.Position.{Position};
 ghost use Rattle.claim_check.specs.Claimed.{AreClaims, IsTable, named_claim, entry_of};
+ghost use Rattle.claim_check.specs.Lowest.{IsLowestFrom};
+ghost use Rattle.claim_check.specs.Shapes.{shape_at};
 
 use crate::NoMemory;
+use crate::shape::{Shape, shape_of};
 use plan_text::Claim;
 use sp_terms::{Position, Terms, Values, values};
 use std::alloc::Global;
@@ -100,12 +103,45 @@ impl<'a> View<'a> {
         }
     }
 
+    /// A list with an element for each position of the term.
+    pub(crate) fn places(&self) -> &[u32]
+        ensures len { length result.now ≡ length self.now.positions }
+        ensures few { length self.now.positions ≤ 4000001 }
+    {
+        &self.table
+    }
+
+    /// What stands at a position, as an objection names it.
+    pub(crate) fn shape(&self, position: u32) -> Shape
+        ensures { result ≡ shape_at self.now.positions position }
+    {
+        if !self.has_position(position) {
+            return Shape::Outside;
+        }
+        shape_of(self.at(position))
+    }
+
+    /// The lowest position past the last at which a claim stands. Linear in the claims.
+    pub(crate) fn first_outside(&self) -> Option<u32>
+        ensures { IsLowestFrom self.now.positions (claim_at self.now.claims) (length self.now.positions + 1) result }
+    {
+        first_past(self.claims, self.len())
+    }
+
     /// Whether a claim stands at a position.
     pub(crate) fn has_claim(&self, position: u32) -> bool
         ensures { result ≡ list_any (λ (c : Claim). c.position == position) self.now.claims }
     {
         self.claims.iter().any(|claim| claim.position == position)
     }
+}
+
+// The position of the first claim past a position.
+fn first_past(claims: &[Claim], last: u32) -> Option<u32>
+    ensures { result ≡ option_map (λ (c : Claim). c.position) (find (λ (c : Claim). nat_lt last c.position) claims.now) }
+{
+    let claim = claims.iter().find(|claim| last < claim.position)?;
+    Some(claim.position)
 }
 
 // The claim that an entry of the table names.

@@ -1,0 +1,283 @@
+ghost use Rattle.std.specs.Prelude.{◌≤◌};
+
+use crate::{Objection, Shape, Verdict, check, laws};
+use mp_outside::{Gate, NoGate};
+use mp_system::{OrderFault, OrderKind};
+use plan_text::read_plan;
+use sp_terms::{read_workflow, system_of};
+use std::alloc::Global;
+use std::rt::HostRuntime;
+use std::sync::atomic::{AtomicBool, AtomicU32, Ordering};
+use std::test::Fail;
+use std::thread::{Threads, yield_now};
+
+// Two chains of two tasks below a root: 13 positions, and a least peak of 11.
+const FIVE: &[u8] =
+    b"workflow 1\ntasks 5\ndata 0\ndata 1\ntask 9 1\ndata 5\ntask 0 1\ndata 0\ndata 1\ntask 9 1\ndata 5\ntask 0 1\npar 2\ndata 0\ntask 0 1\nend\n";
+
+const PLAN: &[u8] =
+    b"plan 1\norder 5\n1\n3\n2\n4\n5\npeak 11\nclaims 4\n5 R 5 5\n10 R 5 5\n11 R 10 10\n13 R 10 0\nend\n";
+
+// What is said of a plan for a workflow.
+fn verdict<R: Threads + Sync, G: Gate>(
+    rt: &R,
+    alloc: Global,
+    workflow: &[u8],
+    plan: &[u8],
+    workers: u32,
+    gate: &G,
+) -> Result<Verdict, Fail>
+    requires { (1 ≤ workers) × (workers ≤ 4096) }
+{
+    let terms = read_workflow(alloc, workflow)?;
+    let system = system_of(alloc, &terms)?;
+    let plan = read_plan(alloc, plan)?;
+    Ok(check(rt, alloc, &system, &terms, &plan, workers, gate)?)
+}
+
+#[test]
+fn a_plan_is_accepted_by_any_number_of_workers(rt: HostRuntime) -> Result<(), Fail> {
+    laws::accepted_or_objected();
+    for workers in [1, 2, 3, 13, 4096] {
+        let said = verdict(&rt, rt.alloc(), FIVE, PLAN, workers, &NoGate)?;
+        assert_eq!(rt; said, Verdict::Yes(11));
+    }
+    Ok(())
+}
+
+// A single node; one without memory; two data items side by side; two roots; two chains that shrink before they grow, also with a bound of
+// position 5 that is below 12 - 3.
+#[test]
+fn other_workflows_have_their_verdicts(rt: HostRuntime) -> Result<(), Fail> {
+    let rows: [(&[u8], &[u8], Verdict); 6] = [
+        (
+            b"workflow 1\ntasks 1\ndata 0\ndata 7\ntask 2 1\nend\n",
+            b"plan 1\norder 1\n1\npeak 9\nclaims 1\n3 R 8 7\nend\n",
+            Verdict::Yes(9),
+        ),
+        (
+            b"workflow 1\ntasks 1\ndata 0\ndata 0\ntask 0 1\nend\n",
+            b"plan 1\norder 1\n1\npeak 0\nclaims 2\n1 F -1 0\n3 F -1 0\nend\n",
+            Verdict::Yes(0),
+        ),
+        (
+            b"workflow 1\ntasks 0\ndata 10\ndata 10\npar 2\nend\n",
+            b"plan 1\norder 0\npeak 20\nclaims 3\n1 F 9 10\n2 F 9 10\n3 F 19 20\nend\n",
+            Verdict::Yes(20),
+        ),
+        (
+            b"workflow 1\ntasks 2\ndata 0\ndata 3\ntask 0 1\ndata 0\ndata 4\ntask 1 1\npar 2\nend\n",
+            b"plan 1\norder 2\n2\n1\npeak 7\nclaims 3\n3 R 2 3\n6 R 3 4\n7 R 6 7\nend\n",
+            Verdict::Yes(7),
+        ),
+        (
+            b"workflow 1\ntasks 4\ndata 4\ndata 1\ntask 0 1\ndata 3\ntask 6 1\ndata 4\ndata 1\ntask 0 1\ndata 3\ntask 6 1\npar 2\nend\n",
+            b"plan 1\norder 4\n1\n3\n2\n4\npeak 13\nclaims 3\n5 R 9 3\n10 R 9 3\n11 R 12 6\nend\n",
+            Verdict::Yes(13),
+        ),
+        (
+            b"workflow 1\ntasks 4\ndata 4\ndata 1\ntask 0 1\ndata 3\ntask 6 1\ndata 4\ndata 1\ntask 0 1\ndata 3\ntask 6 1\npar 2\nend\n",
+            b"plan 1\norder 4\n1\n3\n2\n4\npeak 13\nclaims 3\n5 R 8 3\n10 R 9 3\n11 R 12 6\nend\n",
+            Verdict::No(Objection::Claim {
+                position: 11,
+                shape: Shape::Par,
+            }),
+        ),
+    ];
+    for (workflow, plan, expected) in rows {
+        for workers in [1, 4] {
+            let said = verdict(&rt, rt.alloc(), workflow, plan, workers, &NoGate)?;
+            assert_eq!(rt; said, expected);
+        }
+    }
+    Ok(())
+}
+
+#[test]
+fn an_order_that_is_no_traversal_is_objected_to_first(rt: HostRuntime) -> Result<(), Fail> {
+    let rows: [(&[u8], u64, OrderKind); 4] = [
+        (
+            b"plan 1\norder 5\n2\n1\n3\n4\n5\npeak 11\nclaims 4\n5 R 5 5\n10 R 5 5\n11 R 10 10\n13 R 10 0\nend\n",
+            1,
+            OrderKind::TooEarly,
+        ),
+        (
+            b"plan 1\norder 2\n1\n1\npeak 10\nclaims 0\nend\n",
+            2,
+            OrderKind::Repeated,
+        ),
+        (
+            b"plan 1\norder 1\n9\npeak 11\nclaims 0\nend\n",
+            1,
+            OrderKind::Unknown,
+        ),
+        (
+            b"plan 1\norder 4\n1\n2\n3\n4\npeak 1\nclaims 1\n4 R 5 5\nend\n",
+            5,
+            OrderKind::Missing,
+        ),
+    ];
+    for (plan, place, kind) in rows {
+        for workers in [1, 3] {
+            let said = verdict(&rt, rt.alloc(), FIVE, plan, workers, &NoGate)?;
+            assert_eq!(rt;
+                said,
+                Verdict::No(Objection::Order(OrderFault { place, kind }))
+            );
+        }
+    }
+    Ok(())
+}
+
+// Then the peak, the claim on the whole term, and the lowest claim that fails, at a position of the term or past the last.
+#[test]
+fn the_first_objection_wins(rt: HostRuntime) -> Result<(), Fail> {
+    let rows: [(&[u8], Objection); 10] = [
+        (
+            b"plan 1\norder 5\n1\n3\n2\n4\n5\npeak 10\nclaims 4\n5 R 5 5\n10 R 5 5\n11 R 10 10\n13 R 10 0\nend\n",
+            Objection::Peak {
+                replayed: 11,
+                printed: 10,
+            },
+        ),
+        (
+            b"plan 1\norder 5\n1\n2\n3\n4\n5\npeak 11\nclaims 1\n5 F 5 5\nend\n",
+            Objection::Peak {
+                replayed: 15,
+                printed: 11,
+            },
+        ),
+        (
+            b"plan 1\norder 5\n1\n3\n2\n4\n5\npeak 11\nclaims 3\n5 R 5 5\n10 R 5 5\n11 R 10 10\nend\n",
+            Objection::Root { last: 13 },
+        ),
+        (
+            b"plan 1\norder 5\n1\n3\n2\n4\n5\npeak 11\nclaims 4\n5 F 5 5\n10 R 5 5\n11 R 10 10\n13 R 9 0\nend\n",
+            Objection::Root { last: 13 },
+        ),
+        (
+            b"plan 1\norder 5\n1\n3\n2\n4\n5\npeak 11\nclaims 4\n5 R 5 5\n10 R 5 5\n11 R 10 11\n13 R 10 0\nend\n",
+            Objection::Claim {
+                position: 11,
+                shape: Shape::Par,
+            },
+        ),
+        (
+            b"plan 1\norder 5\n1\n3\n2\n4\n5\npeak 11\nclaims 4\n5 F 5 5\n10 R 5 5\n11 R 10 10\n13 R 10 0\nend\n",
+            Objection::Claim {
+                position: 5,
+                shape: Shape::Series,
+            },
+        ),
+        (
+            b"plan 1\norder 5\n1\n3\n2\n4\n5\npeak 11\nclaims 5\n4 R 5 5\n5 F 5 5\n10 R 5 5\n11 R 10 11\n13 R 10 0\nend\n",
+            Objection::Claim {
+                position: 4,
+                shape: Shape::Hold,
+            },
+        ),
+        (
+            b"plan 1\norder 5\n1\n3\n2\n4\n5\npeak 11\nclaims 5\n5 R 5 5\n10 R 5 5\n11 R 10 10\n13 R 10 0\n99 R 0 0\nend\n",
+            Objection::Claim {
+                position: 99,
+                shape: Shape::Outside,
+            },
+        ),
+        (
+            b"plan 1\norder 5\n1\n3\n2\n4\n5\npeak 11\nclaims 6\n5 R 5 5\n10 R 5 5\n11 R 10 10\n13 R 10 0\n14 R 0 0\n99 R 0 0\nend\n",
+            Objection::Claim {
+                position: 14,
+                shape: Shape::Outside,
+            },
+        ),
+        (
+            b"plan 1\norder 5\n1\n3\n2\n4\n5\npeak 11\nclaims 5\n5 R 5 5\n10 R 5 5\n11 R 10 10\n13 R 10 1\n99 R 0 0\nend\n",
+            Objection::Claim {
+                position: 13,
+                shape: Shape::Series,
+            },
+        ),
+    ];
+    for (plan, objection) in rows {
+        for workers in [1, 2, 3, 13, 4096] {
+            let said = verdict(&rt, rt.alloc(), FIVE, plan, workers, &NoGate)?;
+            assert_eq!(rt; said, Verdict::No(objection));
+        }
+    }
+    Ok(())
+}
+
+// Counts how often chunks were entered, and adds up their numbers.
+#[derive(Drop)]
+struct Counts {
+    entered: AtomicU32,
+    numbers: AtomicU32,
+}
+
+impl Gate for Counts {
+    fn enter(&self, chunk: u32) {
+        self.entered.fetch_add(1, Ordering::SeqCst);
+        self.numbers
+            .fetch_or(1u32.wrapping_shl(chunk), Ordering::SeqCst);
+    }
+}
+
+// 13 positions come to chunks of 13, 7, 5, 2 and 1. Each chunk sets a bit.
+#[test]
+fn each_chunk_is_entered_once(rt: HostRuntime) -> Result<(), Fail> {
+    for (workers, chunks) in [(1, 1), (2, 2), (3, 3), (12, 7), (13, 13), (4096, 13)] {
+        let gate = Counts {
+            entered: AtomicU32::new(0),
+            numbers: AtomicU32::new(0),
+        };
+        let said = verdict(&rt, rt.alloc(), FIVE, PLAN, workers, &gate)?;
+        assert_eq!(rt; said, Verdict::Yes(11));
+        assert_eq!(rt; gate.entered.load(Ordering::SeqCst), chunks);
+        assert_eq!(rt;
+            gate.numbers.load(Ordering::SeqCst),
+            1u32.wrapping_shl(chunks) - 1
+        );
+    }
+    Ok(())
+}
+
+// Holds each of the first two chunks until the other has entered, for so many looks at most.
+#[derive(Drop)]
+struct Meeting {
+    first: AtomicBool,
+    second: AtomicBool,
+    gave_up: AtomicBool,
+}
+
+impl Gate for Meeting {
+    fn enter(&self, chunk: u32) {
+        let (mine, other) = match chunk {
+            0 => (&self.first, &self.second),
+            1 => (&self.second, &self.first),
+            _ => return,
+        };
+        mine.store(true, Ordering::SeqCst);
+        for _ in 0..10_000_000u32 {
+            if other.load(Ordering::SeqCst) {
+                return;
+            }
+            yield_now();
+        }
+        self.gave_up.store(true, Ordering::SeqCst);
+    }
+}
+
+#[test]
+fn two_chunks_meet(rt: HostRuntime) -> Result<(), Fail> {
+    let gate = Meeting {
+        first: AtomicBool::new(false),
+        second: AtomicBool::new(false),
+        gave_up: AtomicBool::new(false),
+    };
+    let said = verdict(&rt, rt.alloc(), FIVE, PLAN, 2, &gate)?;
+    assert_eq!(rt; said, Verdict::Yes(11));
+    assert!(rt; gate.first.load(Ordering::SeqCst));
+    assert!(rt; gate.second.load(Ordering::SeqCst));
+    assert!(rt; !gate.gave_up.load(Ordering::SeqCst));
+    Ok(())
+}
