@@ -1,8 +1,8 @@
 -- The steps of the analysis fit together.
-use Rattle.std.proofs.Common.{◌≡◌, ◌∙◌, ℕ, Bool, List, length, map, refl, sym, ap, subst}
+use Rattle.std.proofs.Common.{◌≡◌, ◌∙◌, ℕ, Bool, List, length, map, sym, ap, subst}
 use Rattle.std.proofs.lemmas.List.{length-map}
 use Rattle.std.proofs.lemmas.List.FromFn.{length-map-range_with_len}
-use Rattle.matrix_market.specs.Pattern.{is_joined, IsPattern as IsPatternOfRows}
+use Rattle.matrix_market.specs.Pattern.{is_joined}
 use Rattle.ordering.specs.Perm.{vertex_at}
 use Rattle.ordering.specs.Fill.{renamed, parent_of, parents_of, counts_of, IsPattern}
 use Rattle.elim_tree.specs.Paths.{IsWithin}

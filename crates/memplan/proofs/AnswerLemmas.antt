@@ -3,20 +3,20 @@ use Rattle.std.proofs.Common.{◌≡◌, ◌∙◌, ℕ, ◌≤◌, List, [], �
 use Rattle.std.proofs.lemmas.List.{append-nil}
 use Rattle.mp_outside.specs.Outside.{Rose}
 use Rattle.mp_system.specs.System.{TaskSystem}
+use Rattle.sp_terms.specs.declared.position.Position.{Position}
 use Rattle.tree_input.specs.declared.node.Node.{Node}
 use Rattle.std.specs.Prelude.{codes}
 use Rattle.std.specs.List.{range_with_len}
 use Rattle.matrix_market.specs.MatrixFile.{RefusesPattern}
-use Rattle.ordering.specs.OrderFile.{RefusesOrder}
 use Rattle.ordering.specs.PermFile.{RefusesPerm}
 use Rattle.memplan.specs.Analysis.{IsFrontTree}
-use Rattle.memplan.specs.Refusals.{matrix_word, perm_word, order_file_word}
+use Rattle.memplan.specs.Refusals.{matrix_word, perm_word}
 use Rattle.memplan.specs.declared.judge.Judged.{Judged}
 use Rattle.memplan.specs.declared.judge.Judged.TheVariants.{Taken, Refused}
 use Rattle.memplan.specs.Judged.{IsJudged, AreJudged, IsRefusedOrder, HasRisen}
 use Rattle.memplan.specs.Pages.{answer_of}
-use Rattle.memplan.specs.Request.{replay, Request, Matrix, TreeInput, tree_named, matrix_named, Input, tree_input, workflow_named, FileRole, NamedFile, tree_file, workflow_file, matrix_file, perm_file, order_file, perm_files, matrix_files, tree_input_files, input_files, files_of}
-use Rattle.memplan.specs.Answer.{Answer, IsAnswer, IsReplay, IsOrder, IsPerm, IsRefusedFile, IsMatrix, IsOrderOf, IsMatrixTree, IsTreeOf, IsSystemOf, IsRefused, IsAccepted, IsFirstRefusal, AreAccepted}
+use Rattle.memplan.specs.Request.{Request, Matrix, TreeInput, tree_named, matrix_named, Input, tree_input, workflow_named, NamedFile, matrix_file, perm_file, perm_files, matrix_files, tree_input_files, input_files, files_of}
+use Rattle.memplan.specs.Answer.{Answer, IsAnswer, IsPerm, IsRefusedFile, IsMatrix, IsOrderOf, IsMatrixTree, IsTreeOf, IsSystemOf, IsSystemWithTerm, IsReport, IsRefused, IsFirstRefusal, AreAccepted}
 use Rattle.memplan.specs.Clauses.{AreTold, SomeAnswer, HasFailed, AreQuiet}
 
 -- ---- files in a row
@@ -186,6 +186,13 @@ input_accepted (workflow_named name) [] system is = absurd is
 input_accepted (workflow_named name) (text ∷ []) system (positions, term, workflow, denotes, same) = ((positions, workflow), tt)
 input_accepted (workflow_named name) (text ∷ more ∷ texts) system is = absurd is
 
+-- the same with its term
+pub work_has_system : (input : Input) (texts : List (List ℕ)) (system : TaskSystem) (positions : List Position) → IsSystemWithTerm input texts system positions → IsSystemOf input texts system
+work_has_system (tree_input input) texts system positions (nodes, forest, is, same, is_forest, term) = (nodes, is, same)
+work_has_system (workflow_named name) [] system positions is = absurd is
+work_has_system (workflow_named name) (text ∷ []) system positions (term, workflow, denotes, same) = (positions, term, workflow, denotes, same)
+work_has_system (workflow_named name) (text ∷ more ∷ texts) system positions is = absurd is
+
 -- ---- counts
 
 -- where no count rose, no file has failed
@@ -198,49 +205,48 @@ pub quiet_has_not_failed : (told : List ℕ → Option (List ℕ)) (before after
 quiet_has_not_failed told before after files quiet failed =
     quiet_within before after failed.earlier failed.file failed.later (subst (AreQuiet before after) failed.split quiet) failed.rose
 
--- ---- a replay, over the texts of the input's files and of the order's
+-- ---- a request over the texts of an input's files and of one more file
 
-abbrev order_at : List ℕ → NamedFile
-order_at name = record { role = order_file; name = name }
-
-module _ (told : List ℕ → Option (List ℕ)) (input : Input) (order : List ℕ) where
-  -- from the texts of the input and that of the order
-  over_both : (P : List (List ℕ) → Type 0)
-      → ((mine : List (List ℕ)) (text : List ℕ) → AreTold told (input_files input) mine → told order ≡ Some text → P (mine ++ text ∷ []))
-      → (texts : List (List ℕ)) → AreTold told (files_of (replay input order)) texts → P texts
+module _ (told : List ℕ → Option (List ℕ)) (input : Input) (last : NamedFile) (request : Request) (files : files_of request ≡ input_files input ++ last ∷ []) where
+  -- from the texts of the input and that of the last file
+  pub over_both : (P : List (List ℕ) → Type 0)
+      → ((mine : List (List ℕ)) (text : List ℕ) → AreTold told (input_files input) mine → told last.name ≡ Some text → P (mine ++ text ∷ []))
+      → (texts : List (List ℕ)) → AreTold told (files_of request) texts → P texts
   over_both P each texts are =
-      let both = texts_of_both told (input_files input) (order_at order ∷ []) texts are in
-      subst P (sym both.is) (alone_told told (order_at order) (λ two. P (both.one ++ two)) (λ text is. each both.one text both.first is) both.two both.second)
+      let both = texts_of_both told (input_files input) (last ∷ []) texts (subst (λ fs. AreTold told fs texts) files are) in
+      subst P (sym both.is) (alone_told told last (λ two. P (both.one ++ two)) (λ text is. each both.one text both.first is) both.two both.second)
 
   Answers : Answer → List (List ℕ) → Type 0
-  Answers mine texts = (answer : Answer) × IsAnswer (replay input order) texts answer × (mine ≡ answer)
+  Answers mine texts = (answer : Answer) × IsAnswer request texts answer × (mine ≡ answer)
+
+  refused_as : (texts : List (List ℕ)) (answer : Answer) → IsFirstRefusal (input_files input ++ last ∷ []) [] texts answer → IsFirstRefusal (files_of request) [] texts answer
+  refused_as texts answer = subst (λ fs. IsFirstRefusal fs [] texts answer) (sym files)
 
   pub input_refused : (answer : Answer) → ((texts : List (List ℕ)) → AreTold told (input_files input) texts → IsFirstRefusal (input_files input) [] texts answer)
-      → SomeAnswer told (replay input order) (λ a. answer ≡ a)
+      → SomeAnswer told request (λ a. answer ≡ a)
   unfolding Answers
   input_refused answer refused =
-      over_both (Answers answer) (λ mine text are is. (answer, inl (refused_before (input_files input) (order_at order ∷ []) [] mine (text ∷ []) answer (refused mine are)), refl))
+      over_both (Answers answer) (λ mine text are is. (answer, inl (refused_as (mine ++ text ∷ []) answer (refused_before (input_files input) (last ∷ []) [] mine (text ∷ []) answer (refused mine are))), refl))
 
-  module _ (system : TaskSystem) (is_system : (texts : List (List ℕ)) → AreTold told (input_files input) texts → IsSystemOf input texts system) where
-    pub replay_order_refused : (answer : Answer) → ((text : List ℕ) → told order ≡ Some text → IsRefusedFile (codes "order") order_file_word (RefusesOrder text) text answer)
-        → SomeAnswer told (replay input order) (λ a. answer ≡ a)
+  pub input_failed : (before after : List ℕ → ℕ) → HasFailed told before after (input_files input) → HasFailed told before after (files_of request)
+  input_failed before after failed = subst (HasFailed told before after) (sym files) (failed_before told before after (input_files input) (last ∷ []) failed)
+
+  pub reported : (answer : Answer) → ((mine : List (List ℕ)) (text : List ℕ) → AreTold told (input_files input) mine → told last.name ≡ Some text → IsReport request (mine ++ text ∷ []) answer)
+      → SomeAnswer told request (λ a. answer ≡ a)
+  unfolding Answers
+  reported answer each = over_both (Answers answer) (λ mine text are is. (answer, inr (each mine text are is), refl))
+
+  module _ (accepted : (texts : List (List ℕ)) → AreTold told (input_files input) texts → AreAccepted (input_files input) [] texts) where
+    pub last_refused : (answer : Answer) → ((text : List ℕ) (earlier : List (List ℕ)) → told last.name ≡ Some text → IsRefused last.role earlier text answer)
+        → SomeAnswer told request (λ a. answer ≡ a)
     unfolding Answers
-    replay_order_refused answer refused =
+    last_refused answer refused =
         over_both (Answers answer) (λ mine text are is. (
           answer,
-          inl (refused_after told (input_files input) (order_at order ∷ []) [] mine (text ∷ []) answer are (input_accepted input mine system (is_system mine are)) (inl (refused text is))),
+          inl (refused_as (mine ++ text ∷ []) answer (refused_after told (input_files input) (last ∷ []) [] mine (text ∷ []) answer are (accepted mine are) (inl (refused text mine is)))),
           refl,
         ))
 
-    pub replayed : (answer : Answer) (numbers : List ℕ) → ((text : List ℕ) → told order ≡ Some text → IsOrder text numbers) → IsReplay system numbers answer
-        → SomeAnswer told (replay input order) (λ a. answer ≡ a)
-    unfolding Answers
-    replayed answer numbers is_order shown =
-        over_both (Answers answer) (λ mine text are is. (answer, inr (mine, text, system, numbers, refl, is_system mine are, is_order text is, shown), refl))
-
-    pub order_failed : (before after : List ℕ → ℕ) → Rose (before order) (after order) → HasFailed told before after (files_of (replay input order))
-    order_failed before after rose =
-        failed_after told before after (input_files input) (order_at order) [] (λ texts are. input_accepted input texts system (is_system texts are)) rose
-
-  pub input_failed : (before after : List ℕ → ℕ) → HasFailed told before after (input_files input) → HasFailed told before after (files_of (replay input order))
-  input_failed before after failed = failed_before told before after (input_files input) (order_at order ∷ []) failed
+    pub last_failed : (before after : List ℕ → ℕ) → Rose (before last.name) (after last.name) → HasFailed told before after (files_of request)
+    last_failed before after rose =
+        subst (HasFailed told before after) (sym files) (failed_after told before after (input_files input) last [] accepted rose)

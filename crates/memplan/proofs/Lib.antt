@@ -2,3 +2,4 @@ pub mod AnalysisLemmas
 pub mod AnswerLemmas
 pub mod PageLemmas
 pub mod WordLemmas
+pub mod CertifiedLemmas

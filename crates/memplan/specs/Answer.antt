@@ -12,6 +12,8 @@ use Rattle.mp_system.specs.Memory.{peak_of}
 use Rattle.mp_system.specs.Traversal.{IsTraversal, first_fault}
 use Rattle.tree_input.specs.declared.node.Node.{Node}
 use Rattle.tree_input.specs.Tree.{system_of_nodes}
+use Rattle.tree_input.specs.Forest.{Forest, IsForestOf}
+use Rattle.tree_input.specs.TreeTerm.{forest_positions}
 use Rattle.tree_input.specs.TreeFile.{ReadsTree, RefusesTree}
 use Rattle.tree_input.specs.TreeText.{text_of}
 use Rattle.matrix_market.specs.MatrixFile.{ReadsPattern, RefusesPattern}
@@ -23,11 +25,18 @@ use Rattle.sp_terms.specs.SystemOfTerm.{system_of_term}
 use Rattle.sp_terms.specs.WorkflowFile.{ReadsWorkflow, RefusesWorkflow}
 use Rattle.ordering.specs.OrderFile.{ReadsOrder, RefusesOrder}
 use Rattle.ordering.specs.PermFile.{ReadsPerm, RefusesPerm}
+use Rattle.plan_text.specs.Plan.{PlanText}
+use Rattle.plan_text.specs.PlanFile.{ReadsPlan, RefusesPlan}
+use Rattle.claim_check.specs.declared.objection.Objection.{Objection}
+use Rattle.claim_check.specs.declared.objection.Objection.TheVariants as objections
+use Rattle.claim_check.specs.declared.verdict.Verdict.{Verdict}
+use Rattle.claim_check.specs.declared.verdict.Verdict.TheVariants as verdicts
+use Rattle.claim_check.specs.Verdicts.{IsVerdict}
 use Rattle.memplan.specs.Analysis.{IsFrontTree}
 use Rattle.memplan.specs.declared.status.Status.{Status}
 use Rattle.memplan.specs.declared.status.Status.TheVariants as status
-use Rattle.memplan.specs.Request.{Matrix, TreeInput, tree_named, matrix_named, Input, tree_input, workflow_named, Request, replay, tree, post, FileRole, tree_file, workflow_file, matrix_file, perm_file, order_file, NamedFile, files_of}
-use Rattle.memplan.specs.Refusals.{limit_word, tree_word, workflow_word, matrix_word, perm_word, order_file_word, order_word}
+use Rattle.memplan.specs.Request.{Matrix, TreeInput, tree_named, matrix_named, Input, tree_input, workflow_named, OrderSource, order_named, plan_named, Request, replay, tree, post, check, FileRole, tree_file, workflow_file, matrix_file, perm_file, order_file, plan_file, NamedFile, files_of}
+use Rattle.memplan.specs.Refusals.{limit_word, tree_word, workflow_word, matrix_word, perm_word, order_file_word, plan_word, order_word, shape_word}
 
 pub record Answer : Type 0 where
   pub status : Status
@@ -81,6 +90,9 @@ IsPerm n text order = IsWithinBytes text × ReadsPerm n text order
 abbrev pub IsOrder : List ℕ → List ℕ → Type 0
 IsOrder text numbers = IsWithinBytes text × ReadsOrder text numbers
 
+abbrev pub IsPlanFile : List ℕ → PlanText → Type 0
+IsPlanFile text plan = IsWithinBytes text × ReadsPlan text plan
+
 -- a permutation file stands after the matrix file whose vertices it orders
 abbrev pub IsRefusedPerm : List (List ℕ) → List ℕ → Answer → Type 0
 IsRefusedPerm [] text answer = ⊥
@@ -98,6 +110,7 @@ IsRefused workflow_file earlier text answer = IsRefusedFile (codes "workflow") w
 IsRefused matrix_file earlier text answer = IsRefusedFile (codes "matrix") matrix_word (RefusesPattern text) text answer
 IsRefused perm_file earlier text answer = IsRefusedPerm earlier text answer
 IsRefused order_file earlier text answer = IsRefusedFile (codes "order") order_file_word (RefusesOrder text) text answer
+IsRefused plan_file earlier text answer = IsRefusedFile (codes "plan") plan_word (RefusesPlan text) text answer
 
 -- the file has a value, after these texts of earlier files
 abbrev pub IsAccepted : FileRole → List (List ℕ) → List ℕ → Type 0
@@ -106,6 +119,7 @@ IsAccepted workflow_file earlier text = (positions : List Position) × IsWorkflo
 IsAccepted matrix_file earlier text = (rows : List (List ℕ)) × IsMatrix text rows
 IsAccepted perm_file earlier text = IsAcceptedPerm earlier text
 IsAccepted order_file earlier text = (numbers : List ℕ) × IsOrder text numbers
+IsAccepted plan_file earlier text = (plan : PlanText) × IsPlanFile text plan
 
 -- ---- inputs
 
@@ -136,6 +150,21 @@ IsSystemOf (workflow_named name) [] system = ⊥
 IsSystemOf (workflow_named name) (text ∷ []) system =
     (positions : List Position) × (term : Term) × IsWorkflow text positions × Denotes positions term × (system ≡ system_of_term term)
 IsSystemOf (workflow_named name) (text ∷ more ∷ texts) system = ⊥
+
+-- the system of an input, and the positions of its term: a tree's are those of its forest, children in rising number
+abbrev pub IsSystemWithTerm : Input → List (List ℕ) → TaskSystem → List Position → Type 0
+IsSystemWithTerm (tree_input input) texts system positions =
+    (nodes : List Node) × (forest : Forest) × IsTreeOf input texts nodes × (system ≡ system_of_nodes nodes)
+    × IsForestOf nodes forest × (positions ≡ forest_positions nodes forest)
+IsSystemWithTerm (workflow_named name) [] system positions = ⊥
+IsSystemWithTerm (workflow_named name) (text ∷ []) system positions =
+    (term : Term) × IsWorkflow text positions × Denotes positions term × (system ≡ system_of_term term)
+IsSystemWithTerm (workflow_named name) (text ∷ more ∷ texts) system positions = ⊥
+
+-- the order that a source gives
+abbrev pub IsOrderFrom : OrderSource → List ℕ → List ℕ → Type 0
+IsOrderFrom (order_named name) text numbers = IsOrder text numbers
+IsOrderFrom (plan_named name) text numbers = (plan : PlanText) × IsPlanFile text plan × (numbers ≡ plan.order)
 
 -- ---- all files of a request, in turn
 
@@ -180,16 +209,42 @@ abbrev pub IsPost : List Node → Answer → Type 0
 IsPost nodes answer = (order : List ℕ) × IsBestPostorder nodes order × (answer ≡ post_answer (peak_of (system_of_nodes nodes) order) order)
 
 -- a replay: the texts of the input's files, and that of the order
-abbrev pub IsReplayOf : Input → List (List ℕ) → Answer → Type 0
-IsReplayOf input texts answer =
-    (mine : List (List ℕ)) × (order : List ℕ) × (system : TaskSystem) × (numbers : List ℕ)
-    × (texts ≡ mine ++ order ∷ []) × IsSystemOf input mine system × IsOrder order numbers × IsReplay system numbers answer
+abbrev pub IsReplayOf : Input → OrderSource → List (List ℕ) → Answer → Type 0
+IsReplayOf input source texts answer =
+    (mine : List (List ℕ)) × (text : List ℕ) × (system : TaskSystem) × (numbers : List ℕ)
+    × (texts ≡ mine ++ text ∷ []) × IsSystemOf input mine system × IsOrderFrom source text numbers × IsReplay system numbers answer
+
+-- `yes PEAK`
+abbrev pub yes_line : ℕ → List ℕ
+yes_line peak = line_text (codes "yes" ∷ decimal peak ∷ [])
+
+-- `no order PLACE KIND`, `no peak REPLAYED PRINTED`, `no root LAST` or `no claim POSITION SHAPE`
+abbrev pub objection_line : Objection → List (List ℕ)
+objection_line (objections.Order fault) = codes "no" ∷ codes "order" ∷ decimal fault.place ∷ order_word fault.kind ∷ []
+objection_line (objections.Peak replayed printed) = codes "no" ∷ codes "peak" ∷ decimal replayed ∷ decimal printed ∷ []
+objection_line (objections.Root last) = codes "no" ∷ codes "root" ∷ decimal last ∷ []
+objection_line (objections.Claim position shape) = codes "no" ∷ codes "claim" ∷ decimal position ∷ shape_word shape ∷ []
+
+abbrev pub verdict_answer : Verdict → Answer
+verdict_answer (verdicts.Yes peak) = record { status = status.Done; text = yes_line peak }
+verdict_answer (verdicts.No objection) = record { status = status.No; text = line_text (objection_line objection) }
+
+-- the plan is accepted, or the first objection to it is told
+abbrev pub IsCheck : TaskSystem → List Position → PlanText → Answer → Type 0
+IsCheck system positions plan answer = (verdict : Verdict) × IsVerdict system positions plan verdict × (answer ≡ verdict_answer verdict)
+
+-- a check: the texts of the input's files, and that of the plan
+abbrev pub IsCheckOf : Input → List (List ℕ) → Answer → Type 0
+IsCheckOf input texts answer =
+    (mine : List (List ℕ)) × (text : List ℕ) × (system : TaskSystem) × (positions : List Position) × (plan : PlanText)
+    × (texts ≡ mine ++ text ∷ []) × IsSystemWithTerm input mine system positions × IsPlanFile text plan × IsCheck system positions plan answer
 
 -- what is answered where all files have values
 abbrev pub IsReport : Request → List (List ℕ) → Answer → Type 0
-IsReport (replay input order) texts answer = IsReplayOf input texts answer
+IsReport (replay input source) texts answer = IsReplayOf input source texts answer
 IsReport (tree m) texts answer = (nodes : List Node) × IsMatrixTree m texts nodes × (answer ≡ tree_answer nodes)
 IsReport (post input) texts answer = (nodes : List Node) × IsTreeOf input texts nodes × IsPost nodes answer
+IsReport (check input plan workers) texts answer = IsCheckOf input texts answer
 
 -- the answer to a request over the texts of its files
 abbrev pub IsAnswer : Request → List (List ℕ) → Answer → Type 0

@@ -1,14 +1,20 @@
 -- What a judgement of files says of their texts.
 use Rattle.std.specs.Prelude.{◌≡◌, ℕ, ◌<◌, ◌≤◌, List, [], ◌∷◌, Option, Some, None, length, codes}
+use Rattle.claim_check.specs.Accepted.{IsAccepted}
 use Rattle.mp_outside.specs.Outside.{Rose}
+use Rattle.mp_system.specs.Traversal.{IsLeast}
+use Rattle.plan_text.specs.Plan.{PlanText}
+use Rattle.memplan.specs.declared.inputs.Order.{Order}
+use Rattle.memplan.specs.declared.inputs.Order.TheVariants as orders
+use Rattle.memplan.specs.declared.inputs.Work.{Work}
 use Rattle.memplan.specs.declared.judge.Judged.{Judged}
 use Rattle.memplan.specs.declared.judge.Judged.TheVariants.{Taken, Refused}
 use Rattle.memplan.specs.declared.judge.Loaded.{Loaded}
 use Rattle.memplan.specs.declared.judge.Loaded.TheVariants.{Whole, TooLong}
-use Rattle.memplan.specs.Request.{NamedFile}
+use Rattle.memplan.specs.Request.{Input, NamedFile}
 use Rattle.ordering.specs.PermFile.{RefusesPerm}
 use Rattle.memplan.specs.Refusals.{perm_word}
-use Rattle.memplan.specs.Answer.{Answer, IsRefusedFile, IsFirstRefusal}
+use Rattle.memplan.specs.Answer.{Answer, IsRefusedFile, IsFirstRefusal, IsSystemWithTerm}
 use Rattle.memplan.specs.Clauses.{AreTold}
 use Rattle.memplan.specs.Pages.{answer_of}
 
@@ -26,6 +32,19 @@ IsJudged takes refuses (Refused page) = refuses (answer_of page)
 abbrev pub AreJudged : {A : Type 0} → (List ℕ → Option (List ℕ)) → List NamedFile → (List (List ℕ) → A → Type 0) → Judged A → Type 0
 AreJudged told files takes judged =
     (texts : List (List ℕ)) → AreTold told files texts → IsJudged (takes texts) (IsFirstRefusal files [] texts) judged
+
+-- the system and the term of an input
+abbrev pub IsWorkOf : Input → List (List ℕ) → Work → Type 0
+IsWorkOf input texts work = IsSystemWithTerm input texts work.system work.terms
+
+-- an accepted plan for it has a least peak
+abbrev pub AcceptedIsLeast : Work → Type 0
+AcceptedIsLeast work = (plan : PlanText) → IsAccepted work.system work.terms plan → IsLeast work.system plan.peak
+
+-- the tasks of an order that was read
+abbrev pub numbers_of : Order → List ℕ
+numbers_of (orders.Listed numbers) = numbers.items
+numbers_of (orders.Planned plan) = plan.order
 
 -- a permutation file of n vertices is refused
 abbrev pub IsRefusedOrder : ℕ → List (List ℕ) → Answer → Type 0

@@ -5,6 +5,7 @@ pub mod RequestViews
 pub mod Analysis
 pub mod Refusals
 pub mod Answer
+pub mod Certified
 pub mod Clauses
 pub mod Pages
 pub mod Judged

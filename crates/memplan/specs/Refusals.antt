@@ -14,6 +14,10 @@ use Rattle.ordering.specs.declared.perm_file.PermKind.{PermKind}
 use Rattle.ordering.specs.declared.perm_file.PermKind.TheVariants as perms
 use Rattle.ordering.specs.declared.order_file.OrderFileKind.{OrderFileKind}
 use Rattle.ordering.specs.declared.order_file.OrderFileKind.TheVariants as order_files
+use Rattle.plan_text.specs.declared.claim.PlanKind.{PlanKind}
+use Rattle.plan_text.specs.declared.claim.PlanKind.TheVariants as plans
+use Rattle.claim_check.specs.declared.shape.Shape.{Shape}
+use Rattle.claim_check.specs.declared.shape.Shape.TheVariants as shapes
 
 abbrev pub limit_word : LimitName → List ℕ
 limit_word limits.Bytes = codes "bytes"
@@ -66,6 +70,22 @@ perm_word perms.Count = codes "count"
 
 abbrev pub order_file_word : OrderFileKind → List ℕ
 order_file_word order_files.Number = codes "number"
+
+abbrev pub plan_word : PlanKind → List ℕ
+plan_word plans.Header = codes "header"
+plan_word plans.Number = codes "number"
+plan_word plans.Section = codes "section"
+plan_word plans.Order = codes "order"
+plan_word plans.Claim = codes "claim"
+plan_word plans.NoEnd = codes "no-end"
+plan_word plans.Priority = codes "priority"
+
+-- what stands at the position of a claim that fails
+abbrev pub shape_word : Shape → List ℕ
+shape_word shapes.Hold = codes "data"
+shape_word shapes.Series = codes "series"
+shape_word shapes.Par = codes "par"
+shape_word shapes.Outside = codes "outside"
 
 -- why an order is no traversal
 abbrev pub order_word : OrderKind → List ℕ

@@ -1,5 +1,5 @@
 -- Requests: what words ask for, and the files that a request names.
-use Rattle.std.specs.Prelude.{ℕ, ◌^◌, Bool, true, false, nat_le, List, [], ◌∷◌, ◌++◌, Option, Some, None, option_map, option_and_then, codes, if◌then◌else◌}
+use Rattle.std.specs.Prelude.{ℕ, ◌^◌, ◌≤◌, Bool, true, false, ◌&&◌, nat_le, List, [], ◌∷◌, ◌++◌, Option, Some, None, option_map, option_and_then, codes, if◌then◌else◌}
 use Rattle.std.specs.Option.{option_or}
 use Rattle.std.specs.Str.{bytes_eq}
 use Rattle.mp_text.specs.Text.{number_of}
@@ -27,13 +27,20 @@ pub data Input : Type 0 where
   tree_input : TreeInput → Input
   workflow_named : List ℕ → Input
 
+-- what an order of tasks is read from: an order file, or a plan file, by its name
+pub data OrderSource : Type 0 where
+  order_named : List ℕ → OrderSource
+  plan_named : List ℕ → OrderSource
+
 pub data Request : Type 0 where
-  -- the peak of the input's system in the order of a file, by its name
-  replay : Input → List ℕ → Request
+  -- the peak of the input's system in an order
+  replay : Input → OrderSource → Request
   -- the tree of a matrix
   tree : Matrix → Request
   -- the best postorder of a tree, and its peak
   post : TreeInput → Request
+  -- whether a plan, by the name of its file, is accepted for an input; by so many workers
+  check : Input → List ℕ → ℕ → Request
 
 -- ---- the options of a matrix
 
@@ -99,12 +106,19 @@ input_of others options = option_or (option_map tree_input (tree_input_of others
 
 -- ---- commands
 
-abbrev pub with_order : List Given → Input → Option Request
-with_order options input = option_map (replay input) (value_of (codes "--order") options)
+-- an order file or a plan file, not both
+abbrev pub source_of : Option (List ℕ) → Option (List ℕ) → Option OrderSource
+source_of None None = None
+source_of None (Some plan) = Some (plan_named plan)
+source_of (Some order) None = Some (order_named order)
+source_of (Some order) (Some plan) = None
 
--- `replay`, one input, and `--order NAME`
+abbrev pub with_source : List Given → Input → Option Request
+with_source options input = option_map (replay input) (source_of (value_of (codes "--order") options) (value_of (codes "--plan") options))
+
+-- `replay`, one input, and `--order NAME` or `--plan NAME`
 abbrev pub replay_of : List Given → Option Request
-replay_of options = option_and_then (with_order options) (input_of (codes "--order" ∷ []) options)
+replay_of options = option_and_then (with_source options) (input_of (codes "--order" ∷ codes "--plan" ∷ []) options)
 
 -- `tree` and a matrix
 abbrev pub tree_request_of : List Given → Option Request
@@ -114,11 +128,40 @@ tree_request_of options = option_map tree (matrix_among [] options)
 abbrev pub post_of : List Given → Option Request
 post_of options = option_map post (tree_input_of [] options)
 
+-- 1 to 4,096 workers
+abbrev pub workers_within : ℕ → Option ℕ
+workers_within n = if nat_le 1 n && nat_le n 4096 then Some n else None
+
+-- one worker, where no number is given
+abbrev pub workers_or_one : Option (List ℕ) → Option ℕ
+workers_or_one None = Some 1
+workers_or_one (Some word) = option_and_then workers_within (number_of word)
+
+-- what the number of workers of a request keeps to
+abbrev pub AreWorkers : ℕ → Type 0
+AreWorkers n = (1 ≤ n) × (n ≤ 4096)
+
+abbrev pub HasWorkers : Request → Type 0
+HasWorkers (replay input source) = Unit {0}
+HasWorkers (tree m) = Unit {0}
+HasWorkers (post input) = Unit {0}
+HasWorkers (check input plan workers) = AreWorkers workers
+
+abbrev pub with_plan : List Given → Input → Option Request
+with_plan options input =
+    option_and_then (λ plan. option_map (check input plan) (workers_or_one (value_of (codes "--workers") options)))
+    (value_of (codes "--plan") options)
+
+-- `check`, one input, `--plan NAME`, and `--workers N` if it is given
+abbrev pub check_of : List Given → Option Request
+check_of options = option_and_then (with_plan options) (input_of (codes "--plan" ∷ codes "--workers" ∷ []) options)
+
 abbrev pub command_of : List ℕ → List Given → Option Request
 command_of command options =
     if bytes_eq command (codes "replay") then replay_of options
     else if bytes_eq command (codes "tree") then tree_request_of options
     else if bytes_eq command (codes "post") then post_of options
+    else if bytes_eq command (codes "check") then check_of options
     else None
 
 abbrev pub distinct_request : List ℕ → List Given → Option Request
@@ -138,6 +181,7 @@ pub data FileRole : Type 0 where
   matrix_file : FileRole
   perm_file : FileRole
   order_file : FileRole
+  plan_file : FileRole
 
 pub record NamedFile : Type 0 where
   pub role : FileRole
@@ -158,8 +202,13 @@ abbrev pub input_files : Input → List NamedFile
 input_files (tree_input i) = tree_input_files i
 input_files (workflow_named name) = record { role = workflow_file; name = name } ∷ []
 
+abbrev pub source_file : OrderSource → NamedFile
+source_file (order_named name) = record { role = order_file; name = name }
+source_file (plan_named name) = record { role = plan_file; name = name }
+
 -- the files of a request, in the order in which they are read and judged
 abbrev pub files_of : Request → List NamedFile
-files_of (replay input order) = input_files input ++ record { role = order_file; name = order } ∷ []
+files_of (replay input source) = input_files input ++ source_file source ∷ []
 files_of (tree m) = matrix_files m
 files_of (post input) = tree_input_files input
+files_of (check input plan workers) = input_files input ++ source_file (plan_named plan) ∷ []

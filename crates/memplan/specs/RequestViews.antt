@@ -1,9 +1,11 @@
 -- What the code's requests say.
-use Rattle.std.specs.Prelude.{List, ℕ, option_map}
+use Rattle.std.specs.Prelude.{option_map}
 use Rattle.memplan.specs.Request as requests
 use Rattle.memplan.specs.declared.request.Input.{Input}
 use Rattle.memplan.specs.declared.request.Input.TheVariants as inputs
 use Rattle.memplan.specs.declared.request.Matrix.{Matrix}
+use Rattle.memplan.specs.declared.request.OrderSource.{OrderSource}
+use Rattle.memplan.specs.declared.request.OrderSource.TheVariants as sources
 use Rattle.memplan.specs.declared.request.Request.{Request}
 use Rattle.memplan.specs.declared.request.Request.TheVariants as commands
 use Rattle.memplan.specs.declared.request.TreeInput.{TreeInput}
@@ -20,7 +22,12 @@ abbrev pub input_view : Input → requests.Input
 input_view (inputs.Tree input) = requests.tree_input (tree_input_view input)
 input_view (inputs.Workflow name) = requests.workflow_named name.now
 
+abbrev pub source_view : OrderSource → requests.OrderSource
+source_view (sources.Order name) = requests.order_named name.now
+source_view (sources.Plan name) = requests.plan_named name.now
+
 abbrev pub request_view : Request → requests.Request
-request_view (commands.Replay r) = requests.replay (input_view r.input) r.order.now
+request_view (commands.Replay r) = requests.replay (input_view r.input) (source_view r.source)
 request_view (commands.Tree m) = requests.tree (matrix_view m)
 request_view (commands.Post input) = requests.post (tree_input_view input)
+request_view (commands.Check c) = requests.check (input_view c.input) c.plan.now c.workers

@@ -3,22 +3,30 @@
 ghost use Rattle.std.specs.Prelude.{◌≡◌, ◌≤◌, ℕ, List, [], ◌∷◌, Some, IfOk, Err, length, option_map};
 ghost use Rattle.mp_outside.specs.Outside.{Rose};
 ghost use Rattle.memplan.specs.Request as spec;
-ghost use Rattle.memplan.specs.Request.{matrix_files, perm_files, tree_input_files, input_files};
-ghost use Rattle.memplan.specs.RequestViews.{matrix_view, tree_input_view, input_view};
-ghost use Rattle.memplan.specs.Answer.{IsOrderOf, IsMatrixTree, IsTreeOf, IsSystemOf};
+ghost use Rattle.sp_terms.specs.SystemOfTerm.{system_of_term};
+ghost use Rattle.sp_terms.specs.Values.{IsTerms, term_of};
+ghost use Rattle.tree_input.specs.Forest.{Forest, IsForestOf};
+ghost use Rattle.tree_input.specs.TreeTerm.{forest_positions};
+ghost use Rattle.tree_input.specs.Tree.{system_of_nodes};
+ghost use Rattle.memplan.specs.Request.{matrix_files, perm_files, tree_input_files, input_files, source_file};
+ghost use Rattle.memplan.specs.RequestViews.{matrix_view, tree_input_view, input_view, source_view};
+ghost use Rattle.memplan.specs.Answer.{IsOrderOf, IsMatrixTree, IsTreeOf, IsSystemOf, IsOrderFrom, IsRefused};
 ghost use Rattle.memplan.specs.Clauses.{AreTold, HasFailed};
-ghost use Rattle.memplan.specs.Judged.{IsJudged, AreJudged, IsRefusedOrder, HasRisen};
+ghost use Rattle.memplan.specs.Judged.{IsJudged, AreJudged, IsRefusedOrder, HasRisen, IsWorkOf, AcceptedIsLeast, numbers_of};
 
 use crate::analysis::front_tree;
-use crate::judge::{Judged, load, pattern_of, perm_of, tree_of, workflow_of};
+use crate::judge::{Judged, load, order_of, pattern_of, perm_of, plan_of, tree_of, workflow_of};
 use crate::report::Stop;
-use crate::request::{Input, Matrix, TreeInput};
+use crate::request::{Input, Matrix, OrderSource, TreeInput};
+use claim_check::laws::accepted_law;
 use mp_outside::Files;
 use mp_system::System;
 use ordering::{Perm, identity};
-use sp_terms::system_of;
-use std::alloc::Global;
-use tree_input::{Tree, system_of_tree};
+use plan_text::PlanFile;
+use sp_terms::{Terms, system_of};
+use std::alloc::{AllocError, Global};
+use tree_input::laws::{forest_law, tree_term};
+use tree_input::{Tree, system_of_tree, terms_of_tree};
 
 // The order of elimination of a matrix of `n` vertices: of a permutation file, if one is named, or 1, 2, .., n.
 fn judge_perm<F: Files>(
@@ -125,5 +133,130 @@ pub fn judge_input<F: Files>(
             Judged::Refused(page) => Ok(Judged::Refused(page)),
         },
         Input::Workflow(name) => judge_workflow(alloc, files, name),
+    }
+}
+
+/// A system of tasks, and its term.
+#[derive(Drop)]
+pub struct Work {
+    pub system: System,
+    pub terms: Terms,
+}
+
+fn work_of_tree(alloc: Global, tree: &Tree) -> Result<Work, AllocError>
+    ensures system { IfOk result (λ work. work.system ≡ system_of_nodes tree.now) }
+    ensures terms { IfOk result (λ work. (forest : Forest) × IsForestOf tree.now forest × (work.terms ≡ forest_positions tree.now forest)) }
+    ensures least { IfOk result AcceptedIsLeast }
+{
+    accepted_law();
+    forest_law();
+    tree_term();
+    let _nodes = tree.nodes();
+    let system = system_of_tree(alloc, tree)?;
+    let named = terms_of_tree(alloc, tree)?;
+    Ok(Work {
+        system,
+        terms: named.terms,
+    })
+}
+
+fn work_of_terms(alloc: Global, terms: Terms) -> Result<Work, AllocError>
+    ensures system { IfOk result (λ work. work.system ≡ system_of_term (term_of terms)) }
+    ensures terms { IfOk result (λ work. (work.terms ≡ terms) × IsTerms terms) }
+    ensures least { IfOk result AcceptedIsLeast }
+{
+    accepted_law();
+    let _positions = terms.len();
+    let system = system_of(alloc, &terms)?;
+    Ok(Work { system, terms })
+}
+
+// The system and the term of a workflow file.
+fn judge_workflow_work<F: Files>(
+    alloc: Global,
+    files: &mut F,
+    name: &str,
+) -> Result<Judged<Work>, Stop>
+    ensures told { IfOk result (AreJudged (F.bytes_of files.old) (input_files (spec.workflow_named name.now)) (IsWorkOf (spec.workflow_named name.now))) }
+    ensures least { IfOk result (IsJudged AcceptedIsLeast (λ _. Unit {0})) }
+    ensures cause { result ≡ Err Stop.ReadFault → HasFailed (F.bytes_of files.old) (F.faults_of files.old) (F.faults_of files.new) (input_files (spec.workflow_named name.now)) }
+    ensures same { (other : List ℕ) → F.bytes_of files.new other ≡ F.bytes_of files.old other }
+    ensures later { (other : List ℕ) → F.faults_of files.old other ≤ F.faults_of files.new other }
+{
+    let loaded = load(alloc, files, name)?;
+    match workflow_of(alloc, loaded)? {
+        Judged::Taken(terms) => Ok(Judged::Taken(work_of_terms(alloc, terms)?)),
+        Judged::Refused(page) => Ok(Judged::Refused(page)),
+    }
+}
+
+/// The system and the term of an input.
+pub fn judge_work<F: Files>(
+    alloc: Global,
+    files: &mut F,
+    input: Input<'_>,
+) -> Result<Judged<Work>, Stop>
+    ensures told { IfOk result (AreJudged (F.bytes_of files.old) (input_files (input_view input.entry)) (IsWorkOf (input_view input.entry))) }
+    ensures least { IfOk result (IsJudged AcceptedIsLeast (λ _. Unit {0})) }
+    ensures cause { result ≡ Err Stop.ReadFault → HasFailed (F.bytes_of files.old) (F.faults_of files.old) (F.faults_of files.new) (input_files (input_view input.entry)) }
+    ensures same { (other : List ℕ) → F.bytes_of files.new other ≡ F.bytes_of files.old other }
+    ensures later { (other : List ℕ) → F.faults_of files.old other ≤ F.faults_of files.new other }
+{
+    match input {
+        Input::Tree(input) => match judge_tree(alloc, files, input)? {
+            Judged::Taken(tree) => Ok(Judged::Taken(work_of_tree(alloc, &tree)?)),
+            Judged::Refused(page) => Ok(Judged::Refused(page)),
+        },
+        Input::Workflow(name) => judge_workflow_work(alloc, files, name),
+    }
+}
+
+/// An order of tasks: of an order file, or of a plan.
+#[derive(Drop)]
+pub enum Order {
+    Listed(Vec<u32>),
+    Planned(PlanFile),
+}
+
+impl Order {
+    /// The tasks in the order in which they run.
+    pub fn numbers(&self) -> &[u32]
+        ensures { result.now ≡ numbers_of self.now }
+    {
+        match self {
+            Order::Listed(numbers) => numbers,
+            Order::Planned(plan) => plan.order(),
+        }
+    }
+}
+
+/// The order that a source gives.
+pub fn judge_order<F: Files>(
+    alloc: Global,
+    files: &mut F,
+    source: OrderSource<'_>,
+) -> Result<Judged<Order>, Stop>
+    ensures told { IfOk result (λ judged. (text : List ℕ) (earlier : List (List ℕ))
+        → F.bytes_of files.old (source_file (source_view source.entry)).name ≡ Some text
+        → IsJudged (λ order. IsOrderFrom (source_view source.entry) text (numbers_of order)) (IsRefused (source_file (source_view source.entry)).role earlier text) judged) }
+    ensures cause { result ≡ Err Stop.ReadFault → Rose (F.faults_of files.old (source_file (source_view source.entry)).name) (F.faults_of files.new (source_file (source_view source.entry)).name) }
+    ensures same { (other : List ℕ) → F.bytes_of files.new other ≡ F.bytes_of files.old other }
+    ensures later { (other : List ℕ) → F.faults_of files.old other ≤ F.faults_of files.new other }
+{
+    match source {
+        OrderSource::Order(name) => {
+            let loaded = load(alloc, files, name)?;
+            match order_of(alloc, loaded)? {
+                Judged::Taken(numbers) => Ok(Judged::Taken(Order::Listed(numbers))),
+                Judged::Refused(page) => Ok(Judged::Refused(page)),
+            }
+        }
+        OrderSource::Plan(name) => {
+            let loaded = load(alloc, files, name)?;
+            match plan_of(alloc, loaded)? {
+                Judged::Taken(plan) => Ok(Judged::Taken(Order::Planned(plan))),
+                Judged::Refused(page) => Ok(Judged::Refused(page)),
+            }
+        }
     }
 }

@@ -7,11 +7,14 @@ ghost use Rattle.sp_terms.specs.WorkflowFile.{RefusesWorkflow};
 ghost use Rattle.matrix_market.specs.MatrixFile.{RefusesPattern};
 ghost use Rattle.ordering.specs.OrderFile.{RefusesOrder};
 ghost use Rattle.ordering.specs.PermFile.{RefusesPerm};
-ghost use Rattle.memplan.specs.Answer.{IsTree, IsWorkflow, IsMatrix, IsPerm, IsOrder, IsRefusedFile};
-ghost use Rattle.memplan.specs.Refusals.{tree_word as tree_text, workflow_word as workflow_text, matrix_word as matrix_text, perm_word as perm_text, order_file_word as order_text};
+ghost use Rattle.plan_text.specs.PlanFile.{RefusesPlan};
+ghost use Rattle.memplan.specs.Answer.{IsTree, IsWorkflow, IsMatrix, IsPerm, IsOrder, IsPlanFile, IsRefusedFile};
+ghost use Rattle.memplan.specs.Refusals.{tree_word as tree_text, workflow_word as workflow_text, matrix_word as matrix_text, perm_word as perm_text, order_file_word as order_text, plan_word as plan_text_word};
 ghost use Rattle.memplan.specs.Judged.{IsLoaded, IsJudged};
 
-use crate::kind_words::{matrix_word, order_file_word, perm_word, tree_word, workflow_word};
+use crate::kind_words::{
+    matrix_word, order_file_word, perm_word, plan_word, tree_word, workflow_word,
+};
 use crate::page::{Page, format_page, limit_page};
 use crate::report::Stop;
 use matrix_market::{Pattern, read_pattern};
@@ -19,6 +22,7 @@ use mp_outside::{Files, ReadRefusal, read_whole};
 use mp_text::{LimitName, Refusal};
 use ordering::laws::read_is_perm;
 use ordering::{Perm, read_order, read_perm};
+use plan_text::{PlanFile, read_plan};
 use sp_terms::{Terms, read_workflow};
 use std::alloc::{AllocError, Global};
 use tree_input::{Tree, read_tree};
@@ -158,6 +162,28 @@ pub fn order_of(alloc: Global, loaded: Loaded) -> Result<Judged<Vec<u32>>, Alloc
         }
         Err(Refusal::Limit(limit)) => {
             let page = limit_page(alloc, "order", limit)?;
+            Ok(Judged::Refused(page))
+        }
+        Err(Refusal::NoMemory) => Err(AllocError),
+    }
+}
+
+/// The plan of a file.
+pub fn plan_of(alloc: Global, loaded: Loaded) -> Result<Judged<PlanFile>, AllocError>
+    ensures { IfOk result (λ judged. (text : List ℕ) → IsLoaded text loaded → IsJudged (IsPlanFile text) (IsRefusedFile (codes "plan") plan_text_word (RefusesPlan text) text) judged) }
+{
+    let Loaded::Whole(text) = loaded else {
+        let page = limit_page(alloc, "plan", LimitName::Bytes)?;
+        return Ok(Judged::Refused(page));
+    };
+    match read_plan(alloc, &text) {
+        Ok(value) => Ok(Judged::Taken(value)),
+        Err(Refusal::Format(fault)) => {
+            let page = format_page(alloc, "plan", plan_word(fault.kind), fault.line)?;
+            Ok(Judged::Refused(page))
+        }
+        Err(Refusal::Limit(limit)) => {
+            let page = limit_page(alloc, "plan", limit)?;
             Ok(Judged::Refused(page))
         }
         Err(Refusal::NoMemory) => Err(AllocError),

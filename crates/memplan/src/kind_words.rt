@@ -4,10 +4,12 @@ ghost use Rattle.std.specs.Prelude.{◌≡◌, IsTrue};
 ghost use Rattle.mp_text.specs.Report.{is_token};
 ghost use Rattle.memplan.specs.Refusals as words;
 
+use claim_check::Shape;
 use matrix_market::MatrixKind;
 use mp_system::OrderKind;
 use mp_text::LimitName;
 use ordering::{OrderFileKind, PermKind};
+use plan_text::PlanKind;
 use sp_terms::WorkflowKind;
 use tree_input::TreeKind;
 
@@ -96,6 +98,33 @@ pub fn order_file_word(kind: OrderFileKind) -> &'static str
 {
     match kind {
         OrderFileKind::Number => "number",
+    }
+}
+
+pub fn plan_word(kind: PlanKind) -> &'static str
+    ensures word { result.now ≡ words.plan_word kind }
+    ensures token { IsTrue (is_token result.now) }
+{
+    match kind {
+        PlanKind::Header => "header",
+        PlanKind::Number => "number",
+        PlanKind::Section => "section",
+        PlanKind::Order => "order",
+        PlanKind::Claim => "claim",
+        PlanKind::NoEnd => "no-end",
+        PlanKind::Priority => "priority",
+    }
+}
+
+pub fn shape_word(shape: Shape) -> &'static str
+    ensures word { result.now ≡ words.shape_word shape }
+    ensures token { IsTrue (is_token result.now) }
+{
+    match shape {
+        Shape::Hold => "data",
+        Shape::Series => "series",
+        Shape::Par => "par",
+        Shape::Outside => "outside",
     }
 }
 

@@ -2,11 +2,14 @@
 
 ghost use Rattle.std.specs.Prelude.{◌≡◌, ◌<◌, ◌^◌, ◌++◌, ◌∷◌, [], map, codes, decimal, IfOk, OnOk, IsTrue};
 ghost use Rattle.mp_text.specs.Report.{is_token, is_line_start, line_text, text_of_lines};
-ghost use Rattle.memplan.specs.Answer.{format_refused, limit_refused, order_refused, peak_answer, tree_answer, post_answer};
+ghost use Rattle.memplan.specs.Answer.{format_refused, limit_refused, order_refused, peak_answer, tree_answer, post_answer, verdict_answer};
 ghost use Rattle.memplan.specs.Refusals.{limit_word as limit_text};
+ghost use Rattle.claim_check.specs.declared.objection.Objection.TheVariants as objections;
+ghost use Rattle.claim_check.specs.declared.verdict.Verdict.TheVariants as verdicts;
 ghost use Rattle.memplan.specs.Pages.{answer_of};
 
-use crate::kind_words::{limit_word, order_word};
+use crate::kind_words::{limit_word, order_word, shape_word};
+use claim_check::{Objection, Shape, Verdict};
 use mp_system::OrderFault;
 use mp_text::laws::{printed_line, printed_number};
 use mp_text::{LimitName, Report};
@@ -175,4 +178,88 @@ pub fn post_page(alloc: Global, peak: u64, order: &[u32]) -> Result<Page, AllocE
         kind: PageKind::Done,
         report,
     })
+}
+
+// `yes PEAK`
+fn yes_page(alloc: Global, peak: u64) -> Result<Page, AllocError>
+    ensures { IfOk result (λ page. answer_of page ≡ verdict_answer (verdicts.Yes peak)) }
+{
+    printed_line();
+    printed_number();
+    let mut report = Report::new(alloc);
+    report.word("yes")?;
+    report.num(peak)?;
+    report.end_line()?;
+    Ok(Page {
+        kind: PageKind::Done,
+        report,
+    })
+}
+
+// `no peak REPLAYED PRINTED`
+fn no_peak_page(alloc: Global, replayed: u64, printed: u64) -> Result<Page, AllocError>
+    ensures { IfOk result (λ page. answer_of page ≡ verdict_answer (verdicts.No (objections.Peak replayed printed))) }
+{
+    printed_line();
+    printed_number();
+    let mut report = Report::new(alloc);
+    report.word("no")?;
+    report.word("peak")?;
+    report.num(replayed)?;
+    report.num(printed)?;
+    report.end_line()?;
+    Ok(Page {
+        kind: PageKind::No,
+        report,
+    })
+}
+
+// `no root LAST`
+fn no_root_page(alloc: Global, last: u32) -> Result<Page, AllocError>
+    ensures { IfOk result (λ page. answer_of page ≡ verdict_answer (verdicts.No (objections.Root last))) }
+{
+    printed_line();
+    printed_number();
+    let mut report = Report::new(alloc);
+    report.word("no")?;
+    report.word("root")?;
+    report.num(u64::from(last))?;
+    report.end_line()?;
+    Ok(Page {
+        kind: PageKind::No,
+        report,
+    })
+}
+
+// `no claim POSITION SHAPE`
+fn no_claim_page(alloc: Global, position: u32, shape: Shape) -> Result<Page, AllocError>
+    ensures { IfOk result (λ page. answer_of page ≡ verdict_answer (verdicts.No (objections.Claim position shape))) }
+{
+    printed_line();
+    printed_number();
+    let mut report = Report::new(alloc);
+    report.word("no")?;
+    report.word("claim")?;
+    report.num(u64::from(position))?;
+    report.word(shape_word(shape))?;
+    report.end_line()?;
+    Ok(Page {
+        kind: PageKind::No,
+        report,
+    })
+}
+
+/// `yes PEAK`, or the line of an objection.
+pub fn verdict_page(alloc: Global, verdict: Verdict) -> Result<Page, AllocError>
+    ensures { IfOk result (λ page. answer_of page ≡ verdict_answer verdict) }
+{
+    match verdict {
+        Verdict::Yes(peak) => yes_page(alloc, peak),
+        Verdict::No(Objection::Order(fault)) => order_page(alloc, fault),
+        Verdict::No(Objection::Peak { replayed, printed }) => {
+            no_peak_page(alloc, replayed, printed)
+        }
+        Verdict::No(Objection::Root { last }) => no_root_page(alloc, last),
+        Verdict::No(Objection::Claim { position, shape }) => no_claim_page(alloc, position, shape),
+    }
 }

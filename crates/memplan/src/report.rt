@@ -2,20 +2,25 @@
 
 ghost use Rattle.std.specs.Prelude.{◌≡◌, ℕ, List, Some, IfOk, Err};
 ghost use Rattle.mp_outside.specs.Outside.{Rose};
-ghost use Rattle.memplan.specs.Request.{replay, tree, post, files_of};
-ghost use Rattle.memplan.specs.RequestViews.{matrix_view, tree_input_view, input_view, request_view};
-ghost use Rattle.memplan.specs.Answer.{IsOrder, IsRefusedFile, IsReplay, IsPost, tree_answer};
-ghost use Rattle.memplan.specs.Clauses.{SomeAnswer, HasFailed};
+ghost use Rattle.memplan.specs.Request.{AreWorkers, HasWorkers, Input, replay, tree, post, check, files_of};
+ghost use Rattle.memplan.specs.RequestViews.{matrix_view, tree_input_view, input_view, source_view, request_view};
+ghost use Rattle.memplan.specs.Answer.{IsReplay, IsPost, IsCheck, tree_answer};
+ghost use Rattle.memplan.specs.Certified.{IsCertified};
+ghost use Rattle.memplan.specs.Clauses.{AreTold, SomeAnswer, HasFailed};
+ghost use Rattle.memplan.specs.declared.status.Status.TheVariants.{Done};
 ghost use Rattle.memplan.specs.Pages.{answer_of};
 
-use crate::inputs::{judge_input, judge_matrix, judge_tree};
-use crate::judge::{Judged, load, order_of};
-use crate::page::{Page, order_page, peak_page, post_page, tree_page};
-use crate::request::{Matrix, ReplayNames, Request, TreeInput};
-use mp_outside::Files;
+use crate::inputs::{Work, judge_input, judge_matrix, judge_order, judge_tree, judge_work};
+use crate::judge::{Judged, load, plan_of};
+use crate::page::{Page, order_page, peak_page, post_page, tree_page, verdict_page};
+use crate::request::{CheckNames, Matrix, ReplayNames, Request, TreeInput};
+use claim_check::check as check_plan;
+use mp_outside::{Files, Gate};
 use mp_system::{ReplayRefusal, System, replay as replay_system};
+use plan_text::PlanFile;
 use postorder_best::best_postorder;
 use std::alloc::{AllocError, Global};
+use std::thread::Threads;
 use tree_input::Tree;
 
 /// Why no page was made.
@@ -60,19 +65,18 @@ fn report_replay<F: Files>(
     files: &mut F,
     names: ReplayNames<'_>,
 ) -> Result<Page, Stop>
-    ensures told { IfOk result (λ page. SomeAnswer (F.bytes_of files.old) (replay (input_view names.entry.input) names.entry.order.now) (λ answer. answer_of page ≡ answer)) }
-    ensures cause { result ≡ Err Stop.ReadFault → HasFailed (F.bytes_of files.old) (F.faults_of files.old) (F.faults_of files.new) (files_of (replay (input_view names.entry.input) names.entry.order.now)) }
+    ensures told { IfOk result (λ page. SomeAnswer (F.bytes_of files.old) (replay (input_view names.entry.input) (source_view names.entry.source)) (λ answer. answer_of page ≡ answer)) }
+    ensures cause { result ≡ Err Stop.ReadFault → HasFailed (F.bytes_of files.old) (F.faults_of files.old) (F.faults_of files.new) (files_of (replay (input_view names.entry.input) (source_view names.entry.source))) }
 {
     let system = match judge_input(alloc, files, names.input)? {
         Judged::Taken(system) => system,
         Judged::Refused(page) => return Ok(page),
     };
-    let loaded = load(alloc, files, names.order)?;
-    let order = match order_of(alloc, loaded)? {
+    let order = match judge_order(alloc, files, names.source)? {
         Judged::Taken(order) => order,
         Judged::Refused(page) => return Ok(page),
     };
-    Ok(replay_page(alloc, &system, &order)?)
+    Ok(replay_page(alloc, &system, order.numbers())?)
 }
 
 fn report_tree<F: Files>(alloc: Global, files: &mut F, matrix: Matrix<'_>) -> Result<Page, Stop>
@@ -95,14 +99,67 @@ fn report_post<F: Files>(alloc: Global, files: &mut F, input: TreeInput<'_>) -> 
     }
 }
 
-/// The page that answers a request.
-pub fn report<F: Files>(alloc: Global, files: &mut F, request: Request<'_>) -> Result<Page, Stop>
+// The page of a check: yes, or the first objection.
+fn check_page<R: Threads + Sync, G: Gate>(
+    rt: &R,
+    alloc: Global,
+    work: &Work,
+    plan: &PlanFile,
+    workers: u32,
+    gate: &G,
+) -> Result<Page, AllocError>
+    requires { AreWorkers workers }
+    ensures { IfOk result (λ page. IsCheck work.now.system work.now.terms plan.now (answer_of page)) }
+{
+    let verdict = check_plan(rt, alloc, &work.system, &work.terms, plan, workers, gate)?;
+    verdict_page(alloc, verdict)
+}
+
+fn report_check<R: Threads + Sync, F: Files, G: Gate>(
+    rt: &R,
+    alloc: Global,
+    files: &mut F,
+    names: CheckNames<'_>,
+    gate: &G,
+) -> Result<Page, Stop>
+    requires { AreWorkers names.workers }
+    ensures told { IfOk result (λ page. SomeAnswer (F.bytes_of files.old) (check (input_view names.entry.input) names.entry.plan.now names.entry.workers) (λ answer. answer_of page ≡ answer)) }
+    ensures certified { IfOk result (λ page. (answer_of page).status ≡ Done → (texts : List (List ℕ))
+        → AreTold (F.bytes_of files.old) (files_of (check (input_view names.entry.input) names.entry.plan.now names.entry.workers)) texts
+        → IsCertified (input_view names.entry.input) texts (answer_of page).text) }
+    ensures cause { result ≡ Err Stop.ReadFault → HasFailed (F.bytes_of files.old) (F.faults_of files.old) (F.faults_of files.new) (files_of (check (input_view names.entry.input) names.entry.plan.now names.entry.workers)) }
+{
+    let work = match judge_work(alloc, files, names.input)? {
+        Judged::Taken(work) => work,
+        Judged::Refused(page) => return Ok(page),
+    };
+    let loaded = load(alloc, files, names.plan)?;
+    let plan = match plan_of(alloc, loaded)? {
+        Judged::Taken(plan) => plan,
+        Judged::Refused(page) => return Ok(page),
+    };
+    Ok(check_page(rt, alloc, &work, &plan, names.workers, gate)?)
+}
+
+/// The page that answers a request. `rt` and `gate` are for the threads of the checker.
+pub fn report<R: Threads + Sync, F: Files, G: Gate>(
+    rt: &R,
+    alloc: Global,
+    files: &mut F,
+    request: Request<'_>,
+    gate: &G,
+) -> Result<Page, Stop>
+    requires { HasWorkers (request_view request) }
     ensures told { IfOk result (λ page. SomeAnswer (F.bytes_of files.old) (request_view request.entry) (λ answer. answer_of page ≡ answer)) }
+    ensures certified { IfOk result (λ page. (answer_of page).status ≡ Done → (input : Input) (plan : List ℕ) (workers : ℕ)
+        → request_view request.entry ≡ check input plan workers → (texts : List (List ℕ))
+        → AreTold (F.bytes_of files.old) (files_of (check input plan workers)) texts → IsCertified input texts (answer_of page).text) }
     ensures cause { result ≡ Err Stop.ReadFault → HasFailed (F.bytes_of files.old) (F.faults_of files.old) (F.faults_of files.new) (files_of (request_view request.entry)) }
 {
     match request {
         Request::Replay(names) => report_replay(alloc, files, names),
         Request::Tree(matrix) => report_tree(alloc, files, matrix),
         Request::Post(input) => report_post(alloc, files, input),
+        Request::Check(names) => report_check(rt, alloc, files, names, gate),
     }
 }

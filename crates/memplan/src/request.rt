@@ -1,7 +1,7 @@
-ghost use Rattle.std.specs.Prelude.{◌≡◌, ◌++◌, List, MatchOption, IfOk, Some, None, map, string_bytes, option_map};
+ghost use Rattle.std.specs.Prelude.{◌≡◌, ◌≤◌, ◌++◌, List, MatchOption, IfOk, IfSome, Some, None, map, string_bytes, option_map};
 ghost use Rattle.memplan.specs.Request as spec;
-ghost use Rattle.memplan.specs.Request.{is_second, chooses_order, zeros_within, zeros_of, matrix_of, matrix_among, tree_input_of, input_of, replay_of, tree_request_of, post_of, command_of, request_of};
-ghost use Rattle.memplan.specs.RequestViews.{matrix_view, tree_input_view, input_view, request_view};
+ghost use Rattle.memplan.specs.Request.{is_second, chooses_order, zeros_within, zeros_of, matrix_of, matrix_among, tree_input_of, input_of, replay_of, tree_request_of, post_of, source_of, workers_within, workers_or_one, check_of, command_of, request_of, AreWorkers, HasWorkers};
+ghost use Rattle.memplan.specs.RequestViews.{matrix_view, tree_input_view, input_view, source_view, request_view};
 ghost use Rattle.memplan.specs.GivenViews.{given_views};
 
 use crate::words::{Given, are_among, are_distinct, options_of, value_of};
@@ -36,11 +36,27 @@ pub enum Input<'a> {
     Workflow(&'a str),
 }
 
-/// An input, and the name of an order file.
+/// What an order of tasks is read from: an order file, or a plan file, by its name.
+#[derive(Clone, Copy, Debug)]
+pub enum OrderSource<'a> {
+    Order(&'a str),
+    Plan(&'a str),
+}
+
+/// An input, and where its order stands.
 #[derive(Clone, Copy, Debug)]
 pub struct ReplayNames<'a> {
     pub input: Input<'a>,
-    pub order: &'a str,
+    pub source: OrderSource<'a>,
+}
+
+/// An input, the name of a plan file, and by how many workers its claims are judged.
+#[derive(Clone, Copy, Debug)]
+pub struct CheckNames<'a> {
+    pub input: Input<'a>,
+    pub plan: &'a str,
+    /// From 1 to 4,096.
+    pub workers: u32,
 }
 
 /// What the words ask for.
@@ -52,6 +68,8 @@ pub enum Request<'a> {
     Tree(Matrix<'a>),
     /// The best postorder of a tree, and its peak.
     Post(TreeInput<'a>),
+    /// Whether the plan is accepted for the input.
+    Check(CheckNames<'a>),
 }
 
 // ---- the options of a matrix
@@ -170,42 +188,97 @@ fn input_of<'a>(options: &[Given<'a>], others: &[&str]) -> Option<Input<'a>>
 
 // ---- commands
 
-fn replay_of<'a>(options: &[Given<'a>]) -> Option<Request<'a>>
-    ensures { option_map request_view result ≡ replay_of (given_views options.now) }
+// An order file or a plan file, not both.
+fn source_of<'a>(order: Option<&'a str>, plan: Option<&'a str>) -> Option<OrderSource<'a>>
+    ensures { option_map source_view result ≡ source_of (option_map (λ s. s.now) order.entry) (option_map (λ s. s.now) plan.entry) }
 {
-    let input = input_of(options, &["--order"])?;
-    let order = value_of(options, "--order")?;
-    Some(Request::Replay(ReplayNames { input, order }))
+    match (order, plan) {
+        (Some(order), None) => Some(OrderSource::Order(order)),
+        (None, Some(plan)) => Some(OrderSource::Plan(plan)),
+        (None, None) => None,
+        (Some(_), Some(_)) => None,
+    }
+}
+
+fn replay_of<'a>(options: &[Given<'a>]) -> Option<Request<'a>>
+    ensures value { option_map request_view result ≡ replay_of (given_views options.now) }
+    ensures workers { IfSome result (λ request. HasWorkers (request_view request)) }
+{
+    let input = input_of(options, &["--order", "--plan"])?;
+    let source = source_of(value_of(options, "--order"), value_of(options, "--plan"))?;
+    Some(Request::Replay(ReplayNames { input, source }))
 }
 
 fn tree_request_of<'a>(options: &[Given<'a>]) -> Option<Request<'a>>
-    ensures { option_map request_view result ≡ tree_request_of (given_views options.now) }
+    ensures value { option_map request_view result ≡ tree_request_of (given_views options.now) }
+    ensures workers { IfSome result (λ request. HasWorkers (request_view request)) }
 {
     let matrix = matrix_among(options, &[])?;
     Some(Request::Tree(matrix))
 }
 
 fn post_of<'a>(options: &[Given<'a>]) -> Option<Request<'a>>
-    ensures { option_map request_view result ≡ post_of (given_views options.now) }
+    ensures value { option_map request_view result ≡ post_of (given_views options.now) }
+    ensures workers { IfSome result (λ request. HasWorkers (request_view request)) }
 {
     let input = tree_input_of(options, &[])?;
     Some(Request::Post(input))
 }
 
+fn workers_within(workers: u64) -> Option<u32>
+    ensures value { result ≡ workers_within workers }
+    ensures range { IfSome result AreWorkers }
+{
+    if 1 <= workers && workers <= 4096 {
+        Some(workers as u32)
+    } else {
+        None
+    }
+}
+
+// One worker, where no number is given.
+fn workers_of(given: Option<&str>) -> Option<u32>
+    ensures value { result ≡ workers_or_one (option_map (λ s. s.now) given.entry) }
+    ensures range { IfSome result AreWorkers }
+{
+    let Some(word) = given else {
+        return Some(1);
+    };
+    let workers = number(word.as_bytes())?;
+    workers_within(workers)
+}
+
+fn check_of<'a>(options: &[Given<'a>]) -> Option<Request<'a>>
+    ensures value { option_map request_view result ≡ check_of (given_views options.now) }
+    ensures workers { IfSome result (λ request. HasWorkers (request_view request)) }
+{
+    let input = input_of(options, &["--plan", "--workers"])?;
+    let plan = value_of(options, "--plan")?;
+    let workers = workers_of(value_of(options, "--workers"))?;
+    Some(Request::Check(CheckNames {
+        input,
+        plan,
+        workers,
+    }))
+}
+
 fn command_of<'a>(command: &str, options: &[Given<'a>]) -> Option<Request<'a>>
-    ensures { option_map request_view result ≡ command_of command.now (given_views options.now) }
+    ensures value { option_map request_view result ≡ command_of command.now (given_views options.now) }
+    ensures workers { IfSome result (λ request. HasWorkers (request_view request)) }
 {
     match command {
         "replay" => replay_of(options),
         "tree" => tree_request_of(options),
         "post" => post_of(options),
+        "check" => check_of(options),
         _ => None,
     }
 }
 
 /// The request of the words after the program's name, if they have one.
 pub fn request_of(alloc: Global, words: &[String]) -> Result<Option<Request<'_>>, AllocError>
-    ensures { IfOk result (λ request. option_map request_view request ≡ request_of (map (λ w. string_bytes w) words.now)) }
+    ensures value { IfOk result (λ request. option_map request_view request ≡ request_of (map (λ w. string_bytes w) words.now)) }
+    ensures workers { IfOk result (λ request. IfSome request (λ r. HasWorkers (request_view r))) }
 {
     let [command, words @ ..] = words else {
         return Ok(None);

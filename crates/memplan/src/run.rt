@@ -1,8 +1,9 @@
-ghost use Rattle.std.specs.Prelude.{◌≡◌, ◌↔◌, ◌⊎◌, ℕ, Some, None, map, string_bytes};
-ghost use Rattle.mp_outside.specs.Outside.{Rose};
-ghost use Rattle.memplan.specs.Request.{Request, request_of, files_of};
+ghost use Rattle.std.specs.Prelude.{◌≡◌, ◌↔◌, ◌⊎◌, ℕ, List, Some, None, map, string_bytes};
+ghost use Rattle.mp_outside.specs.Outside.{Rose, Appended};
+ghost use Rattle.memplan.specs.Request.{Input, Request, check, request_of, files_of};
 ghost use Rattle.memplan.specs.Pages.{status_of};
-ghost use Rattle.memplan.specs.Clauses.{HasText, IsAnswered, IsCutShort, HasFailed, AreQuiet};
+ghost use Rattle.memplan.specs.Certified.{IsCertified};
+ghost use Rattle.memplan.specs.Clauses.{AreTold, HasText, IsAnswered, IsCutShort, HasFailed, AreQuiet};
 
 use crate::page::PageKind;
 use crate::report::{Stop, report};
@@ -15,18 +16,25 @@ use std::thread::Threads;
 /// Does what the words ask for: reads the files that they name, and writes the report or the refusal to the sink, whole before its
 /// first byte is written.
 ///
-/// `words` are the words after the program's name. `rt` and `gate` are for the checker's threads, and unused so far.
+/// `words` are the words after the program's name. `rt` and `gate` are for the threads of the checker: its answer is the same with any gate.
 pub fn run_words<R: Threads + Sync, F: Files, S: Sink, G: Gate>(
-    _rt: &R,
+    rt: &R,
     alloc: Global,
     words: &[String],
     files: &mut F,
     sink: &mut S,
-    _gate: &G,
+    gate: &G,
 ) -> Status
     // with a status that has a text, the status and the bytes appended are an answer
     ensures answered { HasText result → (request : Request) × (request_of (map (λ w. string_bytes w) words.now) ≡ Some request)
         × IsAnswered (F.bytes_of files.old) request result (S.written sink.old) (S.written sink.new) }
+
+    // where a plan was checked and accepted, its order is a traversal of the input's system, its peak is the one that it states and that
+    // was printed, and no traversal has a lower one
+    ensures certified { result ≡ Status.Done → (input : Input) (plan : List ℕ) (workers : ℕ)
+        → request_of (map (λ w. string_bytes w) words.now) ≡ Some (check input plan workers)
+        → (texts : List (List ℕ)) → AreTold (F.bytes_of files.old) (files_of (check input plan workers)) texts
+        → (printed : List ℕ) × IsCertified input texts printed × Appended (S.written sink.old) (S.written sink.new) printed }
 
     // nothing is appended at usage, read fault and want of memory
     ensures silent { (result ≡ Status.Usage) ⊎ ((result ≡ Status.ReadFault) ⊎ (result ≡ Status.NoMemory)) → S.written sink.new ≡ S.written sink.old }
@@ -54,7 +62,7 @@ pub fn run_words<R: Threads + Sync, F: Files, S: Sink, G: Gate>(
         Ok(None) => return Status::Usage,
         Err(_) => return Status::NoMemory,
     };
-    let page = match report(alloc, files, request) {
+    let page = match report(rt, alloc, files, request, gate) {
         Ok(page) => page,
         Err(Stop::ReadFault) => return Status::ReadFault,
         Err(Stop::NoMemory) => return Status::NoMemory,

@@ -3,6 +3,8 @@
 mod faults;
 mod limits;
 mod matrices;
+mod meeting;
+mod plans;
 mod rows;
 mod workflows;
 

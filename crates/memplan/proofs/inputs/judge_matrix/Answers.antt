@@ -1,4 +1,4 @@
-use Rattle.std.proofs.Common.{◌≡◌, ◌∙◌, ℕ, List, [], ◌∷◌, Option, Some, None, Ok, Err, length, sym, ap, subst, option_map}
+use Rattle.std.proofs.Common.{◌≡◌, ◌∙◌, ℕ, List, [], Err, length, sym, ap, subst}
 use Rattle.std.proofs.lemmas.Result.{err_from_is_err_and}
 use Rattle.memplan.specs.declared.report.Stop.{Stop}
 use Rattle.memplan.specs.declared.report.Stop.TheVariants as stops
@@ -10,7 +10,7 @@ use Rattle.memplan.specs.declared.judge.Judged.TheVariants.{Taken}
 use Rattle.memplan.specs.Answer.{IsMatrix, IsRefusedFile, IsOrderOf}
 use Rattle.memplan.specs.Judged.{IsJudged, IsRefusedOrder}
 use Rattle.memplan.specs.Pages.{answer_of}
-use Rattle.memplan.specs.Request.{NamedFile, matrix_file, perm_files}
+use Rattle.memplan.specs.Request.{matrix_file, perm_files}
 use Rattle.memplan.specs.RequestViews.{matrix_view}
 use Rattle.memplan.proofs.AnswerLemmas.{failed_after, matrix_refused, perm_refused, fronts_judged, perm_failed}
 use Rattle.memplan.proofs.inputs.judge_matrix.Goals as goal

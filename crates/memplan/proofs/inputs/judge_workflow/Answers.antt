@@ -1,4 +1,4 @@
-use Rattle.std.proofs.Common.{◌≡◌, ◌∙◌, ℕ, List, [], ◌∷◌, Option, Some, None, Ok, Err, inl, inr, sym, ap, subst, option_map}
+use Rattle.std.proofs.Common.{◌≡◌, ◌∙◌, ℕ, List, [], ◌∷◌, Err, inl, sym, ap, subst}
 use Rattle.std.proofs.lemmas.Result.{err_from_is_err_and}
 use Rattle.memplan.specs.declared.report.Stop.{Stop}
 use Rattle.memplan.specs.declared.report.Stop.TheVariants as stops
@@ -10,7 +10,6 @@ use Rattle.memplan.specs.Judged.{IsJudged}
 use Rattle.memplan.specs.Pages.{answer_of}
 use Rattle.memplan.specs.Request.{NamedFile, workflow_file, workflow_named}
 use Rattle.sp_terms.specs.Values.{term_of}
-use Rattle.memplan.specs.declared.judge.Judged.{Judged}
 use Rattle.memplan.proofs.AnswerLemmas.{alone_failed, alone_told}
 use Rattle.memplan.proofs.inputs.judge_workflow.Goals as goal
 

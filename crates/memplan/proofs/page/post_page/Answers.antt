@@ -1,4 +1,4 @@
-use Rattle.std.proofs.Common.{◌≡◌, ◌∙◌, ℕ, List, [], ◌∷◌, ◌++◌, ap, map, length, decimal, codes}
+use Rattle.std.proofs.Common.{◌∙◌, ℕ, List, [], ◌∷◌, ◌++◌, ap, map, length, decimal, codes}
 use Rattle.mp_text.specs.Report.{line_text}
 use Rattle.memplan.specs.declared.status.Status.TheVariants as status
 use Rattle.memplan.proofs.PageLemmas.{page-lines}

@@ -3,7 +3,7 @@ use Rattle.std.specs.Bool.{IsTrue}
 use Rattle.std.specs.List.{list_all}
 use Rattle.std.proofs.lemmas.Bool.{and_from}
 use Rattle.std.proofs.lemmas.Result.{on_ok_weaker}
-use Rattle.mp_text.specs.Report.{is_token, with_token, with_tokens, line_text}
+use Rattle.mp_text.specs.Report.{is_token, with_token, with_tokens}
 use Rattle.memplan.proofs.PageLemmas.{line-ended, line-starts}
 use Rattle.memplan.proofs.page.print_count.Goals as goal
 
