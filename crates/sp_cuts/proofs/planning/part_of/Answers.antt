@@ -1,0 +1,27 @@
+use Rattle.std.proofs.Common.{◌<◌, length, arith}
+use Rattle.sp_cuts.proofs.Pushed.{standing_ready, standing_on, index_there, spent_on, spent_stopped}
+use Rattle.sp_cuts.proofs.planning.part_of.Goals as goal
+
+pub push_position-requires : goal.push_position-requires
+push_position-requires g c = record {
+  ready = standing_ready c.args.terms.now c.loop-done.done c.at-position.result c.loop-done.ropes c.loop-done.stack.items c.loop-done.next c.len-done-end.ensures.terms c.loop-done.invariant.standing (let t = c.loop-done-test.true in let e = c.len-done-end.ensures.value in omega arith) (index_there c.args.terms.now c.loop-done.done c.at-position.result c.at-position.ensures);
+}
+
+pub loop-done-preserved : goal.loop-done-preserved
+loop-done-preserved g c =
+    let lt : c.loop-done.done < length c.args.terms.now = (let t = c.loop-done-test.true in let e = c.len-done-end.ensures.value in omega arith) in
+    let here = index_there c.args.terms.now c.loop-done.done c.at-position.result c.at-position.ensures in
+    record {
+      kept = c.below.ensures.on _ _ _ c.loop-done.invariant.kept c.in_ok-next.ensures.kept;
+      standing = standing_on c.args.terms.now c.loop-done.done c.at-position.result c.loop-done.ropes c.loop-done.stack.items c.loop-done.next c.len-done-end.ensures.terms c.loop-done.invariant.standing lt here
+          c.push_position.new.ropes c.push_position.new.stack.items c.in_ok-next.next c.in_ok-next.ensures.done;
+      spent = spent_on c.below.ensures c.args.terms.now c.loop-done.done c.at-position.result c.loop-done.ropes c.loop-done.stack.items c.loop-done.next c.len-done-end.ensures.terms c.loop-done.invariant.standing lt here
+          c.args.steps.now c.loop-done.steps c.push_position.new.steps c.loop-done.invariant.spent c.push_position.ensures.steps;
+    }
+
+pub returns-in_err-next-clause-steps : goal.returns-in_err-next-clause-steps
+returns-in_err-next-clause-steps g c =
+    let lt : c.loop-done.done < length c.args.terms.now = (let t = c.loop-done-test.true in let e = c.len-done-end.ensures.value in omega arith) in
+    let here = index_there c.args.terms.now c.loop-done.done c.at-position.result c.at-position.ensures in
+    spent_stopped c.below.ensures c.args.terms.now c.loop-done.done c.at-position.result c.loop-done.ropes c.loop-done.stack.items c.loop-done.next c.len-done-end.ensures.terms c.loop-done.invariant.standing lt here
+    c.args.steps.now c.loop-done.steps c.push_position.new.steps c.loop-done.invariant.spent c.push_position.ensures.steps

@@ -1,0 +1,25 @@
+//! The planner: two sides that lead down to a state of least memory, made of a term from its data items up (Liu 1987, for
+//! trees), and the order that leads down the one side and up the other.
+//!
+//! The definitions stand in the specs/ of `cut_laws`: what a [`Part`] stands for is a cut, and each call here makes the cut that
+//! is defined there. A call of a law, such as `laws::parts_stay()`, does nothing: it hands the law to the proof of the function
+//! that calls it.
+#![tactic(auto)]
+
+mod behind;
+#[cfg(test)]
+mod bench;
+mod composing;
+mod hills;
+pub mod laws;
+mod parts;
+#[cfg(test)]
+mod plain;
+mod planning;
+#[cfg(test)]
+mod tests;
+
+pub use composing::{parallel, series};
+pub use hill_valley::NoMemory;
+pub use parts::{Part, hold};
+pub use planning::{Plan, plan_terms};
