@@ -1,0 +1,94 @@
+ghost use Rattle.std.specs.Prelude.{◌≡◌, ◌<◌, ◌≤◌, ◌^◌, length, slice_index, slice_set, replicate, IfOk};
+ghost use Rattle.min_tree.specs.Least.{IsFirstLeast, greatest};
+
+use std::alloc::{AllocError, Global};
+use std::marker::Model;
+
+/// No memory was found for the numbers.
+pub type NoMemory = AllocError;
+
+/// A list of numbers of fixed length. A change takes time logarithmic in the length, and so does a look at the first least.
+#[derive(Drop)]
+pub struct MinTree {
+    nodes: Vec<u64>,
+    leaves: usize,
+    count: usize,
+    depth: u32,
+}
+
+impl Model for MinTree {
+    ghost use Rattle.std.specs.Prelude.{ℕ, List, take, drop};
+    ghost use Rattle.min_tree.specs.Least.{IsMinTree};
+
+    ghost Value = { List ℕ };
+
+    ghost view = { λ t. take t.count (drop t.leaves t.nodes.items) };
+
+    ghost invariant = { λ t. IsMinTree t.depth t.leaves t.count t.nodes.items };
+}
+
+impl MinTree {
+    /// So many numbers, at most 2^31, each the greatest of 64 bits.
+    pub fn new(alloc: Global, count: usize) -> Result<MinTree, NoMemory>
+        requires { count ≤ 2 ^ 31 }
+        ensures { IfOk result (λ numbers. numbers ≡ replicate count greatest) }
+    {
+        let mut leaves = 1;
+        let mut depth = 0;
+        while leaves < count {
+            leaves *= 2;
+            depth += 1;
+        }
+        let nodes = vec![in alloc; u64::MAX; 2 * leaves]?;
+        Ok(MinTree {
+            nodes,
+            leaves,
+            count,
+            depth,
+        })
+    }
+
+    /// How many numbers there are.
+    pub fn len(&self) -> usize
+        ensures { result ≡ length self.now }
+    {
+        self.count
+    }
+
+    /// The number at this place, counted from 0.
+    pub fn at(&self, place: usize) -> u64
+        requires { place < length self.now }
+        ensures { result ≡ slice_index self.now place }
+    {
+        self.nodes[self.leaves + place]
+    }
+
+    /// Sets the number at this place.
+    pub fn put(&mut self, place: usize, number: u64)
+        requires { place < length self.old }
+        ensures { self.new ≡ slice_set self.old place number }
+    {
+        let mut at = self.leaves + place;
+        self.nodes[at] = number;
+        while at > 1 {
+            at /= 2;
+            self.nodes[at] = self.nodes[2 * at].min(self.nodes[2 * at + 1]);
+        }
+    }
+
+    /// The place of the first least number.
+    pub fn first_least(&self) -> usize
+        requires { 0 < length self.now }
+        ensures { IsFirstLeast self.now result }
+    {
+        let mut at = 1;
+        while at < self.leaves {
+            at *= 2;
+            let (left, right) = (self.nodes[at], self.nodes[at + 1]);
+            if right < left {
+                at += 1;
+            }
+        }
+        at - self.leaves
+    }
+}
