@@ -1,0 +1,14 @@
+use Rattle.std.proofs.Common.{◌≡◌, ℕ, ◌+◌, ◌<◌, ◌≤◌, length}
+use Rattle.std.specs.Prelude.{slice_index}
+use Rattle.mp_system.specs.System.{inputs_of, outputs_of, need_of}
+use Rattle.activation.proofs.sums.needs_of.Given as goal
+
+abbrev pub invariant-loop-i : goal.invariant-loop-i
+invariant-loop-i l = record {
+  needs_len : length l.needs.items ≡ length l.system.tasks;
+  frees_len : length l.frees.items ≡ length l.system.tasks;
+  needs : (k : ℕ) → k < l.i → slice_index l.needs.items k ≡ need_of l.system (k + 1);
+  frees : (k : ℕ) → k < l.i → slice_index l.frees.items k + outputs_of l.system (k + 1) ≡ need_of l.system (k + 1) + inputs_of l.system (k + 1);
+  outputs : (k : ℕ) → l.i ≤ k → slice_index l.needs.items k ≡ outputs_of l.system (k + 1);
+  inputs : (k : ℕ) → l.i ≤ k → slice_index l.frees.items k ≡ inputs_of l.system (k + 1);
+}

@@ -1,0 +1,11 @@
+pub mod Machine
+pub mod Safe
+pub mod Changes
+pub mod Runs
+pub mod Schedule
+pub mod Numbers
+pub mod Running
+pub mod Tables
+pub mod Run
+pub mod Refusal
+pub mod Samples

@@ -1,0 +1,21 @@
+-- A list of running tasks with the place of each at hand.
+use Rattle.std.specs.Prelude.{◌≡◌, ℕ, ◌<◌, ◌≤◌, List, length, slice_index}
+use Rattle.activation.specs.Schedule.{number_of}
+use Rattle.activation.specs.Numbers.{IsNumber}
+
+-- what contracts see: the tasks that are listed, how many there may be, and of how many numbers they are
+pub record RunningValue : Type 0 where
+  pub listed : List ℕ
+  pub room : ℕ
+  pub count : ℕ
+
+-- no number stands at two places of the list
+abbrev pub IsDistinct : List ℕ → Type 0
+IsDistinct xs = (i j : ℕ) → i < length xs → j < length xs → slice_index xs i ≡ slice_index xs j → i ≡ j
+
+-- the first slots have the tasks, and to each task its slot is written down
+pub record AreSpots (many : ℕ) (slots spots : List ℕ) : Type 0 where
+  pub few : length slots ≤ 4096
+  pub within : many ≤ length slots
+  pub numbers : (k : ℕ) → k < many → IsNumber (slice_index slots k) (length spots)
+  pub places : (k : ℕ) → k < many → number_of spots (slice_index slots k) ≡ k

@@ -1,0 +1,15 @@
+ghost use Rattle.std.specs.Prelude.{◌≡◌, ℕ, ◌<◌, ◌≤◌, ◌^◌, length, slice_index};
+ghost use Rattle.activation.specs.Numbers.{IsNumber};
+ghost use Rattle.activation.specs.Tables.{ArePlaces};
+
+/// Writes down at which place each task of a list stands, counted from 0.
+pub fn fill_places(tasks: &[u32], places: &mut [u32])
+    requires few { length tasks.now < 2 ^ 32 }
+    requires numbers { (k : ℕ) → k < length tasks.now → IsNumber (slice_index tasks.now k) (length places.old) }
+    requires once { (i j : ℕ) → i < length tasks.now → j < length tasks.now → slice_index tasks.now i ≡ slice_index tasks.now j → i ≡ j }
+    ensures { ArePlaces tasks.now places.new }
+{
+    for i in 0..tasks.len() {
+        places[tasks[i] as usize - 1] = i as u32;
+    }
+}

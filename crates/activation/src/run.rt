@@ -1,0 +1,262 @@
+ghost use Rattle.std.specs.Prelude.{◌≡◌, ◌*◌, ◌≤◌, ◌<◌, ℕ, false, length, slice_index, IfSome, IfNone};
+ghost use Rattle.mp_system.specs.System.{IsTask};
+ghost use Rattle.activation.specs.declared.events.Phase.TheVariants.{Running as IsRunning};
+ghost use Rattle.activation.specs.Machine.{IsSetting, phase_in, start_state, used_memory, booked_memory, AllDone};
+ghost use Rattle.activation.specs.Safe.{IsSafe};
+ghost use Rattle.activation.specs.Tables.{is_startable};
+ghost use Rattle.activation.specs.Schedule.{HoldsEach, number_of, moment_after, first_moment, ComesNext, NoneDue, NoneActivates, NoneStarts};
+ghost use Rattle.activation.specs.Run.{event_count, IsRoom, IsNextDue, IsFirstStartable};
+
+use crate::events::{Event, EventKind};
+use crate::laws::progress_law;
+use crate::machine::Machine;
+use crate::places::fill_places;
+use crate::room::Room;
+use std::marker::Model;
+
+/// A run in simulated time, between two events.
+#[derive(Drop)]
+pub struct Run {
+    machine: Machine,
+    room: Room,
+    time: u64,
+}
+
+impl Model for Run {
+    ghost use Rattle.activation.specs.Run.{RunValue, IsRun};
+
+    ghost Value = { RunValue };
+
+    ghost view = { λ r. record {
+      setting = r.machine.setting;
+      priority = r.room.priority.items;
+      moment = record { state = r.machine.state; time = r.time; dues = r.room.dues.items };
+    } };
+
+    ghost invariant = { λ r. IsRun r.machine r.time r.room.dues.items r.room.clock r.room.ready r.room.ranks.items r.room.priority.items };
+}
+
+impl Run {
+    /// The run at moment 0, before any event.
+    pub fn new(machine: Machine, room: Room, priority: &[u32]) -> Run
+        requires start { machine.state ≡ start_state machine.setting }
+        requires room { IsRoom (length machine.setting.system.tasks) room.dues.items room.clock room.ready room.ranks.items room.priority.items }
+        requires priority { HoldsEach machine.setting.system priority.now }
+        ensures setting { result.setting ≡ machine.setting }
+        ensures priority { result.priority ≡ priority.now }
+        ensures moment { result.moment ≡ first_moment machine.setting }
+    {
+        machine.keeps();
+        let mut room = room;
+        room.priority.copy_from_slice(priority);
+        fill_places(priority, &mut room.ranks);
+        Run {
+            machine,
+            room,
+            time: 0,
+        }
+    }
+
+    /// What every run keeps.
+    pub fn keeps(&self)
+        ensures setting { IsSetting self.now.setting }
+        ensures safe { IsSafe self.now.setting self.now.moment.state }
+        ensures few_events { event_count self.now.setting self.now.moment.state ≤ 3 * length self.now.setting.system.tasks }
+    {
+        self.machine.keeps();
+    }
+
+    /// The time.
+    pub fn time(&self) -> u64
+        ensures { result ≡ self.now.moment.time }
+    {
+        self.time
+    }
+
+    /// Used memory.
+    pub fn used(&self) -> u64
+        ensures { result ≡ used_memory self.now.setting self.now.moment.state }
+    {
+        self.machine.used()
+    }
+
+    /// Booked memory.
+    pub fn booked(&self) -> u64
+        ensures { result ≡ booked_memory self.now.setting self.now.moment.state }
+    {
+        self.machine.booked()
+    }
+
+    // The running task that is due first, a tie to the one that stands first in the order.
+    fn next_due(&self) -> Option<u32>
+        ensures some { IfSome result (λ t. IsNextDue self.now.setting self.now.moment t) }
+        ensures none { IfNone result ((u : ℕ) → phase_in self.now.moment.state.phases u ≡ IsRunning → ⊥) }
+    {
+        self.machine.keeps();
+        if self.machine.task_count() == 0 {
+            return None;
+        }
+        let place = self.room.clock.first_least();
+        if self.room.clock.at(place) == u64::MAX {
+            return None;
+        }
+        Some(self.machine.task_at(place))
+    }
+
+    // The task that may start as soon as a worker is free, and stands first in the priority.
+    fn first_startable(&self) -> Option<u32>
+        ensures some { IfSome result (λ t. IsFirstStartable self.now.setting self.now.priority self.now.moment.state t) }
+        ensures none { IfNone result ((u : ℕ) → IsTask self.now.setting.system u → is_startable self.now.setting self.now.moment.state u ≡ false) }
+    {
+        self.machine.keeps();
+        if self.machine.task_count() == 0 {
+            return None;
+        }
+        let rank = self.room.ready.first_least();
+        if self.room.ready.at(rank) > 0 {
+            return None;
+        }
+        Some(self.room.priority[rank])
+    }
+
+    // The moment at which a started task is due.
+    fn due_of(&self, task: u32) -> u64
+        requires { IsTask self.now.setting.system task }
+        ensures { result ≡ number_of self.now.moment.dues task }
+    {
+        self.room.dues[task as usize - 1]
+    }
+
+    // Ends the task that is due next, at the moment at which it is due.
+    fn finish_next(&mut self, task: u32) -> Event
+        requires { IsNextDue self.old.setting self.old.moment task }
+        ensures setting { self.new.setting ≡ self.old.setting }
+        ensures priority { self.new.priority ≡ self.old.priority }
+        ensures event { result ≡ record { time = number_of self.old.moment.dues task; kind = EventKind.Finish; task = task } }
+        ensures next { self.new.moment ≡ moment_after self.old.setting self.old.moment result }
+    {
+        self.machine.keeps();
+        let place = self.machine.place_of(task);
+        let due = self.due_of(task);
+        self.machine.finish(task);
+        self.time = due;
+        self.room.clock.put(place, u64::MAX);
+        self.machine
+            .refresh_consumers(task, &self.room.ranks, &mut self.room.ready);
+        Event {
+            time: due,
+            kind: EventKind::Finish,
+            task,
+        }
+    }
+
+    // The finish that is due now, if one is.
+    fn finish_due(&mut self) -> Option<Event>
+        ensures setting { self.new.setting ≡ self.old.setting }
+        ensures priority { self.new.priority ≡ self.old.priority }
+        ensures comes { IfSome result (λ e. ComesNext self.old.setting self.old.priority self.old.moment e.kind e.time e.task) }
+        ensures next { IfSome result (λ e. self.new.moment ≡ moment_after self.old.setting self.old.moment e) }
+        ensures none { IfNone result (NoneDue self.old.moment) }
+        ensures unchanged { IfNone result (self.new ≡ self.old) }
+    {
+        self.keeps();
+        let task = self.next_due()?;
+        if self.due_of(task) > self.time {
+            return None;
+        }
+        Some(self.finish_next(task))
+    }
+
+    // The next activation, if a task may be activated.
+    fn activate(&mut self) -> Option<Event>
+        requires { NoneDue self.old.moment }
+        ensures setting { self.new.setting ≡ self.old.setting }
+        ensures priority { self.new.priority ≡ self.old.priority }
+        ensures comes { IfSome result (λ e. ComesNext self.old.setting self.old.priority self.old.moment e.kind e.time e.task) }
+        ensures next { IfSome result (λ e. self.new.moment ≡ moment_after self.old.setting self.old.moment e) }
+        ensures none { IfNone result (NoneActivates self.old.setting self.old.moment) }
+        ensures unchanged { IfNone result (self.new ≡ self.old) }
+    {
+        self.machine.keeps();
+        let task = self.machine.activate()?;
+        self.machine
+            .refresh(Some(task), &self.room.ranks, &mut self.room.ready);
+        Some(Event {
+            time: self.time,
+            kind: EventKind::Activate,
+            task,
+        })
+    }
+
+    // The start of the first task of the priority that may start, if one may.
+    fn start(&mut self) -> Option<Event>
+        requires none_due { NoneDue self.old.moment }
+        requires none_activates { NoneActivates self.old.setting self.old.moment }
+        ensures setting { self.new.setting ≡ self.old.setting }
+        ensures priority { self.new.priority ≡ self.old.priority }
+        ensures comes { IfSome result (λ e. ComesNext self.old.setting self.old.priority self.old.moment e.kind e.time e.task) }
+        ensures next { IfSome result (λ e. self.new.moment ≡ moment_after self.old.setting self.old.moment e) }
+        ensures none { IfNone result (NoneStarts self.old.setting self.old.moment) }
+        ensures unchanged { IfNone result (self.new ≡ self.old) }
+    {
+        self.machine.keeps();
+        let Some(task) = self.first_startable() else {
+            return None;
+        };
+        let place = self.machine.place_of(task);
+        let due = self.time + self.machine.time_of(task);
+        if !self.machine.start(task) {
+            return None;
+        }
+        self.room.dues[task as usize - 1] = due;
+        self.room.clock.put(place, due);
+        self.machine
+            .refresh(Some(task), &self.room.ranks, &mut self.room.ready);
+        Some(Event {
+            time: self.time,
+            kind: EventKind::Start,
+            task,
+        })
+    }
+
+    // The finish that is due next, if a task runs.
+    fn finish_later(&mut self) -> Option<Event>
+        requires none_due { NoneDue self.old.moment }
+        requires none_activates { NoneActivates self.old.setting self.old.moment }
+        requires none_starts { NoneStarts self.old.setting self.old.moment }
+        ensures setting { self.new.setting ≡ self.old.setting }
+        ensures priority { self.new.priority ≡ self.old.priority }
+        ensures comes { IfSome result (λ e. ComesNext self.old.setting self.old.priority self.old.moment e.kind e.time e.task) }
+        ensures next { IfSome result (λ e. self.new.moment ≡ moment_after self.old.setting self.old.moment e) }
+        ensures done { IfNone result (AllDone self.old.setting self.old.moment.state) }
+        ensures unchanged { IfNone result (self.new ≡ self.old) }
+    {
+        progress_law();
+        self.keeps();
+        let Some(task) = self.next_due() else {
+            return None;
+        };
+        Some(self.finish_next(task))
+    }
+
+    /// The event that comes next; none where every task is done.
+    pub fn step(&mut self) -> Option<Event>
+        ensures setting { self.new.setting ≡ self.old.setting }
+        ensures priority { self.new.priority ≡ self.old.priority }
+        ensures comes { IfSome result (λ e. ComesNext self.old.setting self.old.priority self.old.moment e.kind e.time e.task) }
+        ensures next { IfSome result (λ e. self.new.moment ≡ moment_after self.old.setting self.old.moment e) }
+        ensures done { IfNone result (AllDone self.old.setting self.old.moment.state) }
+        ensures unchanged { IfNone result (self.new ≡ self.old) }
+    {
+        if let Some(event) = self.finish_due() {
+            return Some(event);
+        }
+        if let Some(event) = self.activate() {
+            return Some(event);
+        }
+        if let Some(event) = self.start() {
+            return Some(event);
+        }
+        self.finish_later()
+    }
+}

@@ -1,0 +1,79 @@
+ghost use Rattle.std.specs.Prelude.{◌≡◌, ◌*◌, ◌≤◌, [], length, vec_capacity};
+ghost use Rattle.activation.specs.Machine.{start_state, AllDone};
+ghost use Rattle.activation.specs.Runs.{EachOnce, state_after_all};
+ghost use Rattle.activation.specs.Schedule.{HoldsEach, IsSchedule, first_moment, last_time, most_used, most_booked};
+
+use crate::cores::Core;
+use crate::events::Event;
+use crate::laws::schedule_law;
+use crate::run::Run;
+
+/// What a simulated run was: the moment of its last event, or 0 without tasks, the greatest used and the greatest booked memory over all its
+/// states, the first one included, and its events.
+#[derive(Drop)]
+pub struct Trace {
+    pub makespan: u64,
+    pub used: u64,
+    pub booked: u64,
+    pub events: Vec<Event>,
+}
+
+// All events of a run, one after the other.
+fn run_all(run: Run, events: Vec<Event>) -> Trace
+    requires start { run.moment ≡ first_moment run.setting }
+    requires empty { events.items ≡ [] }
+    requires room { 3 * length run.setting.system.tasks ≤ vec_capacity events }
+    ensures schedule { IsSchedule run.setting run.priority (first_moment run.setting) result.events.items }
+    ensures makespan { result.makespan ≡ last_time 0 result.events.items }
+    ensures used { result.used ≡ most_used run.setting (start_state run.setting) result.events.items }
+    ensures booked { result.booked ≡ most_booked run.setting (start_state run.setting) result.events.items }
+    ensures within { result.booked ≤ run.setting.bound }
+{
+    let (mut run, mut events) = (run, events);
+    run.keeps();
+    let mut used = run.used();
+    let mut booked = run.booked();
+    while let Some(event) = run.step() {
+        run.keeps();
+        used = used.max(run.used());
+        booked = booked.max(run.booked());
+        events.push_reserved(event);
+    }
+    Trace {
+        makespan: run.time(),
+        used,
+        booked,
+        events,
+    }
+}
+
+/// The run of a core from its start in simulated time. At each moment, from 0 on, the finishes that are due come first, in the order's
+/// places; then tasks are activated while one may be; then, while one may start, the one that stands first in the priority is started; then
+/// time moves to the least due finish. A started task is due its duration later. The run ends when every task is done.
+///
+/// It takes no memory: `Core::new` took it. The time is logarithmic in the tasks for each event.
+pub fn simulate(core: Core, priority: &[u32]) -> Trace
+    requires start { core.state ≡ start_state core.setting }
+    requires priority { HoldsEach core.setting.system priority.now }
+    // the events are the schedule of the setting and the priority
+    ensures schedule { IsSchedule core.setting priority.now (first_moment core.setting) result.events.items }
+    // the last moment, and the greatest memories
+    ensures makespan { result.makespan ≡ last_time 0 result.events.items }
+    ensures used { result.used ≡ most_used core.setting (start_state core.setting) result.events.items }
+    ensures booked { result.booked ≡ most_booked core.setting (start_state core.setting) result.events.items }
+    // each task is activated, started and finished once, and in the end all are done
+    ensures each_once { EachOnce core.setting result.events.items }
+    ensures all_done { AllDone core.setting (state_after_all (start_state core.setting) result.events.items) }
+    // memory stays within the bound
+    ensures within { result.booked ≤ core.setting.bound }
+{
+    schedule_law();
+    core.keeps();
+    let Core {
+        machine,
+        room,
+        events,
+    } = core;
+    let run = Run::new(machine, room, priority);
+    run_all(run, events)
+}
