@@ -1,0 +1,13 @@
+pub mod Sides
+pub mod Crossed
+pub mod NearFar
+pub mod Loops
+pub mod Handed
+pub mod Parted
+pub mod Tails
+pub mod PartsRead
+pub mod Peaks
+pub mod Standing
+pub mod Walking
+pub mod Stacked
+pub mod Least

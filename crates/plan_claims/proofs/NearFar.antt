@@ -1,0 +1,125 @@
+-- What is wanted of the near part of a series and of the far one.
+use Rattle.std.proofs.Common.{◌≡◌, ℕ, suc, ◌+◌, ◌-◌, ◌<◌, ◌≤◌, ◌⊎◌, inl, inr, max, min, refl, sym, subst, ap, arith, ◌∙◌, List, Option, Some, None}
+use Rattle.std.specs.Prelude.{if◌then◌else◌, nat_lt}
+use Rattle.std.proofs.lemmas.Bool.Decides.{nat_tests}
+use Rattle.side_laws.specs.Segments.{lowest}
+use Rattle.hill_valley.specs.Sides.{profile, run_profile}
+use Rattle.sp_terms.specs.Term.{Direction, forward, backward}
+use Rattle.sp_term_laws.specs.Moves.{other}
+use Rattle.plan_text.specs.declared.claim.Dir.{Dir}
+use Rattle.plan_text.specs.Plan.{direction_of}
+use Rattle.cut_laws.specs.Cuts.{Cut, top_of, lowest_of, start_of, side_of}
+use Rattle.plan_claims.specs.declared.notes.SeriesNote.{SeriesNote}
+use Rattle.plan_claims.specs.declared.notes.Wanted.{Wanted}
+use Rattle.plan_claims.specs.Below.{LawsBelow}
+use Rattle.plan_claims.specs.Crossings.{LeadsOver, IsObstacle, far_stuck, near_stuck, near_closed, hill_above, last_stuck, AreHandedOver}
+use Rattle.plan_claims.specs.Notes.{IsCrossing}
+use Rattle.plan_claims.specs.Wants.{Shows, ShowsIf}
+use Rattle.plan_claims.proofs.Sides.{lowest_of_first, lt_or_le}
+
+stuck : (limit m l a b z : ℕ) → z ≡ (if nat_lt (max m l) limit then a else b) → limit ≤ max m l → z ≡ b
+stuck limit m l a b z e h = grind (arith, nat_tests)
+
+over : (limit m l a b z : ℕ) → z ≡ (if nat_lt (max m l) limit then a else b) → max m l < limit → z ≡ a
+over limit m l a b z e h = grind (arith, nat_tests)
+
+first_if : (m n a b : ℕ) → m < n → (if nat_lt m n then a else b) ≡ a
+first_if m n a b h = grind (arith, nat_tests)
+
+second_if : (m n a b : ℕ) → n ≤ m → (if nat_lt m n then a else b) ≡ b
+second_if m n a b h = grind (arith, nat_tests)
+
+module _ (laws : LawsBelow) (d : Direction) (near far whole : Cut) (hill : ℕ) (n : SeriesNote) (w : Wanted)
+    (x : IsCrossing d near far hill n) (o : LeadsOver d near far whole hill) (s : Shows whole w) where
+  -- in the other direction the far part is passed first
+  pub handed_other : direction_of w.dir ≡ other d → AreHandedOver d near far hill w None (Some w)
+  handed_other e =
+      let below = subst (λ (c : Direction). w.limit ≤ top_of c whole) e s.below in
+      let low = subst (λ (c : Direction). w.low ≡ lowest_of c w.limit whole) e s.lowest in
+      record {
+        near_shows = tt;
+        far_shows = record {
+          below = subst (λ (c : Direction). w.limit ≤ top_of c far) (sym e) (let t = o.far_top in omega arith);
+          lowest = subst (λ (c : Direction). w.low ≡ lowest_of c w.limit far) (sym e) (low ∙ o.far_low w.limit);
+        };
+        obstacle = far_stuck e refl refl;
+      }
+
+  module _ (e : direction_of w.dir ≡ d) where
+    below : w.limit ≤ top_of d whole
+    below = subst (λ (c : Direction). w.limit ≤ top_of c whole) e s.below
+
+    low : w.low ≡ (if nat_lt (max (top_of d near) (max (top_of (other d) near) hill)) w.limit then min near.least (lowest_of d w.limit far) else lowest_of d w.limit near)
+    low = subst (λ (c : Direction). w.low ≡ lowest_of c w.limit whole) e s.lowest ∙ o.low_is w.limit
+
+    pub handed_near : w.limit ≤ n.near_top → AreHandedOver d near far hill w (Some w) None
+    handed_near h =
+        let t = x.near_top in
+        record {
+          near_shows = record {
+            below = subst (λ (c : Direction). w.limit ≤ top_of c near) (sym e) (omega arith);
+            lowest = subst (λ (c : Direction). w.low ≡ lowest_of c w.limit near) (sym e)
+                (stuck w.limit (top_of d near) (max (top_of (other d) near) hill) (min near.least (lowest_of d w.limit far)) (lowest_of d w.limit near) w.low low (omega arith));
+          };
+          far_shows = tt;
+          obstacle = near_stuck e refl refl;
+        }
+
+    module _ (past : n.near_top < w.limit) where
+      past_near : top_of d near < w.limit
+      past_near = let t = x.near_top in omega arith
+
+      -- what stops the way behind the near part's side
+      low_least : w.limit ≤ max (top_of (other d) near) hill → w.low ≤ near.least
+      low_least h =
+          let y = stuck w.limit (top_of d near) (max (top_of (other d) near) hill) (min near.least (lowest_of d w.limit far)) (lowest_of d w.limit near) w.low low (omega arith) in
+          omega (arith, y, o.near_low w.limit past_near)
+
+      pub handed_closed : w.limit ≤ n.between_top → (dir : Dir) → direction_of dir ≡ other (direction_of w.dir) → (l : ℕ) → l ≡ lowest w.limit n.between_start (profile n.between.items)
+          → AreHandedOver d near far hill w (Some (record { dir = dir; limit = w.limit; low = l })) None
+      handed_closed h dir t l is =
+          let t' : direction_of dir ≡ other d = t ∙ ap other e in
+          let top = x.between_top in
+          let y : lowest w.limit n.between_start (profile n.between.items) ≡ lowest w.limit n.between_start (run_profile (side_of (other d) near)) =
+          lowest_of_first laws (run_profile (side_of (other d) near)) (profile n.between.items) n.between_start 0 w.limit x.between (omega arith) in
+          record {
+            near_shows = record {
+              below = subst (λ (c : Direction). w.limit ≤ top_of c near) (sym t') (omega arith);
+              lowest = subst (λ (c : Direction). l ≡ lowest_of c w.limit near) (sym t')
+                  (is ∙ y ∙ ap (λ (m : ℕ). lowest w.limit m (run_profile (side_of (other d) near))) x.between_start);
+            };
+            far_shows = tt;
+            obstacle = near_closed e (low_least (omega arith)) (record { dir = dir; limit = w.limit; low = l }) refl refl t' refl;
+          }
+
+      pub handed_hill : w.limit ≤ n.hill → AreHandedOver d near far hill w None None
+      handed_hill h =
+          let t = x.hill_is in
+          record { near_shows = tt; far_shows = tt; obstacle = hill_above e (low_least (omega arith)) refl refl (omega arith) }
+
+      pub handed_last : n.between_top < w.limit → n.hill < w.limit → (l : ℕ) → l ≡ (if nat_lt w.low n.least then w.low else lowest w.limit n.far_start (profile n.far.items))
+          → AreHandedOver d near far hill w None (Some (record { dir = w.dir; limit = w.limit; low = l }))
+      handed_last h h' l is =
+          let t = x.between_top in
+          let u = x.hill_is in
+          let top = o.top_is in
+          let pn = past_near in
+          let z : w.low ≡ min near.least (lowest_of d w.limit far) =
+          over w.limit (top_of d near) (max (top_of (other d) near) hill) (min near.least (lowest_of d w.limit far)) (lowest_of d w.limit near) w.low low (omega arith) in
+          let le = x.least_is in
+          let same : l ≡ lowest_of d w.limit far = elim (lt_or_le w.low n.least) [
+            | inl lt ↦ is ∙ first_if w.low n.least w.low (lowest w.limit n.far_start (profile n.far.items)) lt ∙ omega arith
+            | inr ge ↦
+                let start = ap (λ (m : ℕ). lowest w.limit m (run_profile (side_of d far))) x.far_start in
+                is ∙ second_if w.low n.least w.low (lowest w.limit n.far_start (profile n.far.items)) ge
+                ∙ lowest_of_first laws (run_profile (side_of d far)) (profile n.far.items) n.far_start (n.least + 1) w.limit x.far_is (omega arith)
+                ∙ start
+          ] in
+          record {
+            near_shows = tt;
+            far_shows = record {
+              below = subst (λ (c : Direction). w.limit ≤ top_of c far) (sym e) (let b = below in omega arith);
+              lowest = subst (λ (c : Direction). l ≡ lowest_of c w.limit far) (sym e) same;
+            };
+            obstacle = last_stuck e (omega arith) (record { dir = w.dir; limit = w.limit; low = l }) refl refl e refl (omega arith);
+          }

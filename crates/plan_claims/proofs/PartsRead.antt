@@ -1,0 +1,252 @@
+-- Parts whose sides were read, and series of them.
+use Rattle.std.proofs.Common.{◌≡◌, ℕ, ◌+◌, ◌-◌, ◌<◌, ◌≤◌, ◌^◌, ◌⊎◌, max, inl, inr, true, false, refl, sym, subst, ap, arith, ◌∙◌, List, [], ◌++◌, append-nil, Vec, Global}
+use Rattle.side_laws.specs.Segments.{Segment, net_sum, top, IsRising}
+use Rattle.hill_valley.specs.declared.side.Seg.{Seg}
+use Rattle.hill_valley.specs.Ropes.{Extends}
+use Rattle.hill_valley.specs.Sides.{profile, HaveRopes, Run, runs_of, run_profile}
+use Rattle.cut_laws.specs.Cuts.{Cut, series_cut, cut_first, cut_second, front_peak, back_peak}
+use Rattle.sp_cuts.specs.declared.parts.Part.{Part}
+use Rattle.sp_cuts.specs.Parts.{cut_of, HasSides, IsPart, tops_of}
+use Rattle.plan_text.specs.declared.claim.Dir.TheVariants.{F, R}
+use Rattle.plan_claims.specs.declared.entries.Entry.{Entry}
+use Rattle.plan_claims.specs.declared.notes.SeriesNote.{SeriesNote}
+use Rattle.plan_claims.specs.Below.{LawsBelow}
+use Rattle.plan_claims.specs.Crossings.{LeadsOver}
+use Rattle.plan_claims.specs.Entries.{IsEntry, IsSeriesOf, IsNotedPart}
+use Rattle.plan_claims.specs.Notes.{AreFirst}
+use Rattle.plan_claims.proofs.Crossed.{Meets, first_over, second_over, is_first, is_second}
+
+same_cut : (f f' b b' : List Run) (i e l : ℕ) → f ≡ f' → b ≡ b' → ◌≡◌ {A = Cut} (record { front = f; back = b; initial = i; fin = e; least = l }) (record { front = f'; back = b'; initial = i; fin = e; least = l })
+same_cut f f' b b' i e l p q = rw (p, q) refl
+
+module _ (laws : LawsBelow) where
+  same_profile : (old new : List (List ℕ)) (side other : List Seg) → runs_of new side ≡ runs_of old other → profile side ≡ profile other
+  same_profile old new side other e = sym (laws.profile new side) ∙ ap run_profile e ∙ laws.profile old other
+
+  pub front_room : (lists : List (List ℕ)) (p : Part) → IsPart lists p → net_sum (profile p.front) ≤ p.initial
+  front_room lists p h = let n = h.both.front_net in omega arith
+
+  pub back_room : (lists : List (List ℕ)) (p : Part) → IsPart lists p → net_sum (profile p.back) ≤ p.fin
+  back_room lists p h = let n = h.both.back_net in omega arith
+
+  module _ (old new : List (List ℕ)) (p : Part) (side : List Seg) (h : IsPart old p) (kept : Extends old new) (ropes : HaveRopes new side) where
+    abbrev with_front : Part
+    with_front = record { front = side; back = p.back; initial = p.initial; fin = p.fin; least = p.least; peak = p.peak }
+
+    abbrev with_back : Part
+    with_back = record { front = p.front; back = side; initial = p.initial; fin = p.fin; least = p.least; peak = p.peak }
+
+    pub front_cut : runs_of new side ≡ runs_of old p.front → cut_of new with_front ≡ cut_of old p
+    front_cut e = same_cut (runs_of new side) (runs_of old p.front) (runs_of new p.back) (runs_of old p.back) p.initial p.fin p.least e (laws.stay old new p.back h.both.back_ropes kept).1
+
+    pub back_cut : runs_of new side ≡ runs_of old p.back → cut_of new with_back ≡ cut_of old p
+    back_cut e = same_cut (runs_of new p.front) (runs_of old p.front) (runs_of new side) (runs_of old p.back) p.initial p.fin p.least (laws.stay old new p.front h.both.front_ropes kept).1 e
+
+    pub front_part : runs_of new side ≡ runs_of old p.front → IsPart new with_front
+    front_part e =
+        let s = sym (same_profile old new side p.front e) in
+        record {
+          both = record {
+            front_ropes = ropes;
+            back_ropes = (laws.stay old new p.back h.both.back_ropes kept).0;
+            front_net = subst (λ (l : List Segment). net_sum l + p.least ≡ p.initial) s h.both.front_net;
+            back_net = h.both.back_net;
+            front_rises = subst IsRising s h.both.front_rises;
+            back_rises = h.both.back_rises;
+          };
+          peak = subst (λ (l : List Segment). p.peak ≡ max (top p.initial l) (top p.fin (profile p.back))) s h.peak;
+          within = h.within;
+        }
+
+    pub back_part : runs_of new side ≡ runs_of old p.back → IsPart new with_back
+    back_part e =
+        let s = sym (same_profile old new side p.back e) in
+        record {
+          both = record {
+            front_ropes = (laws.stay old new p.front h.both.front_ropes kept).0;
+            back_ropes = ropes;
+            front_net = h.both.front_net;
+            back_net = subst (λ (l : List Segment). net_sum l + p.least ≡ p.fin) s h.both.back_net;
+            front_rises = h.both.front_rises;
+            back_rises = subst IsRising s h.both.back_rises;
+          };
+          peak = subst (λ (l : List Segment). p.peak ≡ max (top p.initial (profile p.front)) (top p.fin l)) s h.peak;
+          within = h.within;
+        }
+
+  pub first_of_runs : (lists : List (List ℕ)) (side : List Seg) (first : List Segment) (level stop : ℕ) → AreFirst (profile side) first level stop → AreFirst (run_profile (runs_of lists side)) first level stop
+  first_of_runs lists side first level stop h = subst (λ (l : List Segment). AreFirst l first level stop) (sym (laws.profile lists side)) h
+
+  -- ---- a series
+
+  pub part_meets : (lists : List (List ℕ)) (p : Part) → IsPart lists p → Meets (cut_of lists p)
+  part_meets lists p h = record {
+    front = subst (λ (l : List Segment). net_sum l + p.least ≡ p.initial) (sym (laws.profile lists p.front)) h.both.front_net;
+    back = subst (λ (l : List Segment). net_sum l + p.least ≡ p.fin) (sym (laws.profile lists p.back)) h.both.back_net;
+  }
+
+  pub low_within : (lists : List (List ℕ)) (p : Part) → IsPart lists p → p.least ≤ 2 ^ 60
+  low_within lists p h = let a = (laws.within_peak lists p h).0 in let b = (laws.within_peak lists p h).2 in let c = h.within in omega arith
+
+  pub initial_within : (lists : List (List ℕ)) (p : Part) → IsPart lists p → p.initial ≤ 2 ^ 60
+  initial_within lists p h = let b = (laws.within_peak lists p h).2 in let c = h.within in omega arith
+
+  module _ (r0 r3 : List (List ℕ)) (a b e : Entry) (hill : ℕ) (ha : IsEntry r0 a) (hb : IsEntry r0 b) (after : a.part.fin ≤ hill) (before : b.part.initial ≤ hill)
+      (cut : cut_of r3 e.part ≡ series_cut (cut_of r0 a.part) 0 hill (cut_of r0 b.part)) (is_part : IsPart r3 e.part) where
+    pub first_entry : a.part.least ≤ b.part.least → e.front_top ≡ a.front_top → e.back_top ≡ max (max b.back_top (max b.front_top hill)) a.back_top → IsEntry r3 e
+    first_entry le f g =
+        let o = first_over laws (cut_of r0 a.part) (cut_of r0 b.part) 0 hill (part_meets r0 a.part ha.is_part) (part_meets r0 b.part hb.is_part) after before le in
+        let whole = cut ∙ is_first (cut_of r0 a.part) 0 hill (cut_of r0 b.part) le in
+        let top = o.top_is in
+        let ea = ha.front_is in let eb = ha.back_is in let fa = hb.front_is in let fb = hb.back_is in
+        record {
+          is_part = is_part;
+          front_is = f ∙ ea ∙ sym (ap front_peak whole);
+          back_is = omega (arith, g, top, eb, fa, fb, ap back_peak whole);
+        }
+
+    pub second_entry : b.part.least < a.part.least → e.back_top ≡ b.back_top → e.front_top ≡ max (max a.front_top (max a.back_top hill)) b.front_top → IsEntry r3 e
+    second_entry lt f g =
+        let o = second_over laws (cut_of r0 a.part) (cut_of r0 b.part) 0 hill (part_meets r0 a.part ha.is_part) (part_meets r0 b.part hb.is_part) after before lt in
+        let whole = cut ∙ is_second (cut_of r0 a.part) 0 hill (cut_of r0 b.part) lt in
+        let top = o.top_is in
+        let ea = ha.front_is in let eb = ha.back_is in let fa = hb.front_is in let fb = hb.back_is in
+        record {
+          is_part = is_part;
+          front_is = omega (arith, g, top, ea, eb, fa, ap front_peak whole);
+          back_is = f ∙ fb ∙ sym (ap back_peak whole);
+        }
+
+-- ---- a series, with what is noted of it
+
+hill_rises : (fin extra initial share : ℕ) → share ≤ fin → (fin ≤ fin + ((extra + initial) - share)) × (initial ≤ fin + ((extra + initial) - share))
+hill_rises fin extra initial share h = (omega arith, omega arith)
+
+module _ (laws : LawsBelow) (r0 r1 r2 r3 : List (List ℕ)) (a b : Entry) (near far p : Part) (extra share : ℕ) (nf ff : Vec Seg Global) (ha : IsEntry r0 a) (hb : IsEntry r0 b) (inputs : share ≤ a.part.fin) where
+  abbrev hill : ℕ
+  hill = a.part.fin + ((extra + b.part.initial) - share)
+
+  pub first_made : (peak : ℕ) → peak ≡ max (max b.back_top (max b.front_top hill)) a.back_top → a.part.least ≤ b.part.least → cut_of r1 near ≡ cut_of r0 b.part → IsPart r1 near → Extends r0 r1 → cut_of r2 far ≡ cut_of r1 a.part → Extends r1 r2
+      → cut_of r3 p ≡ series_cut (cut_of r2 far) 0 (far.fin + ((extra + near.initial) - share)) (cut_of r2 near) → IsPart r3 p
+      → AreFirst (run_profile (cut_of r0 b.part).front) (profile nf.items) b.part.initial 0
+      → AreFirst (run_profile (cut_of r1 a.part).back) (profile ff.items) a.part.fin (b.part.least + 1)
+      → IsSeriesOf r3 (cut_of r0 a.part) (cut_of r0 b.part) hill
+      (record { part = p; front_top = a.front_top; back_top = peak })
+      (record { dir = R; near_top = b.back_top; between_top = b.front_top; hill = hill; least = b.part.least; between_start = b.part.initial; between = nf; far_start = a.part.fin; far = ff })
+  first_made peak peak_is le nc np k1 fc k2 sc sp n1 n2 =
+      let a_stays : cut_of r1 a.part ≡ cut_of r0 a.part = (laws.part_stays r0 r1 a.part ha.is_part k1).1 in
+      let near_stays : cut_of r2 near ≡ cut_of r1 near = (laws.part_stays r1 r2 near np k2).1 in
+      let fin_is : far.fin ≡ a.part.fin = ap (λ (c : Cut). c.fin) fc in
+      let initial_is : near.initial ≡ b.part.initial = ap (λ (c : Cut). c.initial) nc in
+      let up = hill_rises a.part.fin extra b.part.initial share inputs in
+      let e : cut_of r3 p ≡ series_cut (cut_of r0 a.part) 0 hill (cut_of r0 b.part) =
+      sc ∙ ap (λ (c : Cut). series_cut c 0 (far.fin + ((extra + near.initial) - share)) (cut_of r2 near)) (fc ∙ a_stays)
+      ∙ ap (λ (n : ℕ). series_cut (cut_of r0 a.part) 0 (n + ((extra + near.initial) - share)) (cut_of r2 near)) fin_is
+      ∙ ap (λ (n : ℕ). series_cut (cut_of r0 a.part) 0 (a.part.fin + ((extra + n) - share)) (cut_of r2 near)) initial_is
+      ∙ ap (series_cut (cut_of r0 a.part) 0 hill) (near_stays ∙ nc) in
+      record {
+        entry = first_entry laws r0 r3 a b (record { part = p; front_top = a.front_top; back_top = peak }) hill ha hb up.0 up.1 e sp le refl peak_is;
+        cut = e;
+        note = inl (
+          le,
+          refl,
+          record {
+            near_top = hb.back_is;
+            between_top = hb.front_is;
+            hill_is = refl;
+            least_is = refl;
+            between_start = refl;
+            between = n1;
+            far_start = refl;
+            far_is = subst (λ (c : Cut). AreFirst (run_profile c.back) (profile ff.items) a.part.fin (b.part.least + 1)) a_stays n2;
+          },
+        );
+      }
+
+  pub second_made : (peak : ℕ) → peak ≡ max (max a.front_top (max a.back_top hill)) b.front_top → b.part.least < a.part.least → cut_of r1 near ≡ cut_of r0 a.part → IsPart r1 near → Extends r0 r1 → cut_of r2 far ≡ cut_of r1 b.part → Extends r1 r2
+      → cut_of r3 p ≡ series_cut (cut_of r2 near) 0 (near.fin + ((extra + far.initial) - share)) (cut_of r2 far) → IsPart r3 p
+      → AreFirst (run_profile (cut_of r0 a.part).back) (profile nf.items) a.part.fin 0
+      → AreFirst (run_profile (cut_of r1 b.part).front) (profile ff.items) b.part.initial (a.part.least + 1)
+      → IsSeriesOf r3 (cut_of r0 a.part) (cut_of r0 b.part) hill
+      (record { part = p; front_top = peak; back_top = b.back_top })
+      (record { dir = F; near_top = a.front_top; between_top = a.back_top; hill = hill; least = a.part.least; between_start = a.part.fin; between = nf; far_start = b.part.initial; far = ff })
+  second_made peak peak_is lt nc np k1 fc k2 sc sp n1 n2 =
+      let b_stays : cut_of r1 b.part ≡ cut_of r0 b.part = (laws.part_stays r0 r1 b.part hb.is_part k1).1 in
+      let near_stays : cut_of r2 near ≡ cut_of r1 near = (laws.part_stays r1 r2 near np k2).1 in
+      let initial_is : far.initial ≡ b.part.initial = ap (λ (c : Cut). c.initial) fc in
+      let fin_is : near.fin ≡ a.part.fin = ap (λ (c : Cut). c.fin) nc in
+      let up = hill_rises a.part.fin extra b.part.initial share inputs in
+      let e : cut_of r3 p ≡ series_cut (cut_of r0 a.part) 0 hill (cut_of r0 b.part) =
+      sc ∙ ap (λ (c : Cut). series_cut c 0 (near.fin + ((extra + far.initial) - share)) (cut_of r2 far)) (near_stays ∙ nc)
+      ∙ ap (λ (n : ℕ). series_cut (cut_of r0 a.part) 0 (n + ((extra + far.initial) - share)) (cut_of r2 far)) fin_is
+      ∙ ap (λ (n : ℕ). series_cut (cut_of r0 a.part) 0 (a.part.fin + ((extra + n) - share)) (cut_of r2 far)) initial_is
+      ∙ ap (series_cut (cut_of r0 a.part) 0 hill) (fc ∙ b_stays) in
+      record {
+        entry = second_entry laws r0 r3 a b (record { part = p; front_top = peak; back_top = b.back_top }) hill ha hb up.0 up.1 e sp lt refl peak_is;
+        cut = e;
+        note = inr (
+          lt,
+          refl,
+          record {
+            near_top = ha.front_is;
+            between_top = ha.back_is;
+            hill_is = refl;
+            least_is = refl;
+            between_start = refl;
+            between = n1;
+            far_start = refl;
+            far_is = subst (λ (c : Cut). AreFirst (run_profile c.front) (profile ff.items) b.part.initial (a.part.least + 1)) b_stays n2;
+          },
+        );
+      }
+
+pub kept_on : LawsBelow → (r0 r1 r2 r3 : List (List ℕ)) → Extends r0 r1 → Extends r1 r2 → Extends r2 r3 → Extends r0 r3
+kept_on laws r0 r1 r2 r3 k1 k2 k3 = laws.on r0 r2 r3 (laws.on r0 r1 r2 k1 k2) k3
+
+-- ---- one part, with what is noted of it
+
+all_first : (side first : List Segment) (level : ℕ) → AreFirst side first level 0 → first ≡ side
+all_first side first level h = sym (append-nil first) ∙ ended h.ends
+  where
+    ended : (h.rest ≡ []) ⊎ (level - net_sum first < 0) → first ++ [] ≡ side
+    ended (inl none) = ap (λ (l : List Segment). first ++ l) (sym none) ∙ sym h.whole
+    ended (inr lt) = absurd (omega arith)
+
+pub read_noted : (r0 r1 r2 : List (List ℕ)) (e : Entry) (front back : Part) (fs bs : Vec Seg Global) → IsEntry r0 e → cut_of r1 front ≡ cut_of r0 e.part → front.peak ≡ e.part.peak
+    → AreFirst (run_profile (cut_of r0 e.part).front) (profile fs.items) e.part.initial 0
+    → IsPart r2 back → cut_of r2 back ≡ cut_of r1 front → back.peak ≡ front.peak → AreFirst (run_profile (cut_of r1 front).back) (profile bs.items) front.fin 0
+    → IsNotedPart r0 r2 e true back (record { initial = e.part.initial; fin = e.part.fin; front_top = e.front_top; back_top = e.back_top; read = true; front = fs; back = bs })
+read_noted r0 r1 r2 e front back fs bs h fc fp ff bp bc bk bf = record {
+  is_part = bp;
+  cut = bc ∙ fc;
+  peak = bk ∙ fp;
+  note = record {
+    initial_is = refl;
+    fin_is = refl;
+    front_top = h.front_is;
+    back_top = h.back_is;
+    front_is = λ x. all_first (run_profile (cut_of r0 e.part).front) (profile fs.items) e.part.initial ff;
+    back_is = λ x. all_first (run_profile (cut_of r1 front).back) (profile bs.items) front.fin bf ∙ ap (λ (c : Cut). run_profile c.back) fc;
+  };
+  read_is = refl;
+}
+
+pub left_noted : (r0 : List (List ℕ)) (e : Entry) (fs bs : Vec Seg Global) → IsEntry r0 e
+    → IsNotedPart r0 r0 e false e.part (record { initial = e.part.initial; fin = e.part.fin; front_top = e.front_top; back_top = e.back_top; read = false; front = fs; back = bs })
+left_noted r0 e fs bs h = record {
+  is_part = h.is_part;
+  cut = refl;
+  peak = refl;
+  note = record {
+    initial_is = refl;
+    fin_is = refl;
+    front_top = h.front_is;
+    back_top = h.back_is;
+    front_is = λ x. absurd (apart x);
+    back_is = λ x. absurd (apart x);
+  };
+  read_is = refl;
+}
+  where
+    apart : false ≡ true → ⊥
+    apart e = cc

@@ -1,0 +1,19 @@
+use Rattle.std.proofs.Common.{◌≡◌, ℕ, ◌+◌, ◌-◌, ◌<◌, ◌≤◌, ap, sym, subst, ◌∙◌, refl, arith, inl, inr, List, ◌++◌, ◌∷◌, [], length, max}
+use Rattle.std.specs.Prelude.{pos, ◌-ℤ◌, ◌+ℤ◌, ◌≤ℤ◌}
+use Rattle.std.proofs.lemmas.Int.{ints}
+use Rattle.cut_laws.specs.Cuts.{Cut}
+use Rattle.plan_claims.specs.Wants.{Shows, claim_of_wanted}
+use Rattle.plan_claims.proofs.Least.{peak_reached}
+use Rattle.plan_claims.proofs.claiming.claims_of.Goals as goal
+
+pub want_whole-root-requires : goal.want_whole-root-requires
+want_whole-root-requires g c = record {
+  entry = (_, c.in_ok-noted.ensures.whole);
+  peak = peak_reached c.below.ensures c.args.terms.now c.len-positions.ensures.terms c.args.plan.now.peak _ _ c.requires.least c.in_ok-noted.ensures.whole c.in_ok-noted.ensures.cut;
+}
+
+pub claims_from-requires : goal.claims_from-requires
+claims_from-requires g c = record {
+  notes = c.in_ok-noted.ensures.notes;
+  root = subst (λ (x : Cut). Shows x c.want_whole-root.result) c.in_ok-noted.ensures.cut (c.want_whole-root.ensures.shows _ c.in_ok-noted.ensures.whole);
+}

@@ -1,0 +1,6 @@
+use Rattle.std.proofs.Common.{◌≡◌, ℕ, ◌+◌, ◌-◌, ◌<◌, ◌≤◌, ap, sym, subst, ◌∙◌, refl, arith, List, ◌++◌, ◌∷◌, [], length, drop}
+use Rattle.plan_claims.proofs.PartsRead.{left_noted}
+use Rattle.plan_claims.proofs.noting.leave_part.Goals as goal
+
+pub returns : goal.returns
+returns c = record { noted = left_noted _ c.args.entry _ _ c.requires.entry }

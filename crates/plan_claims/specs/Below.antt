@@ -1,0 +1,47 @@
+-- The laws of the layers below that the proofs of this crate stand on.
+use Rattle.std.specs.Prelude.{◌≡◌, ℕ, ◌<◌, ◌≤◌, List}
+use Rattle.side_laws.specs.Laws.{LowestBetween, LowestAfterAll, TopAboveLevel, TopPasses, LowestOfCrossing, TopOfCrossing, LevelsOfMerge}
+use Rattle.side_laws.specs.Levels.{level_sum, AllStart, AreLevels}
+use Rattle.side_laws.specs.Merging.{AllRising}
+use Rattle.hill_valley.specs.Laws.{RopesStay, SidesStay, ExtendsItself, ExtendsOn, ProfileOfRuns}
+use Rattle.segment_merge.specs.Laws.{ProfileOfMerge, ProfileOfCrossing}
+use Rattle.sp_terms.specs.declared.position.Position.{Position}
+use Rattle.sp_terms.specs.Postfix.{Denotes}
+use Rattle.sp_terms.specs.Term.{Term, Direction, IsAllowed}
+use Rattle.sp_terms.specs.Values.{IsTerms, term_of}
+use Rattle.cut_laws.specs.Cuts.{Cut, par_cut, top_of}
+use Rattle.cut_laws.specs.Names.{Names, names_of}
+use Rattle.cut_laws.specs.Standing.{StandsFor}
+use Rattle.cut_laws.specs.TermCuts.{cut_of_term}
+use Rattle.cut_laws.specs.Tops.{SomeReaches, tops}
+use Rattle.cut_laws.specs.Wanted.{starts, sides}
+use Rattle.sp_cuts.specs.Laws.{PartsStay, AllPartsStay, NumbersWithinPeak}
+
+pub record LawsBelow : Type 0 where
+  -- sides
+  pub between : LowestBetween
+  pub after_all : LowestAfterAll
+  pub above : TopAboveLevel
+  pub passes : TopPasses
+  pub crossing_lowest : LowestOfCrossing
+  pub crossing_top : TopOfCrossing
+  pub levels : LevelsOfMerge
+  -- ropes and runs
+  pub rope : RopesStay
+  pub stay : SidesStay
+  pub itself : ExtendsItself
+  pub on : ExtendsOn
+  pub profile : ProfileOfRuns
+  pub profile_merge : ProfileOfMerge
+  pub profile_crossing : ProfileOfCrossing
+  -- terms
+  pub denotes : (ps : List Position) → IsTerms ps → Denotes ps (term_of ps)
+  -- cuts
+  pub stands : (t : Term) (n : Names t) → IsAllowed t → StandsFor t (names_of t n) (cut_of_term t n)
+  pub some : (d : Direction) (limit : ℕ) (cs : List Cut) (levels : List ℕ) → AreLevels limit 0 (starts d cs) (sides d cs) levels
+      → limit ≤ top_of d (par_cut cs) → level_sum (starts d cs) < limit → SomeReaches d limit (level_sum levels) cs levels
+  pub together : (d : Direction) (cs : List Cut) → AllRising (sides d cs) → AllStart (starts d cs) (sides d cs) → top_of d (par_cut cs) ≤ tops d cs
+  -- parts
+  pub part_stays : PartsStay
+  pub parts_stay : AllPartsStay
+  pub within_peak : NumbersWithinPeak

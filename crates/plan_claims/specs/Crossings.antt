@@ -1,0 +1,31 @@
+-- What a series' side that goes over its task does, in numbers, and what is wanted of the parts.
+use Rattle.std.specs.Prelude.{◌≡◌, ℕ, ◌<◌, ◌≤◌, max, min, if◌then◌else◌, nat_lt, Option, Some, None}
+use Rattle.sp_terms.specs.Term.{Direction}
+use Rattle.sp_term_laws.specs.Moves.{other}
+use Rattle.plan_text.specs.Plan.{direction_of}
+use Rattle.cut_laws.specs.Cuts.{Cut, top_of, lowest_of, start_of}
+use Rattle.plan_claims.specs.declared.notes.Wanted.{Wanted}
+use Rattle.plan_claims.specs.Wants.{ShowsIf}
+
+-- in direction d the whole goes over the near part and the hill, and on along the far part; in the other one it is the far part
+pub record LeadsOver (d : Direction) (near far whole : Cut) (hill : ℕ) : Type 0 where
+  pub far_top : top_of (other d) whole ≡ top_of (other d) far
+  pub far_low : (limit : ℕ) → lowest_of (other d) limit whole ≡ lowest_of (other d) limit far
+  pub top_is : top_of d whole ≡ max (top_of d near) (max (max (top_of (other d) near) hill) (top_of d far))
+  pub low_is : (limit : ℕ) → lowest_of d limit whole
+      ≡ (if nat_lt (max (top_of d near) (max (top_of (other d) near) hill)) limit then min near.least (lowest_of d limit far) else lowest_of d limit near)
+  pub near_low : (limit : ℕ) → top_of d near < limit → lowest_of d limit near ≡ near.least
+
+-- the first thing on the way that does not pass below the limit
+pub data IsObstacle (d : Direction) (near : Cut) (hill : ℕ) (w : Wanted) (p q : Option Wanted) : Type 0 where
+  far_stuck : direction_of w.dir ≡ other d → p ≡ None → q ≡ Some w → IsObstacle d near hill w p q
+  near_stuck : direction_of w.dir ≡ d → p ≡ Some w → q ≡ None → IsObstacle d near hill w p q
+  near_closed : direction_of w.dir ≡ d → w.low ≤ near.least → (v : Wanted) → p ≡ Some v → q ≡ None → direction_of v.dir ≡ other d → v.limit ≡ w.limit → IsObstacle d near hill w p q
+  hill_above : direction_of w.dir ≡ d → w.low ≤ near.least → p ≡ None → q ≡ None → w.limit ≤ hill → IsObstacle d near hill w p q
+  last_stuck : direction_of w.dir ≡ d → w.low ≤ near.least → (v : Wanted) → p ≡ None → q ≡ Some v → direction_of v.dir ≡ d → v.limit ≡ w.limit → w.low ≤ v.low → IsObstacle d near hill w p q
+
+-- what is wanted of the near part and of the far one
+pub record AreHandedOver (d : Direction) (near far : Cut) (hill : ℕ) (w : Wanted) (p q : Option Wanted) : Type 0 where
+  pub near_shows : ShowsIf near p
+  pub far_shows : ShowsIf far q
+  pub obstacle : IsObstacle d near hill w p q

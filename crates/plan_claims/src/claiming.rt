@@ -1,0 +1,160 @@
+//! The claims of a plan: the second pass, from the last position down.
+
+ghost use Rattle.std.specs.Prelude.{◌≡◌, ◌+◌, ◌-◌, ◌<◌, ◌≤◌, ◌++◌, [], ◌∷◌, ℕ, pos, ◌≤ℤ◌, ◌+ℤ◌, max, length, reverse, All, List, Some, IfOk, IfSome, OnOk};
+ghost use Rattle.mp_system.specs.Traversal.{IsLeast};
+ghost use Rattle.sp_terms.specs.SystemOfTerm.{system_of_term};
+ghost use Rattle.sp_terms.specs.Values.{term_of};
+ghost use Rattle.claim_rules.specs.Claims.{Claim as RuleClaim};
+ghost use Rattle.plan_text.specs.Plan.{claim_at, IsClaimWithin, RiseFrom};
+ghost use Rattle.claim_check.specs.Judged.{Passes};
+ghost use Rattle.plan_claims.specs.declared.notes.Wanted.{Wanted};
+ghost use Rattle.plan_claims.specs.Entries.{IsEntry};
+ghost use Rattle.plan_claims.specs.Notes.{cut_at};
+ghost use Rattle.plan_claims.specs.Noted.{AreNotesOf};
+ghost use Rattle.plan_claims.specs.Wants.{Shows};
+ghost use Rattle.hill_valley.specs.Sides.{greatest_memory};
+ghost use Rattle.sp_cuts.specs.Parts.{cut_of};
+ghost use Rattle.plan_claims.specs.Walks.{AreClaimsOf, IsLeft, IsRight, claims_put};
+
+use crate::NoMemory;
+use crate::entries::Entry;
+use crate::handing::hand_down;
+use crate::laws::below;
+use crate::notes::{Note, Wanted};
+use crate::noting::note_terms;
+use plan_text::{Claim, Dir};
+use sp_cuts::Plan;
+use sp_terms::Terms;
+use std::alloc::Global;
+use std::sync::ledger::Ledger;
+use step_count::Steps;
+
+/// Claims at positions of a term that certify that the peak of a plan is least: at most one for each position, each of which meets
+/// its rule over the claims of its parts, and one on the whole term whose bound is just below the peak. They turn the exchange
+/// argument of Liu 1987 (An application of generalized tree pebbling to sparse matrix factorization) into a certificate: no way
+/// within the bound of a claim leads to the end of its term. The plan's peak is least, as that of [`sp_cuts::plan_terms`] is.
+/// Bounds are from -1 to 2^60 - 1. Near linear in the positions and the segments that are joined or moved; each parallel
+/// composition also takes the time of its segments. The segments that are moved from one side into another are counted as steps.
+pub fn claims_of<L: Ledger>(
+    alloc: Global,
+    terms: &Terms,
+    plan: &Plan,
+    steps: &mut Steps<L>,
+) -> Result<Vec<Claim>, NoMemory>
+    requires least { IsLeast (system_of_term (term_of terms.now)) plan.now.peak }
+    // what a plan file asks of its claims
+    ensures few { IfOk result (λ claims. length claims.items ≤ 4000001) }
+    ensures within { IfOk result (λ claims. All IsClaimWithin claims.items) }
+    ensures rising { IfOk result (λ claims. RiseFrom 0 claims.items) }
+    // what the judge of claims asks of them
+    ensures pass { IfOk result (λ claims. (k : ℕ) → Passes terms.now (claim_at claims.items) k) }
+    ensures root { IfOk result (λ claims. (c : RuleClaim) × (claim_at claims.items (length terms.now) ≡ Some c) × (pos plan.now.peak ≤ℤ (c.bound +ℤ pos 1))) }
+{
+    below();
+    let _positions = terms.len();
+    let noted = note_terms(alloc, terms, steps)?;
+    let root = want_whole(&noted.whole, plan.peak);
+    claims_from(alloc, terms, noted.notes, root)
+}
+
+// What is wanted of the whole term: below its peak, in a direction whose side reaches it.
+fn want_whole(whole: &Entry, peak: u64) -> Wanted
+    requires entry { (lists : List (List ℕ)) × IsEntry lists whole.now }
+    requires peak { peak ≤ max whole.now.front_top whole.now.back_top }
+    ensures limit { result.limit ≡ peak }
+    ensures shows { (lists : List (List ℕ)) → IsEntry lists whole.now → Shows (cut_of lists whole.now.part) result }
+{
+    below();
+    let limit = peak;
+    if limit <= whole.front_top {
+        Wanted {
+            dir: Dir::F,
+            limit,
+            low: whole
+                .part
+                .front
+                .lowest(whole.part.initial, limit as i64 - 1),
+        }
+    } else {
+        Wanted {
+            dir: Dir::R,
+            limit,
+            low: whole.part.back.lowest(whole.part.fin, limit as i64 - 1),
+        }
+    }
+}
+
+// The claims, for what is wanted of the whole term.
+fn claims_from(
+    alloc: Global,
+    terms: &Terms,
+    notes: Vec<Note>,
+    root: Wanted,
+) -> Result<Vec<Claim>, NoMemory>
+    requires notes { AreNotesOf terms.now notes.items (length terms.now) }
+    requires root { Shows (cut_at (term_of terms.now)) root }
+    ensures claims { IfOk result (λ claims. AreClaimsOf terms.now root claims.items) }
+{
+    below();
+    let mut notes = notes;
+    let mut todo = Vec::new(alloc);
+    todo.push(Some(root))?;
+    let mut claims = Vec::new(alloc);
+    let mut position = terms.len();
+    while 0 < position {
+        claim_at_position(terms, &mut notes, position, &mut todo, &mut claims)?;
+        position -= 1;
+    }
+    claims.reverse();
+    Ok(claims)
+}
+
+// One position: its claim, if one is wanted of its term, and what is wanted of the parts.
+fn claim_at_position(
+    terms: &Terms,
+    notes: &mut Vec<Note>,
+    position: u32,
+    todo: &mut Vec<Option<Wanted>>,
+    claims: &mut Vec<Claim>,
+) -> Result<(), NoMemory>
+    requires position { (1 ≤ position) × (position ≤ length terms.now) }
+    requires left { IsLeft terms.now position notes.old.items todo.old.items }
+    ensures left { OnOk result (IsLeft terms.now (position - 1) notes.new.items todo.new.items) }
+    ensures right { OnOk result ((root : Wanted) → IsRight terms.now position root todo.old.items (reverse claims.old.items)
+        → IsRight terms.now (position - 1) root todo.new.items (reverse claims.new.items)) }
+{
+    below();
+    let _positions = terms.len();
+    if let Some(note) = notes.pop() {
+        let wanted = last_wanted(todo);
+        put_claim(position, wanted, claims)?;
+        hand_down(&note, wanted, todo)?;
+    }
+    Ok(())
+}
+
+// Takes what is wanted of the last term.
+fn last_wanted(todo: &mut Vec<Option<Wanted>>) -> Option<Wanted>
+    requires { 0 < length todo.old.items }
+    ensures { todo.old.items ≡ todo.new.items ++ result ∷ [] }
+{
+    match todo.pop() {
+        Some(wanted) => wanted,
+        None => None,
+    }
+}
+
+fn put_claim(position: u32, wanted: Option<Wanted>, claims: &mut Vec<Claim>) -> Result<(), NoMemory>
+    requires { IfSome wanted (λ w. w.limit ≤ greatest_memory) }
+    ensures { OnOk result (claims.new.items ≡ claims.old.items ++ claims_put position wanted) }
+{
+    if let Some(wanted) = wanted {
+        claims.push(Claim {
+            position,
+            dir: wanted.dir,
+            bound: wanted.limit as i64 - 1,
+            rest: wanted.low,
+        })?;
+    }
+    Ok(())
+}
