@@ -4,7 +4,6 @@ ghost use Rattle.sp_terms.specs.Term.{Term, least_of, hill_of};
 ghost use Rattle.sp_terms.specs.Values.{values_of};
 ghost use Rattle.claim_rules.specs.Rules.{MeetsData, MeetsSeries, Has, HasRoom, value_in, is_same, first_of, last_of};
 ghost use Rattle.claim_rules.specs.Claims.{Claim as RuleClaim};
-ghost use Rattle.sp_term_laws.specs.Moves.{other};
 ghost use Rattle.plan_text.specs.Plan.{claim_of, direction_of};
 ghost use Rattle.claim_check.specs.declared.view.Part.{Part};
 
@@ -27,16 +26,6 @@ pub fn hill(first: &Values, task: &Task, second: &Values) -> i128
 {
     i128::from(first.fin)
         + (i128::from(task.extra) + i128::from(second.initial) - i128::from(task.share))
-}
-
-/// The opposite direction.
-fn opposite(dir: Dir) -> Dir
-    ensures { direction_of result ≡ other (direction_of dir) }
-{
-    match dir {
-        Dir::F => Dir::R,
-        Dir::R => Dir::F,
-    }
 }
 
 /// Whether two directions are the same.
@@ -89,7 +78,7 @@ fn is_passed(first: &Part, last: &Part, hill: i128, claim: &Claim) -> bool
     if i128::from(claim.bound) < hill {
         return true;
     }
-    if has(first.claim, opposite(claim.dir), claim.bound, 0) {
+    if has(first.claim, claim.dir.opposite(), claim.bound, 0) {
         return true;
     }
     has(last.claim, claim.dir, claim.bound, claim.rest)

@@ -78,7 +78,7 @@ fn near_and_far(note: &SeriesNote, wanted: &Wanted) -> (Option<Wanted>, Option<W
     } else if limit <= note.between_top {
         (
             Some(Wanted {
-                dir: turned(wanted.dir),
+                dir: wanted.dir.opposite(),
                 limit,
                 low: lowest_below(&note.between, note.between_start, limit),
             }),
@@ -117,15 +117,6 @@ fn is_same(one: Dir, two: Dir) -> bool
     match (one, two) {
         (Dir::F, Dir::F) | (Dir::R, Dir::R) => true,
         _ => false,
-    }
-}
-
-fn turned(dir: Dir) -> Dir
-    ensures { direction_of result ≡ other (direction_of dir) }
-{
-    match dir {
-        Dir::F => Dir::R,
-        Dir::R => Dir::F,
     }
 }
 

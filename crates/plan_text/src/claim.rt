@@ -1,3 +1,7 @@
+ghost use Rattle.std.specs.Prelude.{◌≡◌};
+ghost use Rattle.sp_term_laws.specs.Moves.{other};
+ghost use Rattle.plan_text.specs.Plan.{direction_of};
+
 /// The direction in which a claim is meant.
 #[derive(Clone, Copy, Debug, PartialEq, Eq)]
 pub enum Dir {
@@ -5,6 +9,18 @@ pub enum Dir {
     F,
     /// Backwards, from the last state back.
     R,
+}
+
+impl Dir {
+    /// The opposite direction.
+    pub fn opposite(self) -> Dir
+        ensures { direction_of result ≡ other (direction_of self) }
+    {
+        match self {
+            Dir::F => Dir::R,
+            Dir::R => Dir::F,
+        }
+    }
 }
 
 /// A claim on the part of a term that ends at a position: no traversal of the part has a peak within the bound, and each state that is

@@ -18,7 +18,7 @@ returns-then-limit-note c d near far whole hill x dir o s =
 pub returns-then-limit-note-2 : goal.returns-then-limit-note-2
 returns-then-limit-note-2 c d near far whole hill x dir o s =
     handed_closed c.below.ensures d near far whole hill c.args.note.now c.args.wanted.now x o s (c.is_same.ensures.same c.if-not-is_same.false ∙ dir) c.if-limit-note.false
-    c.if-limit-note-2.true c.turned.result c.turned.ensures c.lowest_below.result
+    c.if-limit-note-2.true c.opposite.result c.opposite.ensures c.lowest_below.result
     (c.lowest_below.ensures ∙ ap (λ (l : List Seg). lowest c.args.wanted.now.limit c.args.note.now.between_start (profile l)) c.deref.ensures.value)
 
 pub returns-then-limit-note-3 : goal.returns-then-limit-note-3
