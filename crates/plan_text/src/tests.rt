@@ -41,6 +41,7 @@ fn reads_and_prints(rt: HostRuntime) -> Result<(), Fail> {
     laws::exactly_one();
     laws::read_law();
     laws::printed_plan();
+    laws::printed_length();
     for (text, printed, printed_2) in [
         (FIVE, FIVE, FIVE_2),
         (FIVE_2, FIVE, FIVE_2),
