@@ -1,4 +1,4 @@
-ghost use Rattle.std.specs.Prelude.{◌≤◌};
+ghost use Rattle.std.specs.Prelude.{◌≡◌, ◌≤◌};
 
 use crate::{Core, CoreRefusal, Event, EventKind, Trace, laws, simulate};
 use mp_system::{Item, NoMemory, OrderFault, OrderKind, System, Task, replay};
@@ -12,167 +12,63 @@ const START: EventKind = EventKind::Start;
 
 const FINISH: EventKind = EventKind::Finish;
 
+fn task(extra: u64, share: u64, time: u64) -> Task
+    ensures { result ≡ record { extra = extra; share = share; time = time } }
+{
+    Task { extra, share, time }
+}
+
+fn item(size: u64, from: Option<u32>, to: Option<u32>) -> Item
+    ensures { result ≡ record { size = size; from = from; to = to } }
+{
+    Item { size, from, to }
+}
+
 // A tree of five nodes: 5 has the children 2 and 4, which have the children 1 and 3; 1 and 3 need 9 beside what they produce.
 fn tree(alloc: Global) -> Result<System, NoMemory> {
     let tasks = vec![in alloc;
-        Task {
-            extra: 9,
-            share: 0,
-            time: 1
-        },
-        Task {
-            extra: 0,
-            share: 0,
-            time: 1
-        },
-        Task {
-            extra: 9,
-            share: 0,
-            time: 1
-        },
-        Task {
-            extra: 0,
-            share: 0,
-            time: 1
-        },
-        Task {
-            extra: 0,
-            share: 0,
-            time: 1
-        },
+        task(9, 0, 1),
+        task(0, 0, 1),
+        task(9, 0, 1),
+        task(0, 0, 1),
+        task(0, 0, 1),
     ]?;
     let items = vec![in alloc;
-        Item {
-            size: 1,
-            from: Some(1),
-            to: Some(2)
-        },
-        Item {
-            size: 5,
-            from: Some(2),
-            to: Some(5)
-        },
-        Item {
-            size: 1,
-            from: Some(3),
-            to: Some(4)
-        },
-        Item {
-            size: 5,
-            from: Some(4),
-            to: Some(5)
-        },
-        Item {
-            size: 0,
-            from: Some(5),
-            to: None
-        },
+        item(1, Some(1), Some(2)),
+        item(5, Some(2), Some(5)),
+        item(1, Some(3), Some(4)),
+        item(5, Some(4), Some(5)),
+        item(0, Some(5), None),
     ]?;
     Ok(System::new(tasks, items))
 }
 
 // A root with three leaves of size 2.
 fn star(alloc: Global) -> Result<System, NoMemory> {
-    let tasks = vec![in alloc;
-        Task {
-            extra: 0,
-            share: 0,
-            time: 1
-        },
-        Task {
-            extra: 0,
-            share: 0,
-            time: 1
-        },
-        Task {
-            extra: 0,
-            share: 0,
-            time: 1
-        },
-        Task {
-            extra: 0,
-            share: 0,
-            time: 1
-        },
-    ]?;
+    let tasks = vec![in alloc; task(0, 0, 1), task(0, 0, 1), task(0, 0, 1), task(0, 0, 1)]?;
     let items = vec![in alloc;
-        Item {
-            size: 2,
-            from: Some(1),
-            to: Some(4)
-        },
-        Item {
-            size: 2,
-            from: Some(2),
-            to: Some(4)
-        },
-        Item {
-            size: 2,
-            from: Some(3),
-            to: Some(4)
-        },
-        Item {
-            size: 0,
-            from: Some(4),
-            to: None
-        },
+        item(2, Some(1), Some(4)),
+        item(2, Some(2), Some(4)),
+        item(2, Some(3), Some(4)),
+        item(0, Some(4), None),
     ]?;
     Ok(System::new(tasks, items))
 }
 
 // The fronts of an arrow matrix: the last is built in the memory of one of its children's blocks.
 fn arrow(alloc: Global) -> Result<System, NoMemory> {
-    let tasks = vec![in alloc;
-        Task {
-            extra: 2,
-            share: 0,
-            time: 1
-        },
-        Task {
-            extra: 2,
-            share: 0,
-            time: 1
-        },
-        Task {
-            extra: 3,
-            share: 1,
-            time: 2
-        },
-    ]?;
+    let tasks = vec![in alloc; task(2, 0, 1), task(2, 0, 1), task(3, 1, 2)]?;
     let items = vec![in alloc;
-        Item {
-            size: 1,
-            from: Some(1),
-            to: Some(3)
-        },
-        Item {
-            size: 1,
-            from: Some(2),
-            to: Some(3)
-        },
-        Item {
-            size: 0,
-            from: Some(3),
-            to: None
-        },
+        item(1, Some(1), Some(3)),
+        item(1, Some(2), Some(3)),
+        item(0, Some(3), None),
     ]?;
     Ok(System::new(tasks, items))
 }
 
 // Two items of size 10, and no task.
 fn still(alloc: Global) -> Result<System, NoMemory> {
-    let items = vec![in alloc;
-        Item {
-            size: 10,
-            from: None,
-            to: None
-        },
-        Item {
-            size: 10,
-            from: None,
-            to: None
-        },
-    ]?;
+    let items = vec![in alloc; item(10, None, None), item(10, None, None)]?;
     Ok(System::new(Vec::new(alloc), items))
 }
 
@@ -324,6 +220,58 @@ fn refusal(alloc: Global, system: &System, order: &[u32], bound: u64) -> Option<
     Core::new(alloc, system, order, bound, 2).err()
 }
 
+const REFUSALS: [(&[u32], u64, Option<CoreRefusal>); 7] = [
+    (&[1, 3, 2, 4, 5], 11, None),
+    (
+        &[1, 3, 2, 4, 5],
+        10,
+        Some(CoreRefusal::BoundBelow {
+            bound: 10,
+            peak: 11,
+        }),
+    ),
+    (
+        &[1, 2, 3, 4, 5],
+        11,
+        Some(CoreRefusal::BoundBelow {
+            bound: 11,
+            peak: 15,
+        }),
+    ),
+    (
+        &[1, 1],
+        0,
+        Some(CoreRefusal::Order(OrderFault {
+            place: 2,
+            kind: OrderKind::Repeated,
+        })),
+    ),
+    (
+        &[9],
+        99,
+        Some(CoreRefusal::Order(OrderFault {
+            place: 1,
+            kind: OrderKind::Unknown,
+        })),
+    ),
+    (
+        &[1, 2, 3, 4],
+        99,
+        Some(CoreRefusal::Order(OrderFault {
+            place: 5,
+            kind: OrderKind::Missing,
+        })),
+    ),
+    (
+        &[2, 1, 3, 4, 5],
+        99,
+        Some(CoreRefusal::Order(OrderFault {
+            place: 1,
+            kind: OrderKind::TooEarly,
+        })),
+    ),
+];
+
 #[test]
 fn orders_and_bounds_that_are_refused(rt: HostRuntime) -> Result<(), Fail> {
     laws::within_law();
@@ -332,58 +280,7 @@ fn orders_and_bounds_that_are_refused(rt: HostRuntime) -> Result<(), Fail> {
     laws::schedule_law();
     let alloc = rt.alloc();
     let tree = tree(alloc)?;
-    let rows: [(&[u32], u64, Option<CoreRefusal>); 7] = [
-        (&[1, 3, 2, 4, 5], 11, None),
-        (
-            &[1, 3, 2, 4, 5],
-            10,
-            Some(CoreRefusal::BoundBelow {
-                bound: 10,
-                peak: 11,
-            }),
-        ),
-        (
-            &[1, 2, 3, 4, 5],
-            11,
-            Some(CoreRefusal::BoundBelow {
-                bound: 11,
-                peak: 15,
-            }),
-        ),
-        (
-            &[1, 1],
-            0,
-            Some(CoreRefusal::Order(OrderFault {
-                place: 2,
-                kind: OrderKind::Repeated,
-            })),
-        ),
-        (
-            &[9],
-            99,
-            Some(CoreRefusal::Order(OrderFault {
-                place: 1,
-                kind: OrderKind::Unknown,
-            })),
-        ),
-        (
-            &[1, 2, 3, 4],
-            99,
-            Some(CoreRefusal::Order(OrderFault {
-                place: 5,
-                kind: OrderKind::Missing,
-            })),
-        ),
-        (
-            &[2, 1, 3, 4, 5],
-            99,
-            Some(CoreRefusal::Order(OrderFault {
-                place: 1,
-                kind: OrderKind::TooEarly,
-            })),
-        ),
-    ];
-    for (order, bound, answer) in rows {
+    for (order, bound, answer) in REFUSALS {
         assert_eq!(rt; refusal(alloc, &tree, order, bound), answer);
     }
     let arrow = arrow(alloc)?;

@@ -47,44 +47,45 @@ fn a_plan_is_accepted_by_any_number_of_workers(rt: HostRuntime) -> Result<(), Fa
 
 // A single node; one without memory; two data items side by side; two roots; two chains that shrink before they grow, also with a bound of
 // position 5 that is below 12 - 3.
+const VERDICTS: [(&[u8], &[u8], Verdict); 6] = [
+    (
+        b"workflow 1\ntasks 1\ndata 0\ndata 7\ntask 2 1\nend\n",
+        b"plan 1\norder 1\n1\npeak 9\nclaims 1\n3 R 8 7\nend\n",
+        Verdict::Yes(9),
+    ),
+    (
+        b"workflow 1\ntasks 1\ndata 0\ndata 0\ntask 0 1\nend\n",
+        b"plan 1\norder 1\n1\npeak 0\nclaims 2\n1 F -1 0\n3 F -1 0\nend\n",
+        Verdict::Yes(0),
+    ),
+    (
+        b"workflow 1\ntasks 0\ndata 10\ndata 10\npar 2\nend\n",
+        b"plan 1\norder 0\npeak 20\nclaims 3\n1 F 9 10\n2 F 9 10\n3 F 19 20\nend\n",
+        Verdict::Yes(20),
+    ),
+    (
+        b"workflow 1\ntasks 2\ndata 0\ndata 3\ntask 0 1\ndata 0\ndata 4\ntask 1 1\npar 2\nend\n",
+        b"plan 1\norder 2\n2\n1\npeak 7\nclaims 3\n3 R 2 3\n6 R 3 4\n7 R 6 7\nend\n",
+        Verdict::Yes(7),
+    ),
+    (
+        b"workflow 1\ntasks 4\ndata 4\ndata 1\ntask 0 1\ndata 3\ntask 6 1\ndata 4\ndata 1\ntask 0 1\ndata 3\ntask 6 1\npar 2\nend\n",
+        b"plan 1\norder 4\n1\n3\n2\n4\npeak 13\nclaims 3\n5 R 9 3\n10 R 9 3\n11 R 12 6\nend\n",
+        Verdict::Yes(13),
+    ),
+    (
+        b"workflow 1\ntasks 4\ndata 4\ndata 1\ntask 0 1\ndata 3\ntask 6 1\ndata 4\ndata 1\ntask 0 1\ndata 3\ntask 6 1\npar 2\nend\n",
+        b"plan 1\norder 4\n1\n3\n2\n4\npeak 13\nclaims 3\n5 R 8 3\n10 R 9 3\n11 R 12 6\nend\n",
+        Verdict::No(Objection::Claim {
+            position: 11,
+            shape: Shape::Par,
+        }),
+    ),
+];
+
 #[test]
 fn other_workflows_have_their_verdicts(rt: HostRuntime) -> Result<(), Fail> {
-    let rows: [(&[u8], &[u8], Verdict); 6] = [
-        (
-            b"workflow 1\ntasks 1\ndata 0\ndata 7\ntask 2 1\nend\n",
-            b"plan 1\norder 1\n1\npeak 9\nclaims 1\n3 R 8 7\nend\n",
-            Verdict::Yes(9),
-        ),
-        (
-            b"workflow 1\ntasks 1\ndata 0\ndata 0\ntask 0 1\nend\n",
-            b"plan 1\norder 1\n1\npeak 0\nclaims 2\n1 F -1 0\n3 F -1 0\nend\n",
-            Verdict::Yes(0),
-        ),
-        (
-            b"workflow 1\ntasks 0\ndata 10\ndata 10\npar 2\nend\n",
-            b"plan 1\norder 0\npeak 20\nclaims 3\n1 F 9 10\n2 F 9 10\n3 F 19 20\nend\n",
-            Verdict::Yes(20),
-        ),
-        (
-            b"workflow 1\ntasks 2\ndata 0\ndata 3\ntask 0 1\ndata 0\ndata 4\ntask 1 1\npar 2\nend\n",
-            b"plan 1\norder 2\n2\n1\npeak 7\nclaims 3\n3 R 2 3\n6 R 3 4\n7 R 6 7\nend\n",
-            Verdict::Yes(7),
-        ),
-        (
-            b"workflow 1\ntasks 4\ndata 4\ndata 1\ntask 0 1\ndata 3\ntask 6 1\ndata 4\ndata 1\ntask 0 1\ndata 3\ntask 6 1\npar 2\nend\n",
-            b"plan 1\norder 4\n1\n3\n2\n4\npeak 13\nclaims 3\n5 R 9 3\n10 R 9 3\n11 R 12 6\nend\n",
-            Verdict::Yes(13),
-        ),
-        (
-            b"workflow 1\ntasks 4\ndata 4\ndata 1\ntask 0 1\ndata 3\ntask 6 1\ndata 4\ndata 1\ntask 0 1\ndata 3\ntask 6 1\npar 2\nend\n",
-            b"plan 1\norder 4\n1\n3\n2\n4\npeak 13\nclaims 3\n5 R 8 3\n10 R 9 3\n11 R 12 6\nend\n",
-            Verdict::No(Objection::Claim {
-                position: 11,
-                shape: Shape::Par,
-            }),
-        ),
-    ];
-    for (workflow, plan, expected) in rows {
+    for (workflow, plan, expected) in VERDICTS {
         for workers in [1, 4] {
             let said = verdict(&rt, rt.alloc(), workflow, plan, workers, &NoGate)?;
             assert_eq!(rt; said, expected);
@@ -130,75 +131,76 @@ fn an_order_that_is_no_traversal_is_objected_to_first(rt: HostRuntime) -> Result
 }
 
 // Then the peak, the claim on the whole term, and the lowest claim that fails, at a position of the term or past the last.
+const OBJECTIONS: [(&[u8], Objection); 10] = [
+    (
+        b"plan 1\norder 5\n1\n3\n2\n4\n5\npeak 10\nclaims 4\n5 R 5 5\n10 R 5 5\n11 R 10 10\n13 R 10 0\nend\n",
+        Objection::Peak {
+            replayed: 11,
+            printed: 10,
+        },
+    ),
+    (
+        b"plan 1\norder 5\n1\n2\n3\n4\n5\npeak 11\nclaims 1\n5 F 5 5\nend\n",
+        Objection::Peak {
+            replayed: 15,
+            printed: 11,
+        },
+    ),
+    (
+        b"plan 1\norder 5\n1\n3\n2\n4\n5\npeak 11\nclaims 3\n5 R 5 5\n10 R 5 5\n11 R 10 10\nend\n",
+        Objection::Root { last: 13 },
+    ),
+    (
+        b"plan 1\norder 5\n1\n3\n2\n4\n5\npeak 11\nclaims 4\n5 F 5 5\n10 R 5 5\n11 R 10 10\n13 R 9 0\nend\n",
+        Objection::Root { last: 13 },
+    ),
+    (
+        b"plan 1\norder 5\n1\n3\n2\n4\n5\npeak 11\nclaims 4\n5 R 5 5\n10 R 5 5\n11 R 10 11\n13 R 10 0\nend\n",
+        Objection::Claim {
+            position: 11,
+            shape: Shape::Par,
+        },
+    ),
+    (
+        b"plan 1\norder 5\n1\n3\n2\n4\n5\npeak 11\nclaims 4\n5 F 5 5\n10 R 5 5\n11 R 10 10\n13 R 10 0\nend\n",
+        Objection::Claim {
+            position: 5,
+            shape: Shape::Series,
+        },
+    ),
+    (
+        b"plan 1\norder 5\n1\n3\n2\n4\n5\npeak 11\nclaims 5\n4 R 5 5\n5 F 5 5\n10 R 5 5\n11 R 10 11\n13 R 10 0\nend\n",
+        Objection::Claim {
+            position: 4,
+            shape: Shape::Hold,
+        },
+    ),
+    (
+        b"plan 1\norder 5\n1\n3\n2\n4\n5\npeak 11\nclaims 5\n5 R 5 5\n10 R 5 5\n11 R 10 10\n13 R 10 0\n99 R 0 0\nend\n",
+        Objection::Claim {
+            position: 99,
+            shape: Shape::Outside,
+        },
+    ),
+    (
+        b"plan 1\norder 5\n1\n3\n2\n4\n5\npeak 11\nclaims 6\n5 R 5 5\n10 R 5 5\n11 R 10 10\n13 R 10 0\n14 R 0 0\n99 R 0 0\nend\n",
+        Objection::Claim {
+            position: 14,
+            shape: Shape::Outside,
+        },
+    ),
+    (
+        b"plan 1\norder 5\n1\n3\n2\n4\n5\npeak 11\nclaims 5\n5 R 5 5\n10 R 5 5\n11 R 10 10\n13 R 10 1\n99 R 0 0\nend\n",
+        Objection::Claim {
+            position: 13,
+            shape: Shape::Series,
+        },
+    ),
+];
+
 #[test]
 fn the_first_objection_wins(rt: HostRuntime) -> Result<(), Fail> {
-    let rows: [(&[u8], Objection); 10] = [
-        (
-            b"plan 1\norder 5\n1\n3\n2\n4\n5\npeak 10\nclaims 4\n5 R 5 5\n10 R 5 5\n11 R 10 10\n13 R 10 0\nend\n",
-            Objection::Peak {
-                replayed: 11,
-                printed: 10,
-            },
-        ),
-        (
-            b"plan 1\norder 5\n1\n2\n3\n4\n5\npeak 11\nclaims 1\n5 F 5 5\nend\n",
-            Objection::Peak {
-                replayed: 15,
-                printed: 11,
-            },
-        ),
-        (
-            b"plan 1\norder 5\n1\n3\n2\n4\n5\npeak 11\nclaims 3\n5 R 5 5\n10 R 5 5\n11 R 10 10\nend\n",
-            Objection::Root { last: 13 },
-        ),
-        (
-            b"plan 1\norder 5\n1\n3\n2\n4\n5\npeak 11\nclaims 4\n5 F 5 5\n10 R 5 5\n11 R 10 10\n13 R 9 0\nend\n",
-            Objection::Root { last: 13 },
-        ),
-        (
-            b"plan 1\norder 5\n1\n3\n2\n4\n5\npeak 11\nclaims 4\n5 R 5 5\n10 R 5 5\n11 R 10 11\n13 R 10 0\nend\n",
-            Objection::Claim {
-                position: 11,
-                shape: Shape::Par,
-            },
-        ),
-        (
-            b"plan 1\norder 5\n1\n3\n2\n4\n5\npeak 11\nclaims 4\n5 F 5 5\n10 R 5 5\n11 R 10 10\n13 R 10 0\nend\n",
-            Objection::Claim {
-                position: 5,
-                shape: Shape::Series,
-            },
-        ),
-        (
-            b"plan 1\norder 5\n1\n3\n2\n4\n5\npeak 11\nclaims 5\n4 R 5 5\n5 F 5 5\n10 R 5 5\n11 R 10 11\n13 R 10 0\nend\n",
-            Objection::Claim {
-                position: 4,
-                shape: Shape::Hold,
-            },
-        ),
-        (
-            b"plan 1\norder 5\n1\n3\n2\n4\n5\npeak 11\nclaims 5\n5 R 5 5\n10 R 5 5\n11 R 10 10\n13 R 10 0\n99 R 0 0\nend\n",
-            Objection::Claim {
-                position: 99,
-                shape: Shape::Outside,
-            },
-        ),
-        (
-            b"plan 1\norder 5\n1\n3\n2\n4\n5\npeak 11\nclaims 6\n5 R 5 5\n10 R 5 5\n11 R 10 10\n13 R 10 0\n14 R 0 0\n99 R 0 0\nend\n",
-            Objection::Claim {
-                position: 14,
-                shape: Shape::Outside,
-            },
-        ),
-        (
-            b"plan 1\norder 5\n1\n3\n2\n4\n5\npeak 11\nclaims 5\n5 R 5 5\n10 R 5 5\n11 R 10 10\n13 R 10 1\n99 R 0 0\nend\n",
-            Objection::Claim {
-                position: 13,
-                shape: Shape::Series,
-            },
-        ),
-    ];
-    for (plan, objection) in rows {
+    for (plan, objection) in OBJECTIONS {
         for workers in [1, 2, 3, 13, 4096] {
             let said = verdict(&rt, rt.alloc(), FIVE, plan, workers, &NoGate)?;
             assert_eq!(rt; said, Verdict::No(objection));

@@ -64,75 +64,76 @@ fn lowest(alloc: Global, text: &[u8]) -> Result<Option<(u32, Shape)>, Fail> {
 }
 
 // One claim is altered, or one is added at position 4. Whether the bound of the last claim is great enough for a peak isn't judged here.
+const ALTERED: [(&[u8], Option<(u32, Shape)>); 16] = [
+    (
+        b"plan 1\norder 0\npeak 0\nclaims 4\n5 R 6 5\n10 R 5 5\n11 R 10 10\n13 R 10 0\nend\n",
+        Some((5, Shape::Series)),
+    ),
+    (
+        b"plan 1\norder 0\npeak 0\nclaims 4\n5 R 4 5\n10 R 5 5\n11 R 10 10\n13 R 10 0\nend\n",
+        Some((11, Shape::Par)),
+    ),
+    (
+        b"plan 1\norder 0\npeak 0\nclaims 4\n5 R 5 6\n10 R 5 5\n11 R 10 10\n13 R 10 0\nend\n",
+        Some((5, Shape::Series)),
+    ),
+    (
+        b"plan 1\norder 0\npeak 0\nclaims 4\n5 R 5 4\n10 R 5 5\n11 R 10 10\n13 R 10 0\nend\n",
+        Some((11, Shape::Par)),
+    ),
+    (
+        b"plan 1\norder 0\npeak 0\nclaims 4\n5 F 5 5\n10 R 5 5\n11 R 10 10\n13 R 10 0\nend\n",
+        Some((5, Shape::Series)),
+    ),
+    (
+        b"plan 1\norder 0\npeak 0\nclaims 4\n5 R 5 5\n10 R 5 5\n11 R 11 10\n13 R 10 0\nend\n",
+        Some((11, Shape::Par)),
+    ),
+    (
+        b"plan 1\norder 0\npeak 0\nclaims 4\n5 R 5 5\n10 R 5 5\n11 R 9 10\n13 R 10 0\nend\n",
+        Some((13, Shape::Series)),
+    ),
+    (
+        b"plan 1\norder 0\npeak 0\nclaims 4\n5 R 5 5\n10 R 5 5\n11 R 10 9\n13 R 10 0\nend\n",
+        None,
+    ),
+    (
+        b"plan 1\norder 0\npeak 0\nclaims 4\n5 R 5 5\n10 R 5 5\n11 R 10 11\n13 R 10 0\nend\n",
+        Some((11, Shape::Par)),
+    ),
+    (
+        b"plan 1\norder 0\npeak 0\nclaims 4\n5 R 5 5\n10 R 5 5\n11 F 10 10\n13 R 10 0\nend\n",
+        Some((11, Shape::Par)),
+    ),
+    (
+        b"plan 1\norder 0\npeak 0\nclaims 4\n5 R 5 5\n10 R 5 5\n11 R 10 10\n13 R 11 0\nend\n",
+        Some((13, Shape::Series)),
+    ),
+    (
+        b"plan 1\norder 0\npeak 0\nclaims 4\n5 R 5 5\n10 R 5 5\n11 R 10 10\n13 R 9 0\nend\n",
+        None,
+    ),
+    (
+        b"plan 1\norder 0\npeak 0\nclaims 4\n5 R 5 5\n10 R 5 5\n11 R 10 10\n13 R 10 1\nend\n",
+        Some((13, Shape::Series)),
+    ),
+    (
+        b"plan 1\norder 0\npeak 0\nclaims 4\n5 R 5 5\n10 R 5 5\n11 R 10 10\n13 F 10 0\nend\n",
+        None,
+    ),
+    (
+        b"plan 1\norder 0\npeak 0\nclaims 5\n4 R 5 5\n5 R 5 5\n10 R 5 5\n11 R 10 10\n13 R 10 0\nend\n",
+        Some((4, Shape::Hold)),
+    ),
+    (
+        b"plan 1\norder 0\npeak 0\nclaims 5\n4 R 4 6\n5 R 5 5\n10 R 5 5\n11 R 10 10\n13 R 10 0\nend\n",
+        Some((4, Shape::Hold)),
+    ),
+];
+
 #[test]
 fn an_altered_claim_fails_or_is_met_otherwise(rt: HostRuntime) -> Result<(), Fail> {
-    let rows: [(&[u8], Option<(u32, Shape)>); 16] = [
-        (
-            b"plan 1\norder 0\npeak 0\nclaims 4\n5 R 6 5\n10 R 5 5\n11 R 10 10\n13 R 10 0\nend\n",
-            Some((5, Shape::Series)),
-        ),
-        (
-            b"plan 1\norder 0\npeak 0\nclaims 4\n5 R 4 5\n10 R 5 5\n11 R 10 10\n13 R 10 0\nend\n",
-            Some((11, Shape::Par)),
-        ),
-        (
-            b"plan 1\norder 0\npeak 0\nclaims 4\n5 R 5 6\n10 R 5 5\n11 R 10 10\n13 R 10 0\nend\n",
-            Some((5, Shape::Series)),
-        ),
-        (
-            b"plan 1\norder 0\npeak 0\nclaims 4\n5 R 5 4\n10 R 5 5\n11 R 10 10\n13 R 10 0\nend\n",
-            Some((11, Shape::Par)),
-        ),
-        (
-            b"plan 1\norder 0\npeak 0\nclaims 4\n5 F 5 5\n10 R 5 5\n11 R 10 10\n13 R 10 0\nend\n",
-            Some((5, Shape::Series)),
-        ),
-        (
-            b"plan 1\norder 0\npeak 0\nclaims 4\n5 R 5 5\n10 R 5 5\n11 R 11 10\n13 R 10 0\nend\n",
-            Some((11, Shape::Par)),
-        ),
-        (
-            b"plan 1\norder 0\npeak 0\nclaims 4\n5 R 5 5\n10 R 5 5\n11 R 9 10\n13 R 10 0\nend\n",
-            Some((13, Shape::Series)),
-        ),
-        (
-            b"plan 1\norder 0\npeak 0\nclaims 4\n5 R 5 5\n10 R 5 5\n11 R 10 9\n13 R 10 0\nend\n",
-            None,
-        ),
-        (
-            b"plan 1\norder 0\npeak 0\nclaims 4\n5 R 5 5\n10 R 5 5\n11 R 10 11\n13 R 10 0\nend\n",
-            Some((11, Shape::Par)),
-        ),
-        (
-            b"plan 1\norder 0\npeak 0\nclaims 4\n5 R 5 5\n10 R 5 5\n11 F 10 10\n13 R 10 0\nend\n",
-            Some((11, Shape::Par)),
-        ),
-        (
-            b"plan 1\norder 0\npeak 0\nclaims 4\n5 R 5 5\n10 R 5 5\n11 R 10 10\n13 R 11 0\nend\n",
-            Some((13, Shape::Series)),
-        ),
-        (
-            b"plan 1\norder 0\npeak 0\nclaims 4\n5 R 5 5\n10 R 5 5\n11 R 10 10\n13 R 9 0\nend\n",
-            None,
-        ),
-        (
-            b"plan 1\norder 0\npeak 0\nclaims 4\n5 R 5 5\n10 R 5 5\n11 R 10 10\n13 R 10 1\nend\n",
-            Some((13, Shape::Series)),
-        ),
-        (
-            b"plan 1\norder 0\npeak 0\nclaims 4\n5 R 5 5\n10 R 5 5\n11 R 10 10\n13 F 10 0\nend\n",
-            None,
-        ),
-        (
-            b"plan 1\norder 0\npeak 0\nclaims 5\n4 R 5 5\n5 R 5 5\n10 R 5 5\n11 R 10 10\n13 R 10 0\nend\n",
-            Some((4, Shape::Hold)),
-        ),
-        (
-            b"plan 1\norder 0\npeak 0\nclaims 5\n4 R 4 6\n5 R 5 5\n10 R 5 5\n11 R 10 10\n13 R 10 0\nend\n",
-            Some((4, Shape::Hold)),
-        ),
-    ];
-    for (text, expected) in rows {
+    for (text, expected) in ALTERED {
         assert!(rt; lowest(rt.alloc(), text)? == expected);
     }
     Ok(())

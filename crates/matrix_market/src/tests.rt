@@ -59,168 +59,177 @@ fn reads(rt: HostRuntime) -> Result<(), Fail> {
     Ok(())
 }
 
+const REFUSED_TEXTS: [(&str, MatrixKind, u64); 30] = [
+    ("", MatrixKind::Banner, 1),
+    (
+        "\n%%MatrixMarket matrix coordinate pattern general\n1 1 0\n",
+        MatrixKind::Banner,
+        1,
+    ),
+    (
+        "% a\n%%MatrixMarket matrix coordinate pattern general\n1 1 0\n",
+        MatrixKind::Banner,
+        1,
+    ),
+    (
+        "%%MatrixMarket matrix coordinate pattern\n1 1 0\n",
+        MatrixKind::Banner,
+        1,
+    ),
+    (
+        "%MatrixMarket matrix coordinate pattern general\n1 1 0\n",
+        MatrixKind::Banner,
+        1,
+    ),
+    (
+        "%%MatrixMarket matrix elemental pattern general\n1 1 0\n",
+        MatrixKind::Banner,
+        1,
+    ),
+    (
+        "%%MatrixMarket vector array real general\n",
+        MatrixKind::NotMatrix,
+        1,
+    ),
+    (
+        "%%MatrixMarket matrix array real general\n",
+        MatrixKind::ArrayFormat,
+        1,
+    ),
+    (
+        "%%MatrixMarket matrix coordinate quaternion general\n",
+        MatrixKind::Field,
+        1,
+    ),
+    (
+        "%%MatrixMarket matrix coordinate pattern Symmetrical\n",
+        MatrixKind::Symmetry,
+        1,
+    ),
+    (
+        "%%MatrixMarket matrix coordinate pattern symmetric\n",
+        MatrixKind::SizeLine,
+        2,
+    ),
+    (
+        "%%MatrixMarket matrix coordinate pattern symmetric\n% a\n4 4\n",
+        MatrixKind::SizeLine,
+        3,
+    ),
+    (
+        "%%MatrixMarket matrix coordinate pattern symmetric\n4 4 3 1\n",
+        MatrixKind::SizeLine,
+        2,
+    ),
+    (
+        "%%MatrixMarket matrix coordinate pattern symmetric\n4 4 x\n",
+        MatrixKind::SizeLine,
+        2,
+    ),
+    (
+        "%%MatrixMarket matrix coordinate pattern symmetric\n# 4 4 3\n",
+        MatrixKind::SizeLine,
+        2,
+    ),
+    (
+        "%%MatrixMarket matrix coordinate pattern symmetric\n0 0 0\n",
+        MatrixKind::SizeLine,
+        2,
+    ),
+    (
+        "%%MatrixMarket matrix coordinate pattern symmetric\n1000001 4 10000001\n",
+        MatrixKind::NotSquare,
+        2,
+    ),
+    (
+        "%%MatrixMarket matrix coordinate pattern symmetric\n4 4 3\n2\n",
+        MatrixKind::Entry,
+        3,
+    ),
+    (
+        "%%MatrixMarket matrix coordinate pattern symmetric\n4 4 3\n2 1 1\n",
+        MatrixKind::Entry,
+        3,
+    ),
+    (
+        "%%MatrixMarket matrix coordinate complex symmetric\n4 4 3\n2 1 1\n",
+        MatrixKind::Entry,
+        3,
+    ),
+    (
+        "%%MatrixMarket matrix coordinate real symmetric\n4 4 3\n2 -1 1\n",
+        MatrixKind::Entry,
+        3,
+    ),
+    (
+        "%%MatrixMarket matrix coordinate pattern symmetric\n4 4 3\n0 1\n",
+        MatrixKind::Index,
+        3,
+    ),
+    (
+        "%%MatrixMarket matrix coordinate pattern symmetric\n4 4 3\n1 5\n",
+        MatrixKind::Index,
+        3,
+    ),
+    (
+        "%%MatrixMarket matrix coordinate pattern symmetric\n4 4 3\n",
+        MatrixKind::TooFew,
+        3,
+    ),
+    (
+        "%%MatrixMarket matrix coordinate pattern symmetric\n4 4 3\n2 1\n",
+        MatrixKind::TooFew,
+        4,
+    ),
+    (
+        "%%MatrixMarket matrix coordinate pattern symmetric\n4 4 3\n2 1\n3 1\n",
+        MatrixKind::TooFew,
+        5,
+    ),
+    (
+        "%%MatrixMarket matrix coordinate pattern symmetric\n4 4 4\n2 1\n3 1\n4 1\n",
+        MatrixKind::TooFew,
+        6,
+    ),
+    (
+        "%%MatrixMarket matrix coordinate pattern symmetric\n4 4 1\n2 1\n\nx\n",
+        MatrixKind::TooMany,
+        5,
+    ),
+    (
+        "%%MatrixMarket matrix coordinate pattern symmetric\n4 4 0\n2 1\n",
+        MatrixKind::TooMany,
+        3,
+    ),
+    (
+        "%%MatrixMarket matrix coordinate pattern symmetric",
+        MatrixKind::SizeLine,
+        2,
+    ),
+];
+
+const LIMITS: [(&str, LimitName); 2] = [
+    (
+        "%%MatrixMarket matrix coordinate pattern general\n1000001 1000001 10000001\n",
+        LimitName::Order,
+    ),
+    (
+        "%%MatrixMarket matrix coordinate pattern general\n1000000 1000000 10000001\n",
+        LimitName::Entries,
+    ),
+];
+
 #[test]
 fn refuses(rt: HostRuntime) {
-    use MatrixKind::*;
     let alloc = rt.alloc();
-    let rows: [(&str, MatrixKind, u64); 30] = [
-        ("", Banner, 1),
-        (
-            "\n%%MatrixMarket matrix coordinate pattern general\n1 1 0\n",
-            Banner,
-            1,
-        ),
-        (
-            "% a\n%%MatrixMarket matrix coordinate pattern general\n1 1 0\n",
-            Banner,
-            1,
-        ),
-        (
-            "%%MatrixMarket matrix coordinate pattern\n1 1 0\n",
-            Banner,
-            1,
-        ),
-        (
-            "%MatrixMarket matrix coordinate pattern general\n1 1 0\n",
-            Banner,
-            1,
-        ),
-        (
-            "%%MatrixMarket matrix elemental pattern general\n1 1 0\n",
-            Banner,
-            1,
-        ),
-        ("%%MatrixMarket vector array real general\n", NotMatrix, 1),
-        ("%%MatrixMarket matrix array real general\n", ArrayFormat, 1),
-        (
-            "%%MatrixMarket matrix coordinate quaternion general\n",
-            Field,
-            1,
-        ),
-        (
-            "%%MatrixMarket matrix coordinate pattern Symmetrical\n",
-            Symmetry,
-            1,
-        ),
-        (
-            "%%MatrixMarket matrix coordinate pattern symmetric\n",
-            SizeLine,
-            2,
-        ),
-        (
-            "%%MatrixMarket matrix coordinate pattern symmetric\n% a\n4 4\n",
-            SizeLine,
-            3,
-        ),
-        (
-            "%%MatrixMarket matrix coordinate pattern symmetric\n4 4 3 1\n",
-            SizeLine,
-            2,
-        ),
-        (
-            "%%MatrixMarket matrix coordinate pattern symmetric\n4 4 x\n",
-            SizeLine,
-            2,
-        ),
-        (
-            "%%MatrixMarket matrix coordinate pattern symmetric\n# 4 4 3\n",
-            SizeLine,
-            2,
-        ),
-        (
-            "%%MatrixMarket matrix coordinate pattern symmetric\n0 0 0\n",
-            SizeLine,
-            2,
-        ),
-        (
-            "%%MatrixMarket matrix coordinate pattern symmetric\n1000001 4 10000001\n",
-            NotSquare,
-            2,
-        ),
-        (
-            "%%MatrixMarket matrix coordinate pattern symmetric\n4 4 3\n2\n",
-            Entry,
-            3,
-        ),
-        (
-            "%%MatrixMarket matrix coordinate pattern symmetric\n4 4 3\n2 1 1\n",
-            Entry,
-            3,
-        ),
-        (
-            "%%MatrixMarket matrix coordinate complex symmetric\n4 4 3\n2 1 1\n",
-            Entry,
-            3,
-        ),
-        (
-            "%%MatrixMarket matrix coordinate real symmetric\n4 4 3\n2 -1 1\n",
-            Entry,
-            3,
-        ),
-        (
-            "%%MatrixMarket matrix coordinate pattern symmetric\n4 4 3\n0 1\n",
-            Index,
-            3,
-        ),
-        (
-            "%%MatrixMarket matrix coordinate pattern symmetric\n4 4 3\n1 5\n",
-            Index,
-            3,
-        ),
-        (
-            "%%MatrixMarket matrix coordinate pattern symmetric\n4 4 3\n",
-            TooFew,
-            3,
-        ),
-        (
-            "%%MatrixMarket matrix coordinate pattern symmetric\n4 4 3\n2 1\n",
-            TooFew,
-            4,
-        ),
-        (
-            "%%MatrixMarket matrix coordinate pattern symmetric\n4 4 3\n2 1\n3 1\n",
-            TooFew,
-            5,
-        ),
-        (
-            "%%MatrixMarket matrix coordinate pattern symmetric\n4 4 4\n2 1\n3 1\n4 1\n",
-            TooFew,
-            6,
-        ),
-        (
-            "%%MatrixMarket matrix coordinate pattern symmetric\n4 4 1\n2 1\n\nx\n",
-            TooMany,
-            5,
-        ),
-        (
-            "%%MatrixMarket matrix coordinate pattern symmetric\n4 4 0\n2 1\n",
-            TooMany,
-            3,
-        ),
-        (
-            "%%MatrixMarket matrix coordinate pattern symmetric",
-            SizeLine,
-            2,
-        ),
-    ];
-    for (text, kind, line) in rows {
+    for (text, kind, line) in REFUSED_TEXTS {
         assert_eq!(rt;
             refusal_of(alloc, text.as_bytes()),
             Some(Refusal::Format(Fault { line, kind })),
             "{text}"
         );
     }
-    let limits: [(&str, LimitName); 2] = [
-        (
-            "%%MatrixMarket matrix coordinate pattern general\n1000001 1000001 10000001\n",
-            LimitName::Order,
-        ),
-        (
-            "%%MatrixMarket matrix coordinate pattern general\n1000000 1000000 10000001\n",
-            LimitName::Entries,
-        ),
-    ];
-    for (text, limit) in limits {
+    for (text, limit) in LIMITS {
         assert_eq!(rt;
             refusal_of(alloc, text.as_bytes()),
             Some(Refusal::Limit(limit)),

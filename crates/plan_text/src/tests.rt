@@ -130,131 +130,133 @@ fn refuses_what_ends_early(rt: HostRuntime) {
     }
 }
 
+const REFUSED_TEXTS: [(&[u8], u64, PlanKind); 40] = [
+    (b"plan 3\n", 1, PlanKind::Header),
+    (b"plan\n", 1, PlanKind::Header),
+    (b"plan 1 1\n", 1, PlanKind::Header),
+    (b"tree 1\n", 1, PlanKind::Header),
+    (b"# a\nplan 01\n", 2, PlanKind::Header),
+    (b"plan 1\npeak 0\n", 2, PlanKind::Section),
+    (b"plan 1\norder\n", 2, PlanKind::Section),
+    (b"plan 1\norder 1 1\n", 2, PlanKind::Section),
+    (b"plan 1\norder x\n", 2, PlanKind::Number),
+    (b"plan 1\norder 1\n1 1\n", 3, PlanKind::Order),
+    (b"plan 1\norder 1\nx\n", 3, PlanKind::Number),
+    (b"plan 1\norder 1\nend\n", 3, PlanKind::Number),
+    (b"plan 1\norder 1\n4294967296\n", 3, PlanKind::Number),
+    (b"plan 1\norder 1\n1\n2\n", 4, PlanKind::Section),
+    (b"plan 1\norder 0\npriority 0\n", 3, PlanKind::Section),
+    (b"plan 2\norder 0\npeak 0\n", 3, PlanKind::Section),
+    (b"plan 2\norder 0\npriority x\n", 3, PlanKind::Number),
+    (b"plan 2\norder 1\n1\npriority 2\n", 4, PlanKind::Priority),
+    (
+        b"plan 2\norder 2\n1\n2\npriority 1\n",
+        5,
+        PlanKind::Priority,
+    ),
+    (
+        b"plan 2\norder 1\n1\npriority 1\n1 1\n",
+        5,
+        PlanKind::Priority,
+    ),
+    (b"plan 2\norder 1\n1\npriority 1\nx\n", 5, PlanKind::Number),
+    (
+        b"plan 2\norder 1\n1\npriority 1\n0\n",
+        5,
+        PlanKind::Priority,
+    ),
+    (
+        b"plan 2\norder 1\n1\npriority 1\n2\n",
+        5,
+        PlanKind::Priority,
+    ),
+    (
+        b"plan 2\norder 4\n1\n2\n3\n4\npriority 4\n3\n3\n1\n4\npeak 6\nclaims 0\nend\n",
+        9,
+        PlanKind::Priority,
+    ),
+    (b"plan 1\norder 0\nclaims 0\n", 3, PlanKind::Section),
+    (b"plan 1\norder 0\npeak -1\n", 3, PlanKind::Number),
+    (
+        b"plan 1\norder 0\npeak 1152921504606846977\n",
+        3,
+        PlanKind::Number,
+    ),
+    (b"plan 1\norder 0\npeak 0\nend\n", 4, PlanKind::Section),
+    (b"plan 1\norder 0\npeak 0\nclaims x\n", 4, PlanKind::Number),
+    (
+        b"plan 1\norder 0\npeak 0\nclaims 1\n1 F 0\n",
+        5,
+        PlanKind::Claim,
+    ),
+    (
+        b"plan 1\norder 0\npeak 0\nclaims 1\n1 f 0 0\n",
+        5,
+        PlanKind::Claim,
+    ),
+    (
+        b"plan 1\norder 0\npeak 0\nclaims 1\nend\n",
+        5,
+        PlanKind::Claim,
+    ),
+    (
+        b"plan 1\norder 0\npeak 0\nclaims 1\nx F 0 0\n",
+        5,
+        PlanKind::Number,
+    ),
+    (
+        b"plan 1\norder 0\npeak 0\nclaims 1\n1 F -1152921504606846977 0\n",
+        5,
+        PlanKind::Number,
+    ),
+    (
+        b"plan 1\norder 0\npeak 0\nclaims 1\n1 F 0 1152921504606846977\n",
+        5,
+        PlanKind::Number,
+    ),
+    (
+        b"plan 1\norder 0\npeak 0\nclaims 1\n0 F 0 0\n",
+        5,
+        PlanKind::Claim,
+    ),
+    (
+        b"plan 1\norder 0\npeak 0\nclaims 2\n2 F 0 0\n2 R 0 0\n",
+        6,
+        PlanKind::Claim,
+    ),
+    (
+        b"plan 1\norder 0\npeak 0\nclaims 0\nend end\n",
+        5,
+        PlanKind::NoEnd,
+    ),
+    (
+        b"plan 1\norder 0\npeak 0\nclaims 0\n1 F 0 0\n",
+        5,
+        PlanKind::NoEnd,
+    ),
+    (
+        b"plan 1\norder 0\npeak 0\nclaims 0\nend\n\nend\n",
+        7,
+        PlanKind::NoEnd,
+    ),
+];
+
+const LIMITS: [(&[u8], LimitName); 2] = [
+    (b"plan 1\norder 1000001\n", LimitName::Tasks),
+    (
+        b"plan 1\norder 0\npeak 0\nclaims 4000002\n",
+        LimitName::Positions,
+    ),
+];
+
 #[test]
 fn refuses_with_the_kind_and_the_line(rt: HostRuntime) {
     let alloc = rt.alloc();
-    let texts: [(&[u8], u64, PlanKind); 40] = [
-        (b"plan 3\n", 1, PlanKind::Header),
-        (b"plan\n", 1, PlanKind::Header),
-        (b"plan 1 1\n", 1, PlanKind::Header),
-        (b"tree 1\n", 1, PlanKind::Header),
-        (b"# a\nplan 01\n", 2, PlanKind::Header),
-        (b"plan 1\npeak 0\n", 2, PlanKind::Section),
-        (b"plan 1\norder\n", 2, PlanKind::Section),
-        (b"plan 1\norder 1 1\n", 2, PlanKind::Section),
-        (b"plan 1\norder x\n", 2, PlanKind::Number),
-        (b"plan 1\norder 1\n1 1\n", 3, PlanKind::Order),
-        (b"plan 1\norder 1\nx\n", 3, PlanKind::Number),
-        (b"plan 1\norder 1\nend\n", 3, PlanKind::Number),
-        (b"plan 1\norder 1\n4294967296\n", 3, PlanKind::Number),
-        (b"plan 1\norder 1\n1\n2\n", 4, PlanKind::Section),
-        (b"plan 1\norder 0\npriority 0\n", 3, PlanKind::Section),
-        (b"plan 2\norder 0\npeak 0\n", 3, PlanKind::Section),
-        (b"plan 2\norder 0\npriority x\n", 3, PlanKind::Number),
-        (b"plan 2\norder 1\n1\npriority 2\n", 4, PlanKind::Priority),
-        (
-            b"plan 2\norder 2\n1\n2\npriority 1\n",
-            5,
-            PlanKind::Priority,
-        ),
-        (
-            b"plan 2\norder 1\n1\npriority 1\n1 1\n",
-            5,
-            PlanKind::Priority,
-        ),
-        (b"plan 2\norder 1\n1\npriority 1\nx\n", 5, PlanKind::Number),
-        (
-            b"plan 2\norder 1\n1\npriority 1\n0\n",
-            5,
-            PlanKind::Priority,
-        ),
-        (
-            b"plan 2\norder 1\n1\npriority 1\n2\n",
-            5,
-            PlanKind::Priority,
-        ),
-        (
-            b"plan 2\norder 4\n1\n2\n3\n4\npriority 4\n3\n3\n1\n4\npeak 6\nclaims 0\nend\n",
-            9,
-            PlanKind::Priority,
-        ),
-        (b"plan 1\norder 0\nclaims 0\n", 3, PlanKind::Section),
-        (b"plan 1\norder 0\npeak -1\n", 3, PlanKind::Number),
-        (
-            b"plan 1\norder 0\npeak 1152921504606846977\n",
-            3,
-            PlanKind::Number,
-        ),
-        (b"plan 1\norder 0\npeak 0\nend\n", 4, PlanKind::Section),
-        (b"plan 1\norder 0\npeak 0\nclaims x\n", 4, PlanKind::Number),
-        (
-            b"plan 1\norder 0\npeak 0\nclaims 1\n1 F 0\n",
-            5,
-            PlanKind::Claim,
-        ),
-        (
-            b"plan 1\norder 0\npeak 0\nclaims 1\n1 f 0 0\n",
-            5,
-            PlanKind::Claim,
-        ),
-        (
-            b"plan 1\norder 0\npeak 0\nclaims 1\nend\n",
-            5,
-            PlanKind::Claim,
-        ),
-        (
-            b"plan 1\norder 0\npeak 0\nclaims 1\nx F 0 0\n",
-            5,
-            PlanKind::Number,
-        ),
-        (
-            b"plan 1\norder 0\npeak 0\nclaims 1\n1 F -1152921504606846977 0\n",
-            5,
-            PlanKind::Number,
-        ),
-        (
-            b"plan 1\norder 0\npeak 0\nclaims 1\n1 F 0 1152921504606846977\n",
-            5,
-            PlanKind::Number,
-        ),
-        (
-            b"plan 1\norder 0\npeak 0\nclaims 1\n0 F 0 0\n",
-            5,
-            PlanKind::Claim,
-        ),
-        (
-            b"plan 1\norder 0\npeak 0\nclaims 2\n2 F 0 0\n2 R 0 0\n",
-            6,
-            PlanKind::Claim,
-        ),
-        (
-            b"plan 1\norder 0\npeak 0\nclaims 0\nend end\n",
-            5,
-            PlanKind::NoEnd,
-        ),
-        (
-            b"plan 1\norder 0\npeak 0\nclaims 0\n1 F 0 0\n",
-            5,
-            PlanKind::NoEnd,
-        ),
-        (
-            b"plan 1\norder 0\npeak 0\nclaims 0\nend\n\nend\n",
-            7,
-            PlanKind::NoEnd,
-        ),
-    ];
-    for (text, line, kind) in texts {
+    for (text, line, kind) in REFUSED_TEXTS {
         let want = Some(Refusal::Format(Fault { line, kind }));
         assert_eq!(rt; refusal_of(alloc, text), want, "at line {line}, {kind:?}");
     }
-    let limits: [(&[u8], LimitName); 2] = [
-        (b"plan 1\norder 1000001\n", LimitName::Tasks),
-        (
-            b"plan 1\norder 0\npeak 0\nclaims 4000002\n",
-            LimitName::Positions,
-        ),
-    ];
-    for (text, name) in limits {
+    for (text, name) in LIMITS {
         assert_eq!(rt;
             refusal_of(alloc, text),
             Some(Refusal::Limit(name)),

@@ -177,102 +177,119 @@ fn a_builder_takes_or_refuses(rt: HostRuntime) {
     }
 }
 
+const REFUSED_TEXTS: [(&[u8], u64, WorkflowKind); 30] = [
+    (b"", 1, WorkflowKind::NoEnd),
+    (b"workflow 3\n", 1, WorkflowKind::Header),
+    (b"workflow\n", 1, WorkflowKind::Header),
+    (b"tree 1\n", 1, WorkflowKind::Header),
+    (b"workflow 1 1\n", 1, WorkflowKind::Header),
+    (b"workflow 1\ntasks\n", 2, WorkflowKind::Header),
+    (b"workflow 1\nnodes 1\n", 2, WorkflowKind::Header),
+    (b"workflow 1\ntasks x\n", 2, WorkflowKind::Number),
+    (
+        b"workflow 1\ntasks 1\ntask 0 1\nend\n",
+        3,
+        WorkflowKind::StackShort,
+    ),
+    (
+        b"workflow 1\ntasks 1\ndata 1\nend\n",
+        4,
+        WorkflowKind::TaskCount,
+    ),
+    (
+        b"workflow 1\ntasks 0\ndata 1\ndata 1\nend\n",
+        5,
+        WorkflowKind::NotOneTerm,
+    ),
+    (b"workflow 1\ntasks 0\nend\n", 3, WorkflowKind::NotOneTerm),
+    (
+        b"workflow 1\ntasks 0\ndata 1\npar 1\nend\n",
+        4,
+        WorkflowKind::Number,
+    ),
+    (
+        b"workflow 1\ntasks 0\ndata 1\ndata 1\npar 18446744073709551615\nend\n",
+        5,
+        WorkflowKind::StackShort,
+    ),
+    (
+        b"workflow 1\ntasks 0\ndata 1\ndata 1\npar 3\nend\n",
+        5,
+        WorkflowKind::StackShort,
+    ),
+    (
+        b"workflow 1\ntasks 0\ndata 1\ndata 1\npar 18446744073709551616\nend\n",
+        5,
+        WorkflowKind::Number,
+    ),
+    (
+        b"workflow 1\ntasks 0\ndata 1\ndata 1\ntask 0 1\nend\n",
+        5,
+        WorkflowKind::TaskCount,
+    ),
+    (
+        b"workflow 2\ntasks 1\ndata 4\ndata 3\ntask 2 5 1\nend\n",
+        5,
+        WorkflowKind::Share,
+    ),
+    (
+        b"workflow 2\ntasks 1\ndata 9\ndata 3\ntask 2 6 1\nend\n",
+        5,
+        WorkflowKind::Share,
+    ),
+    (
+        b"workflow 1\ntasks 1\ndata 4\ndata 3\ntask 2 4 1\nend\n",
+        5,
+        WorkflowKind::Number,
+    ),
+    (
+        b"workflow 2\ntasks 1\ndata 4\ndata 3\ntask 2 1\nend\n",
+        5,
+        WorkflowKind::Number,
+    ),
+    (
+        b"workflow 1\ntasks 1\ndata 4\ndata 3\ntask 2 0\nend\n",
+        5,
+        WorkflowKind::Number,
+    ),
+    (b"workflow 1\ntasks 0\ndata\n", 3, WorkflowKind::Number),
+    (b"workflow 1\ntasks 0\ndata 1 1\n", 3, WorkflowKind::Number),
+    (b"workflow 1\ntasks 0\ndata -1\n", 3, WorkflowKind::Number),
+    (b"workflow 1\ntasks 0\nhold 1\n", 3, WorkflowKind::Word),
+    (b"workflow 1\ntasks 0\ndata1\n", 3, WorkflowKind::Word),
+    (
+        b"workflow 1\ntasks 0\ndata 1\nend 1\n",
+        4,
+        WorkflowKind::Number,
+    ),
+    (
+        b"workflow 1\ntasks 0\ndata 1\nend\n\nend\n",
+        6,
+        WorkflowKind::Word,
+    ),
+    (b"workflow 1\ntasks 0\ndata 1\nen", 4, WorkflowKind::Word),
+];
+
+const LIMITS: [(&[u8], LimitName); 4] = [
+    (b"workflow 1\ntasks 1000001\n", LimitName::Tasks),
+    (
+        b"workflow 1\ntasks 0\ndata 1099511627777\nend\n",
+        LimitName::Size,
+    ),
+    (
+        b"workflow 1\ntasks 1\ndata 1\ndata 1\ntask 1099511627777 1099511627777\n",
+        LimitName::Size,
+    ),
+    (
+        b"workflow 2\ntasks 1\ndata 1\ndata 1\ntask 0 9 1099511627777\n",
+        LimitName::Time,
+    ),
+];
+
 #[test]
 fn refuses_with_the_kind_and_the_line(rt: HostRuntime) {
     let alloc = rt.alloc();
-    let texts: [(&[u8], u64, WorkflowKind); 30] = [
-        (b"", 1, WorkflowKind::NoEnd),
-        (b"workflow 3\n", 1, WorkflowKind::Header),
-        (b"workflow\n", 1, WorkflowKind::Header),
-        (b"tree 1\n", 1, WorkflowKind::Header),
-        (b"workflow 1 1\n", 1, WorkflowKind::Header),
-        (b"workflow 1\ntasks\n", 2, WorkflowKind::Header),
-        (b"workflow 1\nnodes 1\n", 2, WorkflowKind::Header),
-        (b"workflow 1\ntasks x\n", 2, WorkflowKind::Number),
-        (
-            b"workflow 1\ntasks 1\ntask 0 1\nend\n",
-            3,
-            WorkflowKind::StackShort,
-        ),
-        (
-            b"workflow 1\ntasks 1\ndata 1\nend\n",
-            4,
-            WorkflowKind::TaskCount,
-        ),
-        (
-            b"workflow 1\ntasks 0\ndata 1\ndata 1\nend\n",
-            5,
-            WorkflowKind::NotOneTerm,
-        ),
-        (b"workflow 1\ntasks 0\nend\n", 3, WorkflowKind::NotOneTerm),
-        (
-            b"workflow 1\ntasks 0\ndata 1\npar 1\nend\n",
-            4,
-            WorkflowKind::Number,
-        ),
-        (
-            b"workflow 1\ntasks 0\ndata 1\ndata 1\npar 18446744073709551615\nend\n",
-            5,
-            WorkflowKind::StackShort,
-        ),
-        (
-            b"workflow 1\ntasks 0\ndata 1\ndata 1\npar 3\nend\n",
-            5,
-            WorkflowKind::StackShort,
-        ),
-        (
-            b"workflow 1\ntasks 0\ndata 1\ndata 1\npar 18446744073709551616\nend\n",
-            5,
-            WorkflowKind::Number,
-        ),
-        (
-            b"workflow 1\ntasks 0\ndata 1\ndata 1\ntask 0 1\nend\n",
-            5,
-            WorkflowKind::TaskCount,
-        ),
-        (
-            b"workflow 2\ntasks 1\ndata 4\ndata 3\ntask 2 5 1\nend\n",
-            5,
-            WorkflowKind::Share,
-        ),
-        (
-            b"workflow 2\ntasks 1\ndata 9\ndata 3\ntask 2 6 1\nend\n",
-            5,
-            WorkflowKind::Share,
-        ),
-        (
-            b"workflow 1\ntasks 1\ndata 4\ndata 3\ntask 2 4 1\nend\n",
-            5,
-            WorkflowKind::Number,
-        ),
-        (
-            b"workflow 2\ntasks 1\ndata 4\ndata 3\ntask 2 1\nend\n",
-            5,
-            WorkflowKind::Number,
-        ),
-        (
-            b"workflow 1\ntasks 1\ndata 4\ndata 3\ntask 2 0\nend\n",
-            5,
-            WorkflowKind::Number,
-        ),
-        (b"workflow 1\ntasks 0\ndata\n", 3, WorkflowKind::Number),
-        (b"workflow 1\ntasks 0\ndata 1 1\n", 3, WorkflowKind::Number),
-        (b"workflow 1\ntasks 0\ndata -1\n", 3, WorkflowKind::Number),
-        (b"workflow 1\ntasks 0\nhold 1\n", 3, WorkflowKind::Word),
-        (b"workflow 1\ntasks 0\ndata1\n", 3, WorkflowKind::Word),
-        (
-            b"workflow 1\ntasks 0\ndata 1\nend 1\n",
-            4,
-            WorkflowKind::Number,
-        ),
-        (
-            b"workflow 1\ntasks 0\ndata 1\nend\n\nend\n",
-            6,
-            WorkflowKind::Word,
-        ),
-        (b"workflow 1\ntasks 0\ndata 1\nen", 4, WorkflowKind::Word),
-    ];
-    for (text, line, kind) in texts {
+    for (text, line, kind) in REFUSED_TEXTS {
         let want = Some(Refusal::Format(Fault { line, kind }));
         assert_eq!(rt;
             read_workflow(alloc, text).err(),
@@ -280,22 +297,7 @@ fn refuses_with_the_kind_and_the_line(rt: HostRuntime) {
             "at line {line}, {kind:?}"
         );
     }
-    let limits: [(&[u8], LimitName); 4] = [
-        (b"workflow 1\ntasks 1000001\n", LimitName::Tasks),
-        (
-            b"workflow 1\ntasks 0\ndata 1099511627777\nend\n",
-            LimitName::Size,
-        ),
-        (
-            b"workflow 1\ntasks 1\ndata 1\ndata 1\ntask 1099511627777 1099511627777\n",
-            LimitName::Size,
-        ),
-        (
-            b"workflow 2\ntasks 1\ndata 1\ndata 1\ntask 0 9 1099511627777\n",
-            LimitName::Time,
-        ),
-    ];
-    for (text, name) in limits {
+    for (text, name) in LIMITS {
         assert_eq!(rt;
             read_workflow(alloc, text).err(),
             Some(Refusal::Limit(name)),

@@ -111,109 +111,111 @@ fn passes_over_what_says_nothing(rt: HostRuntime) -> Result<(), Fail> {
     Ok(())
 }
 
+const REFUSED_TEXTS: [(&[u8], u64, TreeKind); 34] = [
+    (b"", 1, TreeKind::NoEnd),
+    (b"tree 1\n", 2, TreeKind::NoEnd),
+    (b"tree 1\nnodes 5\n", 3, TreeKind::NoEnd),
+    (b"tree 1\nnodes 5\n2 1 9 1\n", 4, TreeKind::NoEnd),
+    (b"tree 1\nnodes 5\n2 1 9 1\n5 5 0 1\n", 5, TreeKind::NoEnd),
+    (
+        b"tree 1\nnodes 5\n2 1 9 1\n5 5 0 1\n4 1 9 1\n",
+        6,
+        TreeKind::NoEnd,
+    ),
+    (
+        b"tree 1\nnodes 5\n2 1 9 1\n5 5 0 1\n4 1 9 1\n5 5 0 1\n",
+        7,
+        TreeKind::NoEnd,
+    ),
+    (
+        b"tree 1\nnodes 5\n2 1 9 1\n5 5 0 1\n4 1 9 1\n5 5 0 1\n0 0 0 1\n",
+        8,
+        TreeKind::NoEnd,
+    ),
+    (
+        b"tree 1\nnodes 5\n2 1 9 1\n5 5 0 1\n4 1 9 1\n5 5 0 1\n0 0 0 1\nen",
+        8,
+        TreeKind::Count,
+    ),
+    (
+        b"tree 1\nnodes 5\n2 1 9 1\n5 5 0 1\n4 1 9 1\n5 5 0 1\n0 0 0 1\n0 0 0 1\nend\n",
+        8,
+        TreeKind::Count,
+    ),
+    (b"tree 1\nnodes 5\n2 1 9 1\nend\n", 4, TreeKind::Count),
+    (b"tree 1\nnodes 1\n0 0 0 1\nend\nend\n", 5, TreeKind::Count),
+    (b"tree 1\nnodes 1\n0 0 0 1\nend end\n", 4, TreeKind::Count),
+    (b"tree 3\nnodes 1\n0 0 0 1\nend\n", 1, TreeKind::Header),
+    (b"tree\nnodes 1\n", 1, TreeKind::Header),
+    (b"tree 1 1\nnodes 1\n", 1, TreeKind::Header),
+    (b"# a\ntree 01\n", 2, TreeKind::Header),
+    (b"tree 1\nnodes\n", 2, TreeKind::Header),
+    (b"tree 1\nnode 1\n", 2, TreeKind::Header),
+    (b"tree 1\nnodes 1 1\n", 2, TreeKind::Header),
+    (b"tree 1\nnodes 0\n", 2, TreeKind::Count),
+    (b"tree 1\nnodes x\n", 2, TreeKind::Number),
+    (b"tree 1\nnodes 5\n6 1 9 1\n", 3, TreeKind::Parent),
+    (b"tree 1\nnodes 5\n2 1 9\n", 3, TreeKind::Number),
+    (b"tree 1\nnodes 5\n2 1 9 0 1\n", 3, TreeKind::Number),
+    (b"tree 2\nnodes 5\n2 1 9 1\n", 3, TreeKind::Number),
+    (b"tree 1\nnodes 5\n2 1 9 0\n", 3, TreeKind::Number),
+    (
+        b"tree 1\nnodes 5\n2 1 18446744073709551616 1\n",
+        3,
+        TreeKind::Number,
+    ),
+    (b"tree 1\nnodes 5\n2 -1 9 1\n", 3, TreeKind::Number),
+    (b"tree 1\nnodes 5\n2 1\x009 9 1\n", 3, TreeKind::Number),
+    (
+        b"tree 1\nnodes 2\n2 0 0 1\n1 0 0 1\nend\n",
+        3,
+        TreeKind::Cycle,
+    ),
+    (
+        b"tree 1\nnodes 3\n0 0 0 1\n\n3 0 0 1\n3 0 0 1\nend\n",
+        5,
+        TreeKind::Cycle,
+    ),
+    (
+        b"tree 2\nnodes 2\n2 4 0 0 1\n0 3 2 5 1\nend\n",
+        4,
+        TreeKind::Share,
+    ),
+    (
+        b"tree 2\nnodes 2\n2 6 0 0 1\n0 3 2 6 1\nend\n",
+        4,
+        TreeKind::Share,
+    ),
+];
+
+const LIMITS: [(&[u8], LimitName); 5] = [
+    (b"tree 1\nnodes 1000001\n", LimitName::Tasks),
+    (
+        b"tree 1\nnodes 1\n0 1099511627777 0 1\nend\n",
+        LimitName::Size,
+    ),
+    (
+        b"tree 1\nnodes 1\n0 0 1099511627777 1\nend\n",
+        LimitName::Size,
+    ),
+    (
+        b"tree 1\nnodes 1\n0 1 1 1099511627777\nend\n",
+        LimitName::Time,
+    ),
+    (
+        b"tree 1\nnodes 1\n0 1099511627777 1 1099511627777\nend\n",
+        LimitName::Size,
+    ),
+];
+
 #[test]
 fn refuses_with_the_kind_and_the_line(rt: HostRuntime) {
     let alloc = rt.alloc();
-    let texts: [(&[u8], u64, TreeKind); 34] = [
-        (b"", 1, TreeKind::NoEnd),
-        (b"tree 1\n", 2, TreeKind::NoEnd),
-        (b"tree 1\nnodes 5\n", 3, TreeKind::NoEnd),
-        (b"tree 1\nnodes 5\n2 1 9 1\n", 4, TreeKind::NoEnd),
-        (b"tree 1\nnodes 5\n2 1 9 1\n5 5 0 1\n", 5, TreeKind::NoEnd),
-        (
-            b"tree 1\nnodes 5\n2 1 9 1\n5 5 0 1\n4 1 9 1\n",
-            6,
-            TreeKind::NoEnd,
-        ),
-        (
-            b"tree 1\nnodes 5\n2 1 9 1\n5 5 0 1\n4 1 9 1\n5 5 0 1\n",
-            7,
-            TreeKind::NoEnd,
-        ),
-        (
-            b"tree 1\nnodes 5\n2 1 9 1\n5 5 0 1\n4 1 9 1\n5 5 0 1\n0 0 0 1\n",
-            8,
-            TreeKind::NoEnd,
-        ),
-        (
-            b"tree 1\nnodes 5\n2 1 9 1\n5 5 0 1\n4 1 9 1\n5 5 0 1\n0 0 0 1\nen",
-            8,
-            TreeKind::Count,
-        ),
-        (
-            b"tree 1\nnodes 5\n2 1 9 1\n5 5 0 1\n4 1 9 1\n5 5 0 1\n0 0 0 1\n0 0 0 1\nend\n",
-            8,
-            TreeKind::Count,
-        ),
-        (b"tree 1\nnodes 5\n2 1 9 1\nend\n", 4, TreeKind::Count),
-        (b"tree 1\nnodes 1\n0 0 0 1\nend\nend\n", 5, TreeKind::Count),
-        (b"tree 1\nnodes 1\n0 0 0 1\nend end\n", 4, TreeKind::Count),
-        (b"tree 3\nnodes 1\n0 0 0 1\nend\n", 1, TreeKind::Header),
-        (b"tree\nnodes 1\n", 1, TreeKind::Header),
-        (b"tree 1 1\nnodes 1\n", 1, TreeKind::Header),
-        (b"# a\ntree 01\n", 2, TreeKind::Header),
-        (b"tree 1\nnodes\n", 2, TreeKind::Header),
-        (b"tree 1\nnode 1\n", 2, TreeKind::Header),
-        (b"tree 1\nnodes 1 1\n", 2, TreeKind::Header),
-        (b"tree 1\nnodes 0\n", 2, TreeKind::Count),
-        (b"tree 1\nnodes x\n", 2, TreeKind::Number),
-        (b"tree 1\nnodes 5\n6 1 9 1\n", 3, TreeKind::Parent),
-        (b"tree 1\nnodes 5\n2 1 9\n", 3, TreeKind::Number),
-        (b"tree 1\nnodes 5\n2 1 9 0 1\n", 3, TreeKind::Number),
-        (b"tree 2\nnodes 5\n2 1 9 1\n", 3, TreeKind::Number),
-        (b"tree 1\nnodes 5\n2 1 9 0\n", 3, TreeKind::Number),
-        (
-            b"tree 1\nnodes 5\n2 1 18446744073709551616 1\n",
-            3,
-            TreeKind::Number,
-        ),
-        (b"tree 1\nnodes 5\n2 -1 9 1\n", 3, TreeKind::Number),
-        (b"tree 1\nnodes 5\n2 1\x009 9 1\n", 3, TreeKind::Number),
-        (
-            b"tree 1\nnodes 2\n2 0 0 1\n1 0 0 1\nend\n",
-            3,
-            TreeKind::Cycle,
-        ),
-        (
-            b"tree 1\nnodes 3\n0 0 0 1\n\n3 0 0 1\n3 0 0 1\nend\n",
-            5,
-            TreeKind::Cycle,
-        ),
-        (
-            b"tree 2\nnodes 2\n2 4 0 0 1\n0 3 2 5 1\nend\n",
-            4,
-            TreeKind::Share,
-        ),
-        (
-            b"tree 2\nnodes 2\n2 6 0 0 1\n0 3 2 6 1\nend\n",
-            4,
-            TreeKind::Share,
-        ),
-    ];
-    for (text, line, kind) in texts {
+    for (text, line, kind) in REFUSED_TEXTS {
         let want = Some(Refusal::Format(Fault { line, kind }));
         assert_eq!(rt; refusal_of(alloc, text), want, "at line {line}, {kind:?}");
     }
-    let limits: [(&[u8], LimitName); 5] = [
-        (b"tree 1\nnodes 1000001\n", LimitName::Tasks),
-        (
-            b"tree 1\nnodes 1\n0 1099511627777 0 1\nend\n",
-            LimitName::Size,
-        ),
-        (
-            b"tree 1\nnodes 1\n0 0 1099511627777 1\nend\n",
-            LimitName::Size,
-        ),
-        (
-            b"tree 1\nnodes 1\n0 1 1 1099511627777\nend\n",
-            LimitName::Time,
-        ),
-        (
-            b"tree 1\nnodes 1\n0 1099511627777 1 1099511627777\nend\n",
-            LimitName::Size,
-        ),
-    ];
-    for (text, name) in limits {
+    for (text, name) in LIMITS {
         assert_eq!(rt;
             refusal_of(alloc, text),
             Some(Refusal::Limit(name)),
