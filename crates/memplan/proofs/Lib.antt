@@ -3,3 +3,4 @@ pub mod AnswerLemmas
 pub mod PageLemmas
 pub mod WordLemmas
 pub mod CertifiedLemmas
+pub mod PlanningLemmas

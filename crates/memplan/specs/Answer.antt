@@ -25,8 +25,10 @@ use Rattle.sp_terms.specs.SystemOfTerm.{system_of_term}
 use Rattle.sp_terms.specs.WorkflowFile.{ReadsWorkflow, RefusesWorkflow}
 use Rattle.ordering.specs.OrderFile.{ReadsOrder, RefusesOrder}
 use Rattle.ordering.specs.PermFile.{ReadsPerm, RefusesPerm}
-use Rattle.plan_text.specs.Plan.{PlanText}
+use Rattle.plan_text.specs.Plan.{PlanText, IsPlan}
 use Rattle.plan_text.specs.PlanFile.{ReadsPlan, RefusesPlan}
+use Rattle.plan_text.specs.Printed as plans
+use Rattle.claim_check.specs.Accepted as judged
 use Rattle.claim_check.specs.declared.objection.Objection.{Objection}
 use Rattle.claim_check.specs.declared.objection.Objection.TheVariants as objections
 use Rattle.claim_check.specs.declared.verdict.Verdict.{Verdict}
@@ -35,7 +37,7 @@ use Rattle.claim_check.specs.Verdicts.{IsVerdict}
 use Rattle.memplan.specs.Analysis.{IsFrontTree}
 use Rattle.memplan.specs.declared.status.Status.{Status}
 use Rattle.memplan.specs.declared.status.Status.TheVariants as status
-use Rattle.memplan.specs.Request.{Matrix, TreeInput, tree_named, matrix_named, Input, tree_input, workflow_named, OrderSource, order_named, plan_named, Request, replay, tree, post, check, FileRole, tree_file, workflow_file, matrix_file, perm_file, order_file, plan_file, NamedFile, files_of}
+use Rattle.memplan.specs.Request.{Matrix, TreeInput, tree_named, matrix_named, Input, tree_input, workflow_named, OrderSource, order_named, plan_named, Request, replay, tree, post, check, planning, FileRole, tree_file, workflow_file, matrix_file, perm_file, order_file, plan_file, NamedFile, files_of}
 use Rattle.memplan.specs.Refusals.{limit_word, tree_word, workflow_word, matrix_word, perm_word, order_file_word, plan_word, order_word, shape_word}
 
 pub record Answer : Type 0 where
@@ -239,12 +241,28 @@ IsCheckOf input texts answer =
     (mine : List (List ℕ)) × (text : List ℕ) × (system : TaskSystem) × (positions : List Position) × (plan : PlanText)
     × (texts ≡ mine ++ text ∷ []) × IsSystemWithTerm input mine system positions × IsPlanFile text plan × IsCheck system positions plan answer
 
+-- the plan file of a plan
+abbrev pub plan_answer : PlanText → Answer
+plan_answer plan = record { status = status.Done; text = plans.text_of plan }
+
+-- a plan of the input's system and term that is accepted and has no priority, whichever it is; the texts are those of the input's files
+pub record IsPlanOf (input : Input) (texts : List (List ℕ)) (answer : Answer) : Type 0 where
+  pub system : TaskSystem
+  pub positions : List Position
+  pub with_term : IsSystemWithTerm input texts system positions
+  pub plan : PlanText
+  pub within : IsPlan plan
+  pub accepted : judged.IsAccepted system positions plan
+  pub no_priority : plan.priority ≡ []
+  pub answer_is : answer ≡ plan_answer plan
+
 -- what is answered where all files have values
 abbrev pub IsReport : Request → List (List ℕ) → Answer → Type 0
 IsReport (replay input source) texts answer = IsReplayOf input source texts answer
 IsReport (tree m) texts answer = (nodes : List Node) × IsMatrixTree m texts nodes × (answer ≡ tree_answer nodes)
 IsReport (post input) texts answer = (nodes : List Node) × IsTreeOf input texts nodes × IsPost nodes answer
 IsReport (check input plan workers) texts answer = IsCheckOf input texts answer
+IsReport (planning input) texts answer = IsPlanOf input texts answer
 
 -- the answer to a request over the texts of its files
 abbrev pub IsAnswer : Request → List (List ℕ) → Answer → Type 0

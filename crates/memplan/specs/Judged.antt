@@ -1,9 +1,10 @@
 -- What a judgement of files says of their texts.
-use Rattle.std.specs.Prelude.{◌≡◌, ℕ, ◌<◌, ◌≤◌, List, [], ◌∷◌, Option, Some, None, length, codes}
-use Rattle.claim_check.specs.Accepted.{IsAccepted}
+use Rattle.std.specs.Prelude.{◌≡◌, ℕ, ◌<◌, ◌≤◌, List, [], ◌∷◌, Option, Some, None, length, map, codes}
 use Rattle.mp_outside.specs.Outside.{Rose}
-use Rattle.mp_system.specs.Traversal.{IsLeast}
-use Rattle.plan_text.specs.Plan.{PlanText}
+use Rattle.mp_system.specs.Renaming.{IsRenamed, name_in}
+use Rattle.mp_system.specs.System.{TaskSystem}
+use Rattle.sp_terms.specs.SystemOfTerm.{system_of_term}
+use Rattle.sp_terms.specs.Values.{IsTerms, term_of}
 use Rattle.memplan.specs.declared.inputs.Order.{Order}
 use Rattle.memplan.specs.declared.inputs.Order.TheVariants as orders
 use Rattle.memplan.specs.declared.inputs.Work.{Work}
@@ -37,9 +38,19 @@ AreJudged told files takes judged =
 abbrev pub IsWorkOf : Input → List (List ℕ) → Work → Type 0
 IsWorkOf input texts work = IsSystemWithTerm input texts work.system work.terms
 
--- an accepted plan for it has a least peak
-abbrev pub AcceptedIsLeast : Work → Type 0
-AcceptedIsLeast work = (plan : PlanText) → IsAccepted work.system work.terms plan → IsLeast work.system plan.peak
+-- the system is the term's own, or the same under these names of its tasks
+abbrev pub IsNamedBy : Option (List ℕ) → TaskSystem → TaskSystem → Type 0
+IsNamedBy None own system = own ≡ system
+IsNamedBy (Some names) own system = IsRenamed names own system
+
+-- the positions are a term within the limits, and the system is that of the term, under the names
+abbrev pub HasTerm : Work → Type 0
+HasTerm work = IsTerms work.terms × IsNamedBy work.names (system_of_term (term_of work.terms)) work.system
+
+-- the tasks of an order, each by its name
+abbrev pub order_named : Option (List ℕ) → List ℕ → List ℕ
+order_named None order = order
+order_named (Some names) order = map (name_in names) order
 
 -- the tasks of an order that was read
 abbrev pub numbers_of : Order → List ℕ

@@ -6,6 +6,7 @@ pub mod Analysis
 pub mod Refusals
 pub mod Answer
 pub mod Certified
+pub mod Planned
 pub mod Clauses
 pub mod Pages
 pub mod Judged

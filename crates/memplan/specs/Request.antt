@@ -41,6 +41,8 @@ pub data Request : Type 0 where
   post : TreeInput → Request
   -- whether a plan, by the name of its file, is accepted for an input; by so many workers
   check : Input → List ℕ → ℕ → Request
+  -- a traversal of least peak, with its certificate
+  planning : Input → Request
 
 -- ---- the options of a matrix
 
@@ -146,6 +148,7 @@ HasWorkers (replay input source) = Unit {0}
 HasWorkers (tree m) = Unit {0}
 HasWorkers (post input) = Unit {0}
 HasWorkers (check input plan workers) = AreWorkers workers
+HasWorkers (planning input) = Unit {0}
 
 abbrev pub with_plan : List Given → Input → Option Request
 with_plan options input =
@@ -156,12 +159,17 @@ with_plan options input =
 abbrev pub check_of : List Given → Option Request
 check_of options = option_and_then (with_plan options) (input_of (codes "--plan" ∷ codes "--workers" ∷ []) options)
 
+-- `plan` and one input
+abbrev pub plan_of : List Given → Option Request
+plan_of options = option_map planning (input_of [] options)
+
 abbrev pub command_of : List ℕ → List Given → Option Request
 command_of command options =
     if bytes_eq command (codes "replay") then replay_of options
     else if bytes_eq command (codes "tree") then tree_request_of options
     else if bytes_eq command (codes "post") then post_of options
     else if bytes_eq command (codes "check") then check_of options
+    else if bytes_eq command (codes "plan") then plan_of options
     else None
 
 abbrev pub distinct_request : List ℕ → List Given → Option Request
@@ -212,3 +220,4 @@ files_of (replay input source) = input_files input ++ source_file source ∷ []
 files_of (tree m) = matrix_files m
 files_of (post input) = tree_input_files input
 files_of (check input plan workers) = input_files input ++ source_file (plan_named plan) ∷ []
+files_of (planning input) = input_files input

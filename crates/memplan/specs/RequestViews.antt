@@ -31,3 +31,4 @@ request_view (commands.Replay r) = requests.replay (input_view r.input) (source_
 request_view (commands.Tree m) = requests.tree (matrix_view m)
 request_view (commands.Post input) = requests.post (tree_input_view input)
 request_view (commands.Check c) = requests.check (input_view c.input) c.plan.now c.workers
+request_view (commands.Plan input) = requests.planning (input_view input)

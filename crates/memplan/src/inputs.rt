@@ -12,13 +12,12 @@ ghost use Rattle.memplan.specs.Request.{matrix_files, perm_files, tree_input_fil
 ghost use Rattle.memplan.specs.RequestViews.{matrix_view, tree_input_view, input_view, source_view};
 ghost use Rattle.memplan.specs.Answer.{IsOrderOf, IsMatrixTree, IsTreeOf, IsSystemOf, IsOrderFrom, IsRefused};
 ghost use Rattle.memplan.specs.Clauses.{AreTold, HasFailed};
-ghost use Rattle.memplan.specs.Judged.{IsJudged, AreJudged, IsRefusedOrder, HasRisen, IsWorkOf, AcceptedIsLeast, numbers_of};
+ghost use Rattle.memplan.specs.Judged.{IsJudged, AreJudged, IsRefusedOrder, HasRisen, IsWorkOf, HasTerm, numbers_of};
 
 use crate::analysis::front_tree;
 use crate::judge::{Judged, load, order_of, pattern_of, perm_of, plan_of, tree_of, workflow_of};
 use crate::report::Stop;
 use crate::request::{Input, Matrix, OrderSource, TreeInput};
-use claim_check::laws::accepted_law;
 use mp_outside::Files;
 use mp_system::System;
 use ordering::{Perm, identity};
@@ -26,7 +25,7 @@ use plan_text::PlanFile;
 use sp_terms::{Terms, system_of};
 use std::alloc::{AllocError, Global};
 use tree_input::laws::{forest_law, tree_term};
-use tree_input::{Tree, system_of_tree, terms_of_tree};
+use tree_input::{Names, Tree, system_of_tree, terms_of_tree};
 
 // The order of elimination of a matrix of `n` vertices: of a permutation file, if one is named, or 1, 2, .., n.
 fn judge_perm<F: Files>(
@@ -141,14 +140,15 @@ pub fn judge_input<F: Files>(
 pub struct Work {
     pub system: System,
     pub terms: Terms,
+    /// What the tasks of the term are called in the system; without names each has its own number.
+    pub names: Option<Names>,
 }
 
 fn work_of_tree(alloc: Global, tree: &Tree) -> Result<Work, AllocError>
     ensures system { IfOk result (λ work. work.system ≡ system_of_nodes tree.now) }
     ensures terms { IfOk result (λ work. (forest : Forest) × IsForestOf tree.now forest × (work.terms ≡ forest_positions tree.now forest)) }
-    ensures least { IfOk result AcceptedIsLeast }
+    ensures names { IfOk result HasTerm }
 {
-    accepted_law();
     forest_law();
     tree_term();
     let _nodes = tree.nodes();
@@ -157,18 +157,22 @@ fn work_of_tree(alloc: Global, tree: &Tree) -> Result<Work, AllocError>
     Ok(Work {
         system,
         terms: named.terms,
+        names: Some(named.names),
     })
 }
 
 fn work_of_terms(alloc: Global, terms: Terms) -> Result<Work, AllocError>
     ensures system { IfOk result (λ work. work.system ≡ system_of_term (term_of terms)) }
     ensures terms { IfOk result (λ work. (work.terms ≡ terms) × IsTerms terms) }
-    ensures least { IfOk result AcceptedIsLeast }
+    ensures names { IfOk result HasTerm }
 {
-    accepted_law();
     let _positions = terms.len();
     let system = system_of(alloc, &terms)?;
-    Ok(Work { system, terms })
+    Ok(Work {
+        system,
+        terms,
+        names: None,
+    })
 }
 
 // The system and the term of a workflow file.
@@ -178,7 +182,7 @@ fn judge_workflow_work<F: Files>(
     name: &str,
 ) -> Result<Judged<Work>, Stop>
     ensures told { IfOk result (AreJudged (F.bytes_of files.old) (input_files (spec.workflow_named name.now)) (IsWorkOf (spec.workflow_named name.now))) }
-    ensures least { IfOk result (IsJudged AcceptedIsLeast (λ _. Unit {0})) }
+    ensures names { IfOk result (IsJudged HasTerm (λ _. Unit {0})) }
     ensures cause { result ≡ Err Stop.ReadFault → HasFailed (F.bytes_of files.old) (F.faults_of files.old) (F.faults_of files.new) (input_files (spec.workflow_named name.now)) }
     ensures same { (other : List ℕ) → F.bytes_of files.new other ≡ F.bytes_of files.old other }
     ensures later { (other : List ℕ) → F.faults_of files.old other ≤ F.faults_of files.new other }
@@ -197,7 +201,7 @@ pub fn judge_work<F: Files>(
     input: Input<'_>,
 ) -> Result<Judged<Work>, Stop>
     ensures told { IfOk result (AreJudged (F.bytes_of files.old) (input_files (input_view input.entry)) (IsWorkOf (input_view input.entry))) }
-    ensures least { IfOk result (IsJudged AcceptedIsLeast (λ _. Unit {0})) }
+    ensures names { IfOk result (IsJudged HasTerm (λ _. Unit {0})) }
     ensures cause { result ≡ Err Stop.ReadFault → HasFailed (F.bytes_of files.old) (F.faults_of files.old) (F.faults_of files.new) (input_files (input_view input.entry)) }
     ensures same { (other : List ℕ) → F.bytes_of files.new other ≡ F.bytes_of files.old other }
     ensures later { (other : List ℕ) → F.faults_of files.old other ≤ F.faults_of files.new other }

@@ -1,4 +1,4 @@
-//! memplan: the peak memory of an order of tasks.
+//! memplan orders tasks so that their temporary data needs as little memory as possible, and proves it.
 #![tactic(auto)]
 
 mod analysis;
@@ -6,6 +6,7 @@ mod inputs;
 mod judge;
 mod kind_words;
 mod page;
+mod planning;
 mod report;
 mod request;
 mod run;

@@ -2,7 +2,7 @@
 
 ghost use Rattle.std.specs.Prelude.{◌≡◌, ◌<◌, ◌^◌, ◌++◌, ◌∷◌, [], map, codes, decimal, IfOk, OnOk, IsTrue};
 ghost use Rattle.mp_text.specs.Report.{is_token, is_line_start, line_text, text_of_lines};
-ghost use Rattle.memplan.specs.Answer.{format_refused, limit_refused, order_refused, peak_answer, tree_answer, post_answer, verdict_answer};
+ghost use Rattle.memplan.specs.Answer.{format_refused, limit_refused, order_refused, peak_answer, tree_answer, post_answer, verdict_answer, plan_answer};
 ghost use Rattle.memplan.specs.Refusals.{limit_word as limit_text};
 ghost use Rattle.claim_check.specs.declared.objection.Objection.TheVariants as objections;
 ghost use Rattle.claim_check.specs.declared.verdict.Verdict.TheVariants as verdicts;
@@ -13,6 +13,7 @@ use claim_check::{Objection, Shape, Verdict};
 use mp_system::OrderFault;
 use mp_text::laws::{printed_line, printed_number};
 use mp_text::{LimitName, Report};
+use plan_text::{PlanFile, print_plan};
 use std::alloc::{AllocError, Global};
 use tree_input::{Tree, print_tree};
 
@@ -245,6 +246,18 @@ fn no_claim_page(alloc: Global, position: u32, shape: Shape) -> Result<Page, All
     report.end_line()?;
     Ok(Page {
         kind: PageKind::No,
+        report,
+    })
+}
+
+/// A plan file.
+pub fn plan_page(alloc: Global, plan: &PlanFile) -> Result<Page, AllocError>
+    ensures { IfOk result (λ page. answer_of page ≡ plan_answer plan.now) }
+{
+    let mut report = Report::new(alloc);
+    print_plan(plan, &mut report)?;
+    Ok(Page {
+        kind: PageKind::Done,
         report,
     })
 }

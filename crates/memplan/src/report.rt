@@ -2,22 +2,27 @@
 
 ghost use Rattle.std.specs.Prelude.{◌≡◌, ℕ, List, Some, IfOk, Err};
 ghost use Rattle.mp_outside.specs.Outside.{Rose};
-ghost use Rattle.memplan.specs.Request.{AreWorkers, HasWorkers, Input, replay, tree, post, check, files_of};
+ghost use Rattle.memplan.specs.Request as spec;
+ghost use Rattle.memplan.specs.Request.{AreWorkers, HasWorkers, replay, tree, post, check, planning, files_of};
 ghost use Rattle.memplan.specs.RequestViews.{matrix_view, tree_input_view, input_view, source_view, request_view};
-ghost use Rattle.memplan.specs.Answer.{IsReplay, IsPost, IsCheck, tree_answer};
+ghost use Rattle.memplan.specs.Answer.{IsReplay, IsPost, IsCheck, IsPlanOf, tree_answer};
 ghost use Rattle.memplan.specs.Certified.{IsCertified};
+ghost use Rattle.memplan.specs.Planned.{IsBestPlan};
 ghost use Rattle.memplan.specs.Clauses.{AreTold, SomeAnswer, HasFailed};
 ghost use Rattle.memplan.specs.declared.status.Status.TheVariants.{Done};
 ghost use Rattle.memplan.specs.Pages.{answer_of};
 
 use crate::inputs::{Work, judge_input, judge_matrix, judge_order, judge_tree, judge_work};
 use crate::judge::{Judged, load, plan_of};
-use crate::page::{Page, order_page, peak_page, post_page, tree_page, verdict_page};
-use crate::request::{CheckNames, Matrix, ReplayNames, Request, TreeInput};
+use crate::page::{Page, order_page, peak_page, plan_page, post_page, tree_page, verdict_page};
+use crate::planning::plan_work;
+use crate::request::{CheckNames, Input, Matrix, ReplayNames, Request, TreeInput};
 use claim_check::check as check_plan;
+use claim_check::laws::accepted_law;
 use mp_outside::{Files, Gate};
 use mp_system::{ReplayRefusal, System, replay as replay_system};
 use plan_text::PlanFile;
+use plan_text::laws::{printed_length, printed_plan};
 use postorder_best::best_postorder;
 use std::alloc::{AllocError, Global};
 use std::thread::Threads;
@@ -129,6 +134,7 @@ fn report_check<R: Threads + Sync, F: Files, G: Gate>(
         → IsCertified (input_view names.entry.input) texts (answer_of page).text) }
     ensures cause { result ≡ Err Stop.ReadFault → HasFailed (F.bytes_of files.old) (F.faults_of files.old) (F.faults_of files.new) (files_of (check (input_view names.entry.input) names.entry.plan.now names.entry.workers)) }
 {
+    accepted_law();
     let work = match judge_work(alloc, files, names.input)? {
         Judged::Taken(work) => work,
         Judged::Refused(page) => return Ok(page),
@@ -141,6 +147,23 @@ fn report_check<R: Threads + Sync, F: Files, G: Gate>(
     Ok(check_page(rt, alloc, &work, &plan, names.workers, gate)?)
 }
 
+fn report_plan<F: Files>(alloc: Global, files: &mut F, input: Input<'_>) -> Result<Page, Stop>
+    ensures told { IfOk result (λ page. SomeAnswer (F.bytes_of files.old) (planning (input_view input.entry)) (λ answer. answer_of page ≡ answer)) }
+    ensures planned { IfOk result (λ page. (answer_of page).status ≡ Done → (texts : List (List ℕ))
+        → AreTold (F.bytes_of files.old) (files_of (planning (input_view input.entry))) texts → IsBestPlan (input_view input.entry) texts (answer_of page).text) }
+    ensures cause { result ≡ Err Stop.ReadFault → HasFailed (F.bytes_of files.old) (F.faults_of files.old) (F.faults_of files.new) (files_of (planning (input_view input.entry))) }
+{
+    accepted_law();
+    printed_plan();
+    printed_length();
+    let work = match judge_work(alloc, files, input)? {
+        Judged::Taken(work) => work,
+        Judged::Refused(page) => return Ok(page),
+    };
+    let plan = plan_work(alloc, &work)?;
+    Ok(plan_page(alloc, &plan)?)
+}
+
 /// The page that answers a request. `rt` and `gate` are for the threads of the checker.
 pub fn report<R: Threads + Sync, F: Files, G: Gate>(
     rt: &R,
@@ -151,9 +174,11 @@ pub fn report<R: Threads + Sync, F: Files, G: Gate>(
 ) -> Result<Page, Stop>
     requires { HasWorkers (request_view request) }
     ensures told { IfOk result (λ page. SomeAnswer (F.bytes_of files.old) (request_view request.entry) (λ answer. answer_of page ≡ answer)) }
-    ensures certified { IfOk result (λ page. (answer_of page).status ≡ Done → (input : Input) (plan : List ℕ) (workers : ℕ)
+    ensures certified { IfOk result (λ page. (answer_of page).status ≡ Done → (input : spec.Input) (plan : List ℕ) (workers : ℕ)
         → request_view request.entry ≡ check input plan workers → (texts : List (List ℕ))
         → AreTold (F.bytes_of files.old) (files_of (check input plan workers)) texts → IsCertified input texts (answer_of page).text) }
+    ensures planned { IfOk result (λ page. (answer_of page).status ≡ Done → (input : spec.Input) → request_view request.entry ≡ planning input
+        → (texts : List (List ℕ)) → AreTold (F.bytes_of files.old) (files_of (planning input)) texts → IsBestPlan input texts (answer_of page).text) }
     ensures cause { result ≡ Err Stop.ReadFault → HasFailed (F.bytes_of files.old) (F.faults_of files.old) (F.faults_of files.new) (files_of (request_view request.entry)) }
 {
     match request {
@@ -161,5 +186,6 @@ pub fn report<R: Threads + Sync, F: Files, G: Gate>(
         Request::Tree(matrix) => report_tree(alloc, files, matrix),
         Request::Post(input) => report_post(alloc, files, input),
         Request::Check(names) => report_check(rt, alloc, files, names, gate),
+        Request::Plan(input) => report_plan(alloc, files, input),
     }
 }

@@ -1,6 +1,6 @@
 ghost use Rattle.std.specs.Prelude.{◌≡◌, ◌≤◌, ◌++◌, List, MatchOption, IfOk, IfSome, Some, None, map, string_bytes, option_map};
 ghost use Rattle.memplan.specs.Request as spec;
-ghost use Rattle.memplan.specs.Request.{is_second, chooses_order, zeros_within, zeros_of, matrix_of, matrix_among, tree_input_of, input_of, replay_of, tree_request_of, post_of, source_of, workers_within, workers_or_one, check_of, command_of, request_of, AreWorkers, HasWorkers};
+ghost use Rattle.memplan.specs.Request.{is_second, chooses_order, zeros_within, zeros_of, matrix_of, matrix_among, tree_input_of, input_of, replay_of, tree_request_of, post_of, source_of, workers_within, workers_or_one, check_of, plan_of, command_of, request_of, AreWorkers, HasWorkers};
 ghost use Rattle.memplan.specs.RequestViews.{matrix_view, tree_input_view, input_view, source_view, request_view};
 ghost use Rattle.memplan.specs.GivenViews.{given_views};
 
@@ -70,6 +70,8 @@ pub enum Request<'a> {
     Post(TreeInput<'a>),
     /// Whether the plan is accepted for the input.
     Check(CheckNames<'a>),
+    /// A traversal of least peak, with its certificate.
+    Plan(Input<'a>),
 }
 
 // ---- the options of a matrix
@@ -262,6 +264,14 @@ fn check_of<'a>(options: &[Given<'a>]) -> Option<Request<'a>>
     }))
 }
 
+fn plan_of<'a>(options: &[Given<'a>]) -> Option<Request<'a>>
+    ensures value { option_map request_view result ≡ plan_of (given_views options.now) }
+    ensures workers { IfSome result (λ request. HasWorkers (request_view request)) }
+{
+    let input = input_of(options, &[])?;
+    Some(Request::Plan(input))
+}
+
 fn command_of<'a>(command: &str, options: &[Given<'a>]) -> Option<Request<'a>>
     ensures value { option_map request_view result ≡ command_of command.now (given_views options.now) }
     ensures workers { IfSome result (λ request. HasWorkers (request_view request)) }
@@ -271,6 +281,7 @@ fn command_of<'a>(command: &str, options: &[Given<'a>]) -> Option<Request<'a>>
         "tree" => tree_request_of(options),
         "post" => post_of(options),
         "check" => check_of(options),
+        "plan" => plan_of(options),
         _ => None,
     }
 }

@@ -1,8 +1,9 @@
 ghost use Rattle.std.specs.Prelude.{◌≡◌, ◌↔◌, ◌⊎◌, ℕ, List, Some, None, map, string_bytes};
 ghost use Rattle.mp_outside.specs.Outside.{Rose, Appended};
-ghost use Rattle.memplan.specs.Request.{Input, Request, check, request_of, files_of};
+ghost use Rattle.memplan.specs.Request.{Input, Request, check, planning, request_of, files_of};
 ghost use Rattle.memplan.specs.Pages.{status_of};
 ghost use Rattle.memplan.specs.Certified.{IsCertified};
+ghost use Rattle.memplan.specs.Planned.{IsBestPlan};
 ghost use Rattle.memplan.specs.Clauses.{AreTold, HasText, IsAnswered, IsCutShort, HasFailed, AreQuiet};
 
 use crate::page::PageKind;
@@ -35,6 +36,12 @@ pub fn run_words<R: Threads + Sync, F: Files, S: Sink, G: Gate>(
         → request_of (map (λ w. string_bytes w) words.now) ≡ Some (check input plan workers)
         → (texts : List (List ℕ)) → AreTold (F.bytes_of files.old) (files_of (check input plan workers)) texts
         → (printed : List ℕ) × IsCertified input texts printed × Appended (S.written sink.old) (S.written sink.new) printed }
+
+    // where a plan was made, what was printed is a plan file: its order is a traversal of the input's system, its peak is the one that it
+    // states, no traversal has a lower one, and `check` says yes to it
+    ensures planned { result ≡ Status.Done → (input : Input) → request_of (map (λ w. string_bytes w) words.now) ≡ Some (planning input)
+        → (texts : List (List ℕ)) → AreTold (F.bytes_of files.old) (files_of (planning input)) texts
+        → (printed : List ℕ) × IsBestPlan input texts printed × Appended (S.written sink.old) (S.written sink.new) printed }
 
     // nothing is appended at usage, read fault and want of memory
     ensures silent { (result ≡ Status.Usage) ⊎ ((result ≡ Status.ReadFault) ⊎ (result ≡ Status.NoMemory)) → S.written sink.new ≡ S.written sink.old }

@@ -1,5 +1,6 @@
 //! The top call over files and a sink in memory.
 
+mod certified_plans;
 mod faults;
 mod limits;
 mod matrices;

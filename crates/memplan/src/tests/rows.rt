@@ -137,7 +137,7 @@ fn words_without_a_request(rt: HostRuntime) -> Result<(), Fail> {
         &["replay", "tree", "t", "order", "o"],
         &["Replay", "--tree", "t", "--order", "o"],
         &["--tree", "t", "replay", "--order", "o"],
-        &["plan", "--tree", "t"],
+        &["order", "--tree", "t"],
         &["replay", "--tree", "t", "--workflow", "t", "--order", "o"],
         &["replay", "--workflow", "t"],
     ];

@@ -5,13 +5,14 @@ use Rattle.plan_text.specs.PlanFile.{RefusesPlan}
 use Rattle.memplan.specs.Refusals.{plan_word}
 use Rattle.memplan.specs.Answer.{IsFirstRefusal, IsPlanFile, IsRefusedFile}
 use Rattle.memplan.specs.Certified.{IsCertified}
-use Rattle.memplan.specs.Judged.{IsJudged, IsWorkOf, AcceptedIsLeast}
+use Rattle.memplan.specs.Judged.{IsJudged, IsWorkOf, HasTerm}
 use Rattle.memplan.specs.Pages.{answer_of}
 use Rattle.memplan.specs.Request.{NamedFile, plan_file, check, input_files}
 use Rattle.memplan.specs.RequestViews.{input_view}
 use Rattle.memplan.specs.declared.report.Stop.{Stop}
 use Rattle.memplan.specs.declared.report.Stop.TheVariants as stops
 use Rattle.memplan.proofs.AnswerLemmas.{input_accepted, work_has_system, input_refused, last_refused, reported, over_both, input_failed, last_failed, Rose-later}
+use Rattle.memplan.proofs.PlanningLemmas.{accepted_is_least}
 use Rattle.memplan.proofs.CertifiedLemmas.{first_refusal, refused_file, yes_certifies}
 use Rattle.memplan.proofs.report.report_check.Goals as goal
 
@@ -110,5 +111,5 @@ returns-clause-certified g c = λ done.
     (subst (λ j. IsJudged (IsWorkOf input mine) (IsFirstRefusal (input_files input) [] mine) j) c.in-Taken.is (c.in_ok-work.ensures.told mine are)))
     (subst (λ j. IsJudged (IsPlanFile text) (IsRefusedFile (codes "plan") plan_word (RefusesPlan text) text) j) c.in-Taken-2.is
     (c.in_ok-plan.ensures text (c.in_ok-loaded.ensures.told text (c.in_ok-work.ensures.same plan ∙ is))))
-    (subst (λ j. IsJudged AcceptedIsLeast (λ _. Unit {0}) j) c.in-Taken.is c.in_ok-work.ensures.least)
+    (accepted_is_least c.accepted_law.ensures.own c.accepted_law.ensures.renamed c.in-Taken.work (subst (λ j. IsJudged HasTerm (λ _. Unit {0}) j) c.in-Taken.is c.in_ok-work.ensures.names))
     c.in_ok-check_page.ensures done)
