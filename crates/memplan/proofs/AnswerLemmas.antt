@@ -101,7 +101,7 @@ alone_judged told file takes all to judged h =
 pub alone_failed : (told : List ℕ → Option (List ℕ)) (before after : List ℕ → ℕ) (file : NamedFile) → Rose (before file.name) (after file.name) → HasFailed told before after (file ∷ [])
 alone_failed told before after file rose = failed_after told before after [] file [] (λ texts are. tt) rose
 
-told_same : (old new : List ℕ → Option (List ℕ)) → ((name : List ℕ) → new name ≡ old name) → (files : List NamedFile) (texts : List (List ℕ)) → AreTold old files texts → AreTold new files texts
+pub told_same : (old new : List ℕ → Option (List ℕ)) → ((name : List ℕ) → new name ≡ old name) → (files : List NamedFile) (texts : List (List ℕ)) → AreTold old files texts → AreTold new files texts
 told_same old new same [] [] are = tt
 told_same old new same [] (t ∷ texts) are = are
 told_same old new same (f ∷ fs) [] are = are

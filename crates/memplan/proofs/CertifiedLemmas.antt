@@ -20,7 +20,7 @@ use Rattle.claim_check.specs.declared.verdict.Verdict.{Verdict}
 use Rattle.claim_check.specs.declared.verdict.Verdict.TheVariants as verdicts
 use Rattle.memplan.specs.Answer.{Answer, IsRefusedAs, IsRefusedFile, IsRefusedPerm, IsRefused, IsFirstRefusal, IsCheck, IsPlanFile, IsSystemOf, yes_line, verdict_answer}
 use Rattle.memplan.specs.Certified.{IsCertified}
-use Rattle.memplan.specs.Request.{Input, FileRole, NamedFile, tree_file, workflow_file, matrix_file, perm_file, order_file, plan_file}
+use Rattle.memplan.specs.Request.{Input, FileRole, NamedFile, tree_file, workflow_file, matrix_file, perm_file, order_file, plan_file, priority_file}
 use Rattle.memplan.specs.declared.status.Status.TheVariants as status
 
 -- ---- no refusal is done
@@ -46,6 +46,8 @@ refused matrix_file earlier text answer r done = refused_file (codes "matrix") m
 refused perm_file earlier text answer r done = refused_perm earlier text answer r done
 refused order_file earlier text answer r done = refused_file (codes "order") order_file_word (RefusesOrder text) text answer r done
 refused plan_file earlier text answer r done = refused_file (codes "plan") plan_word (RefusesPlan text) text answer r done
+refused (priority_file input) earlier text answer (mine, one, system, split, is, r) done =
+    refused_file (codes "priority") perm_word (RefusesPerm (length system.tasks) text) text answer r done
 
 pub first_refusal : (files : List NamedFile) (earlier texts : List (List ℕ)) (answer : Answer) → IsFirstRefusal files earlier texts answer → answer.status ≡ status.Done → ⊥
 first_refusal [] earlier texts answer r done = r

@@ -4,3 +4,6 @@ pub mod PageLemmas
 pub mod WordLemmas
 pub mod CertifiedLemmas
 pub mod PlanningLemmas
+pub mod SimulatingLemmas
+pub mod PriorityLemmas
+pub mod RunLemmas

@@ -34,10 +34,14 @@ use Rattle.claim_check.specs.declared.objection.Objection.TheVariants as objecti
 use Rattle.claim_check.specs.declared.verdict.Verdict.{Verdict}
 use Rattle.claim_check.specs.declared.verdict.Verdict.TheVariants as verdicts
 use Rattle.claim_check.specs.Verdicts.{IsVerdict}
+use Rattle.activation.specs.declared.events.Event.{Event}
+use Rattle.activation.specs.Machine.{Setting}
+use Rattle.activation.specs.Schedule.{IsSchedule, first_moment}
 use Rattle.memplan.specs.Analysis.{IsFrontTree}
 use Rattle.memplan.specs.declared.status.Status.{Status}
 use Rattle.memplan.specs.declared.status.Status.TheVariants as status
-use Rattle.memplan.specs.Request.{Matrix, TreeInput, tree_named, matrix_named, Input, tree_input, workflow_named, OrderSource, order_named, plan_named, Request, replay, tree, post, check, planning, FileRole, tree_file, workflow_file, matrix_file, perm_file, order_file, plan_file, NamedFile, files_of}
+use Rattle.memplan.specs.Request.{Matrix, TreeInput, tree_named, matrix_named, Input, tree_input, workflow_named, OrderSource, order_named, plan_named, Request, replay, tree, post, check, planning, simulate, Simulation, FileRole, tree_file, workflow_file, matrix_file, perm_file, order_file, plan_file, priority_file, NamedFile, files_of}
+use Rattle.memplan.specs.Traces.{trace_lines}
 use Rattle.memplan.specs.Refusals.{limit_word, tree_word, workflow_word, matrix_word, perm_word, order_file_word, plan_word, order_word, shape_word}
 
 pub record Answer : Type 0 where
@@ -57,6 +61,11 @@ limit_refused file name = record { status = status.Limit; text = line_text (code
 -- `no order PLACE KIND`
 abbrev pub order_refused : ℕ → OrderKind → Answer
 order_refused place kind = record { status = status.No; text = line_text (codes "no" ∷ codes "order" ∷ decimal place ∷ order_word kind ∷ []) }
+
+-- `refused bound BOUND PEAK`
+abbrev pub bound_refused : ℕ → ℕ → Answer
+bound_refused bound peak =
+    record { status = status.Bound; text = line_text (codes "refused" ∷ codes "bound" ∷ decimal bound ∷ decimal peak ∷ []) }
 
 -- the line of a refusal of a file; with the word for the file, and the words for its kinds
 abbrev pub IsRefusedAs : {K : Type 0} → List ℕ → (K → List ℕ) → Refusal K → Answer → Type 0
@@ -95,34 +104,6 @@ IsOrder text numbers = IsWithinBytes text × ReadsOrder text numbers
 abbrev pub IsPlanFile : List ℕ → PlanText → Type 0
 IsPlanFile text plan = IsWithinBytes text × ReadsPlan text plan
 
--- a permutation file stands after the matrix file whose vertices it orders
-abbrev pub IsRefusedPerm : List (List ℕ) → List ℕ → Answer → Type 0
-IsRefusedPerm [] text answer = ⊥
-IsRefusedPerm (matrix ∷ earlier) text answer =
-    (rows : List (List ℕ)) × IsMatrix matrix rows × IsRefusedFile (codes "perm") perm_word (RefusesPerm (length rows) text) text answer
-
-abbrev pub IsAcceptedPerm : List (List ℕ) → List ℕ → Type 0
-IsAcceptedPerm [] text = ⊥
-IsAcceptedPerm (matrix ∷ earlier) text = (rows : List (List ℕ)) × (order : List ℕ) × IsMatrix matrix rows × IsPerm (length rows) text order
-
--- the file is refused with this answer, after these texts of earlier files
-abbrev pub IsRefused : FileRole → List (List ℕ) → List ℕ → Answer → Type 0
-IsRefused tree_file earlier text answer = IsRefusedFile (codes "tree") tree_word (RefusesTree text) text answer
-IsRefused workflow_file earlier text answer = IsRefusedFile (codes "workflow") workflow_word (RefusesWorkflow text) text answer
-IsRefused matrix_file earlier text answer = IsRefusedFile (codes "matrix") matrix_word (RefusesPattern text) text answer
-IsRefused perm_file earlier text answer = IsRefusedPerm earlier text answer
-IsRefused order_file earlier text answer = IsRefusedFile (codes "order") order_file_word (RefusesOrder text) text answer
-IsRefused plan_file earlier text answer = IsRefusedFile (codes "plan") plan_word (RefusesPlan text) text answer
-
--- the file has a value, after these texts of earlier files
-abbrev pub IsAccepted : FileRole → List (List ℕ) → List ℕ → Type 0
-IsAccepted tree_file earlier text = (nodes : List Node) × IsTree text nodes
-IsAccepted workflow_file earlier text = (positions : List Position) × IsWorkflow text positions
-IsAccepted matrix_file earlier text = (rows : List (List ℕ)) × IsMatrix text rows
-IsAccepted perm_file earlier text = IsAcceptedPerm earlier text
-IsAccepted order_file earlier text = (numbers : List ℕ) × IsOrder text numbers
-IsAccepted plan_file earlier text = (plan : PlanText) × IsPlanFile text plan
-
 -- ---- inputs
 
 -- the order of elimination that a matrix comes with: of its permutation file, or 1, 2, .., n
@@ -152,6 +133,51 @@ IsSystemOf (workflow_named name) [] system = ⊥
 IsSystemOf (workflow_named name) (text ∷ []) system =
     (positions : List Position) × (term : Term) × IsWorkflow text positions × Denotes positions term × (system ≡ system_of_term term)
 IsSystemOf (workflow_named name) (text ∷ more ∷ texts) system = ⊥
+
+-- ---- files, after those that are judged before them
+
+-- a permutation file stands after the matrix file whose vertices it orders
+abbrev pub IsRefusedPerm : List (List ℕ) → List ℕ → Answer → Type 0
+IsRefusedPerm [] text answer = ⊥
+IsRefusedPerm (matrix ∷ earlier) text answer =
+    (rows : List (List ℕ)) × IsMatrix matrix rows × IsRefusedFile (codes "perm") perm_word (RefusesPerm (length rows) text) text answer
+
+abbrev pub IsAcceptedPerm : List (List ℕ) → List ℕ → Type 0
+IsAcceptedPerm [] text = ⊥
+IsAcceptedPerm (matrix ∷ earlier) text = (rows : List (List ℕ)) × (order : List ℕ) × IsMatrix matrix rows × IsPerm (length rows) text order
+
+-- a priority file stands after the files of the input whose tasks it ranks, and that of the order
+abbrev pub IsRefusedPriority : Input → List (List ℕ) → List ℕ → Answer → Type 0
+IsRefusedPriority input earlier text answer =
+    (mine : List (List ℕ)) × (one : List ℕ) × (system : TaskSystem) × (earlier ≡ mine ++ one ∷ []) × IsSystemOf input mine system
+    × IsRefusedFile (codes "priority") perm_word (RefusesPerm (length system.tasks) text) text answer
+
+abbrev pub IsAcceptedPriority : Input → List (List ℕ) → List ℕ → Type 0
+IsAcceptedPriority input earlier text =
+    (mine : List (List ℕ)) × (one : List ℕ) × (system : TaskSystem) × (priority : List ℕ) × (earlier ≡ mine ++ one ∷ [])
+    × IsSystemOf input mine system × IsPerm (length system.tasks) text priority
+
+-- the file is refused with this answer, after these texts of earlier files
+abbrev pub IsRefused : FileRole → List (List ℕ) → List ℕ → Answer → Type 0
+IsRefused tree_file earlier text answer = IsRefusedFile (codes "tree") tree_word (RefusesTree text) text answer
+IsRefused workflow_file earlier text answer = IsRefusedFile (codes "workflow") workflow_word (RefusesWorkflow text) text answer
+IsRefused matrix_file earlier text answer = IsRefusedFile (codes "matrix") matrix_word (RefusesPattern text) text answer
+IsRefused perm_file earlier text answer = IsRefusedPerm earlier text answer
+IsRefused order_file earlier text answer = IsRefusedFile (codes "order") order_file_word (RefusesOrder text) text answer
+IsRefused plan_file earlier text answer = IsRefusedFile (codes "plan") plan_word (RefusesPlan text) text answer
+IsRefused (priority_file input) earlier text answer = IsRefusedPriority input earlier text answer
+
+-- the file has a value, after these texts of earlier files
+abbrev pub IsAccepted : FileRole → List (List ℕ) → List ℕ → Type 0
+IsAccepted tree_file earlier text = (nodes : List Node) × IsTree text nodes
+IsAccepted workflow_file earlier text = (positions : List Position) × IsWorkflow text positions
+IsAccepted matrix_file earlier text = (rows : List (List ℕ)) × IsMatrix text rows
+IsAccepted perm_file earlier text = IsAcceptedPerm earlier text
+IsAccepted order_file earlier text = (numbers : List ℕ) × IsOrder text numbers
+IsAccepted plan_file earlier text = (plan : PlanText) × IsPlanFile text plan
+IsAccepted (priority_file input) earlier text = IsAcceptedPriority input earlier text
+
+-- ---- inputs with their terms, and orders
 
 -- the system of an input, and the positions of its term: a tree's are those of its forest, children in rising number
 abbrev pub IsSystemWithTerm : Input → List (List ℕ) → TaskSystem → List Position → Type 0
@@ -256,6 +282,48 @@ pub record IsPlanOf (input : Input) (texts : List (List ℕ)) (answer : Answer) 
   pub no_priority : plan.priority ≡ []
   pub answer_is : answer ≡ plan_answer plan
 
+-- ---- simulated runs
+
+-- the priority of a plan that has one, else the order
+abbrev pub priority_or : List ℕ → List ℕ → List ℕ
+priority_or order [] = order
+priority_or order (v ∷ vs) = v ∷ vs
+
+-- the priority without a file: of the plan, where there is one and it has a priority, else the order
+abbrev pub IsOwnPriority : OrderSource → List ℕ → List ℕ → List ℕ → Type 0
+IsOwnPriority (order_named name) text order priority = priority ≡ order
+IsOwnPriority (plan_named name) text order priority = (plan : PlanText) × IsPlanFile text plan × (priority ≡ priority_or order plan.priority)
+
+-- the priority of n tasks, over the text of the order or the plan and those of the files after it
+abbrev pub IsPriorityFrom : OrderSource → Option (List ℕ) → ℕ → List ℕ → List (List ℕ) → List ℕ → List ℕ → Type 0
+IsPriorityFrom source None n text [] order priority = IsOwnPriority source text order priority
+IsPriorityFrom source None n text (file ∷ files) order priority = ⊥
+IsPriorityFrom source (Some name) n text [] order priority = ⊥
+IsPriorityFrom source (Some name) n text (file ∷ []) order priority = IsPerm n file priority
+IsPriorityFrom source (Some name) n text (file ∷ more ∷ files) order priority = ⊥
+
+abbrev pub simulation_answer : Setting → List Event → Answer
+simulation_answer c events = record { status = status.Done; text = text_of_lines (trace_lines c events) }
+
+-- what the machine is given
+abbrev pub setting_of : TaskSystem → List ℕ → Simulation → Setting
+setting_of system order s = record { system = system; order = order; bound = s.bound; workers = s.workers }
+
+-- the order is no traversal, and its first fault is told; or the bound is below its peak; or the run of the setting and the priority is told
+abbrev pub IsSimulation : Setting → List ℕ → Answer → Type 0
+IsSimulation c priority answer =
+    ((place : ℕ) × (kind : OrderKind) × (first_fault c.system c.order ≡ Some (place, kind)) × (answer ≡ order_refused place kind))
+    ⊎ ((IsTraversal c.system c.order × (c.bound < peak_of c.system c.order) × (answer ≡ bound_refused c.bound (peak_of c.system c.order)))
+    ⊎ ((events : List Event) × IsTraversal c.system c.order × (peak_of c.system c.order ≤ c.bound)
+    × IsSchedule c priority (first_moment c) events × (answer ≡ simulation_answer c events)))
+
+-- a simulation: the texts of the input's files, that of the order, and those after it
+abbrev pub IsSimulationOf : Input → OrderSource → Simulation → List (List ℕ) → Answer → Type 0
+IsSimulationOf input source s texts answer =
+    (mine : List (List ℕ)) × (text : List ℕ) × (rest : List (List ℕ)) × (system : TaskSystem) × (order : List ℕ) × (priority : List ℕ)
+    × (texts ≡ mine ++ text ∷ rest) × IsSystemOf input mine system × IsOrderFrom source text order
+    × IsPriorityFrom source s.priority (length system.tasks) text rest order priority × IsSimulation (setting_of system order s) priority answer
+
 -- what is answered where all files have values
 abbrev pub IsReport : Request → List (List ℕ) → Answer → Type 0
 IsReport (replay input source) texts answer = IsReplayOf input source texts answer
@@ -263,6 +331,7 @@ IsReport (tree m) texts answer = (nodes : List Node) × IsMatrixTree m texts nod
 IsReport (post input) texts answer = (nodes : List Node) × IsTreeOf input texts nodes × IsPost nodes answer
 IsReport (check input plan workers) texts answer = IsCheckOf input texts answer
 IsReport (planning input) texts answer = IsPlanOf input texts answer
+IsReport (simulate input source s) texts answer = IsSimulationOf input source s texts answer
 
 -- the answer to a request over the texts of its files
 abbrev pub IsAnswer : Request → List (List ℕ) → Answer → Type 0

@@ -1,5 +1,5 @@
 -- What a judgement of files says of their texts.
-use Rattle.std.specs.Prelude.{◌≡◌, ℕ, ◌<◌, ◌≤◌, List, [], ◌∷◌, Option, Some, None, length, map, codes}
+use Rattle.std.specs.Prelude.{◌≡◌, ℕ, ◌<◌, ◌≤◌, List, [], ◌∷◌, ◌++◌, Option, Some, None, length, map, codes}
 use Rattle.mp_outside.specs.Outside.{Rose}
 use Rattle.mp_system.specs.Renaming.{IsRenamed, name_in}
 use Rattle.mp_system.specs.System.{TaskSystem}
@@ -12,10 +12,14 @@ use Rattle.memplan.specs.declared.judge.Judged.{Judged}
 use Rattle.memplan.specs.declared.judge.Judged.TheVariants.{Taken, Refused}
 use Rattle.memplan.specs.declared.judge.Loaded.{Loaded}
 use Rattle.memplan.specs.declared.judge.Loaded.TheVariants.{Whole, TooLong}
-use Rattle.memplan.specs.Request.{Input, NamedFile}
+use Rattle.memplan.specs.declared.simulating.OrderedSystem.{OrderedSystem}
+use Rattle.memplan.specs.declared.simulating.Priority.{Priority}
+use Rattle.memplan.specs.declared.simulating.Priority.TheVariants as priorities
+use Rattle.memplan.specs.Request.{Input, NamedFile, OrderSource, input_files, source_file}
+use Rattle.ordering.specs.Perm.{IsPerm as IsPermutation}
 use Rattle.ordering.specs.PermFile.{RefusesPerm}
 use Rattle.memplan.specs.Refusals.{perm_word}
-use Rattle.memplan.specs.Answer.{Answer, IsRefusedFile, IsFirstRefusal, IsSystemWithTerm}
+use Rattle.memplan.specs.Answer.{Answer, IsRefusedFile, IsFirstRefusal, IsSystemWithTerm, IsSystemOf, IsOrderFrom, IsOwnPriority, IsPerm, AreAccepted, priority_or}
 use Rattle.memplan.specs.Clauses.{AreTold}
 use Rattle.memplan.specs.Pages.{answer_of}
 
@@ -57,6 +61,11 @@ abbrev pub numbers_of : Order → List ℕ
 numbers_of (orders.Listed numbers) = numbers.items
 numbers_of (orders.Planned plan) = plan.order
 
+-- the priority that comes with an order that was read
+abbrev pub own_priority : Order → List ℕ
+own_priority (orders.Listed numbers) = numbers.items
+own_priority (orders.Planned plan) = priority_or plan.order plan.priority
+
 -- a permutation file of n vertices is refused
 abbrev pub IsRefusedOrder : ℕ → List (List ℕ) → Answer → Type 0
 IsRefusedOrder n [] answer = ⊥
@@ -66,3 +75,36 @@ IsRefusedOrder n (text ∷ texts) answer = IsRefusedFile (codes "perm") perm_wor
 abbrev pub HasRisen : Option (List ℕ) → (List ℕ → ℕ) → (List ℕ → ℕ) → Type 0
 HasRisen None before after = ⊥
 HasRisen (Some name) before after = Rose (before name) (after name)
+
+-- ---- simulated runs
+
+-- the system of an input, and the order of a source with the priority that comes with it
+pub record IsOrderedOf (input : Input) (source : OrderSource) (texts : List (List ℕ)) (work : OrderedSystem) : Type 0 where
+  pub mine : List (List ℕ)
+  pub text : List ℕ
+  pub texts_are : texts ≡ mine ++ text ∷ []
+  pub is_system : IsSystemOf input mine work.system
+  pub is_order : IsOrderFrom source text (numbers_of work.order)
+  pub own : IsOwnPriority source text (numbers_of work.order) (own_priority work.order)
+  pub accepted : AreAccepted (input_files input ++ source_file source ∷ []) [] texts
+
+-- the priority of a file, where one is named
+abbrev pub IsPriorityOf : Option (List ℕ) → ℕ → List (List ℕ) → Priority → Type 0
+IsPriorityOf None n [] priorities.Own = Unit {0}
+IsPriorityOf (Some name) n (text ∷ []) (priorities.Given numbers) = IsPerm n text numbers.items
+IsPriorityOf _ n texts priority = ⊥
+
+-- a priority file of n tasks is refused
+abbrev pub IsRefusedRanking : ℕ → List (List ℕ) → Answer → Type 0
+IsRefusedRanking n [] answer = ⊥
+IsRefusedRanking n (text ∷ texts) answer = IsRefusedFile (codes "priority") perm_word (RefusesPerm n text) text answer
+
+-- what a file gives holds each of 1 to n once
+abbrev pub IsRanking : ℕ → Priority → Type 0
+IsRanking n priorities.Own = Unit {0}
+IsRanking n (priorities.Given numbers) = IsPermutation n numbers.items
+
+-- the priority of a run, beside the order
+abbrev pub priority_beside : Order → Priority → List ℕ
+priority_beside order priorities.Own = own_priority order
+priority_beside order (priorities.Given numbers) = numbers.items

@@ -4,9 +4,11 @@ pub mod Request
 pub mod RequestViews
 pub mod Analysis
 pub mod Refusals
+pub mod Traces
 pub mod Answer
 pub mod Certified
 pub mod Planned
+pub mod Simulated
 pub mod Clauses
 pub mod Pages
 pub mod Judged

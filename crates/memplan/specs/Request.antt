@@ -32,6 +32,14 @@ pub data OrderSource : Type 0 where
   order_named : List ℕ → OrderSource
   plan_named : List ℕ → OrderSource
 
+-- how a run is simulated
+pub record Simulation : Type 0 where
+  -- at most so much memory
+  pub bound : ℕ
+  pub workers : ℕ
+  -- the name of a priority file; with none, the priority is that of the plan, or the order
+  pub priority : Option (List ℕ)
+
 pub data Request : Type 0 where
   -- the peak of the input's system in an order
   replay : Input → OrderSource → Request
@@ -43,6 +51,8 @@ pub data Request : Type 0 where
   check : Input → List ℕ → ℕ → Request
   -- a traversal of least peak, with its certificate
   planning : Input → Request
+  -- the run of the input's system on several workers within a bound, its tasks activated in an order
+  simulate : Input → OrderSource → Simulation → Request
 
 -- ---- the options of a matrix
 
@@ -149,6 +159,7 @@ HasWorkers (tree m) = Unit {0}
 HasWorkers (post input) = Unit {0}
 HasWorkers (check input plan workers) = AreWorkers workers
 HasWorkers (planning input) = Unit {0}
+HasWorkers (simulate input source s) = AreWorkers s.workers
 
 abbrev pub with_plan : List Given → Input → Option Request
 with_plan options input =
@@ -163,6 +174,30 @@ check_of options = option_and_then (with_plan options) (input_of (codes "--plan"
 abbrev pub plan_of : List Given → Option Request
 plan_of options = option_map planning (input_of [] options)
 
+-- a number that is given
+abbrev pub number_given : Option (List ℕ) → Option ℕ
+number_given given = option_and_then number_of given
+
+-- `--bound B` and `--workers N`, and `--priority NAME` if it is given
+abbrev pub simulation_of : List Given → Option Simulation
+simulation_of options =
+    option_and_then (λ bound.
+    option_map (λ workers. record { bound = bound; workers = workers; priority = value_of (codes "--priority") options })
+    (option_and_then workers_within (number_given (value_of (codes "--workers") options))))
+    (number_given (value_of (codes "--bound") options))
+
+abbrev pub with_simulation : List Given → Input → Option Request
+with_simulation options input =
+    option_and_then (λ source. option_map (simulate input source) (simulation_of options))
+    (source_of (value_of (codes "--order") options) (value_of (codes "--plan") options))
+
+abbrev pub simulation_names : List (List ℕ)
+simulation_names = codes "--order" ∷ codes "--plan" ∷ codes "--bound" ∷ codes "--workers" ∷ codes "--priority" ∷ []
+
+-- `simulate`, one input, `--order NAME` or `--plan NAME`, and how the run is simulated
+abbrev pub simulate_of : List Given → Option Request
+simulate_of options = option_and_then (with_simulation options) (input_of simulation_names options)
+
 abbrev pub command_of : List ℕ → List Given → Option Request
 command_of command options =
     if bytes_eq command (codes "replay") then replay_of options
@@ -170,6 +205,7 @@ command_of command options =
     else if bytes_eq command (codes "post") then post_of options
     else if bytes_eq command (codes "check") then check_of options
     else if bytes_eq command (codes "plan") then plan_of options
+    else if bytes_eq command (codes "simulate") then simulate_of options
     else None
 
 abbrev pub distinct_request : List ℕ → List Given → Option Request
@@ -190,6 +226,8 @@ pub data FileRole : Type 0 where
   perm_file : FileRole
   order_file : FileRole
   plan_file : FileRole
+  -- a priority ranks the tasks of an input
+  priority_file : Input → FileRole
 
 pub record NamedFile : Type 0 where
   pub role : FileRole
@@ -214,6 +252,10 @@ abbrev pub source_file : OrderSource → NamedFile
 source_file (order_named name) = record { role = order_file; name = name }
 source_file (plan_named name) = record { role = plan_file; name = name }
 
+abbrev pub priority_files : Input → Option (List ℕ) → List NamedFile
+priority_files input None = []
+priority_files input (Some name) = record { role = priority_file input; name = name } ∷ []
+
 -- the files of a request, in the order in which they are read and judged
 abbrev pub files_of : Request → List NamedFile
 files_of (replay input source) = input_files input ++ source_file source ∷ []
@@ -221,3 +263,4 @@ files_of (tree m) = matrix_files m
 files_of (post input) = tree_input_files input
 files_of (check input plan workers) = input_files input ++ source_file (plan_named plan) ∷ []
 files_of (planning input) = input_files input
+files_of (simulate input source s) = input_files input ++ source_file source ∷ priority_files input s.priority

@@ -8,6 +8,7 @@ use Rattle.memplan.specs.declared.request.OrderSource.{OrderSource}
 use Rattle.memplan.specs.declared.request.OrderSource.TheVariants as sources
 use Rattle.memplan.specs.declared.request.Request.{Request}
 use Rattle.memplan.specs.declared.request.Request.TheVariants as commands
+use Rattle.memplan.specs.declared.request.SimulateNames.{SimulateNames}
 use Rattle.memplan.specs.declared.request.TreeInput.{TreeInput}
 use Rattle.memplan.specs.declared.request.TreeInput.TheVariants as trees
 
@@ -26,9 +27,13 @@ abbrev pub source_view : OrderSource → requests.OrderSource
 source_view (sources.Order name) = requests.order_named name.now
 source_view (sources.Plan name) = requests.plan_named name.now
 
+abbrev pub simulation_view : SimulateNames → requests.Simulation
+simulation_view names = record { bound = names.bound; workers = names.workers; priority = option_map (λ name. name.now) names.priority }
+
 abbrev pub request_view : Request → requests.Request
 request_view (commands.Replay r) = requests.replay (input_view r.input) (source_view r.source)
 request_view (commands.Tree m) = requests.tree (matrix_view m)
 request_view (commands.Post input) = requests.post (tree_input_view input)
 request_view (commands.Check c) = requests.check (input_view c.input) c.plan.now c.workers
 request_view (commands.Plan input) = requests.planning (input_view input)
+request_view (commands.Simulate names) = requests.simulate (input_view names.input) (source_view names.source) (simulation_view names)

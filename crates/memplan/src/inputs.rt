@@ -10,9 +10,13 @@ ghost use Rattle.tree_input.specs.TreeTerm.{forest_positions};
 ghost use Rattle.tree_input.specs.Tree.{system_of_nodes};
 ghost use Rattle.memplan.specs.Request.{matrix_files, perm_files, tree_input_files, input_files, source_file};
 ghost use Rattle.memplan.specs.RequestViews.{matrix_view, tree_input_view, input_view, source_view};
-ghost use Rattle.memplan.specs.Answer.{IsOrderOf, IsMatrixTree, IsTreeOf, IsSystemOf, IsOrderFrom, IsRefused};
+ghost use Rattle.memplan.specs.Answer.{IsOrderOf, IsMatrixTree, IsTreeOf, IsSystemOf, IsOrderFrom, IsRefused, IsOwnPriority, priority_or};
 ghost use Rattle.memplan.specs.Clauses.{AreTold, HasFailed};
-ghost use Rattle.memplan.specs.Judged.{IsJudged, AreJudged, IsRefusedOrder, HasRisen, IsWorkOf, HasTerm, numbers_of};
+ghost use Rattle.activation.specs.Schedule.{HoldsEach};
+ghost use Rattle.mp_system.specs.System.{TaskSystem};
+ghost use Rattle.mp_system.specs.Traversal.{IsTraversal};
+ghost use Rattle.plan_text.specs.Plan.{IsPlan};
+ghost use Rattle.memplan.specs.Judged.{IsJudged, AreJudged, IsRefusedOrder, HasRisen, IsWorkOf, HasTerm, numbers_of, own_priority};
 
 use crate::analysis::front_tree;
 use crate::judge::{Judged, load, order_of, pattern_of, perm_of, plan_of, tree_of, workflow_of};
@@ -20,6 +24,7 @@ use crate::report::Stop;
 use crate::request::{Input, Matrix, OrderSource, TreeInput};
 use mp_outside::Files;
 use mp_system::System;
+use mp_system::laws::traversal_law;
 use ordering::{Perm, identity};
 use plan_text::PlanFile;
 use sp_terms::{Terms, system_of};
@@ -232,6 +237,31 @@ impl Order {
             Order::Planned(plan) => plan.order(),
         }
     }
+
+    /// The tasks in the order in which they claim a worker: the priority of a plan that has one, else the order itself.
+    pub fn priority(&self) -> &[u32]
+        ensures value { result.now ≡ own_priority self.now }
+        ensures each { (system : TaskSystem) → IsTraversal system (numbers_of self.now) → HoldsEach system result.now }
+    {
+        traversal_law();
+        match self {
+            Order::Listed(numbers) => numbers,
+            Order::Planned(plan) => priority_of(plan),
+        }
+    }
+}
+
+// The priority of a plan that has one, else its order.
+fn priority_of(plan: &PlanFile) -> &[u32]
+    ensures value { result.now ≡ priority_or plan.now.order plan.now.priority }
+    ensures plan { IsPlan plan.now }
+{
+    let order = plan.order();
+    if plan.priority().is_empty() {
+        order
+    } else {
+        plan.priority()
+    }
 }
 
 /// The order that a source gives.
@@ -243,6 +273,8 @@ pub fn judge_order<F: Files>(
     ensures told { IfOk result (λ judged. (text : List ℕ) (earlier : List (List ℕ))
         → F.bytes_of files.old (source_file (source_view source.entry)).name ≡ Some text
         → IsJudged (λ order. IsOrderFrom (source_view source.entry) text (numbers_of order)) (IsRefused (source_file (source_view source.entry)).role earlier text) judged) }
+    ensures own { IfOk result (λ judged. (text : List ℕ) → F.bytes_of files.old (source_file (source_view source.entry)).name ≡ Some text
+        → IsJudged (λ order. IsOwnPriority (source_view source.entry) text (numbers_of order) (own_priority order)) (λ _. Unit {0}) judged) }
     ensures cause { result ≡ Err Stop.ReadFault → Rose (F.faults_of files.old (source_file (source_view source.entry)).name) (F.faults_of files.new (source_file (source_view source.entry)).name) }
     ensures same { (other : List ℕ) → F.bytes_of files.new other ≡ F.bytes_of files.old other }
     ensures later { (other : List ℕ) → F.faults_of files.old other ≤ F.faults_of files.new other }

@@ -6,6 +6,7 @@ ghost use Rattle.tree_input.specs.TreeFile.{RefusesTree};
 ghost use Rattle.sp_terms.specs.WorkflowFile.{RefusesWorkflow};
 ghost use Rattle.matrix_market.specs.MatrixFile.{RefusesPattern};
 ghost use Rattle.ordering.specs.OrderFile.{RefusesOrder};
+ghost use Rattle.ordering.specs.Perm.{IsPerm as IsPermutation};
 ghost use Rattle.ordering.specs.PermFile.{RefusesPerm};
 ghost use Rattle.plan_text.specs.PlanFile.{RefusesPlan};
 ghost use Rattle.memplan.specs.Answer.{IsTree, IsWorkflow, IsMatrix, IsPerm, IsOrder, IsPlanFile, IsRefusedFile};
@@ -140,6 +141,41 @@ pub fn perm_of(alloc: Global, loaded: Loaded, n: u32) -> Result<Judged<Perm>, Al
         }
         Err(Refusal::Limit(limit)) => {
             let page = limit_page(alloc, "perm", limit)?;
+            Ok(Judged::Refused(page))
+        }
+        Err(Refusal::NoMemory) => Err(AllocError),
+    }
+}
+
+// The numbers of a permutation by place.
+fn numbers_of(alloc: Global, perm: &Perm) -> Result<Vec<u32>, AllocError>
+    ensures { IfOk result (λ numbers. numbers.items ≡ perm.now) }
+{
+    let mut numbers = Vec::with_capacity(alloc, perm.len() as usize)?;
+    for place in 0..perm.len() {
+        numbers.push(perm.at(place + 1))?;
+    }
+    Ok(numbers)
+}
+
+/// The priority of `n` tasks of a file.
+pub fn priority_of(alloc: Global, loaded: Loaded, n: u32) -> Result<Judged<Vec<u32>>, AllocError>
+    ensures told { IfOk result (λ judged. (text : List ℕ) → IsLoaded text loaded → IsJudged (λ priority. IsPerm n text priority.items) (IsRefusedFile (codes "priority") perm_text (RefusesPerm n text) text) judged) }
+    ensures each { IfOk result (λ judged. IsJudged (λ priority. IsPermutation n priority.items) (λ _. Unit {0}) judged) }
+{
+    read_is_perm();
+    let Loaded::Whole(text) = loaded else {
+        let page = limit_page(alloc, "priority", LimitName::Bytes)?;
+        return Ok(Judged::Refused(page));
+    };
+    match read_perm(alloc, &text, n) {
+        Ok(perm) => Ok(Judged::Taken(numbers_of(alloc, &perm)?)),
+        Err(Refusal::Format(fault)) => {
+            let page = format_page(alloc, "priority", perm_word(fault.kind), fault.line)?;
+            Ok(Judged::Refused(page))
+        }
+        Err(Refusal::Limit(limit)) => {
+            let page = limit_page(alloc, "priority", limit)?;
             Ok(Judged::Refused(page))
         }
         Err(Refusal::NoMemory) => Err(AllocError),

@@ -10,6 +10,7 @@ mod planning;
 mod report;
 mod request;
 mod run;
+mod simulating;
 mod status;
 #[cfg(test)]
 mod tests;

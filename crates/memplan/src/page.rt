@@ -2,7 +2,7 @@
 
 ghost use Rattle.std.specs.Prelude.{◌≡◌, ◌<◌, ◌^◌, ◌++◌, ◌∷◌, [], map, codes, decimal, IfOk, OnOk, IsTrue};
 ghost use Rattle.mp_text.specs.Report.{is_token, is_line_start, line_text, text_of_lines};
-ghost use Rattle.memplan.specs.Answer.{format_refused, limit_refused, order_refused, peak_answer, tree_answer, post_answer, verdict_answer, plan_answer};
+ghost use Rattle.memplan.specs.Answer.{format_refused, limit_refused, order_refused, bound_refused, peak_answer, tree_answer, post_answer, verdict_answer, plan_answer};
 ghost use Rattle.memplan.specs.Refusals.{limit_word as limit_text};
 ghost use Rattle.claim_check.specs.declared.objection.Objection.TheVariants as objections;
 ghost use Rattle.claim_check.specs.declared.verdict.Verdict.TheVariants as verdicts;
@@ -24,6 +24,7 @@ pub enum PageKind {
     No,
     Format,
     Limit,
+    Bound,
 }
 
 /// A kind and its text.
@@ -90,6 +91,24 @@ pub fn order_page(alloc: Global, fault: OrderFault) -> Result<Page, AllocError>
     })
 }
 
+/// `refused bound BOUND PEAK`
+pub fn bound_page(alloc: Global, bound: u64, peak: u64) -> Result<Page, AllocError>
+    ensures { IfOk result (λ page. answer_of page ≡ bound_refused bound peak) }
+{
+    printed_line();
+    printed_number();
+    let mut report = Report::new(alloc);
+    report.word("refused")?;
+    report.word("bound")?;
+    report.num(bound)?;
+    report.num(peak)?;
+    report.end_line()?;
+    Ok(Page {
+        kind: PageKind::Bound,
+        report,
+    })
+}
+
 /// `peak PEAK`
 pub fn peak_page(alloc: Global, peak: u64) -> Result<Page, AllocError>
     ensures { IfOk result (λ page. answer_of page ≡ peak_answer peak) }
@@ -118,8 +137,8 @@ pub fn tree_page(alloc: Global, tree: &Tree) -> Result<Page, AllocError>
     })
 }
 
-// A word and a number on a line.
-fn print_count(word: &str, number: u64, report: &mut Report) -> Result<(), AllocError>
+/// A word and a number on a line.
+pub fn print_count(word: &str, number: u64, report: &mut Report) -> Result<(), AllocError>
     requires start { IsTrue (is_line_start report.old) }
     requires token { IsTrue (is_token word.now) }
     ensures start { OnOk result (IsTrue (is_line_start report.new)) }
@@ -156,7 +175,8 @@ fn print_numbers(numbers: &[u32], report: &mut Report) -> Result<(), AllocError>
     Ok(())
 }
 
-fn print_end(report: &mut Report) -> Result<(), AllocError>
+/// The last line.
+pub fn print_end(report: &mut Report) -> Result<(), AllocError>
     requires { IsTrue (is_line_start report.old) }
     ensures { OnOk result (report.new ≡ report.old ++ line_text (codes "end" ∷ [])) }
 {

@@ -3,7 +3,8 @@
 ghost use Rattle.std.specs.Prelude.{◌≡◌, ℕ, List, Some, IfOk, Err};
 ghost use Rattle.mp_outside.specs.Outside.{Rose};
 ghost use Rattle.memplan.specs.Request as spec;
-ghost use Rattle.memplan.specs.Request.{AreWorkers, HasWorkers, replay, tree, post, check, planning, files_of};
+ghost use Rattle.memplan.specs.Request.{AreWorkers, HasWorkers, replay, tree, post, check, planning, simulate, files_of};
+ghost use Rattle.memplan.specs.Simulated.{IsSimulated};
 ghost use Rattle.memplan.specs.RequestViews.{matrix_view, tree_input_view, input_view, source_view, request_view};
 ghost use Rattle.memplan.specs.Answer.{IsReplay, IsPost, IsCheck, IsPlanOf, tree_answer};
 ghost use Rattle.memplan.specs.Certified.{IsCertified};
@@ -17,6 +18,7 @@ use crate::judge::{Judged, load, plan_of};
 use crate::page::{Page, order_page, peak_page, plan_page, post_page, tree_page, verdict_page};
 use crate::planning::plan_work;
 use crate::request::{CheckNames, Input, Matrix, ReplayNames, Request, TreeInput};
+use crate::simulating::report_simulate;
 use claim_check::check as check_plan;
 use claim_check::laws::accepted_law;
 use mp_outside::{Files, Gate};
@@ -179,6 +181,9 @@ pub fn report<R: Threads + Sync, F: Files, G: Gate>(
         → AreTold (F.bytes_of files.old) (files_of (check input plan workers)) texts → IsCertified input texts (answer_of page).text) }
     ensures planned { IfOk result (λ page. (answer_of page).status ≡ Done → (input : spec.Input) → request_view request.entry ≡ planning input
         → (texts : List (List ℕ)) → AreTold (F.bytes_of files.old) (files_of (planning input)) texts → IsBestPlan input texts (answer_of page).text) }
+    ensures simulated { IfOk result (λ page. (answer_of page).status ≡ Done → (input : spec.Input) (source : spec.OrderSource) (s : spec.Simulation)
+        → request_view request.entry ≡ simulate input source s → (texts : List (List ℕ))
+        → AreTold (F.bytes_of files.old) (files_of (simulate input source s)) texts → IsSimulated input source s texts (answer_of page).text) }
     ensures cause { result ≡ Err Stop.ReadFault → HasFailed (F.bytes_of files.old) (F.faults_of files.old) (F.faults_of files.new) (files_of (request_view request.entry)) }
 {
     match request {
@@ -187,5 +192,6 @@ pub fn report<R: Threads + Sync, F: Files, G: Gate>(
         Request::Post(input) => report_post(alloc, files, input),
         Request::Check(names) => report_check(rt, alloc, files, names, gate),
         Request::Plan(input) => report_plan(alloc, files, input),
+        Request::Simulate(names) => report_simulate(alloc, files, names),
     }
 }

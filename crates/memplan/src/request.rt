@@ -1,7 +1,7 @@
 ghost use Rattle.std.specs.Prelude.{◌≡◌, ◌≤◌, ◌++◌, List, MatchOption, IfOk, IfSome, Some, None, map, string_bytes, option_map};
 ghost use Rattle.memplan.specs.Request as spec;
-ghost use Rattle.memplan.specs.Request.{is_second, chooses_order, zeros_within, zeros_of, matrix_of, matrix_among, tree_input_of, input_of, replay_of, tree_request_of, post_of, source_of, workers_within, workers_or_one, check_of, plan_of, command_of, request_of, AreWorkers, HasWorkers};
-ghost use Rattle.memplan.specs.RequestViews.{matrix_view, tree_input_view, input_view, source_view, request_view};
+ghost use Rattle.memplan.specs.Request.{is_second, chooses_order, zeros_within, zeros_of, matrix_of, matrix_among, tree_input_of, input_of, replay_of, tree_request_of, post_of, source_of, workers_within, workers_or_one, check_of, plan_of, number_given, simulate_of, command_of, request_of, AreWorkers, HasWorkers};
+ghost use Rattle.memplan.specs.RequestViews.{matrix_view, tree_input_view, input_view, source_view, simulation_view, request_view};
 ghost use Rattle.memplan.specs.GivenViews.{given_views};
 
 use crate::words::{Given, are_among, are_distinct, options_of, value_of};
@@ -59,6 +59,19 @@ pub struct CheckNames<'a> {
     pub workers: u32,
 }
 
+/// An input, where its order stands, and how its run is simulated.
+#[derive(Clone, Copy, Debug)]
+pub struct SimulateNames<'a> {
+    pub input: Input<'a>,
+    pub source: OrderSource<'a>,
+    /// At most so much memory.
+    pub bound: u64,
+    /// From 1 to 4,096.
+    pub workers: u32,
+    /// The name of a priority file; with none, the priority is that of the plan, or the order.
+    pub priority: Option<&'a str>,
+}
+
 /// What the words ask for.
 #[derive(Clone, Copy, Debug)]
 pub enum Request<'a> {
@@ -72,6 +85,8 @@ pub enum Request<'a> {
     Check(CheckNames<'a>),
     /// A traversal of least peak, with its certificate.
     Plan(Input<'a>),
+    /// The run of the input's system on several workers within a bound, its tasks activated in the order.
+    Simulate(SimulateNames<'a>),
 }
 
 // ---- the options of a matrix
@@ -272,6 +287,33 @@ fn plan_of<'a>(options: &[Given<'a>]) -> Option<Request<'a>>
     Some(Request::Plan(input))
 }
 
+// A number that is given.
+fn number_given(given: Option<&str>) -> Option<u64>
+    ensures { result ≡ number_given (option_map (λ s. s.now) given.entry) }
+{
+    number(given?.as_bytes())
+}
+
+// One input and an order of its tasks, and the bound, the workers and the priority of its run.
+fn simulate_of<'a>(options: &[Given<'a>]) -> Option<Request<'a>>
+    ensures value { option_map request_view result ≡ simulate_of (given_views options.now) }
+    ensures workers { IfSome result (λ request. HasWorkers (request_view request)) }
+{
+    let names = ["--order", "--plan", "--bound", "--workers", "--priority"];
+    let input = input_of(options, &names)?;
+    let source = source_of(value_of(options, "--order"), value_of(options, "--plan"))?;
+    let bound = number_given(value_of(options, "--bound"))?;
+    let workers = number_given(value_of(options, "--workers"))?;
+    let workers = workers_within(workers)?;
+    Some(Request::Simulate(SimulateNames {
+        input,
+        source,
+        bound,
+        workers,
+        priority: value_of(options, "--priority"),
+    }))
+}
+
 fn command_of<'a>(command: &str, options: &[Given<'a>]) -> Option<Request<'a>>
     ensures value { option_map request_view result ≡ command_of command.now (given_views options.now) }
     ensures workers { IfSome result (λ request. HasWorkers (request_view request)) }
@@ -282,6 +324,7 @@ fn command_of<'a>(command: &str, options: &[Given<'a>]) -> Option<Request<'a>>
         "post" => post_of(options),
         "check" => check_of(options),
         "plan" => plan_of(options),
+        "simulate" => simulate_of(options),
         _ => None,
     }
 }

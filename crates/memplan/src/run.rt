@@ -1,6 +1,7 @@
 ghost use Rattle.std.specs.Prelude.{◌≡◌, ◌↔◌, ◌⊎◌, ℕ, List, Some, None, map, string_bytes};
 ghost use Rattle.mp_outside.specs.Outside.{Rose, Appended};
-ghost use Rattle.memplan.specs.Request.{Input, Request, check, planning, request_of, files_of};
+ghost use Rattle.memplan.specs.Request.{Input, OrderSource, Request, Simulation, check, planning, simulate, request_of, files_of};
+ghost use Rattle.memplan.specs.Simulated.{IsSimulated};
 ghost use Rattle.memplan.specs.Pages.{status_of};
 ghost use Rattle.memplan.specs.Certified.{IsCertified};
 ghost use Rattle.memplan.specs.Planned.{IsBestPlan};
@@ -42,6 +43,13 @@ pub fn run_words<R: Threads + Sync, F: Files, S: Sink, G: Gate>(
     ensures planned { result ≡ Status.Done → (input : Input) → request_of (map (λ w. string_bytes w) words.now) ≡ Some (planning input)
         → (texts : List (List ℕ)) → AreTold (F.bytes_of files.old) (files_of (planning input)) texts
         → (printed : List ℕ) × IsBestPlan input texts printed × Appended (S.written sink.old) (S.written sink.new) printed }
+
+    // where a run was simulated to its end, its events are one activation, one start and one finish of each task of the input's system, and
+    // memory stayed within the bound, which is at least the peak of the order
+    ensures simulated { result ≡ Status.Done → (input : Input) (source : OrderSource) (s : Simulation)
+        → request_of (map (λ w. string_bytes w) words.now) ≡ Some (simulate input source s)
+        → (texts : List (List ℕ)) → AreTold (F.bytes_of files.old) (files_of (simulate input source s)) texts
+        → (printed : List ℕ) × IsSimulated input source s texts printed × Appended (S.written sink.old) (S.written sink.new) printed }
 
     // nothing is appended at usage, read fault and want of memory
     ensures silent { (result ≡ Status.Usage) ⊎ ((result ≡ Status.ReadFault) ⊎ (result ≡ Status.NoMemory)) → S.written sink.new ≡ S.written sink.old }
@@ -89,5 +97,6 @@ fn status_of(kind: PageKind) -> Status
         PageKind::No => Status::No,
         PageKind::Format => Status::Format,
         PageKind::Limit => Status::Limit,
+        PageKind::Bound => Status::Bound,
     }
 }

@@ -7,6 +7,7 @@ mod matrices;
 mod meeting;
 mod plans;
 mod rows;
+mod simulations;
 mod workflows;
 
 use crate::{Status, run_words};

@@ -27,26 +27,27 @@ fn each_load_fails_in_turn(rt: HostRuntime) -> Result<(), Fail> {
     Ok(())
 }
 
+// Room, bytes a write, the write that fails (0: none), the status and what the sink then holds.
+const FAILING_WRITES: [(u64, u64, u64, Status, &str); 14] = [
+    (1000, 1, 1, Status::WriteFault, ""),
+    (1000, 1, 2, Status::WriteFault, "p"),
+    (1000, 1, 3, Status::WriteFault, "pe"),
+    (1000, 1, 4, Status::WriteFault, "pea"),
+    (1000, 1, 5, Status::WriteFault, "peak"),
+    (1000, 1, 6, Status::WriteFault, "peak "),
+    (1000, 1, 7, Status::WriteFault, "peak 1"),
+    (1000, 1, 8, Status::WriteFault, "peak 11"),
+    (1000, 1, 9, Status::Done, "peak 11\n"),
+    (1000, 5, 2, Status::WriteFault, "peak "),
+    (0, 1000, 0, Status::WriteFault, ""),
+    (5, 1000, 0, Status::WriteFault, "peak "),
+    (7, 3, 0, Status::WriteFault, "peak 11"),
+    (8, 3, 0, Status::Done, "peak 11\n"),
+];
+
 #[test]
 fn each_write_fails_in_turn(rt: HostRuntime) -> Result<(), Fail> {
-    // room, bytes a write, the write that fails (0: none), the status and what the sink then holds
-    let rows: [(u64, u64, u64, Status, &str); 14] = [
-        (1000, 1, 1, Status::WriteFault, ""),
-        (1000, 1, 2, Status::WriteFault, "p"),
-        (1000, 1, 3, Status::WriteFault, "pe"),
-        (1000, 1, 4, Status::WriteFault, "pea"),
-        (1000, 1, 5, Status::WriteFault, "peak"),
-        (1000, 1, 6, Status::WriteFault, "peak "),
-        (1000, 1, 7, Status::WriteFault, "peak 1"),
-        (1000, 1, 8, Status::WriteFault, "peak 11"),
-        (1000, 1, 9, Status::Done, "peak 11\n"),
-        (1000, 5, 2, Status::WriteFault, "peak "),
-        (0, 1000, 0, Status::WriteFault, ""),
-        (5, 1000, 0, Status::WriteFault, "peak "),
-        (7, 3, 0, Status::WriteFault, "peak 11"),
-        (8, 3, 0, Status::Done, "peak 11\n"),
-    ];
-    for (room, piece, failing, status, text) in rows {
+    for (room, piece, failing, status, text) in FAILING_WRITES {
         let mut files = files_of(rt.alloc(), FIVE.as_bytes(), b"1 3 2 4 5\n")?;
         let mut sink = MemSink::new(rt.alloc(), room)?;
         sink.piece(piece);
@@ -66,22 +67,23 @@ fn each_write_fails_in_turn(rt: HostRuntime) -> Result<(), Fail> {
     Ok(())
 }
 
+// The bytes of the tree of five nodes that are left, the status and the text.
+const CUT_TREES: [(usize, Status, &str); 10] = [
+    (0, Status::Format, "refused format tree no-end 1\n"),
+    (7, Status::Format, "refused format tree no-end 2\n"),
+    (15, Status::Format, "refused format tree no-end 3\n"),
+    (23, Status::Format, "refused format tree no-end 4\n"),
+    (31, Status::Format, "refused format tree no-end 5\n"),
+    (39, Status::Format, "refused format tree no-end 6\n"),
+    (47, Status::Format, "refused format tree no-end 7\n"),
+    (55, Status::Format, "refused format tree no-end 8\n"),
+    (58, Status::Done, "peak 11\n"),
+    (57, Status::Format, "refused format tree count 8\n"),
+];
+
 #[test]
 fn a_tree_that_ends_early(rt: HostRuntime) -> Result<(), Fail> {
-    // the bytes of the tree of five nodes that are left, the status and the text
-    let rows: [(usize, Status, &str); 10] = [
-        (0, Status::Format, "refused format tree no-end 1\n"),
-        (7, Status::Format, "refused format tree no-end 2\n"),
-        (15, Status::Format, "refused format tree no-end 3\n"),
-        (23, Status::Format, "refused format tree no-end 4\n"),
-        (31, Status::Format, "refused format tree no-end 5\n"),
-        (39, Status::Format, "refused format tree no-end 6\n"),
-        (47, Status::Format, "refused format tree no-end 7\n"),
-        (55, Status::Format, "refused format tree no-end 8\n"),
-        (58, Status::Done, "peak 11\n"),
-        (57, Status::Format, "refused format tree count 8\n"),
-    ];
-    for (len, status, text) in rows {
+    for (len, status, text) in CUT_TREES {
         let mut files = files_of(
             rt.alloc(),
             FIVE.as_bytes().get(..len).unwrap_or(b""),

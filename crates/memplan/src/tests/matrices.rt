@@ -107,16 +107,17 @@ fn trees_of_matrices(rt: HostRuntime) -> Result<(), Fail> {
     Ok(())
 }
 
+// An option, its value, the status and the text, for the arrow in the order 2 3 1 4 and the order 1 2 3 of its fronts.
+const REPLAYS: [(&str, &str, Status, &str); 4] = [
+    ("--inplace", "no", Status::Done, "peak 5\n"),
+    ("--inplace", "yes", Status::Done, "peak 4\n"),
+    ("--shape", "square", Status::Done, "peak 6\n"),
+    ("--amalgamate", "1", Status::No, "no order 3 unknown\n"),
+];
+
 #[test]
 fn replays_of_matrices(rt: HostRuntime) -> Result<(), Fail> {
-    // an option, its value, the status and the text, for the arrow in the order 2 3 1 4 and the order 1 2 3 of its fronts
-    let rows: [(&str, &str, Status, &str); 4] = [
-        ("--inplace", "no", Status::Done, "peak 5\n"),
-        ("--inplace", "yes", Status::Done, "peak 4\n"),
-        ("--shape", "square", Status::Done, "peak 6\n"),
-        ("--amalgamate", "1", Status::No, "no order 3 unknown\n"),
-    ];
-    for (option, value, status, text) in rows {
+    for (option, value, status, text) in REPLAYS {
         let mut files = files_of(rt.alloc(), ARROW.as_bytes(), "2 3 1 4\n")?;
         let mut sink = MemSink::new(rt.alloc(), 1000)?;
         let words = [
@@ -129,49 +130,50 @@ fn replays_of_matrices(rt: HostRuntime) -> Result<(), Fail> {
     Ok(())
 }
 
+// A matrix, a permutation, the status and the text.
+const REFUSED: [(&str, &str, Status, &str); 7] = [
+    (
+        "%%MatrixMarket matrix coordinate pattern symmetric\n4 4 4\n2 1\n3 1\n4 1\n",
+        "x",
+        Status::Format,
+        "refused format matrix too-few 6\n",
+    ),
+    (
+        "%%MatrixMarket matrix coordinate pattern symmetric\n4 4 3\n0 1\n3 1\n4 1\n",
+        "x",
+        Status::Format,
+        "refused format matrix index 3\n",
+    ),
+    (
+        "%%MatrixMarket matrix array real general\n",
+        "x",
+        Status::Format,
+        "refused format matrix array-format 1\n",
+    ),
+    ("", "x", Status::Format, "refused format matrix banner 1\n"),
+    (
+        "%%MatrixMarket matrix coordinate pattern symmetric\n1000001 1000001 0\n",
+        "x",
+        Status::Limit,
+        "refused limit matrix order\n",
+    ),
+    (
+        ARROW,
+        "2 3 1\n",
+        Status::Format,
+        "refused format perm count 2\n",
+    ),
+    (
+        ARROW,
+        "2 3\n5 4\n",
+        Status::Format,
+        "refused format perm range 2\n",
+    ),
+];
+
 #[test]
 fn refused_matrices(rt: HostRuntime) -> Result<(), Fail> {
-    // a matrix, a permutation, the status and the text
-    let rows: [(&str, &str, Status, &str); 7] = [
-        (
-            "%%MatrixMarket matrix coordinate pattern symmetric\n4 4 4\n2 1\n3 1\n4 1\n",
-            "x",
-            Status::Format,
-            "refused format matrix too-few 6\n",
-        ),
-        (
-            "%%MatrixMarket matrix coordinate pattern symmetric\n4 4 3\n0 1\n3 1\n4 1\n",
-            "x",
-            Status::Format,
-            "refused format matrix index 3\n",
-        ),
-        (
-            "%%MatrixMarket matrix array real general\n",
-            "x",
-            Status::Format,
-            "refused format matrix array-format 1\n",
-        ),
-        ("", "x", Status::Format, "refused format matrix banner 1\n"),
-        (
-            "%%MatrixMarket matrix coordinate pattern symmetric\n1000001 1000001 0\n",
-            "x",
-            Status::Limit,
-            "refused limit matrix order\n",
-        ),
-        (
-            ARROW,
-            "2 3 1\n",
-            Status::Format,
-            "refused format perm count 2\n",
-        ),
-        (
-            ARROW,
-            "2 3\n5 4\n",
-            Status::Format,
-            "refused format perm range 2\n",
-        ),
-    ];
-    for (matrix, perm, status, text) in rows {
+    for (matrix, perm, status, text) in REFUSED {
         for command in ["tree", "post"] {
             let mut files = files_of(rt.alloc(), matrix.as_bytes(), perm)?;
             let mut sink = MemSink::new(rt.alloc(), 1000)?;
@@ -184,33 +186,34 @@ fn refused_matrices(rt: HostRuntime) -> Result<(), Fail> {
     Ok(())
 }
 
+const USAGE: [&[&str]; 14] = [
+    &["tree"],
+    &["tree", "--tree", "m"],
+    &["tree", "--matrix", "m", "--tree", "m"],
+    &["tree", "--matrix", "m", "--order", "o"],
+    &[
+        "tree",
+        "--matrix",
+        "m",
+        "--perm",
+        "p",
+        "--ordering",
+        "natural",
+    ],
+    &["tree", "--matrix", "m", "--ordering", "mindeg"],
+    &["tree", "--matrix", "m", "--shape", "round"],
+    &["tree", "--matrix", "m", "--inplace", "maybe"],
+    &["tree", "--matrix", "m", "--amalgamate", "1099511627777"],
+    &["tree", "--matrix", "m", "--amalgamate", "x"],
+    &["tree", "--perm", "p"],
+    &["replay", "--tree", "m", "--order", "o", "--shape", "square"],
+    &["post", "--workflow", "m"],
+    &["post", "--tree", "m", "--matrix", "m"],
+];
+
 #[test]
 fn words_without_a_matrix_request(rt: HostRuntime) -> Result<(), Fail> {
-    let rows: [&[&str]; 14] = [
-        &["tree"],
-        &["tree", "--tree", "m"],
-        &["tree", "--matrix", "m", "--tree", "m"],
-        &["tree", "--matrix", "m", "--order", "o"],
-        &[
-            "tree",
-            "--matrix",
-            "m",
-            "--perm",
-            "p",
-            "--ordering",
-            "natural",
-        ],
-        &["tree", "--matrix", "m", "--ordering", "mindeg"],
-        &["tree", "--matrix", "m", "--shape", "round"],
-        &["tree", "--matrix", "m", "--inplace", "maybe"],
-        &["tree", "--matrix", "m", "--amalgamate", "1099511627777"],
-        &["tree", "--matrix", "m", "--amalgamate", "x"],
-        &["tree", "--perm", "p"],
-        &["replay", "--tree", "m", "--order", "o", "--shape", "square"],
-        &["post", "--workflow", "m"],
-        &["post", "--tree", "m", "--matrix", "m"],
-    ];
-    for words in rows {
+    for words in USAGE {
         let mut files = files_of(rt.alloc(), ARROW.as_bytes(), "2 3 1 4\n")?;
         let mut sink = MemSink::new(rt.alloc(), 1000)?;
         let ended = run(&rt, rt.alloc(), words, &mut files, &mut sink)?;
@@ -258,34 +261,35 @@ fn an_arrowhead_is_one_front(rt: HostRuntime) -> Result<(), Fail> {
     Ok(())
 }
 
+// An input, its option, and the text.
+const POSTORDERS: [(&str, &str, &str); 6] = [
+    (
+        super::FIVE,
+        "--tree",
+        "peak 15\norder 5\n1\n2\n3\n4\n5\nend\n",
+    ),
+    (
+        "tree 1\nnodes 4\n4 2 0 1\n4 2 0 1\n4 2 0 1\n0 0 0 1\nend\n",
+        "--tree",
+        "peak 6\norder 4\n1\n2\n3\n4\nend\n",
+    ),
+    (
+        "tree 1\nnodes 2\n0 3 0 1\n0 4 1 1\nend\n",
+        "--tree",
+        "peak 7\norder 2\n2\n1\nend\n",
+    ),
+    (GRID, "--matrix", "peak 9\norder 2\n1\n2\nend\n"),
+    (ARROW, "--matrix", "peak 10\norder 1\n1\nend\n"),
+    (
+        "tree 1\nnodes 2\n2 0 0 1\n1 0 0 1\nend\n",
+        "--tree",
+        "refused format tree cycle 3\n",
+    ),
+];
+
 #[test]
 fn best_postorders(rt: HostRuntime) -> Result<(), Fail> {
-    // an input, its option, and the text
-    let rows: [(&str, &str, &str); 6] = [
-        (
-            super::FIVE,
-            "--tree",
-            "peak 15\norder 5\n1\n2\n3\n4\n5\nend\n",
-        ),
-        (
-            "tree 1\nnodes 4\n4 2 0 1\n4 2 0 1\n4 2 0 1\n0 0 0 1\nend\n",
-            "--tree",
-            "peak 6\norder 4\n1\n2\n3\n4\nend\n",
-        ),
-        (
-            "tree 1\nnodes 2\n0 3 0 1\n0 4 1 1\nend\n",
-            "--tree",
-            "peak 7\norder 2\n2\n1\nend\n",
-        ),
-        (GRID, "--matrix", "peak 9\norder 2\n1\n2\nend\n"),
-        (ARROW, "--matrix", "peak 10\norder 1\n1\nend\n"),
-        (
-            "tree 1\nnodes 2\n2 0 0 1\n1 0 0 1\nend\n",
-            "--tree",
-            "refused format tree cycle 3\n",
-        ),
-    ];
-    for (input, option, text) in rows {
+    for (input, option, text) in POSTORDERS {
         let mut files = files_of(rt.alloc(), input.as_bytes(), "")?;
         let mut sink = MemSink::new(rt.alloc(), 1000)?;
         let _ended = run(

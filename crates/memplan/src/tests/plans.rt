@@ -68,49 +68,50 @@ fn is_judged<R: Threads + Sync>(
     Ok(true)
 }
 
+// The option, the input, the plan, and what is said.
+const ACCEPTED: [(&str, &str, &str, &str); 7] = [
+    ("--tree", FIVE, PLAN, "yes 11\n"),
+    (
+        "--tree",
+        ONE,
+        "plan 1\norder 1\n1\npeak 9\nclaims 1\n3 R 8 7\nend\n",
+        "yes 9\n",
+    ),
+    (
+        "--tree",
+        NOTHING,
+        "plan 1\norder 1\n1\npeak 0\nclaims 2\n1 F -1 0\n3 F -1 0\nend\n",
+        "yes 0\n",
+    ),
+    (
+        "--tree",
+        FOUR,
+        "plan 1\norder 4\n1\n2\n3\n4\npeak 6\nclaims 1\n12 R 5 0\nend\n",
+        "yes 6\n",
+    ),
+    (
+        "--workflow",
+        NO_TASKS,
+        "plan 1\norder 0\npeak 20\nclaims 3\n1 F 9 10\n2 F 9 10\n3 F 19 20\nend\n",
+        "yes 20\n",
+    ),
+    (
+        "--workflow",
+        BRANCHES,
+        "plan 1\norder 4\n1\n3\n2\n4\npeak 13\nclaims 3\n5 R 9 3\n10 R 9 3\n11 R 12 6\nend\n",
+        "yes 13\n",
+    ),
+    (
+        "--tree",
+        ROOTS,
+        "plan 1\norder 2\n2\n1\npeak 7\nclaims 3\n3 R 2 3\n6 R 3 4\n7 R 6 7\nend\n",
+        "yes 7\n",
+    ),
+];
+
 #[test]
 fn accepted_plans(rt: HostRuntime) -> Result<(), Fail> {
-    // the option, the input, the plan, and what is said
-    let rows: [(&str, &str, &str, &str); 7] = [
-        ("--tree", FIVE, PLAN, "yes 11\n"),
-        (
-            "--tree",
-            ONE,
-            "plan 1\norder 1\n1\npeak 9\nclaims 1\n3 R 8 7\nend\n",
-            "yes 9\n",
-        ),
-        (
-            "--tree",
-            NOTHING,
-            "plan 1\norder 1\n1\npeak 0\nclaims 2\n1 F -1 0\n3 F -1 0\nend\n",
-            "yes 0\n",
-        ),
-        (
-            "--tree",
-            FOUR,
-            "plan 1\norder 4\n1\n2\n3\n4\npeak 6\nclaims 1\n12 R 5 0\nend\n",
-            "yes 6\n",
-        ),
-        (
-            "--workflow",
-            NO_TASKS,
-            "plan 1\norder 0\npeak 20\nclaims 3\n1 F 9 10\n2 F 9 10\n3 F 19 20\nend\n",
-            "yes 20\n",
-        ),
-        (
-            "--workflow",
-            BRANCHES,
-            "plan 1\norder 4\n1\n3\n2\n4\npeak 13\nclaims 3\n5 R 9 3\n10 R 9 3\n11 R 12 6\nend\n",
-            "yes 13\n",
-        ),
-        (
-            "--tree",
-            ROOTS,
-            "plan 1\norder 2\n2\n1\npeak 7\nclaims 3\n3 R 2 3\n6 R 3 4\n7 R 6 7\nend\n",
-            "yes 7\n",
-        ),
-    ];
-    for (option, input, plan, said) in rows {
+    for (option, input, plan, said) in ACCEPTED {
         assert!(rt; is_judged(&rt, rt.alloc(), option, input, plan, (Status::Done, said))?);
     }
     Ok(())
@@ -125,49 +126,50 @@ fn a_version_2_plan_of_a_workflow_with_shares(rt: HostRuntime) -> Result<(), Fai
     Ok(())
 }
 
+// A plan of the tree of five nodes, and the first objection to it.
+const OBJECTIONS: [(&str, &str); 9] = [
+    (
+        "plan 1\norder 5\n2\n1\n3\n4\n5\npeak 11\nclaims 4\n5 R 5 5\n10 R 5 5\n11 R 10 10\n13 R 10 0\nend\n",
+        "no order 1 too-early\n",
+    ),
+    (
+        "plan 1\norder 4\n1\n3\n2\n4\npeak 11\nclaims 4\n5 R 5 5\n10 R 5 5\n11 R 10 10\n13 R 10 0\nend\n",
+        "no order 5 missing\n",
+    ),
+    (
+        "plan 1\norder 5\n1\n3\n2\n4\n5\npeak 10\nclaims 4\n5 R 5 5\n10 R 5 5\n11 R 10 10\n13 R 10 0\nend\n",
+        "no peak 11 10\n",
+    ),
+    (
+        "plan 1\norder 5\n1\n2\n3\n4\n5\npeak 11\nclaims 4\n5 R 5 5\n10 R 5 5\n11 R 10 10\n13 R 10 0\nend\n",
+        "no peak 15 11\n",
+    ),
+    (
+        "plan 1\norder 5\n1\n3\n2\n4\n5\npeak 11\nclaims 3\n5 R 5 5\n10 R 5 5\n11 R 10 10\nend\n",
+        "no root 13\n",
+    ),
+    (
+        "plan 1\norder 5\n1\n3\n2\n4\n5\npeak 11\nclaims 0\nend\n",
+        "no root 13\n",
+    ),
+    (
+        "plan 1\norder 5\n1\n3\n2\n4\n5\npeak 11\nclaims 5\n5 R 5 5\n10 R 5 5\n11 R 10 10\n13 R 10 0\n99 R 0 0\nend\n",
+        "no claim 99 outside\n",
+    ),
+    // the lowest of two that fail
+    (
+        "plan 1\norder 5\n1\n3\n2\n4\n5\npeak 11\nclaims 5\n4 R 5 5\n5 R 5 5\n10 R 6 5\n11 R 10 10\n13 R 10 0\nend\n",
+        "no claim 4 data\n",
+    ),
+    (
+        "plan 1\norder 5\n1\n3\n2\n4\n5\npeak 11\nclaims 5\n5 R 6 5\n10 R 5 5\n11 R 10 10\n13 R 10 0\n99 R 0 0\nend\n",
+        "no claim 5 series\n",
+    ),
+];
+
 #[test]
 fn objections(rt: HostRuntime) -> Result<(), Fail> {
-    // a plan of the tree of five nodes, and the first objection to it
-    let rows: [(&str, &str); 9] = [
-        (
-            "plan 1\norder 5\n2\n1\n3\n4\n5\npeak 11\nclaims 4\n5 R 5 5\n10 R 5 5\n11 R 10 10\n13 R 10 0\nend\n",
-            "no order 1 too-early\n",
-        ),
-        (
-            "plan 1\norder 4\n1\n3\n2\n4\npeak 11\nclaims 4\n5 R 5 5\n10 R 5 5\n11 R 10 10\n13 R 10 0\nend\n",
-            "no order 5 missing\n",
-        ),
-        (
-            "plan 1\norder 5\n1\n3\n2\n4\n5\npeak 10\nclaims 4\n5 R 5 5\n10 R 5 5\n11 R 10 10\n13 R 10 0\nend\n",
-            "no peak 11 10\n",
-        ),
-        (
-            "plan 1\norder 5\n1\n2\n3\n4\n5\npeak 11\nclaims 4\n5 R 5 5\n10 R 5 5\n11 R 10 10\n13 R 10 0\nend\n",
-            "no peak 15 11\n",
-        ),
-        (
-            "plan 1\norder 5\n1\n3\n2\n4\n5\npeak 11\nclaims 3\n5 R 5 5\n10 R 5 5\n11 R 10 10\nend\n",
-            "no root 13\n",
-        ),
-        (
-            "plan 1\norder 5\n1\n3\n2\n4\n5\npeak 11\nclaims 0\nend\n",
-            "no root 13\n",
-        ),
-        (
-            "plan 1\norder 5\n1\n3\n2\n4\n5\npeak 11\nclaims 5\n5 R 5 5\n10 R 5 5\n11 R 10 10\n13 R 10 0\n99 R 0 0\nend\n",
-            "no claim 99 outside\n",
-        ),
-        // the lowest of two that fail
-        (
-            "plan 1\norder 5\n1\n3\n2\n4\n5\npeak 11\nclaims 5\n4 R 5 5\n5 R 5 5\n10 R 6 5\n11 R 10 10\n13 R 10 0\nend\n",
-            "no claim 4 data\n",
-        ),
-        (
-            "plan 1\norder 5\n1\n3\n2\n4\n5\npeak 11\nclaims 5\n5 R 6 5\n10 R 5 5\n11 R 10 10\n13 R 10 0\n99 R 0 0\nend\n",
-            "no claim 5 series\n",
-        ),
-    ];
-    for (plan, said) in rows {
+    for (plan, said) in OBJECTIONS {
         assert!(rt; is_judged(&rt, rt.alloc(), "--tree", FIVE, plan, (Status::No, said))?);
     }
     let lowered =
@@ -188,26 +190,27 @@ fn with_claims(alloc: Global, claims: [&str; 4]) -> Result<String, AllocError> {
     Ok(plan)
 }
 
+// Which of the claims becomes what, and what is said then.
+const ALTERED: [(usize, &str, Status, &str); 14] = [
+    (0, "5 R 6 5", Status::No, "no claim 5 series\n"),
+    (0, "5 R 4 5", Status::No, "no claim 11 par\n"),
+    (0, "5 R 5 6", Status::No, "no claim 5 series\n"),
+    (0, "5 R 5 4", Status::No, "no claim 11 par\n"),
+    (0, "5 F 5 5", Status::No, "no claim 5 series\n"),
+    (2, "11 R 11 10", Status::No, "no claim 11 par\n"),
+    (2, "11 R 9 10", Status::No, "no claim 13 series\n"),
+    (2, "11 R 10 9", Status::Done, "yes 11\n"),
+    (2, "11 R 10 11", Status::No, "no claim 11 par\n"),
+    (2, "11 F 10 10", Status::No, "no claim 11 par\n"),
+    (3, "13 R 11 0", Status::No, "no claim 13 series\n"),
+    (3, "13 R 9 0", Status::No, "no root 13\n"),
+    (3, "13 R 10 1", Status::No, "no claim 13 series\n"),
+    (3, "13 F 10 0", Status::Done, "yes 11\n"),
+];
+
 #[test]
 fn altered_claims(rt: HostRuntime) -> Result<(), Fail> {
-    // which of the claims becomes what, and what is said then
-    let rows: [(usize, &str, Status, &str); 14] = [
-        (0, "5 R 6 5", Status::No, "no claim 5 series\n"),
-        (0, "5 R 4 5", Status::No, "no claim 11 par\n"),
-        (0, "5 R 5 6", Status::No, "no claim 5 series\n"),
-        (0, "5 R 5 4", Status::No, "no claim 11 par\n"),
-        (0, "5 F 5 5", Status::No, "no claim 5 series\n"),
-        (2, "11 R 11 10", Status::No, "no claim 11 par\n"),
-        (2, "11 R 9 10", Status::No, "no claim 13 series\n"),
-        (2, "11 R 10 9", Status::Done, "yes 11\n"),
-        (2, "11 R 10 11", Status::No, "no claim 11 par\n"),
-        (2, "11 F 10 10", Status::No, "no claim 11 par\n"),
-        (3, "13 R 11 0", Status::No, "no claim 13 series\n"),
-        (3, "13 R 9 0", Status::No, "no root 13\n"),
-        (3, "13 R 10 1", Status::No, "no claim 13 series\n"),
-        (3, "13 F 10 0", Status::Done, "yes 11\n"),
-    ];
-    for (which, claim, status, said) in rows {
+    for (which, claim, status, said) in ALTERED {
         let mut claims = ["5 R 5 5", "10 R 5 5", "11 R 10 10", "13 R 10 0"];
         claims[which] = claim;
         let plan = with_claims(rt.alloc(), claims)?;
@@ -216,31 +219,32 @@ fn altered_claims(rt: HostRuntime) -> Result<(), Fail> {
     Ok(())
 }
 
+const REFUSED: [(&str, Status, &str); 4] = [
+    (
+        "plan 2\norder 4\n1\n2\n3\n4\npriority 4\n3\n3\n1\n4\npeak 6\nclaims 0\nend\n",
+        Status::Format,
+        "refused format plan priority 9\n",
+    ),
+    (
+        "plan 1\norder 0\npeak 0\nclaims 4000002\n",
+        Status::Limit,
+        "refused limit plan positions\n",
+    ),
+    (
+        "plan 1\norder 0\npeak 0\nclaims 2\n5 R 5 5\n5 R 5 5\nend\n",
+        Status::Format,
+        "refused format plan claim 6\n",
+    ),
+    (
+        "plan 1\norder 1\nx\n",
+        Status::Format,
+        "refused format plan number 3\n",
+    ),
+];
+
 #[test]
 fn plan_files_that_are_refused(rt: HostRuntime) -> Result<(), Fail> {
-    let rows: [(&str, Status, &str); 4] = [
-        (
-            "plan 2\norder 4\n1\n2\n3\n4\npriority 4\n3\n3\n1\n4\npeak 6\nclaims 0\nend\n",
-            Status::Format,
-            "refused format plan priority 9\n",
-        ),
-        (
-            "plan 1\norder 0\npeak 0\nclaims 4000002\n",
-            Status::Limit,
-            "refused limit plan positions\n",
-        ),
-        (
-            "plan 1\norder 0\npeak 0\nclaims 2\n5 R 5 5\n5 R 5 5\nend\n",
-            Status::Format,
-            "refused format plan claim 6\n",
-        ),
-        (
-            "plan 1\norder 1\nx\n",
-            Status::Format,
-            "refused format plan number 3\n",
-        ),
-    ];
-    for (plan, status, said) in rows {
+    for (plan, status, said) in REFUSED {
         assert!(rt; is_judged(&rt, rt.alloc(), "--tree", FOUR, plan, (status, said))?);
     }
     Ok(())
@@ -300,26 +304,27 @@ fn replayed<R: Threads + Sync>(
     Ok((status, sink))
 }
 
+const REPLAYS: [(&str, &str, Status, &str); 4] = [
+    (FIVE, PLAN, Status::Done, "peak 11\n"),
+    // neither the stated peak nor the claims are judged
+    (
+        FIVE,
+        "plan 1\norder 5\n1\n2\n3\n4\n5\npeak 11\nclaims 0\nend\n",
+        Status::Done,
+        "peak 15\n",
+    ),
+    (FOUR, PLAN, Status::No, "no order 5 unknown\n"),
+    (
+        FIVE,
+        "plan 3\n",
+        Status::Format,
+        "refused format plan header 1\n",
+    ),
+];
+
 #[test]
 fn replays_of_plans(rt: HostRuntime) -> Result<(), Fail> {
-    let rows: [(&str, &str, Status, &str); 4] = [
-        (FIVE, PLAN, Status::Done, "peak 11\n"),
-        // neither the stated peak nor the claims are judged
-        (
-            FIVE,
-            "plan 1\norder 5\n1\n2\n3\n4\n5\npeak 11\nclaims 0\nend\n",
-            Status::Done,
-            "peak 15\n",
-        ),
-        (FOUR, PLAN, Status::No, "no order 5 unknown\n"),
-        (
-            FIVE,
-            "plan 3\n",
-            Status::Format,
-            "refused format plan header 1\n",
-        ),
-    ];
-    for (input, plan, expected, text) in rows {
+    for (input, plan, expected, text) in REPLAYS {
         let (status, sink) = replayed(&rt, rt.alloc(), input, plan)?;
         assert!(rt; status == expected);
         assert!(rt; sink.written() == text.as_bytes());
@@ -327,31 +332,32 @@ fn replays_of_plans(rt: HostRuntime) -> Result<(), Fail> {
     Ok(())
 }
 
+const USAGE: [&[&str]; 12] = [
+    &["check", "--tree", "t"],
+    &["check", "--plan", "p"],
+    &["check", "--tree", "t", "--workflow", "w", "--plan", "p"],
+    &["check", "--tree", "t", "--plan", "p", "--workers", "0"],
+    &["check", "--tree", "t", "--plan", "p", "--workers", "4097"],
+    &[
+        "check",
+        "--tree",
+        "t",
+        "--plan",
+        "p",
+        "--workers",
+        "18446744073709551617",
+    ],
+    &["check", "--tree", "t", "--plan", "p", "--workers", "x"],
+    &["check", "--tree", "t", "--plan", "p", "--order", "o"],
+    &["check", "--tree", "t", "--plan", "p", "--plan", "p"],
+    &["replay", "--tree", "t", "--plan", "p", "--order", "o"],
+    &["replay", "--tree", "t", "--plan", "p", "--workers", "1"],
+    &["post", "--tree", "t", "--plan", "p"],
+];
+
 #[test]
 fn words_of_a_check_that_are_usage(rt: HostRuntime) -> Result<(), Fail> {
-    let rows: [&[&str]; 12] = [
-        &["check", "--tree", "t"],
-        &["check", "--plan", "p"],
-        &["check", "--tree", "t", "--workflow", "w", "--plan", "p"],
-        &["check", "--tree", "t", "--plan", "p", "--workers", "0"],
-        &["check", "--tree", "t", "--plan", "p", "--workers", "4097"],
-        &[
-            "check",
-            "--tree",
-            "t",
-            "--plan",
-            "p",
-            "--workers",
-            "18446744073709551617",
-        ],
-        &["check", "--tree", "t", "--plan", "p", "--workers", "x"],
-        &["check", "--tree", "t", "--plan", "p", "--order", "o"],
-        &["check", "--tree", "t", "--plan", "p", "--plan", "p"],
-        &["replay", "--tree", "t", "--plan", "p", "--order", "o"],
-        &["replay", "--tree", "t", "--plan", "p", "--workers", "1"],
-        &["post", "--tree", "t", "--plan", "p"],
-    ];
-    for row in rows {
+    for row in USAGE {
         let words = words_of(rt.alloc(), row)?;
         let mut files = files_with(rt.alloc(), FIVE, PLAN)?;
         let mut sink = MemSink::new(rt.alloc(), 100)?;

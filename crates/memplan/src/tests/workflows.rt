@@ -7,81 +7,82 @@ use std::test::Fail;
 const BRANCHES: &str =
     "workflow 1\ntasks 4\ndata 4\ndata 1\ntask 0 1\ndata 3\ntask 6 1\ndata 4\ndata 1\ntask 0 1\ndata 3\ntask 6 1\npar 2\nend\n";
 
+// A workflow, an order, the status and the text.
+const REPLAYS: [(&str, &str, Status, &str); 14] = [
+    (BRANCHES, "1 3 2 4\n", Status::Done, "peak 13\n"),
+    (BRANCHES, "1 2 3 4\n", Status::Done, "peak 14\n"),
+    (BRANCHES, "2 1 3 4\n", Status::No, "no order 1 too-early\n"),
+    (
+        "workflow 1\ntasks 0\ndata 10\ndata 10\npar 2\nend\n",
+        "",
+        Status::Done,
+        "peak 20\n",
+    ),
+    (
+        "workflow 1\ntasks 1\ntask 0 1\nend\n",
+        "x",
+        Status::Format,
+        "refused format workflow stack-short 3\n",
+    ),
+    (
+        "workflow 1\ntasks 1\ndata 1\nend\n",
+        "x",
+        Status::Format,
+        "refused format workflow task-count 4\n",
+    ),
+    (
+        "workflow 1\ntasks 0\ndata 1\ndata 1\nend\n",
+        "x",
+        Status::Format,
+        "refused format workflow not-one-term 5\n",
+    ),
+    (
+        "workflow 1\ntasks 0\nend\n",
+        "x",
+        Status::Format,
+        "refused format workflow not-one-term 3\n",
+    ),
+    (
+        "workflow 1\ntasks 0\ndata 1\npar 1\nend\n",
+        "x",
+        Status::Format,
+        "refused format workflow number 4\n",
+    ),
+    (
+        "workflow 1\ntasks 0\ndata 1\ndata 1\npar 18446744073709551615\nend\n",
+        "",
+        Status::Format,
+        "refused format workflow stack-short 5\n",
+    ),
+    (
+        "workflow 2\ntasks 1\ndata 4\ndata 3\ntask 2 4 1\nend\n",
+        "1\n",
+        Status::Done,
+        "peak 5\n",
+    ),
+    (
+        "workflow 2\ntasks 1\ndata 4\ndata 3\ntask 2 5 1\nend\n",
+        "1\n",
+        Status::Format,
+        "refused format workflow share 5\n",
+    ),
+    (
+        "workflow 1\ntasks 0\ndata 1099511627777\nend\n",
+        "",
+        Status::Limit,
+        "refused limit workflow size\n",
+    ),
+    (
+        "workflow 1\ntasks 1000001\n",
+        "",
+        Status::Limit,
+        "refused limit workflow tasks\n",
+    ),
+];
+
 #[test]
 fn replays_of_workflows(rt: HostRuntime) -> Result<(), Fail> {
-    // a workflow, an order, the status and the text
-    let rows: [(&str, &str, Status, &str); 14] = [
-        (BRANCHES, "1 3 2 4\n", Status::Done, "peak 13\n"),
-        (BRANCHES, "1 2 3 4\n", Status::Done, "peak 14\n"),
-        (BRANCHES, "2 1 3 4\n", Status::No, "no order 1 too-early\n"),
-        (
-            "workflow 1\ntasks 0\ndata 10\ndata 10\npar 2\nend\n",
-            "",
-            Status::Done,
-            "peak 20\n",
-        ),
-        (
-            "workflow 1\ntasks 1\ntask 0 1\nend\n",
-            "x",
-            Status::Format,
-            "refused format workflow stack-short 3\n",
-        ),
-        (
-            "workflow 1\ntasks 1\ndata 1\nend\n",
-            "x",
-            Status::Format,
-            "refused format workflow task-count 4\n",
-        ),
-        (
-            "workflow 1\ntasks 0\ndata 1\ndata 1\nend\n",
-            "x",
-            Status::Format,
-            "refused format workflow not-one-term 5\n",
-        ),
-        (
-            "workflow 1\ntasks 0\nend\n",
-            "x",
-            Status::Format,
-            "refused format workflow not-one-term 3\n",
-        ),
-        (
-            "workflow 1\ntasks 0\ndata 1\npar 1\nend\n",
-            "x",
-            Status::Format,
-            "refused format workflow number 4\n",
-        ),
-        (
-            "workflow 1\ntasks 0\ndata 1\ndata 1\npar 18446744073709551615\nend\n",
-            "",
-            Status::Format,
-            "refused format workflow stack-short 5\n",
-        ),
-        (
-            "workflow 2\ntasks 1\ndata 4\ndata 3\ntask 2 4 1\nend\n",
-            "1\n",
-            Status::Done,
-            "peak 5\n",
-        ),
-        (
-            "workflow 2\ntasks 1\ndata 4\ndata 3\ntask 2 5 1\nend\n",
-            "1\n",
-            Status::Format,
-            "refused format workflow share 5\n",
-        ),
-        (
-            "workflow 1\ntasks 0\ndata 1099511627777\nend\n",
-            "",
-            Status::Limit,
-            "refused limit workflow size\n",
-        ),
-        (
-            "workflow 1\ntasks 1000001\n",
-            "",
-            Status::Limit,
-            "refused limit workflow tasks\n",
-        ),
-    ];
-    for (workflow, order, status, text) in rows {
+    for (workflow, order, status, text) in REPLAYS {
         let mut files = files_of(rt.alloc(), workflow.as_bytes(), order.as_bytes())?;
         let mut sink = MemSink::new(rt.alloc(), 1000)?;
         let ended = replay_input(&rt, rt.alloc(), "--workflow", &mut files, &mut sink)?;

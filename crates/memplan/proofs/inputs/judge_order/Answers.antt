@@ -2,7 +2,7 @@ use Rattle.std.proofs.Common.{◌≡◌, ℕ, List, Some, refl, sym, subst}
 use Rattle.std.specs.Prelude.{codes}
 use Rattle.ordering.specs.OrderFile.{RefusesOrder}
 use Rattle.plan_text.specs.PlanFile.{RefusesPlan}
-use Rattle.memplan.specs.Answer.{IsOrder, IsOrderFrom, IsPlanFile, IsRefused, IsRefusedFile}
+use Rattle.memplan.specs.Answer.{IsOrder, IsOrderFrom, IsPlanFile, IsRefused, IsRefusedFile, IsOwnPriority, priority_or}
 use Rattle.memplan.specs.Judged.{IsJudged}
 use Rattle.memplan.specs.Pages.{answer_of}
 use Rattle.memplan.specs.Refusals.{order_file_word, plan_word}
@@ -42,3 +42,16 @@ returns-in-Refused-2-clause-told g c =
     (sym c.in-Plan.is)
     (λ text earlier is. subst (λ j. IsJudged (IsPlanFile text) (IsRefusedFile (codes "plan") plan_word (RefusesPlan text) text) j) c.in-Refused-2.is
     (c.in_ok-plan-in-Plan.ensures text (c.in_ok-loaded-in-Plan.ensures.told text is)))
+
+pub returns-in-Taken-2-clause-own : goal.returns-in-Taken-2-clause-own
+returns-in-Taken-2-clause-own g c =
+    let plan = c.in-Taken-2.plan in
+    subst (λ (s : OrderSource). (text : List ℕ) → g.F.Files.bytes_of c.args.files.now (source_file (source_view s)).name ≡ Some text
+    → IsOwnPriority (source_view s) text plan.order (priority_or plan.order plan.priority))
+    (sym c.in-Plan.is)
+    (λ text is. (
+      plan,
+      subst (λ j. IsJudged (IsPlanFile text) (IsRefusedFile (codes "plan") plan_word (RefusesPlan text) text) j) c.in-Taken-2.is
+          (c.in_ok-plan-in-Plan.ensures text (c.in_ok-loaded-in-Plan.ensures.told text is)),
+      refl,
+    ))
