@@ -11,7 +11,7 @@ use Rattle.memplan.specs.Refusals.{perm_word}
 use Rattle.memplan.specs.Request.{Input, OrderSource, order_named, plan_named, Simulation, replay, simulate, NamedFile, priority_file, input_files, source_file, priority_files, files_of}
 use Rattle.memplan.specs.Simulated.{IsRun, IsSimulated}
 use Rattle.memplan.specs.declared.inputs.Order.{Order}
-use Rattle.memplan.specs.declared.simulating.OrderedSystem.{OrderedSystem}
+use Rattle.memplan.specs.declared.inputs.OrderedSystem.{OrderedSystem}
 use Rattle.memplan.specs.declared.simulating.Priority.{Priority}
 use Rattle.memplan.specs.declared.simulating.Priority.TheVariants as priorities
 use Rattle.memplan.specs.declared.status.Status.TheVariants as status

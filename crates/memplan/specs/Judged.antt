@@ -7,12 +7,12 @@ use Rattle.sp_terms.specs.SystemOfTerm.{system_of_term}
 use Rattle.sp_terms.specs.Values.{IsTerms, term_of}
 use Rattle.memplan.specs.declared.inputs.Order.{Order}
 use Rattle.memplan.specs.declared.inputs.Order.TheVariants as orders
+use Rattle.memplan.specs.declared.inputs.OrderedSystem.{OrderedSystem}
 use Rattle.memplan.specs.declared.inputs.Work.{Work}
 use Rattle.memplan.specs.declared.judge.Judged.{Judged}
 use Rattle.memplan.specs.declared.judge.Judged.TheVariants.{Taken, Refused}
 use Rattle.memplan.specs.declared.judge.Loaded.{Loaded}
 use Rattle.memplan.specs.declared.judge.Loaded.TheVariants.{Whole, TooLong}
-use Rattle.memplan.specs.declared.simulating.OrderedSystem.{OrderedSystem}
 use Rattle.memplan.specs.declared.simulating.Priority.{Priority}
 use Rattle.memplan.specs.declared.simulating.Priority.TheVariants as priorities
 use Rattle.memplan.specs.Request.{Input, NamedFile, OrderSource, input_files, source_file}
@@ -66,6 +66,16 @@ abbrev pub own_priority : Order → List ℕ
 own_priority (orders.Listed numbers) = numbers.items
 own_priority (orders.Planned plan) = priority_or plan.order plan.priority
 
+-- the system of an input, and the order of a source with the priority that comes with it
+pub record IsOrderedOf (input : Input) (source : OrderSource) (texts : List (List ℕ)) (work : OrderedSystem) : Type 0 where
+  pub mine : List (List ℕ)
+  pub text : List ℕ
+  pub texts_are : texts ≡ mine ++ text ∷ []
+  pub is_system : IsSystemOf input mine work.system
+  pub is_order : IsOrderFrom source text (numbers_of work.order)
+  pub own : IsOwnPriority source text (numbers_of work.order) (own_priority work.order)
+  pub accepted : AreAccepted (input_files input ++ source_file source ∷ []) [] texts
+
 -- a permutation file of n vertices is refused
 abbrev pub IsRefusedOrder : ℕ → List (List ℕ) → Answer → Type 0
 IsRefusedOrder n [] answer = ⊥
@@ -77,16 +87,6 @@ HasRisen None before after = ⊥
 HasRisen (Some name) before after = Rose (before name) (after name)
 
 -- ---- simulated runs
-
--- the system of an input, and the order of a source with the priority that comes with it
-pub record IsOrderedOf (input : Input) (source : OrderSource) (texts : List (List ℕ)) (work : OrderedSystem) : Type 0 where
-  pub mine : List (List ℕ)
-  pub text : List ℕ
-  pub texts_are : texts ≡ mine ++ text ∷ []
-  pub is_system : IsSystemOf input mine work.system
-  pub is_order : IsOrderFrom source text (numbers_of work.order)
-  pub own : IsOwnPriority source text (numbers_of work.order) (own_priority work.order)
-  pub accepted : AreAccepted (input_files input ++ source_file source ∷ []) [] texts
 
 -- the priority of a file, where one is named
 abbrev pub IsPriorityOf : Option (List ℕ) → ℕ → List (List ℕ) → Priority → Type 0

@@ -1,6 +1,6 @@
 //! The files of an input are read and judged one after the other, and come to a tree or a system.
 
-ghost use Rattle.std.specs.Prelude.{◌≡◌, ◌≤◌, ℕ, List, [], ◌∷◌, Some, IfOk, Err, length, option_map};
+ghost use Rattle.std.specs.Prelude.{◌≡◌, ◌≤◌, ℕ, List, [], ◌∷◌, ◌++◌, Some, IfOk, Err, length, option_map};
 ghost use Rattle.mp_outside.specs.Outside.{Rose};
 ghost use Rattle.memplan.specs.Request as spec;
 ghost use Rattle.sp_terms.specs.SystemOfTerm.{system_of_term};
@@ -16,7 +16,7 @@ ghost use Rattle.activation.specs.Schedule.{HoldsEach};
 ghost use Rattle.mp_system.specs.System.{TaskSystem};
 ghost use Rattle.mp_system.specs.Traversal.{IsTraversal};
 ghost use Rattle.plan_text.specs.Plan.{IsPlan};
-ghost use Rattle.memplan.specs.Judged.{IsJudged, AreJudged, IsRefusedOrder, HasRisen, IsWorkOf, HasTerm, numbers_of, own_priority};
+ghost use Rattle.memplan.specs.Judged.{IsJudged, AreJudged, IsRefusedOrder, HasRisen, IsWorkOf, IsOrderedOf, HasTerm, numbers_of, own_priority};
 
 use crate::analysis::front_tree;
 use crate::judge::{Judged, load, order_of, pattern_of, perm_of, plan_of, tree_of, workflow_of};
@@ -120,8 +120,8 @@ fn judge_workflow<F: Files>(
     }
 }
 
-/// The system of an input.
-pub fn judge_input<F: Files>(
+// The system of an input.
+fn judge_input<F: Files>(
     alloc: Global,
     files: &mut F,
     input: Input<'_>,
@@ -264,8 +264,8 @@ fn priority_of(plan: &PlanFile) -> &[u32]
     }
 }
 
-/// The order that a source gives.
-pub fn judge_order<F: Files>(
+// The order that a source gives.
+fn judge_order<F: Files>(
     alloc: Global,
     files: &mut F,
     source: OrderSource<'_>,
@@ -294,5 +294,34 @@ pub fn judge_order<F: Files>(
                 Judged::Refused(page) => Ok(Judged::Refused(page)),
             }
         }
+    }
+}
+
+/// A system, and an order of its tasks.
+#[derive(Drop)]
+pub struct OrderedSystem {
+    pub system: System,
+    pub order: Order,
+}
+
+/// The system of an input, and the order of a source.
+pub fn judge_ordered<F: Files>(
+    alloc: Global,
+    files: &mut F,
+    input: Input<'_>,
+    source: OrderSource<'_>,
+) -> Result<Judged<OrderedSystem>, Stop>
+    ensures told { IfOk result (AreJudged (F.bytes_of files.old) (input_files (input_view input.entry) ++ source_file (source_view source.entry) ∷ []) (IsOrderedOf (input_view input.entry) (source_view source.entry))) }
+    ensures cause { result ≡ Err Stop.ReadFault → HasFailed (F.bytes_of files.old) (F.faults_of files.old) (F.faults_of files.new) (input_files (input_view input.entry) ++ source_file (source_view source.entry) ∷ []) }
+    ensures same { (other : List ℕ) → F.bytes_of files.new other ≡ F.bytes_of files.old other }
+    ensures later { (other : List ℕ) → F.faults_of files.old other ≤ F.faults_of files.new other }
+{
+    let system = match judge_input(alloc, files, input)? {
+        Judged::Taken(system) => system,
+        Judged::Refused(page) => return Ok(Judged::Refused(page)),
+    };
+    match judge_order(alloc, files, source)? {
+        Judged::Taken(order) => Ok(Judged::Taken(OrderedSystem { system, order })),
+        Judged::Refused(page) => Ok(Judged::Refused(page)),
     }
 }

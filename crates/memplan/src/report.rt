@@ -13,7 +13,7 @@ ghost use Rattle.memplan.specs.Clauses.{AreTold, SomeAnswer, HasFailed};
 ghost use Rattle.memplan.specs.declared.status.Status.TheVariants.{Done};
 ghost use Rattle.memplan.specs.Pages.{answer_of};
 
-use crate::inputs::{Work, judge_input, judge_matrix, judge_order, judge_tree, judge_work};
+use crate::inputs::{Work, judge_matrix, judge_ordered, judge_tree, judge_work};
 use crate::judge::{Judged, load, plan_of};
 use crate::page::{Page, order_page, peak_page, plan_page, post_page, tree_page, verdict_page};
 use crate::planning::plan_work;
@@ -75,15 +75,11 @@ fn report_replay<F: Files>(
     ensures told { IfOk result (λ page. SomeAnswer (F.bytes_of files.old) (replay (input_view names.entry.input) (source_view names.entry.source)) (λ answer. answer_of page ≡ answer)) }
     ensures cause { result ≡ Err Stop.ReadFault → HasFailed (F.bytes_of files.old) (F.faults_of files.old) (F.faults_of files.new) (files_of (replay (input_view names.entry.input) (source_view names.entry.source))) }
 {
-    let system = match judge_input(alloc, files, names.input)? {
-        Judged::Taken(system) => system,
+    let ordered = match judge_ordered(alloc, files, names.input, names.source)? {
+        Judged::Taken(ordered) => ordered,
         Judged::Refused(page) => return Ok(page),
     };
-    let order = match judge_order(alloc, files, names.source)? {
-        Judged::Taken(order) => order,
-        Judged::Refused(page) => return Ok(page),
-    };
-    Ok(replay_page(alloc, &system, order.numbers())?)
+    Ok(replay_page(alloc, &ordered.system, ordered.order.numbers())?)
 }
 
 fn report_tree<F: Files>(alloc: Global, files: &mut F, matrix: Matrix<'_>) -> Result<Page, Stop>

@@ -16,15 +16,14 @@ ghost use Rattle.memplan.specs.Simulated.{IsRun, IsSimulated};
 ghost use Rattle.memplan.specs.Traces.{event_word as event_text, event_line, report_lines};
 ghost use Rattle.memplan.specs.declared.status.Status.TheVariants.{Done};
 
-use crate::inputs::{Order, judge_input, judge_order};
+use crate::inputs::{OrderedSystem, judge_ordered};
 use crate::judge::{Judged, load, priority_of};
 use crate::page::{Page, PageKind, bound_page, order_page, print_count, print_end};
 use crate::report::Stop;
-use crate::request::{Input, OrderSource, SimulateNames};
+use crate::request::SimulateNames;
 use activation::laws::schedule_law;
 use activation::{Core, CoreRefusal, Event, EventKind, Trace, simulate};
 use mp_outside::Files;
-use mp_system::System;
 use mp_text::Report;
 use mp_text::laws::{printed_line, printed_number};
 use std::alloc::{AllocError, Global};
@@ -88,13 +87,6 @@ fn trace_page(alloc: Global, trace: &Trace) -> Result<Page, AllocError>
 
 // ---- the files
 
-/// A system, and an order of its tasks.
-#[derive(Drop)]
-pub struct OrderedSystem {
-    pub system: System,
-    pub order: Order,
-}
-
 /// Where the priority of a run comes from.
 #[derive(Drop)]
 pub enum Priority {
@@ -102,28 +94,6 @@ pub enum Priority {
     Own,
     /// It is read from a file.
     Given(Vec<u32>),
-}
-
-// The system of an input, and the order of a source.
-fn judge_ordered<F: Files>(
-    alloc: Global,
-    files: &mut F,
-    input: Input<'_>,
-    source: OrderSource<'_>,
-) -> Result<Judged<OrderedSystem>, Stop>
-    ensures told { IfOk result (AreJudged (F.bytes_of files.old) (input_files (input_view input.entry) ++ source_file (source_view source.entry) ∷ []) (IsOrderedOf (input_view input.entry) (source_view source.entry))) }
-    ensures cause { result ≡ Err Stop.ReadFault → HasFailed (F.bytes_of files.old) (F.faults_of files.old) (F.faults_of files.new) (input_files (input_view input.entry) ++ source_file (source_view source.entry) ∷ []) }
-    ensures same { (other : List ℕ) → F.bytes_of files.new other ≡ F.bytes_of files.old other }
-    ensures later { (other : List ℕ) → F.faults_of files.old other ≤ F.faults_of files.new other }
-{
-    let system = match judge_input(alloc, files, input)? {
-        Judged::Taken(system) => system,
-        Judged::Refused(page) => return Ok(Judged::Refused(page)),
-    };
-    match judge_order(alloc, files, source)? {
-        Judged::Taken(order) => Ok(Judged::Taken(OrderedSystem { system, order })),
-        Judged::Refused(page) => Ok(Judged::Refused(page)),
-    }
 }
 
 // The priority of `n` tasks of a file, if one is named.

@@ -1,72 +1,37 @@
-use Rattle.std.proofs.Common.{◌≡◌, ◌∙◌, [], Err, refl, sym, ap, subst}
+use Rattle.std.proofs.Common.{◌≡◌, ◌∙◌, ◌++◌, [], ◌∷◌, Err, inl, inr, refl, sym, ap, subst}
 use Rattle.std.proofs.lemmas.Result.{err_from_is_err_and}
-use Rattle.memplan.specs.Answer.{IsFirstRefusal, IsOrderFrom, IsRefused, IsSystemOf}
-use Rattle.memplan.specs.Judged.{IsJudged, numbers_of}
+use Rattle.memplan.specs.Answer.{IsFirstRefusal}
+use Rattle.memplan.specs.Judged.{IsJudged, IsOrderedOf, numbers_of}
 use Rattle.memplan.specs.Pages.{answer_of}
-use Rattle.memplan.specs.Request.{replay, input_files, source_file}
+use Rattle.memplan.specs.Request.{input_files, source_file}
 use Rattle.memplan.specs.RequestViews.{input_view, source_view}
 use Rattle.memplan.specs.declared.report.Stop.{Stop}
 use Rattle.memplan.specs.declared.report.Stop.TheVariants as stops
-use Rattle.memplan.proofs.AnswerLemmas.{input_accepted, input_refused, last_refused, reported, input_failed, last_failed, Rose-later}
 use Rattle.memplan.proofs.report.report_replay.Goals as goal
 
-pub returns-in_err-system-clause-cause : goal.returns-in_err-system-clause-cause
-returns-in_err-system-clause-cause g c = λ fault.
-    let input = input_view c.args.names.input in
-    let source = source_view c.args.names.source in
+pub returns-in_err-ordered-clause-cause : goal.returns-in_err-ordered-clause-cause
+returns-in_err-ordered-clause-cause g c = λ fault.
     let p = err_from_is_err_and c.from_residual.result c.from_residual.ensures.1 in
     let is : p.0 ≡ stops.ReadFault = cc (sym p.1 ∙ fault) in
-    let same : c.in_err-system.field-0.0 ≡ stops.ReadFault = sym p.2 ∙ is in
-    input_failed (g.F.Files.bytes_of c.args.files.now) input (source_file source) (replay input source) refl (g.F.Files.faults_of c.args.files.now) (g.F.Files.faults_of c.judge_input.new.files)
-    (c.in_err-system.ensures.cause (ap (λ (s : Stop). Err s) same))
-
-pub returns-in_err-order-clause-cause : goal.returns-in_err-order-clause-cause
-returns-in_err-order-clause-cause g c = λ fault.
-    let input = input_view c.args.names.input in
-    let source = source_view c.args.names.source in
-    let told = g.F.Files.bytes_of c.args.files.now in
-    let p = err_from_is_err_and c.from_residual-in_err-order.result c.from_residual-in_err-order.ensures.1 in
-    let is : p.0 ≡ stops.ReadFault = cc (sym p.1 ∙ fault) in
-    let same : c.in_err-order.field-0.0 ≡ stops.ReadFault = sym p.2 ∙ is in
-    let name = (source_file source).name in
-    last_failed told input (source_file source) (replay input source) refl
-    (λ texts are. input_accepted input texts c.in-Taken.system (subst (λ j. IsJudged (IsSystemOf input texts) (IsFirstRefusal (input_files input) [] texts) j) c.in-Taken.is (c.in_ok-system.ensures.told texts are)))
-    (g.F.Files.faults_of c.args.files.now) (g.F.Files.faults_of c.judge_order.new.files)
-    (Rose-later (g.F.Files.faults_of c.args.files.now name) (g.F.Files.faults_of c.judge_input.new.files name) (g.F.Files.faults_of c.judge_order.new.files name)
-    (c.in_ok-system.ensures.later name) (c.in_err-order.ensures.cause (ap (λ (s : Stop). Err s) same)))
+    let same : c.in_err-ordered.field-0.0 ≡ stops.ReadFault = sym p.2 ∙ is in
+    c.in_err-ordered.ensures.cause (ap (λ (s : Stop). Err s) same)
 
 pub returns-in-Refused-clause-told : goal.returns-in-Refused-clause-told
-returns-in-Refused-clause-told g c =
+returns-in-Refused-clause-told g c = λ texts are.
     let input = input_view c.args.names.input in
-    let source = source_view c.args.names.source in
-    input_refused (g.F.Files.bytes_of c.args.files.now) input (source_file source) (replay input source) refl (answer_of c.in-Refused.page)
-    (λ texts are. subst (λ j. IsJudged (IsSystemOf input texts) (IsFirstRefusal (input_files input) [] texts) j) c.in-Refused.is (c.in_ok-system.ensures.told texts are))
-
-pub returns-in-Refused-2-clause-told : goal.returns-in-Refused-2-clause-told
-returns-in-Refused-2-clause-told g c =
-    let input = input_view c.args.names.input in
-    let source = source_view c.args.names.source in
-    let told = g.F.Files.bytes_of c.args.files.now in
-    last_refused told input (source_file source) (replay input source) refl
-    (λ texts are. input_accepted input texts c.in-Taken.system (subst (λ j. IsJudged (IsSystemOf input texts) (IsFirstRefusal (input_files input) [] texts) j) c.in-Taken.is (c.in_ok-system.ensures.told texts are)))
-    (answer_of c.in-Refused-2.page)
-    (λ text earlier is. subst (λ j. IsJudged (λ order. IsOrderFrom source text (numbers_of order)) (IsRefused (source_file source).role earlier text) j) c.in-Refused-2.is
-    (c.in_ok-order.ensures.told text earlier (c.in_ok-system.ensures.same (source_file source).name ∙ is)))
+    let source = source_view c.args.names.source in (
+      answer_of c.in-Refused.page,
+      inl (subst (λ j. IsJudged (IsOrderedOf input source texts) (IsFirstRefusal (input_files input ++ source_file source ∷ []) [] texts) j) c.in-Refused.is
+          (c.in_ok-ordered.ensures.told texts are)),
+      refl,
+    )
 
 pub returns-clause-told : goal.returns-clause-told
-returns-clause-told g c =
+returns-clause-told g c = λ texts are.
     let input = input_view c.args.names.input in
     let source = source_view c.args.names.source in
-    let told = g.F.Files.bytes_of c.args.files.now in
-    reported told input (source_file source) (replay input source) refl (answer_of c.in_ok-replay_page.field-0)
-    (λ mine text are is. (
-      mine,
-      text,
-      c.in-Taken.system,
-      numbers_of c.in-Taken-2.order,
+    let is = subst (λ j. IsJudged (IsOrderedOf input source texts) (IsFirstRefusal (input_files input ++ source_file source ∷ []) [] texts) j) c.in-Taken.is (c.in_ok-ordered.ensures.told texts are) in (
+      answer_of c.in_ok-replay_page.field-0,
+      inr (is.mine, is.text, c.in-Taken.ordered.system, numbers_of c.in-Taken.ordered.order, is.texts_are, is.is_system, is.is_order, rw (← c.numbers.ensures) c.in_ok-replay_page.ensures),
       refl,
-      subst (λ j. IsJudged (IsSystemOf input mine) (IsFirstRefusal (input_files input) [] mine) j) c.in-Taken.is (c.in_ok-system.ensures.told mine are),
-      subst (λ j. IsJudged (λ order. IsOrderFrom source text (numbers_of order)) (IsRefused (source_file source).role [] text) j) c.in-Taken-2.is
-          (c.in_ok-order.ensures.told text [] (c.in_ok-system.ensures.same (source_file source).name ∙ is)),
-      rw (← c.numbers.ensures) c.in_ok-replay_page.ensures,
-    ))
+    )

@@ -9,7 +9,7 @@ use Rattle.memplan.specs.declared.report.Stop.{Stop}
 use Rattle.memplan.specs.declared.report.Stop.TheVariants as stops
 use Rattle.memplan.proofs.AnswerLemmas.{input_accepted, input_failed, last_failed, Rose-later}
 use Rattle.memplan.proofs.SimulatingLemmas.{ordered_refused, order_refused, ordered}
-use Rattle.memplan.proofs.simulating.judge_ordered.Goals as goal
+use Rattle.memplan.proofs.inputs.judge_ordered.Goals as goal
 
 pub returns-in_err-system-clause-cause : goal.returns-in_err-system-clause-cause
 returns-in_err-system-clause-cause g c = λ fault.
