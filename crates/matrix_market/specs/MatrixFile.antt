@@ -3,7 +3,7 @@
 use Rattle.std.specs.Prelude.{◌==◌, ℕ, Bool, false, ◌&&◌, ◌||◌, not, nat_lt, nat_le, is_some, unwrap_or, Option, Some, None, List, [], ◌∷◌, length, map, codes, if◌then◌else◌, slice_index_or}
 use Rattle.std.specs.Char.{to_ascii_lowercase}
 use Rattle.std.specs.Str.{bytes_eq}
-use Rattle.mp_text.specs.declared.refusals.LimitName.TheVariants as limits
+use Rattle.limits.specs.declared.name.LimitName.TheVariants as limits
 use Rattle.mp_text.specs.declared.refusals.Refusal.{Refusal}
 use Rattle.mp_text.specs.declared.refusals.Refusal.TheVariants as refusals
 use Rattle.mp_text.specs.Text.{Row, number_of, lines_of, rows_from}

@@ -8,7 +8,8 @@ ghost use Rattle.mp_text.specs.Reading.{Gives, GivesBy, tested};
 ghost use Rattle.matrix_market.specs.MatrixFile.{fault_at, is_word, values_of_field, is_symmetry, banner_tests, values_stated, number_at, size_stated, size_of, size_tests, entry_stated, pair_of, entry_tests};
 
 use crate::kind::MatrixKind;
-use mp_text::{Fault, LimitName, Line, Refusal, Tokens, number, tokens};
+use limits::LimitName;
+use mp_text::{Fault, Line, Refusal, Tokens, number, tokens};
 
 const MOST_ORDER: u64 = 1_000_000;
 

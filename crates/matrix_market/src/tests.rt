@@ -5,7 +5,8 @@ ghost use Rattle.std.specs.List.{list_any};
 ghost use Rattle.matrix_market.specs.Pattern.{names, are_named};
 
 use crate::{MatrixKind, Pattern, laws, read_pattern};
-use mp_text::{Fault, LimitName, Refusal};
+use limits::LimitName;
+use mp_text::{Fault, Refusal};
 use std::alloc::Global;
 use std::process::Abort;
 use std::test::Fail;

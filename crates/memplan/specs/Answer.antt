@@ -4,7 +4,7 @@ use Rattle.std.specs.Prelude.{◌≡◌, ℕ, ◌<◌, ◌≤◌, List, [], ◌�
 use Rattle.std.specs.List.{range_with_len}
 use Rattle.mp_text.specs.declared.refusals.Refusal.{Refusal}
 use Rattle.mp_text.specs.declared.refusals.Refusal.TheVariants as refusals
-use Rattle.mp_text.specs.declared.refusals.LimitName.TheVariants as limits
+use Rattle.limits.specs.declared.name.LimitName.TheVariants as limits
 use Rattle.mp_text.specs.Report.{line_text, text_of_lines}
 use Rattle.mp_system.specs.declared.system.OrderKind.{OrderKind}
 use Rattle.mp_system.specs.System.{TaskSystem}

@@ -1,7 +1,7 @@
 -- The words of refusals, as they are printed.
 use Rattle.std.specs.Prelude.{ℕ, List, codes}
-use Rattle.mp_text.specs.declared.refusals.LimitName.{LimitName}
-use Rattle.mp_text.specs.declared.refusals.LimitName.TheVariants as limits
+use Rattle.limits.specs.declared.name.LimitName.{LimitName}
+use Rattle.limits.specs.declared.name.LimitName.TheVariants as limits
 use Rattle.mp_system.specs.declared.system.OrderKind.{OrderKind}
 use Rattle.mp_system.specs.declared.system.OrderKind.TheVariants as orders
 use Rattle.tree_input.specs.declared.node.TreeKind.{TreeKind}

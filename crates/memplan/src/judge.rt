@@ -18,9 +18,10 @@ use crate::kind_words::{
 };
 use crate::page::{Page, format_page, limit_page};
 use crate::report::Stop;
+use limits::LimitName;
 use matrix_market::{Pattern, read_pattern};
 use mp_outside::{Files, ReadRefusal, read_whole};
-use mp_text::{LimitName, Refusal};
+use mp_text::Refusal;
 use ordering::laws::read_is_perm;
 use ordering::{Perm, read_order, read_perm};
 use plan_text::{PlanFile, read_plan};

@@ -5,9 +5,9 @@ ghost use Rattle.mp_text.specs.Report.{is_token};
 ghost use Rattle.memplan.specs.Refusals as words;
 
 use claim_check::Shape;
+use limits::LimitName;
 use matrix_market::MatrixKind;
 use mp_system::OrderKind;
-use mp_text::LimitName;
 use ordering::{OrderFileKind, PermKind};
 use plan_text::PlanKind;
 use sp_terms::WorkflowKind;

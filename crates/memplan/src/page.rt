@@ -10,9 +10,10 @@ ghost use Rattle.memplan.specs.Pages.{answer_of};
 
 use crate::kind_words::{limit_word, order_word, shape_word};
 use claim_check::{Objection, Shape, Verdict};
+use limits::LimitName;
 use mp_system::OrderFault;
+use mp_text::Report;
 use mp_text::laws::{printed_line, printed_number};
-use mp_text::{LimitName, Report};
 use plan_text::{PlanFile, print_plan};
 use std::alloc::{AllocError, Global};
 use tree_input::{Tree, print_tree};

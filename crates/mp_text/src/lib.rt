@@ -16,7 +16,7 @@ mod token_scan;
 pub use line_scan::{Line, Lines};
 pub use numbers::{number, signed};
 pub use reading::{Reader, read_with};
-pub use refusals::{Fault, LimitName, Refusal};
+pub use refusals::{Fault, Refusal};
 pub use reports::{NoMemory, Report};
 pub use split::tokens;
 pub use token_scan::Tokens;

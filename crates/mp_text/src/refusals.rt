@@ -3,6 +3,7 @@
 ghost use Rattle.std.specs.Prelude.{◌≡◌};
 ghost use Rattle.mp_text.specs.declared.refusals.Refusal.TheVariants.{NoMemory};
 
+use limits::LimitName;
 use std::alloc::{AllocError, AllocFailed};
 
 /// What is wrong with a file, and where.
@@ -12,29 +13,6 @@ pub struct Fault<K> {
     pub line: u64,
     /// Which test of the format failed.
     pub kind: K,
-}
-
-/// The name of a limit: what is counted against it. A limit is refused where the count first passes it.
-#[derive(Clone, Copy, Debug, PartialEq, Eq)]
-pub enum LimitName {
-    /// Bytes of one file.
-    Bytes,
-    /// Rows of a matrix.
-    Order,
-    /// Entries that a matrix states.
-    Entries,
-    /// Rows of a matrix that is ordered by minimum degree.
-    Mindeg,
-    /// Tasks of a workflow, nodes of a tree, or numbers of an order.
-    Tasks,
-    /// Positions of a term, or claims of a plan.
-    Positions,
-    /// One extra or one data size.
-    Size,
-    /// The sum of all extras and data sizes.
-    Total,
-    /// One duration.
-    Time,
 }
 
 /// Why a file was refused, or that memory ran out.

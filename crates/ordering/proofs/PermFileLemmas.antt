@@ -3,7 +3,7 @@ use Rattle.std.proofs.Common.{◌≡◌, ℕ, leb, true, false, List, [], ◌∷
 use Rattle.std.specs.Option.{option_or}
 use Rattle.std.proofs.lemmas.Bool.{leb-true}
 use Rattle.std.proofs.lemmas.List.{map_push, length-map}
-use Rattle.mp_text.specs.declared.refusals.LimitName.{LimitName}
+use Rattle.limits.specs.declared.name.LimitName.{LimitName}
 use Rattle.mp_text.specs.declared.refusals.Refusal.{Refusal}
 use Rattle.mp_text.specs.declared.refusals.Refusal.TheVariants as refusals
 use Rattle.mp_text.specs.Text.{Row}

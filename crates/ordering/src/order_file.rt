@@ -4,7 +4,8 @@ ghost use Rattle.mp_text.specs.Reading.{Steps, steps_of_all};
 ghost use Rattle.ordering.specs.OrderFile.{ReadsOrder, IsOrderRefusal};
 ghost use Rattle.ordering.specs.OrderReader.{token_step};
 
-use mp_text::{Fault, LimitName, Line, Reader, Refusal, number, read_with, tokens};
+use limits::LimitName;
+use mp_text::{Fault, Line, Reader, Refusal, number, read_with, tokens};
 use std::alloc::Global;
 use std::marker::Model;
 

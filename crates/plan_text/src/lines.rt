@@ -11,7 +11,8 @@ ghost use Rattle.plan_text.specs.PlanFile.{fault_at, token_at, is_number_up_to, 
 
 use crate::claim::{Claim, Dir, PlanKind};
 use crate::ranking::Ranking;
-use mp_text::{Fault, LimitName, Line, Refusal, number, signed, tokens};
+use limits::LimitName;
+use mp_text::{Fault, Line, Refusal, number, signed, tokens};
 
 const MOST_TASKS: u64 = 1_000_000;
 

@@ -1,5 +1,6 @@
 use crate::{Claim, Dir, PlanFile, PlanKind, laws, print_plan, print_plan_2, read_plan};
-use mp_text::{Fault, LimitName, Refusal, Report};
+use limits::LimitName;
+use mp_text::{Fault, Refusal, Report};
 use std::alloc::Global;
 use std::test::Fail;
 

@@ -9,8 +9,8 @@ use Rattle.sp_terms.specs.declared.position.Position.{Position}
 use Rattle.sp_terms.specs.declared.position.Position.TheVariants.{Hold, Par}
 use Rattle.sp_terms.specs.declared.position.Position.TheVariants as at
 use Rattle.sp_terms.specs.declared.builder.Ends.{Ends}
-use Rattle.mp_text.specs.declared.refusals.LimitName.{LimitName}
-use Rattle.mp_text.specs.declared.refusals.LimitName.TheVariants.{Positions, Tasks, Size, Time, Total}
+use Rattle.limits.specs.declared.name.LimitName.{LimitName}
+use Rattle.limits.specs.declared.name.LimitName.TheVariants.{Positions, Tasks, Size, Time, Total}
 use Rattle.sp_terms.specs.declared.builder.PushRefusal.TheVariants.{Short, Limit, Share}
 use Rattle.sp_terms.specs.Term.{Term, hold, series, par, Parts, no_parts, part, count, forward, backward, first_memory, first_memory_of_parts, AreAllowed}
 use Rattle.sp_terms.specs.Postfix.{gather, push, push_all, postfix}

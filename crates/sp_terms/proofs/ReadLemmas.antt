@@ -7,7 +7,7 @@ use Rattle.std.proofs.lemmas.List.{take_all, take_more, drop_more, take-append-d
 use Rattle.std.proofs.Math.Seq.{take-append_seam}
 use Rattle.std.proofs.lemmas.List.Folds.{list_any-append}
 use Rattle.std.proofs.lemmas.Bool.{leb-true, eqb-true, eqb-false, ltb-true}
-use Rattle.mp_text.specs.declared.refusals.LimitName.{LimitName}
+use Rattle.limits.specs.declared.name.LimitName.{LimitName}
 use Rattle.mp_text.specs.declared.refusals.Refusal.{Refusal}
 use Rattle.mp_text.specs.Text.{Row}
 use Rattle.mp_text.specs.Ahead.{rows_of_bytes, past_of_bytes}

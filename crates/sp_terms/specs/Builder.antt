@@ -4,8 +4,8 @@ use Rattle.std.specs.List.{sum_by}
 use Rattle.sp_terms.specs.declared.position.Position.{Position}
 use Rattle.sp_terms.specs.declared.position.Position.TheVariants.{Hold, Par}
 use Rattle.sp_terms.specs.declared.position.Position.TheVariants as at
-use Rattle.mp_text.specs.declared.refusals.LimitName.{LimitName}
-use Rattle.mp_text.specs.declared.refusals.LimitName.TheVariants.{Positions, Tasks, Size, Time, Total}
+use Rattle.limits.specs.declared.name.LimitName.{LimitName}
+use Rattle.limits.specs.declared.name.LimitName.TheVariants.{Positions, Tasks, Size, Time, Total}
 use Rattle.sp_terms.specs.declared.builder.PushRefusal.{PushRefusal}
 use Rattle.sp_terms.specs.declared.builder.PushRefusal.TheVariants.{Short, Limit, Share, NoMemory}
 use Rattle.sp_terms.specs.Term.{Term, initial_of, final_of}

@@ -7,8 +7,8 @@ use Rattle.std.proofs.Common.{sym, ap, subst, ◌∙◌, arith}
 use Rattle.std.proofs.lemmas.List.{map_push}
 use Rattle.std.proofs.lemmas.List.Folds.{list_any-append}
 use Rattle.std.proofs.lemmas.Bool.{leb-true, ltb-true, le-ltb, eqb-true}
-use Rattle.mp_text.specs.declared.refusals.LimitName.{LimitName}
-use Rattle.mp_text.specs.declared.refusals.LimitName.TheVariants as limits
+use Rattle.limits.specs.declared.name.LimitName.{LimitName}
+use Rattle.limits.specs.declared.name.LimitName.TheVariants as limits
 use Rattle.mp_text.specs.declared.refusals.Refusal.{Refusal}
 use Rattle.mp_text.specs.declared.refusals.Refusal.TheVariants as refusals
 use Rattle.mp_text.specs.Text.{Row}

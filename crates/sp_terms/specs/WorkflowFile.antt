@@ -5,7 +5,7 @@ use Rattle.std.specs.List.{sum_by, list_any}
 use Rattle.std.specs.Str.{bytes_eq}
 use Rattle.std.specs.Cmp.Lexicographic.{pointwise}
 use Rattle.mp_system.specs.declared.system.Task.{Task}
-use Rattle.mp_text.specs.declared.refusals.LimitName.TheVariants as limits
+use Rattle.limits.specs.declared.name.LimitName.TheVariants as limits
 use Rattle.mp_text.specs.declared.refusals.Refusal.{Refusal}
 use Rattle.mp_text.specs.declared.refusals.Refusal.TheVariants as refusals
 use Rattle.mp_text.specs.Text.{Row, number_of}

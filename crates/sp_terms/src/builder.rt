@@ -8,7 +8,7 @@ ghost use Rattle.std.specs.List.{sum_by};
 
 use crate::position::Position;
 use crate::terms::Terms;
-use mp_text::LimitName;
+use limits::LimitName;
 use std::alloc::{AllocError, Global};
 use std::marker::Model;
 

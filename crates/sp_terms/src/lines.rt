@@ -14,7 +14,8 @@ ghost use Rattle.sp_terms.specs.WorkflowFile.{fault_at, header_tests, has_shares
 use crate::fields::{only_number, only_task};
 use crate::kind::{Word, WorkflowKind};
 use crate::position::Position;
-use mp_text::{Fault, LimitName, Line, Refusal, Tokens, number, tokens};
+use limits::LimitName;
+use mp_text::{Fault, Line, Refusal, Tokens, number, tokens};
 
 const MOST_TASKS: u64 = 1_000_000;
 

@@ -4,8 +4,9 @@ use crate::{
     Position, PushRefusal, TermBuilder, Terms, Values, WorkflowKind, hill, laws, print_workflow,
     print_workflow_2, read_workflow, system_of, values, values_at,
 };
+use limits::LimitName;
 use mp_system::{Item, Task, replay};
-use mp_text::{Fault, LimitName, Refusal, Report};
+use mp_text::{Fault, Refusal, Report};
 use std::alloc::Global;
 use std::test::Fail;
 

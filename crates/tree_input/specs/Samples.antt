@@ -3,7 +3,7 @@ use Rattle.std.specs.Prelude.{◌≡◌, ℕ, true, List, [], ◌∷◌, ◌++�
 use Rattle.std.specs.Fmt.{digits}
 use Rattle.mp_text.specs.declared.refusals.Refusal.{Refusal}
 use Rattle.mp_text.specs.declared.refusals.Refusal.TheVariants as refusals
-use Rattle.mp_text.specs.declared.refusals.LimitName.TheVariants as limits
+use Rattle.limits.specs.declared.name.LimitName.TheVariants as limits
 use Rattle.mp_text.specs.Text.{lines_of, tokens_of, number_of, number_from, rows_from}
 use Rattle.mp_text.specs.Ahead.{rows_of_bytes, past_of_bytes}
 use Rattle.mp_text.specs.Grammar.{first_failure, tests_of_all}

@@ -10,7 +10,8 @@ ghost use Rattle.tree_input.specs.TreeFile.{fault_at, is_end, header_tests, has_
 
 use crate::fields::fields_on;
 use crate::node::{Node, TreeKind};
-use mp_text::{Fault, LimitName, Line, Refusal, number, tokens};
+use limits::LimitName;
+use mp_text::{Fault, Line, Refusal, number, tokens};
 
 const MOST_TASKS: u64 = 1_000_000;
 

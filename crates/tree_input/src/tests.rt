@@ -1,6 +1,7 @@
 use crate::{Node, Tree, TreeKind, laws, print_tree, print_tree_2, read_tree, system_of_tree};
+use limits::LimitName;
 use mp_system::{Item, Task};
-use mp_text::{Fault, LimitName, Refusal, Report};
+use mp_text::{Fault, Refusal, Report};
 use std::alloc::Global;
 use std::test::Fail;
 

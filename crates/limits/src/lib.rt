@@ -1,0 +1,41 @@
+//! The limits of memplan: how many bytes, tasks or workers there may be, and how great a size or a time.
+//!
+//! Each limit stands here once: as a constant for code, and as a definition in specs/ (`Limits`) for contracts. A body that keeps
+//! to a limit compares with the constant, and its contract names the definition, so the two cannot part.
+#![tactic(auto)]
+
+mod name;
+#[cfg(test)]
+mod tests;
+
+pub use name::LimitName;
+
+/// Bytes of one file.
+pub const MOST_BYTES: u64 = 268_435_456;
+
+/// Rows of a matrix.
+pub const MOST_ORDER: u64 = 1_000_000;
+
+/// Entries that a matrix file states.
+pub const MOST_ENTRIES: u64 = 10_000_000;
+
+/// Rows of a matrix that is ordered by minimum degree.
+pub const MOST_MINDEG: u64 = 50_000;
+
+/// Tasks of a workflow, nodes of a tree, or numbers of an order.
+pub const MOST_TASKS: u64 = 1_000_000;
+
+/// Positions of a term, claims of a plan, or data items of a system.
+pub const MOST_POSITIONS: u64 = 4_000_001;
+
+/// One extra or one data size: 2^40.
+pub const MOST_SIZE: u64 = 1_099_511_627_776;
+
+/// The sum of all extras and data sizes, and so every memory: 2^60.
+pub const MOST_TOTAL: u64 = 1_152_921_504_606_846_976;
+
+/// One duration: 2^40.
+pub const MOST_TIME: u64 = 1_099_511_627_776;
+
+/// Workers of a run, or of a check.
+pub const MOST_WORKERS: u32 = 4_096;
