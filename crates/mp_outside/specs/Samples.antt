@@ -1,3 +1,4 @@
+-- No public clause names this.
 -- Worked examples of the definitions.
 use Rattle.std.specs.Prelude.{◌≡◌, ◌-◌, ◌^◌, [], ◌∷◌, Some, None, codes, refl, true, false}
 use Rattle.mp_outside.specs.Outside.{one_more}

@@ -2,7 +2,7 @@ ghost use Rattle.std.specs.Prelude.{◌≡◌, ◌≤◌, ◌<◌, ◌-◌, IfOk
 ghost use Rattle.mp_outside.specs.Outside.{Loads, one_more};
 ghost use Rattle.mp_outside.specs.MemFiles.{has_name};
 
-use crate::traits::NoMemory;
+use crate::NoMemory;
 use std::alloc::Global;
 use std::marker::Model;
 

@@ -15,8 +15,12 @@ mod writing;
 
 pub use mem_files::MemFiles;
 pub use mem_sink::MemSink;
-pub use reading::{MOST_BYTES, ReadRefusal, read_whole};
+pub use reading::{ReadRefusal, read_whole};
 pub use real_files::RealFiles;
 pub use real_sink::RealSink;
-pub use traits::{Failed, Files, Gate, NoGate, NoMemory, Sink};
+use std::alloc::AllocError;
+pub use traits::{Failed, Files, Gate, NoGate, Sink};
 pub use writing::{WriteFault, write_all};
+
+/// Want of memory: an allocation was refused.
+pub type NoMemory = AllocError;

@@ -2,9 +2,10 @@ ghost use Rattle.std.specs.Prelude.{◌≡◌, ◌≤◌, ◌<◌, ◌-◌, ◌+
 ghost use Rattle.mp_outside.specs.Outside.{LoadsTold, Rose, one_more};
 ghost use Rattle.mp_outside.specs.MemFiles.{no_files, contents_of, fault_count_of, LoadFails, RaisesOnly, Puts};
 
+use crate::NoMemory;
 use crate::calls::is_listed;
 use crate::held_file::{HeldFile, copy_from, position_of};
-use crate::traits::{Failed, Files, NoMemory};
+use crate::traits::{Failed, Files};
 use std::alloc::Global;
 use std::marker::Model;
 

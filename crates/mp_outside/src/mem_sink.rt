@@ -2,8 +2,9 @@ ghost use Rattle.std.specs.Prelude.{◌≡◌, ◌≤◌, ◌<◌, ◌↔◌, �
 ghost use Rattle.mp_outside.specs.Outside.{Appended, Rose};
 ghost use Rattle.mp_outside.specs.MemSink.{empty_sink, WriteFails, after_fault, after_taking};
 
+use crate::NoMemory;
 use crate::calls::is_listed;
-use crate::traits::{Failed, NoMemory, Sink};
+use crate::traits::{Failed, Sink};
 use std::alloc::Global;
 use std::marker::Model;
 

@@ -1,15 +1,19 @@
 ghost use Rattle.std.specs.Prelude.{◌≡◌, ◌≤◌, ◌<◌, ℕ, List, IfOk, IfSome, length};
+ghost use Rattle.limits.specs.Limits.{most_bytes};
 ghost use Rattle.mp_outside.specs.Outside.{Rose};
 
-use crate::traits::{Files, NoMemory};
+use crate::NoMemory;
+use crate::traits::Files;
+use limits::MOST_BYTES;
 use std::alloc::Global;
+use std::fmt::{self, Display, Formatter, Write};
 
 /// Why a file was not read whole.
 #[derive(Clone, Copy, Debug, PartialEq, Eq)]
 pub enum ReadRefusal {
     /// A load of the file failed, and its count of faults rose.
     ReadFault,
-    /// The file has more than `MOST_BYTES` bytes.
+    /// The file has more than [`MOST_BYTES`] bytes.
     TooLong,
     /// The allocator had no memory for the contents.
     NoMemory,
@@ -25,21 +29,28 @@ impl From<NoMemory> for ReadRefusal {
     }
 }
 
-/// The most bytes of one file, 256 MiB.
-pub const MOST_BYTES: usize = 268_435_456;
+impl Display for ReadRefusal {
+    fn fmt<W: Write>(&self, f: &mut Formatter<W>) -> fmt::Result {
+        f.write_str(match self {
+            ReadRefusal::ReadFault => "read fault",
+            ReadRefusal::TooLong => "limit bytes",
+            ReadRefusal::NoMemory => "no memory",
+        })
+    }
+}
 
 // The bytes of one load.
 const PIECE: usize = 65_536;
 
-/// The contents of a file of at most `MOST_BYTES` bytes.
+/// The contents of a file of at most [`MOST_BYTES`] bytes, 256 MiB.
 pub fn read_whole<F: Files>(
     alloc: Global,
     files: &mut F,
     name: &str,
 ) -> Result<Vec<u8>, ReadRefusal>
     ensures contents { IfOk result (λ v. IfSome (F.bytes_of files.old name.now) (λ text. v.items ≡ text)) }
-    ensures short { IfOk result (λ v. length v.items ≤ MOST_BYTES) }
-    ensures long { result ≡ Err ReadRefusal.TooLong → IfSome (F.bytes_of files.old name.now) (λ text. MOST_BYTES < length text) }
+    ensures short { IfOk result (λ v. length v.items ≤ most_bytes) }
+    ensures long { result ≡ Err ReadRefusal.TooLong → IfSome (F.bytes_of files.old name.now) (λ text. most_bytes < length text) }
     ensures cause { result ≡ Err ReadRefusal.ReadFault → Rose (F.faults_of files.old name.now) (F.faults_of files.new name.now) }
 
     // what the files are like afterwards
@@ -59,8 +70,8 @@ fn read_pieces<F: Files>(
 ) -> Result<Vec<u8>, ReadRefusal>
     requires { 0 < length buf.old }
     ensures contents { IfOk result (λ v. IfSome (F.bytes_of files.old name.now) (λ text. v.items ≡ text)) }
-    ensures short { IfOk result (λ v. length v.items ≤ MOST_BYTES) }
-    ensures long { result ≡ Err ReadRefusal.TooLong → IfSome (F.bytes_of files.old name.now) (λ text. MOST_BYTES < length text) }
+    ensures short { IfOk result (λ v. length v.items ≤ most_bytes) }
+    ensures long { result ≡ Err ReadRefusal.TooLong → IfSome (F.bytes_of files.old name.now) (λ text. most_bytes < length text) }
     ensures cause { result ≡ Err ReadRefusal.ReadFault → Rose (F.faults_of files.old name.now) (F.faults_of files.new name.now) }
 
     // what the files are like afterwards
@@ -75,7 +86,7 @@ fn read_pieces<F: Files>(
         if count == 0 {
             return Ok(text);
         }
-        if count as usize > MOST_BYTES - text.len() {
+        if text.len() as u64 + count > MOST_BYTES {
             return Err(ReadRefusal::TooLong);
         }
         text.extend_from_slice(&buf[..count as usize])?;

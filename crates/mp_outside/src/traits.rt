@@ -1,11 +1,6 @@
 ghost use Rattle.std.specs.Prelude.{◌≡◌, ◌≤◌, ◌<◌, ℕ, List, Option, IfOk, OnErr, length, take};
 ghost use Rattle.mp_outside.specs.Outside.{Rose, LoadsTold, Appended};
 
-use std::alloc::AllocError;
-
-/// The allocator had no memory.
-pub type NoMemory = AllocError;
-
 /// A load or a write failed, and the object counted it.
 #[derive(Clone, Copy, Debug, PartialEq, Eq)]
 pub struct Failed;
