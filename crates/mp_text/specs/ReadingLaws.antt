@@ -4,8 +4,9 @@ use Rattle.std.specs.Prelude.{◌≡◌, List, [], ◌∷◌, ◌++◌, Bool, tr
 use Rattle.std.specs.Option.{option_or}
 use Rattle.std.proofs.Common.{◌∙◌, sym, ap, subst, append_assoc, append-nil}
 use Rattle.mp_text.specs.declared.refusals.Refusal.{Refusal}
+use Rattle.mp_text.specs.declared.refusals.Refusal.TheVariants as refusals
 use Rattle.mp_text.specs.Grammar.{Test, test, first_failure, tests_of_all}
-use Rattle.mp_text.specs.Reading.{◌>>=◌, tested, steps_of_all, Follows}
+use Rattle.mp_text.specs.Reading.{◌>>=◌, tested, steps_of_all, Fails, Follows}
 
 pub Follows-same : {K S : Type 0} (xs ys : List (Test K)) (P : S → Type 0) (r : Result S (Refusal K))
     → first_failure xs ≡ first_failure ys → Follows ys P r → Follows xs P r
@@ -57,3 +58,16 @@ Follows-steps_of_all {K} {S} {X} tests P step each s before (x ∷ xs) here =
     (each s before x here)
     (λ t there. Follows-weaker rest (λ u. P u (more ++ xs)) (λ u. P u (before ++ x ∷ xs)) (steps_of_all step t xs)
     (λ u. subst (P u) (append_assoc before (x ∷ []) xs)) (Follows-steps_of_all tests P step each t more xs there))
+
+-- a refusal does not depend on the value that would follow
+tested-err : {K S T : Type 0} (tests : List (Test K)) (v : S) (w : T) (e : Refusal K) → tested tests v ≡ Err e → tested tests w ≡ Err e
+tested-err {K} {S} {T} [] v w e h = absurd cc
+tested-err {K} {S} {T} (t ∷ ts) v w e h = go t.holds refl h (tested-err ts v w e) where
+  go : (b : Bool) → t.holds ≡ b → tested (t ∷ ts) v ≡ Err e → (tested ts v ≡ Err e → tested ts w ≡ Err e) → tested (t ∷ ts) w ≡ Err e
+  go true same h rest = rw same (rest (rw same at h))
+  go false same h rest = (let is : t.refusal ≡ e = cc (rw same at h) in rw (same, is) refl)
+
+pub Fails-tested : {K S T : Type 0} (tests : List (Test K)) (v : S) (w : T) (e : Refusal K) → Fails (tested tests v) e → Fails (tested tests w) e
+Fails-tested tests v w refusals.NoMemory h = tt
+Fails-tested tests v w (refusals.Format f) h = tested-err tests v w (refusals.Format f) h
+Fails-tested tests v w (refusals.Limit l) h = tested-err tests v w (refusals.Limit l) h
