@@ -9,7 +9,7 @@ ghost use Rattle.mp_text.specs.declared.refusals.Refusal.{Refusal};
 ghost use Rattle.mp_text.specs.Text.{Row, number_of, numbers_of, signed_of};
 ghost use Rattle.mp_text.specs.Ahead.{rows_of_bytes, past_of_bytes};
 ghost use Rattle.mp_text.specs.Grammar.{Format, IsWellFormed, Refuses};
-ghost use Rattle.mp_text.specs.Report.{is_counted, is_line_start, is_token, line_text, numbered_from, text_of_lines};
+ghost use Rattle.mp_text.specs.Report.{is_counted, is_line_start, is_token, line_text, numbered_from, text_of_lines, with_tokens};
 
 /// Of each format, a file is well formed or refused, never both, and its refusal is one.
 pub fn exactly_one<K>()
@@ -25,6 +25,15 @@ pub fn exactly_one<K>()
 pub fn each_number()
     ensures each { (tokens : List (List ℕ)) (ns : List ℕ) → numbers_of tokens ≡ Some ns → map number_of tokens ≡ map (λ n. Some n) ns }
     ensures all { (tokens : List (List ℕ)) (ns : List ℕ) → map number_of tokens ≡ map (λ n. Some n) ns → numbers_of tokens ≡ Some ns }
+{}
+
+/// Tokens that are appended at the start of a line, and a line feed, are the line of these tokens; then a line starts.
+pub fn printed_line()
+    ensures line { (text : List ℕ) (tokens : List (List ℕ)) → IsTrue (is_line_start text) → IsTrue (list_all is_token tokens) →
+        with_tokens text tokens ++ 10 ∷ [] ≡ text ++ line_text tokens }
+    ensures start { (text : List ℕ) (tokens : List (List ℕ)) → IsTrue (is_line_start (text ++ line_text tokens)) }
+    ensures more { (text : List ℕ) (lines : List (List (List ℕ))) (line : List (List ℕ)) →
+        (text ++ text_of_lines lines) ++ line_text line ≡ text ++ text_of_lines (lines ++ line ∷ []) }
 {}
 
 /// Lines that are printed one after another are one text, and where it ends a line starts.

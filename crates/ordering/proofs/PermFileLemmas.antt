@@ -4,12 +4,14 @@ use Rattle.std.specs.Option.{option_or}
 use Rattle.std.proofs.lemmas.Bool.{leb-true}
 use Rattle.std.proofs.lemmas.List.{map_push, length-map}
 use Rattle.limits.specs.declared.name.LimitName.{LimitName}
+use Rattle.mp_text.specs.declared.layout.Layout.TheVariants.{Commented}
 use Rattle.mp_text.specs.declared.refusals.Refusal.{Refusal}
 use Rattle.mp_text.specs.declared.refusals.Refusal.TheVariants as refusals
 use Rattle.mp_text.specs.Text.{Row}
 use Rattle.mp_text.specs.Ahead.{rows_of_bytes, past_of_bytes}
 use Rattle.mp_text.specs.Grammar.{Test, test, first_failure, tests_of_all, ArePassed, Refuses}
-use Rattle.mp_text.specs.Reading.{first_failure-append, IsRefusal}
+use Rattle.mp_text.specs.Reading.{IsRefusal}
+use Rattle.mp_text.specs.ReadingLaws.{first_failure-append}
 use Rattle.ordering.specs.OrderFile.{value_of, tokens_of_rows, numbers_stated}
 use Rattle.ordering.specs.OrderReader.{tokens-push}
 use Rattle.ordering.specs.Perm.{IsPerm}
@@ -53,7 +55,7 @@ part-rows n all before (row ∷ rest) e passed part =
 
 pub perm_from_read : (n : ℕ) (bytes order : List ℕ) → ReadsPerm n bytes order → IsPerm n order
 perm_from_read n bytes order reads =
-    let rows = rows_of_bytes true bytes in
+    let rows = rows_of_bytes Commented bytes in
     let part = part-rows n rows [] rows refl reads.form.lines (part-none n) in
     let most = length-part n (numbers_stated rows) part in
     let end = holds (leb n (length (tokens_of_rows rows))) (fault_at (past_of_bytes bytes) kinds.Count) [] reads.form.end in
@@ -94,7 +96,7 @@ no_limit n rows past l (inl line) =
     first_is_fault (perm_line_tests n line.before line.row) (refusals.Limit l) (faults-tokens n line.row.number (tokens_of_rows line.before) line.row.tokens) line.fails
 no_limit n rows past l (inr end) = first_is_fault (perm_end_tests n rows past) (refusals.Limit l) (tt, tt) end.fails
 
-pub perm_refusal : (n : ℕ) (bytes : List ℕ) (r : Refusal PermKind) → IsRefusal (perm_format n) (rows_of_bytes true bytes) (past_of_bytes bytes) r → IsPermRefusal n bytes r
+pub perm_refusal : (n : ℕ) (bytes : List ℕ) (r : Refusal PermKind) → IsRefusal (perm_format n) (rows_of_bytes Commented bytes) (past_of_bytes bytes) r → IsPermRefusal n bytes r
 perm_refusal n bytes refusals.NoMemory refused = tt
 perm_refusal n bytes (refusals.Format f) refused = refused
-perm_refusal n bytes (refusals.Limit l) refused = no_limit n (rows_of_bytes true bytes) (past_of_bytes bytes) l refused
+perm_refusal n bytes (refusals.Limit l) refused = no_limit n (rows_of_bytes Commented bytes) (past_of_bytes bytes) l refused

@@ -2,6 +2,7 @@
 use Rattle.std.specs.Prelude.{◌≡◌, ℕ, Bool, true, ◌&&◌, nat_lt, nat_le, is_some, unwrap_or, List, [], ◌∷◌, length, map}
 use Rattle.std.specs.List.{flat_map}
 use Rattle.limits.specs.declared.name.LimitName.TheVariants as limits
+use Rattle.mp_text.specs.declared.layout.Layout.TheVariants.{Commented}
 use Rattle.mp_text.specs.declared.refusals.Refusal.{Refusal}
 use Rattle.mp_text.specs.declared.refusals.Refusal.TheVariants as refusals
 use Rattle.mp_text.specs.Text.{Row, number_of}
@@ -44,11 +45,11 @@ numbers_stated rows = map value_of (tokens_of_rows rows)
 
 -- every token passes, and the numbers are those stated
 pub record ReadsOrder (bytes : List ℕ) (numbers : List ℕ) : Type 0 where
-  pub form : IsWellFormed order_format (rows_of_bytes true bytes) (past_of_bytes bytes)
-  pub stated : numbers ≡ numbers_stated (rows_of_bytes true bytes)
+  pub form : IsWellFormed order_format (rows_of_bytes Commented bytes) (past_of_bytes bytes)
+  pub stated : numbers ≡ numbers_stated (rows_of_bytes Commented bytes)
 
 abbrev pub RefusesOrder : List ℕ → Refusal OrderFileKind → Type 0
-RefusesOrder bytes refusal = Refuses order_format (rows_of_bytes true bytes) (past_of_bytes bytes) refusal
+RefusesOrder bytes refusal = Refuses order_format (rows_of_bytes Commented bytes) (past_of_bytes bytes) refusal
 
 -- an answer that is no order: a refusal of the file, or memory ran out
 abbrev pub IsOrderRefusal : List ℕ → Refusal OrderFileKind → Type 0

@@ -6,7 +6,8 @@ use Rattle.std.proofs.lemmas.Grind.{flat_map-append}
 use Rattle.mp_text.specs.declared.refusals.Refusal.{Refusal}
 use Rattle.mp_text.specs.Text.{Row}
 use Rattle.mp_text.specs.Grammar.{ArePassed}
-use Rattle.mp_text.specs.Reading.{tested, steps_of_all, Follows, Follows-weaker, tested-follows, Follows-steps_of_all}
+use Rattle.mp_text.specs.Reading.{tested, steps_of_all, Follows}
+use Rattle.mp_text.specs.ReadingLaws.{Follows-weaker, tested-follows, Follows-steps_of_all}
 use Rattle.ordering.specs.OrderFile.{value_of, order_token_tests, tokens_of_rows, order_line_tests, order_end_tests, order_format, numbers_stated}
 use Rattle.ordering.specs.declared.order_file.OrderFileKind.{OrderFileKind}
 

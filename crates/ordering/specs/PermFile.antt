@@ -1,5 +1,6 @@
 -- Permutation files: each of 1 to n once, the tokens of all lines in order. What a file reads as, and what it is refused with.
 use Rattle.std.specs.Prelude.{◌≡◌, ◌==◌, ℕ, Bool, true, ◌&&◌, nat_lt, nat_le, is_some, List, [], ◌∷◌, length, map}
+use Rattle.mp_text.specs.declared.layout.Layout.TheVariants.{Commented}
 use Rattle.mp_text.specs.declared.refusals.Refusal.{Refusal}
 use Rattle.mp_text.specs.declared.refusals.Refusal.TheVariants as refusals
 use Rattle.mp_text.specs.Text.{Row, number_of}
@@ -38,11 +39,11 @@ perm_format n = record { line_tests = perm_line_tests n; end_tests = perm_end_te
 
 -- every token passes, none is missing, and the order is the one stated
 pub record ReadsPerm (n : ℕ) (bytes order : List ℕ) : Type 0 where
-  pub form : IsWellFormed (perm_format n) (rows_of_bytes true bytes) (past_of_bytes bytes)
-  pub stated : order ≡ numbers_stated (rows_of_bytes true bytes)
+  pub form : IsWellFormed (perm_format n) (rows_of_bytes Commented bytes) (past_of_bytes bytes)
+  pub stated : order ≡ numbers_stated (rows_of_bytes Commented bytes)
 
 abbrev pub RefusesPerm : ℕ → List ℕ → Refusal PermKind → Type 0
-RefusesPerm n bytes refusal = Refuses (perm_format n) (rows_of_bytes true bytes) (past_of_bytes bytes) refusal
+RefusesPerm n bytes refusal = Refuses (perm_format n) (rows_of_bytes Commented bytes) (past_of_bytes bytes) refusal
 
 -- an answer that is no permutation: a refusal of the file, which is never a limit, or memory ran out
 abbrev pub IsPermRefusal : ℕ → List ℕ → Refusal PermKind → Type 0

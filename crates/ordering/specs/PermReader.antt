@@ -5,7 +5,8 @@ use Rattle.std.proofs.lemmas.List.{map_push, length-map}
 use Rattle.mp_text.specs.declared.refusals.Refusal.{Refusal}
 use Rattle.mp_text.specs.Text.{Row}
 use Rattle.mp_text.specs.Grammar.{test, ArePassed}
-use Rattle.mp_text.specs.Reading.{tested, steps_of_all, Follows, Follows-weaker, tested-follows, Follows-steps_of_all}
+use Rattle.mp_text.specs.Reading.{tested, steps_of_all, Follows}
+use Rattle.mp_text.specs.ReadingLaws.{Follows-weaker, tested-follows, Follows-steps_of_all}
 use Rattle.ordering.specs.OrderFile.{value_of, tokens_of_rows, numbers_stated}
 use Rattle.ordering.specs.OrderReader.{tokens-push}
 use Rattle.ordering.specs.PermFile.{fault_at, perm_token_tests, perm_line_tests, perm_end_tests, perm_format}

@@ -5,7 +5,7 @@ ghost use Rattle.ordering.specs.OrderFile.{ReadsOrder, IsOrderRefusal};
 ghost use Rattle.ordering.specs.OrderReader.{token_step};
 
 use limits::LimitName;
-use mp_text::{Fault, Line, Reader, Refusal, number, read_with, tokens};
+use mp_text::{Fault, Layout, Line, Reader, Refusal, number, read_with, tokens};
 use std::alloc::Global;
 use std::marker::Model;
 
@@ -98,6 +98,6 @@ pub fn read_order(alloc: Global, bytes: &[u8]) -> Result<Vec<u32>, Refusal<Order
     let reader = OrderReader {
         numbers: Vec::new(alloc),
     };
-    let reader = read_with(bytes, true, reader)?;
+    let reader = read_with(bytes, Layout::Commented, reader)?;
     Ok(reader.numbers)
 }

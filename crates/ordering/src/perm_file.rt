@@ -7,7 +7,7 @@ ghost use Rattle.ordering.specs.PermFile.{fault_at, perm_token_tests, ReadsPerm,
 ghost use Rattle.ordering.specs.PermReader.{perm_token_step};
 
 use crate::perm::{NoMemory, Perm};
-use mp_text::{Fault, Line, Reader, Refusal, number, read_with, tokens};
+use mp_text::{Fault, Layout, Line, Reader, Refusal, number, read_with, tokens};
 use std::alloc::Global;
 use std::marker::Model;
 
@@ -145,7 +145,7 @@ impl Reader for PermReader {
 pub fn read_perm(alloc: Global, bytes: &[u8], n: u32) -> Result<Perm, Refusal<PermKind>>
     ensures { MatchResult result (λ perm. ReadsPerm n bytes.now perm) (IsPermRefusal n bytes.now) }
 {
-    let reader = read_with(bytes, true, PermReader::new(alloc, n)?)?;
+    let reader = read_with(bytes, Layout::Commented, PermReader::new(alloc, n)?)?;
     Ok(Perm {
         vertices: reader.vertices,
         places: reader.places,

@@ -4,6 +4,7 @@ use Rattle.std.specs.List.{All}
 use Rattle.std.proofs.lemmas.List.{length_push}
 use Rattle.std.proofs.lemmas.List.Elements.{All-nil, All-push}
 use Rattle.std.proofs.lemmas.Bool.{leb-true, ltb-true, ltb-false, eqb-true}
+use Rattle.mp_text.specs.declared.layout.Layout.TheVariants.{Commented}
 use Rattle.mp_text.specs.declared.refusals.Refusal.{Refusal}
 use Rattle.mp_text.specs.Text.{Row, signed_of}
 use Rattle.mp_text.specs.Ahead.{rows_of_bytes}
@@ -264,7 +265,7 @@ ended-ranked stages.Ended s e at = at
 
 pub reads-is_plan : (bytes : List ℕ) (plan : PlanText) → ReadsPlan bytes plan → IsPlan plan
 reads-is_plan bytes plan reads =
-    let rows = rows_of_bytes true bytes in
+    let rows = rows_of_bytes Commented bytes in
     let s = stated rows in
     let holds = rows-passed rows [] rows refl reads.form.lines begins in
     let so = holds.0 in

@@ -9,7 +9,8 @@ use Rattle.std.proofs.lemmas.Bool.{and_parts, and_from, or_from, leb-true, le-le
 use Rattle.std.proofs.lemmas.Int.{fits_signed_from_abs}
 use Rattle.std.proofs.lemmas.List.Elements.{All-nil, All-head, All-tail}
 use Rattle.std.proofs.lemmas.List.Folds.{list_all-append}
-use Rattle.mp_text.specs.Text.{Row, is_passed, is_digit, number_of, number_from, signed_of}
+use Rattle.mp_text.specs.declared.layout.Layout.TheVariants.{Commented}
+use Rattle.mp_text.specs.Text.{Row, says_nothing, is_digit, number_of, number_from, signed_of}
 use Rattle.mp_text.specs.Ahead.{rows_of_bytes, past_of_bytes}
 use Rattle.mp_text.specs.Grammar.{first_failure, ArePassed}
 use Rattle.mp_text.specs.Report.{is_counted, numbered_from, text_of_lines, is_token}
@@ -236,25 +237,25 @@ module _ (numbers : AreNumbers) (signed : AreSigned) (plan : PlanText) (is : IsP
 -- ---- the lines count
 
 -- a token that spells a number begins no comment
-no_comment : (token : List ℕ) (tokens : List (List ℕ)) (n : ℕ) → number_of token ≡ Some n → is_passed true (token ∷ tokens) ≡ false
+no_comment : (token : List ℕ) (tokens : List (List ℕ)) (n : ℕ) → number_of token ≡ Some n → says_nothing Commented (token ∷ tokens) ≡ false
 unfolding number_of number_from
 no_comment [] tokens n e = refl
 no_comment (b ∷ bs) tokens n e = go (is_digit b) refl where
-  go : (t : Bool) → is_digit b ≡ t → is_passed true ((b ∷ bs) ∷ tokens) ≡ false
+  go : (t : Bool) → is_digit b ≡ t → says_nothing Commented ((b ∷ bs) ∷ tokens) ≡ false
   go true digit =
       let low : 48 ≤ b = leb-true 48 b (and_parts (leb 48 b) (leb b 57) digit).0 in
       or_from _ _ (ne_eqb b 37 (λ same. omega arith)) (ne_eqb b 35 (λ same. omega arith))
   go false other = absurd (cc (rw other at e))
 
 module _ (numbers : AreNumbers) (are_tokens : AreTokens) (are_signed : AreSignedTokens) where
-  tasks-counted : (xs : List ℕ) → All (λ v. v ≤ 4294967295) xs → list_all (is_counted true) (map task_line xs) ≡ true
+  tasks-counted : (xs : List ℕ) → All (λ v. v ≤ 4294967295) xs → list_all (is_counted Commented) (map task_line xs) ≡ true
   tasks-counted [] small = refl
   tasks-counted (x ∷ xs) small =
       let le : x ≤ 4294967295 = All-head (λ (v : ℕ). v ≤ 4294967295) x xs small in
       and_from _ _ (and_from _ _ (task-tokens are_tokens x (omega arith)) (ap not (no_comment (decimal x) [] x (numbers x (omega arith)))))
       (tasks-counted xs (All-tail (λ (v : ℕ). v ≤ 4294967295) x xs small))
 
-  claims-counted : (cs : List Claim) → All IsClaimWithin cs → list_all (is_counted true) (map claim_line cs) ≡ true
+  claims-counted : (cs : List Claim) → All IsClaimWithin cs → list_all (is_counted Commented) (map claim_line cs) ≡ true
   claims-counted [] within = refl
   claims-counted (c ∷ cs) within =
       let here = All-head IsClaimWithin c cs within in
@@ -265,10 +266,10 @@ module _ (numbers : AreNumbers) (are_tokens : AreTokens) (are_signed : AreSigned
       (claims-counted cs (All-tail IsClaimWithin c cs within))
 
   -- a line that begins a section, where its word is a token that begins no comment
-  section-counted : (word : List ℕ) (n : ℕ) → is_token word ≡ true → is_passed true (word ∷ decimal n ∷ []) ≡ false → n < 2 ^ 64 → is_counted true (section_line word n) ≡ true
+  section-counted : (word : List ℕ) (n : ℕ) → is_token word ≡ true → says_nothing Commented (word ∷ decimal n ∷ []) ≡ false → n < 2 ^ 64 → is_counted Commented (section_line word n) ≡ true
   section-counted word n token plain small = and_from _ _ (section-tokens are_tokens word n small token) (ap not plain)
 
-  header-counted : (b : Bool) → is_counted true (header_line b) ≡ true
+  header-counted : (b : Bool) → is_counted Commented (header_line b) ≡ true
   header-counted true = refl
   header-counted false = refl
 
@@ -278,27 +279,27 @@ module _ (numbers : AreNumbers) (are_tokens : AreTokens) (are_signed : AreSigned
       let len = ranks.len in
       (omega arith, λ i d lt. let task = ranks.tasks i d lt in let le = task.1 in omega arith)
 
-  priority-counted : (b : Bool) (priority : List ℕ) → length priority ≤ 1000000 → All (λ v. v ≤ 4294967295) priority → list_all (is_counted true) (priority_lines b priority) ≡ true
+  priority-counted : (b : Bool) (priority : List ℕ) → length priority ≤ 1000000 → All (λ v. v ≤ 4294967295) priority → list_all (is_counted Commented) (priority_lines b priority) ≡ true
   priority-counted true priority few small = and_from _ _ (section-counted (codes "priority") (length priority) refl refl (omega arith)) (tasks-counted priority small)
   priority-counted false priority few small = refl
 
-  lines-counted : (b : Bool) (plan : PlanText) → IsPlan plan → list_all (is_counted true) (lines_in b plan) ≡ true
+  lines-counted : (b : Bool) (plan : PlanText) → IsPlan plan → list_all (is_counted Commented) (lines_in b plan) ≡ true
   lines-counted b plan is =
       let few = is.few_tasks in
       let few_claims = is.few_claims in
       let peak = is.peak in
       let priority = small-priority (length plan.order) plan.priority is.few_tasks is.priority in
-      let order : list_all (is_counted true) (task_lines (codes "order") plan.order) ≡ true =
+      let order : list_all (is_counted Commented) (task_lines (codes "order") plan.order) ≡ true =
       and_from _ _ (section-counted (codes "order") (length plan.order) refl refl (omega arith)) (tasks-counted plan.order is.tasks) in
-      let claims : list_all (is_counted true) (claim_lines plan.claims) ≡ true =
+      let claims : list_all (is_counted Commented) (claim_lines plan.claims) ≡ true =
       and_from _ _ (section-counted (codes "claims") (length plan.claims) refl refl (omega arith)) (claims-counted plan.claims is.claims) in
-      let first : list_all (is_counted true) (first_lines b plan) ≡ true =
-      and_from _ _ (header-counted b) (list_all-append (is_counted true) (task_lines (codes "order") plan.order) (priority_lines b plan.priority)
+      let first : list_all (is_counted Commented) (first_lines b plan) ≡ true =
+      and_from _ _ (header-counted b) (list_all-append (is_counted Commented) (task_lines (codes "order") plan.order) (priority_lines b plan.priority)
       ∙ and_from _ _ order (priority-counted b plan.priority priority.0 priority.1)) in
-      let last : list_all (is_counted true) (last_lines plan) ≡ true =
+      let last : list_all (is_counted Commented) (last_lines plan) ≡ true =
       and_from _ _ (section-counted (codes "peak") plan.peak refl refl (omega arith))
-      (list_all-append (is_counted true) (claim_lines plan.claims) (end_line ∷ []) ∙ and_from _ _ claims refl) in
-      list_all-append (is_counted true) (first_lines b plan) (last_lines plan) ∙ and_from _ _ first last
+      (list_all-append (is_counted Commented) (claim_lines plan.claims) (end_line ∷ []) ∙ and_from _ _ claims refl) in
+      list_all-append (is_counted Commented) (first_lines b plan) (last_lines plan) ∙ and_from _ _ first last
 
 -- ---- the whole file
 
@@ -315,9 +316,9 @@ unfolding stated
 printed-reads numbers signed are_tokens are_signed are_rows b plan is none =
     let text = text_in b plan in
     let rows = numbered_from 1 (lines_in b plan) in
-    let read : rows_of_bytes true text ≡ rows = are_rows true (lines_in b plan) (lines-counted numbers are_tokens are_signed b plan is) in
+    let read : rows_of_bytes Commented text ≡ rows = are_rows true (lines_in b plan) (lines-counted numbers are_tokens are_signed b plan is) in
     let leads : Leads (stated []) rows (whole b plan) = all-lead numbers signed plan is b in
-    let stated_is : stated (rows_of_bytes true text) ≡ whole b plan = ap stated read ∙ leads-stated [] rows (whole b plan) leads in
+    let stated_is : stated (rows_of_bytes Commented text) ≡ whole b plan = ap stated read ∙ leads-stated [] rows (whole b plan) leads in
     record {
       form = record {
         lines = subst (ArePassed plan_format) (sym read) (leads-passed [] rows (whole b plan) leads);

@@ -4,6 +4,7 @@ use Rattle.std.specs.Prelude.{◌≡◌, ◌==◌, ℕ, ◌-◌, ◌^◌, Bool, 
 use Rattle.std.specs.Str.{bytes_eq}
 use Rattle.std.specs.Cmp.Lexicographic.{pointwise}
 use Rattle.limits.specs.declared.name.LimitName.TheVariants as limits
+use Rattle.mp_text.specs.declared.layout.Layout.TheVariants.{Commented}
 use Rattle.mp_text.specs.declared.refusals.Refusal.{Refusal}
 use Rattle.mp_text.specs.declared.refusals.Refusal.TheVariants as refusals
 use Rattle.mp_text.specs.Text.{Row, number_of, signed_of}
@@ -256,12 +257,12 @@ plan_of s = record { order = s.order; peak = s.peak; claims = s.claims; priority
 
 -- every line passes, and the plan is the one stated
 pub record ReadsPlan (bytes : List ℕ) (plan : PlanText) : Type 0 where
-  pub form : IsWellFormed plan_format (rows_of_bytes true bytes) (past_of_bytes bytes)
-  pub stated : plan ≡ plan_of (stated (rows_of_bytes true bytes))
+  pub form : IsWellFormed plan_format (rows_of_bytes Commented bytes) (past_of_bytes bytes)
+  pub stated : plan ≡ plan_of (stated (rows_of_bytes Commented bytes))
 
 abbrev pub RefusesPlan : List ℕ → Refusal PlanKind → Type 0
-RefusesPlan bytes refusal = Refuses plan_format (rows_of_bytes true bytes) (past_of_bytes bytes) refusal
+RefusesPlan bytes refusal = Refuses plan_format (rows_of_bytes Commented bytes) (past_of_bytes bytes) refusal
 
 -- an answer that is no plan: a refusal of the file, or memory ran out
 abbrev pub IsPlanRefusal : List ℕ → Refusal PlanKind → Type 0
-IsPlanRefusal bytes refusal = IsRefusal plan_format (rows_of_bytes true bytes) (past_of_bytes bytes) refusal
+IsPlanRefusal bytes refusal = IsRefusal plan_format (rows_of_bytes Commented bytes) (past_of_bytes bytes) refusal

@@ -7,7 +7,8 @@ use Rattle.std.proofs.lemmas.Bool.{cases_Bool, ltb-true, ltb-false, le-ltb, lt-l
 use Rattle.std.proofs.lemmas.List.{map_push, length-map, length_push, take_all, drop_all, length-take-le, take-append-le, drop-append-le}
 use Rattle.mp_text.specs.Text.{Row}
 use Rattle.mp_text.specs.Grammar.{ArePassed}
-use Rattle.mp_text.specs.Reading.{Follows, tested-follows}
+use Rattle.mp_text.specs.Reading.{Follows}
+use Rattle.mp_text.specs.ReadingLaws.{tested-follows}
 use Rattle.plan_text.specs.PlanFile.{Stated, stated, nothing, stated_on, task_on, claim_on, has_priority, with_end, with_claims, with_peak, with_ranks, after_order, with_order, plan_format, plan_line_tests, end_tests_after}
 use Rattle.plan_text.specs.Reader.{next, ranks_next, peak_next, plan_step, plan_end, took}
 use Rattle.plan_text.specs.declared.claim.Claim.{Claim}

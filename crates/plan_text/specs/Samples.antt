@@ -1,6 +1,7 @@
 -- Worked examples: the plan of a tree of five nodes, a plan with a priority, and files that are refused.
 use Rattle.std.specs.Prelude.{◌≡◌, ℕ, true, List, [], ◌∷◌, ◌++◌, Option, Some, None, ℤ, pos, neg_ℤ, codes, refl}
 use Rattle.std.specs.Fmt.{digits}
+use Rattle.mp_text.specs.declared.layout.Layout.TheVariants.{Commented}
 use Rattle.mp_text.specs.declared.refusals.Refusal.{Refusal}
 use Rattle.mp_text.specs.declared.refusals.Refusal.TheVariants as refusals
 use Rattle.limits.specs.declared.name.LimitName.TheVariants as limits
@@ -48,14 +49,14 @@ ranked_text = refl
 
 -- ---- reading
 
-pub stated_plan : plan_of (stated (rows_of_bytes true (codes "# two tasks\nplan 2\norder 2\n1\n2\n\npriority 2\n2\n01\npeak 6\nclaims 1\n1 F -1 0\nend"))) ≡ ranked
+pub stated_plan : plan_of (stated (rows_of_bytes Commented (codes "# two tasks\nplan 2\norder 2\n1\n2\n\npriority 2\n2\n01\npeak 6\nclaims 1\n1 F -1 0\nend"))) ≡ ranked
 unfolding lines_of tokens_of number_of number_from signed_of rows_from stated
 stated_plan = refl
 
 -- the first test of a file's lines and of its end that fails, if one does
 abbrev pub refusal_of : List ℕ → Option (Refusal PlanKind)
 refusal_of bytes =
-    let rows = rows_of_bytes true bytes in
+    let rows = rows_of_bytes Commented bytes in
     first_failure (tests_of_all plan_line_tests [] rows ++ end_tests_after (stated rows) (past_of_bytes bytes))
 
 pub well_formed : refusal_of (codes "plan 1\norder 1\n1\npeak 3\nclaims 1\n3 R 2 0\nend\n") ≡ None

@@ -3,7 +3,7 @@ ghost use Rattle.plan_text.specs.PlanFile.{ReadsPlan, IsPlanRefusal};
 
 use crate::claim::{Claim, PlanKind};
 use crate::reader::PlanReader;
-use mp_text::{Refusal, read_with};
+use mp_text::{Layout, Refusal, read_with};
 use std::alloc::Global;
 use std::marker::Model;
 
@@ -78,7 +78,7 @@ impl PlanFile {
 pub fn read_plan(alloc: Global, bytes: &[u8]) -> Result<PlanFile, Refusal<PlanKind>>
     ensures { MatchResult result (λ plan. ReadsPlan bytes.now plan) (IsPlanRefusal bytes.now) }
 {
-    let reader = read_with(bytes, true, PlanReader::new(alloc))?;
+    let reader = read_with(bytes, Layout::Commented, PlanReader::new(alloc))?;
     let PlanReader {
         order,
         ranking,

@@ -8,6 +8,7 @@ use Rattle.std.proofs.lemmas.Bool.{and_from, le-leb, lt-ltb, ne_eqb, eq-eqb, eqb
 use Rattle.std.proofs.lemmas.List.Elements.{All-nil, All-cons, All-head, All-tail}
 use Rattle.std.proofs.lemmas.List.Folds.{list_all-append, list_any-append}
 use Rattle.mp_system.specs.declared.system.Task.{Task}
+use Rattle.mp_text.specs.declared.layout.Layout.TheVariants.{Commented}
 use Rattle.mp_text.specs.Text.{Row, number_of}
 use Rattle.mp_text.specs.Ahead.{rows_of_bytes}
 use Rattle.mp_text.specs.Grammar.{first_failure, ArePassed}
@@ -67,7 +68,7 @@ not_end with_share number (Hold size) = refl
 not_end with_share number (at.Task extra share time) = refl
 not_end with_share number (Par parts) = refl
 
-position-counted : AreTokens → (with_share : Bool) (p : Position) → IsPrintable p → is_counted true (position_line with_share p) ≡ true
+position-counted : AreTokens → (with_share : Bool) (p : Position) → IsPrintable p → is_counted Commented (position_line with_share p) ≡ true
 position-counted tokens with_share (Hold size) small = and_from _ _ (position_line-tokens tokens with_share (Hold size) small) refl
 position-counted tokens with_share (at.Task extra share time) small = and_from _ _ (position_line-tokens tokens with_share (at.Task extra share time) small) refl
 position-counted tokens with_share (Par parts) small = and_from _ _ (position_line-tokens tokens with_share (Par parts) small) refl
@@ -366,25 +367,25 @@ module _ (numbers : AreNumbers) (are_tokens : AreTokens) (are_rows : AreRows) (w
   stated = stated_parts header counted last rows ∙ ap (λ (b : Bool). map (position_of b) rows) (header_is with_share) ∙ rows_state
 
   -- the lines count
-  lines_count : (qs : List Position) → All (IsPrinted with_share) qs → list_all (is_counted true) (map (position_line with_share) qs) ≡ true
+  lines_count : (qs : List Position) → All (IsPrinted with_share) qs → list_all (is_counted Commented) (map (position_line with_share) qs) ≡ true
   lines_count [] fit = refl
   lines_count (q ∷ qs) fit = and_from _ _ (position-counted are_tokens with_share q (All-head (IsPrinted with_share) q qs fit).0) (lines_count qs (All-tail (IsPrinted with_share) q qs fit))
 
-  header_counted : (b : Bool) → is_counted true (header_line b) ≡ true
+  header_counted : (b : Bool) → is_counted Commented (header_line b) ≡ true
   header_counted true = refl
   header_counted false = refl
 
-  count_counted : is_counted true (count_line (sum_by added_tasks ps)) ≡ true
+  count_counted : is_counted Commented (count_line (sum_by added_tasks ps)) ≡ true
   count_counted = rw (are_tokens (sum_by added_tasks ps) (omega (arith, terms.few_tasks))) refl
 
-  lines_counted : list_all (is_counted true) (lines_in with_share ps) ≡ true
+  lines_counted : list_all (is_counted Commented) (lines_in with_share ps) ≡ true
   lines_counted =
       and_from _ _ (header_counted with_share) (and_from _ _ count_counted
-      (list_all-append (is_counted true) (map (position_line with_share) ps) (end_line ∷ []) ∙ and_from _ _ (lines_count ps all_printed) refl))
+      (list_all-append (is_counted Commented) (map (position_line with_share) ps) (end_line ∷ []) ∙ and_from _ _ (lines_count ps all_printed) refl))
 
   pub printed-reads : ReadsWorkflow (text_in with_share ps) ps
   printed-reads =
-      let read : rows_of_bytes true (text_in with_share ps) ≡ header ∷ counted ∷ (rows ++ last ∷ []) = are_rows true (lines_in with_share ps) lines_counted ∙ rows_are in
+      let read : rows_of_bytes Commented (text_in with_share ps) ≡ header ∷ counted ∷ (rows ++ last ∷ []) = are_rows true (lines_in with_share ps) lines_counted ∙ rows_are in
       record {
         form = record {
           lines = subst (ArePassed workflow_format) (sym read) passed;

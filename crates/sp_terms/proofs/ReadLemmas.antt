@@ -8,6 +8,7 @@ use Rattle.std.proofs.Math.Seq.{take-append_seam}
 use Rattle.std.proofs.lemmas.List.Folds.{list_any-append}
 use Rattle.std.proofs.lemmas.Bool.{leb-true, eqb-true, eqb-false, ltb-true}
 use Rattle.limits.specs.declared.name.LimitName.{LimitName}
+use Rattle.mp_text.specs.declared.layout.Layout.TheVariants.{Commented}
 use Rattle.mp_text.specs.declared.refusals.Refusal.{Refusal}
 use Rattle.mp_text.specs.Text.{Row}
 use Rattle.mp_text.specs.Ahead.{rows_of_bytes, past_of_bytes}
@@ -197,7 +198,7 @@ stated_parts header counted last rows =
 
 pub reads-terms : (bytes : List ℕ) (ps : List Position) → ReadsWorkflow bytes ps → IsTerms ps
 reads-terms bytes ps reads =
-    let parts = parts_of (rows_of_bytes true bytes) (past_of_bytes bytes) reads.form in
+    let parts = parts_of (rows_of_bytes Commented bytes) (past_of_bytes bytes) reads.form in
     let is : ps ≡ map (position_of (has_shares parts.header)) parts.rows = reads.stated ∙ ap positions_stated parts.all_are ∙ stated_parts parts.header parts.counted parts.last parts.rows in
     subst IsTerms (sym is) (is_terms parts.header parts.counted parts.last parts.rows (subst (ArePassed workflow_format) parts.all_are reads.form.lines) parts.unended parts.ended)
 
@@ -209,7 +210,7 @@ SomeOutcome = (format : Format WorkflowKind) (rows : List Row) (past : ℕ) → 
 
 pub read_or_refused : SomeOutcome → (bytes : List ℕ) → ((ps : List Position) × ReadsWorkflow bytes ps) ⊎ ((refusal : Refusal WorkflowKind) × RefusesWorkflow bytes refusal)
 read_or_refused outcome bytes =
-    elim (outcome workflow_format (rows_of_bytes true bytes) (past_of_bytes bytes)) [
-      | inl form ↦ inl (positions_stated (rows_of_bytes true bytes), record { form = form; stated = refl })
+    elim (outcome workflow_format (rows_of_bytes Commented bytes) (past_of_bytes bytes)) [
+      | inl form ↦ inl (positions_stated (rows_of_bytes Commented bytes), record { form = form; stated = refl })
       | inr refused ↦ inr refused
     ]

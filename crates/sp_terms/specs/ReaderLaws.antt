@@ -13,7 +13,8 @@ use Rattle.mp_text.specs.declared.refusals.Refusal.{Refusal}
 use Rattle.mp_text.specs.declared.refusals.Refusal.TheVariants as refusals
 use Rattle.mp_text.specs.Text.{Row}
 use Rattle.mp_text.specs.Grammar.{ArePassed, first_failure}
-use Rattle.mp_text.specs.Reading.{Follows, tested, tested-follows, Follows->>=}
+use Rattle.mp_text.specs.Reading.{Follows, tested}
+use Rattle.mp_text.specs.ReadingLaws.{tested-follows, Follows->>=}
 use Rattle.mp_system.specs.declared.system.Task.{Task}
 use Rattle.sp_terms.specs.declared.builder.PushRefusal.{PushRefusal}
 use Rattle.sp_terms.specs.declared.builder.PushRefusal.TheVariants as pushes

@@ -6,6 +6,7 @@ use Rattle.std.specs.Str.{bytes_eq}
 use Rattle.std.specs.Cmp.Lexicographic.{pointwise}
 use Rattle.mp_system.specs.declared.system.Task.{Task}
 use Rattle.limits.specs.declared.name.LimitName.TheVariants as limits
+use Rattle.mp_text.specs.declared.layout.Layout.TheVariants.{Commented}
 use Rattle.mp_text.specs.declared.refusals.Refusal.{Refusal}
 use Rattle.mp_text.specs.declared.refusals.Refusal.TheVariants as refusals
 use Rattle.mp_text.specs.Text.{Row, number_of}
@@ -198,11 +199,11 @@ positions_stated (header ∷ counted ∷ rows) = map (position_of (has_shares he
 
 -- every line passes, and the positions are those stated
 pub record ReadsWorkflow (bytes : List ℕ) (positions : List Position) : Type 0 where
-  pub form : IsWellFormed workflow_format (rows_of_bytes true bytes) (past_of_bytes bytes)
-  pub stated : positions ≡ positions_stated (rows_of_bytes true bytes)
+  pub form : IsWellFormed workflow_format (rows_of_bytes Commented bytes) (past_of_bytes bytes)
+  pub stated : positions ≡ positions_stated (rows_of_bytes Commented bytes)
 
 abbrev pub RefusesWorkflow : List ℕ → Refusal WorkflowKind → Type 0
-RefusesWorkflow bytes refusal = Refuses workflow_format (rows_of_bytes true bytes) (past_of_bytes bytes) refusal
+RefusesWorkflow bytes refusal = Refuses workflow_format (rows_of_bytes Commented bytes) (past_of_bytes bytes) refusal
 
 -- an answer that is no workflow: a refusal of the file, or memory ran out
 abbrev pub IsWorkflowRefusal : List ℕ → Refusal WorkflowKind → Type 0

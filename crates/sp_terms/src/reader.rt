@@ -8,7 +8,7 @@ use crate::kind::{Stage, Word, WorkflowKind};
 use crate::lines::{count_on, data_on, fault, header_on, last_on, par_on, task_on, word_on};
 use crate::position::Position;
 use crate::terms::Terms;
-use mp_text::{Line, Reader, Refusal, read_with};
+use mp_text::{Layout, Line, Reader, Refusal, read_with};
 use std::alloc::Global;
 use std::marker::Model;
 
@@ -152,7 +152,7 @@ impl Reader for WorkflowReader {
 pub fn read_workflow(alloc: Global, bytes: &[u8]) -> Result<Terms, Refusal<WorkflowKind>>
     ensures { MatchResult result (λ terms. ReadsWorkflow bytes.now terms) (IsWorkflowRefusal bytes.now) }
 {
-    let reader = read_with(bytes, true, WorkflowReader::new(alloc))?;
+    let reader = read_with(bytes, Layout::Commented, WorkflowReader::new(alloc))?;
     let WorkflowReader { builder, .. } = reader;
     match builder.finish() {
         Ok(terms) => Ok(terms),

@@ -1,6 +1,7 @@
 -- Of a tree file: it is read or refused, never both, as one tree or with one refusal.
 use Rattle.std.proofs.Common.{◌≡◌, ℕ, zero, suc, ◌+◌, ◌<◌, ◌≤◌, true, leb, List, ◌⊎◌, inl, inr, length, refl, sym, ap, subst, ◌∙◌, arith}
 use Rattle.std.proofs.lemmas.Bool.{cases_eq, cases_Bool, leb-true, leb-false}
+use Rattle.mp_text.specs.declared.layout.Layout.TheVariants.{Commented}
 use Rattle.mp_text.specs.declared.refusals.Refusal.{Refusal}
 use Rattle.mp_text.specs.Text.{Row}
 use Rattle.mp_text.specs.Ahead.{rows_of_bytes, past_of_bytes}
@@ -81,7 +82,7 @@ OneRefusal = (format : Format TreeKind) (rows : List Row) (past : ℕ) (one two 
 
 pub read_or_refused : SomeOutcome → (bytes : List ℕ) → ((nodes : List Node) × ReadsTree bytes nodes) ⊎ ((refusal : Refusal TreeKind) × RefusesTree bytes refusal)
 read_or_refused outcome bytes =
-    let rows = rows_of_bytes true bytes in
+    let rows = rows_of_bytes Commented bytes in
     let nodes = nodes_stated rows in
     elim (outcome tree_format rows (past_of_bytes bytes)) [
       | inr refused ↦ inr (refused.0, inl refused.1)
@@ -95,29 +96,29 @@ read_or_refused outcome bytes =
     ]
 
 -- what a reading says of the stated nodes
-stated_roots : (bytes : List ℕ) (nodes : List Node) → ReadsTree bytes nodes → (v : ℕ) → IsNode (nodes_stated (rows_of_bytes true bytes)) v → LeadsToRoot (nodes_stated (rows_of_bytes true bytes)) v
+stated_roots : (bytes : List ℕ) (nodes : List Node) → ReadsTree bytes nodes → (v : ℕ) → IsNode (nodes_stated (rows_of_bytes Commented bytes)) v → LeadsToRoot (nodes_stated (rows_of_bytes Commented bytes)) v
 stated_roots bytes nodes reads = subst (λ (ns : List Node). (v : ℕ) → IsNode ns v → LeadsToRoot ns v) reads.stated reads.roots
 
-stated_shares : (bytes : List ℕ) (nodes : List Node) → ReadsTree bytes nodes → (v : ℕ) → IsNode (nodes_stated (rows_of_bytes true bytes)) v → HasShare (nodes_stated (rows_of_bytes true bytes)) v
+stated_shares : (bytes : List ℕ) (nodes : List Node) → ReadsTree bytes nodes → (v : ℕ) → IsNode (nodes_stated (rows_of_bytes Commented bytes)) v → HasShare (nodes_stated (rows_of_bytes Commented bytes)) v
 stated_shares bytes nodes reads = subst (λ (ns : List Node). (v : ℕ) → IsNode ns v → HasShare ns v) reads.stated reads.shares
 
 pub not_both : NotBoth → (bytes : List ℕ) (nodes : List Node) (refusal : Refusal TreeKind) → ReadsTree bytes nodes → RefusesTree bytes refusal → ⊥
-not_both apart bytes nodes refusal reads (inl refused) = apart tree_format (rows_of_bytes true bytes) (past_of_bytes bytes) refusal reads.form refused
+not_both apart bytes nodes refusal reads (inl refused) = apart tree_format (rows_of_bytes Commented bytes) (past_of_bytes bytes) refusal reads.form refused
 not_both apart bytes nodes refusal reads (inr (inl cycle)) = cycle.first.fails (stated_roots bytes nodes reads cycle.node cycle.first.node)
 not_both apart bytes nodes refusal reads (inr (inr share)) = share.first.fails (stated_shares bytes nodes reads share.node share.first.node)
 
 one_cycle : (bytes : List ℕ) (one two : Refusal TreeKind) → RefusesCycle bytes one → RefusesCycle bytes two → one ≡ two
 one_cycle bytes one two this that =
     let same = one_lowest _ _ this.node that.node this.first that.first in
-    this.refusal_is ∙ ap (λ (v : ℕ). fault_at (line_stating (rows_of_bytes true bytes) v) kinds.Cycle) same ∙ sym that.refusal_is
+    this.refusal_is ∙ ap (λ (v : ℕ). fault_at (line_stating (rows_of_bytes Commented bytes) v) kinds.Cycle) same ∙ sym that.refusal_is
 
 one_share : (bytes : List ℕ) (one two : Refusal TreeKind) → RefusesShare bytes one → RefusesShare bytes two → one ≡ two
 one_share bytes one two this that =
     let same = one_lowest _ _ this.node that.node this.first that.first in
-    this.refusal_is ∙ ap (λ (v : ℕ). fault_at (line_stating (rows_of_bytes true bytes) v) kinds.Share) same ∙ sym that.refusal_is
+    this.refusal_is ∙ ap (λ (v : ℕ). fault_at (line_stating (rows_of_bytes Commented bytes) v) kinds.Share) same ∙ sym that.refusal_is
 
 pub one_refusal : NotBoth → OneRefusal → (bytes : List ℕ) (one two : Refusal TreeKind) → RefusesTree bytes one → RefusesTree bytes two → one ≡ two
-one_refusal apart only bytes one two (inl this) (inl that) = only tree_format (rows_of_bytes true bytes) (past_of_bytes bytes) one two this that
+one_refusal apart only bytes one two (inl this) (inl that) = only tree_format (rows_of_bytes Commented bytes) (past_of_bytes bytes) one two this that
 one_refusal apart only bytes one two (inl this) (inr (inl that)) = absurd (apart _ _ _ one that.form this)
 one_refusal apart only bytes one two (inl this) (inr (inr that)) = absurd (apart _ _ _ one that.form this)
 one_refusal apart only bytes one two (inr (inl this)) (inl that) = absurd (apart _ _ _ two this.form that)
@@ -131,5 +132,5 @@ one_refusal apart only bytes one two (inr (inr this)) (inr (inr that)) = one_sha
 
 pub reads-is_tree : (bytes : List ℕ) (nodes : List Node) → ReadsTree bytes nodes → IsTree nodes
 reads-is_tree bytes nodes reads =
-    let within = subst AreWithin (sym reads.stated) (well_formed_within (rows_of_bytes true bytes) (past_of_bytes bytes) reads.form) in
+    let within = subst AreWithin (sym reads.stated) (well_formed_within (rows_of_bytes Commented bytes) (past_of_bytes bytes) reads.form) in
     record { some = within.some; few = within.few; each = within.each; total = within.total; roots = reads.roots; shares = reads.shares }

@@ -10,7 +10,8 @@ use Rattle.std.proofs.lemmas.List.Elements.{All-tail}
 use Rattle.std.proofs.lemmas.List.Folds.{list_all-append}
 use Rattle.std.proofs.lemmas.List.Sums.{sum_by-cons, sum_by-append}
 use Rattle.std.proofs.Math.Seq.{take-append_seam}
-use Rattle.mp_text.specs.Text.{Row, is_passed, is_digit, number_of, number_from}
+use Rattle.mp_text.specs.declared.layout.Layout.TheVariants.{Commented}
+use Rattle.mp_text.specs.Text.{Row, says_nothing, is_digit, number_of, number_from}
 use Rattle.mp_text.specs.Ahead.{rows_of_bytes}
 use Rattle.mp_text.specs.Grammar.{first_failure, ArePassed}
 use Rattle.mp_text.specs.Report.{is_counted, numbered_from, text_of_lines}
@@ -50,17 +51,17 @@ not_end : (with_share : Bool) (number : ℕ) (node : Node) → is_end (record { 
 not_end with_share number node = and_right _ _ refl
 
 -- a token that spells a number begins no comment
-no_comment : (token : List ℕ) (tokens : List (List ℕ)) (n : ℕ) → number_of token ≡ Some n → is_passed true (token ∷ tokens) ≡ false
+no_comment : (token : List ℕ) (tokens : List (List ℕ)) (n : ℕ) → number_of token ≡ Some n → says_nothing Commented (token ∷ tokens) ≡ false
 unfolding number_of number_from
 no_comment [] tokens n e = refl
 no_comment (b ∷ bs) tokens n e = go (is_digit b) refl where
-  go : (t : Bool) → is_digit b ≡ t → is_passed true ((b ∷ bs) ∷ tokens) ≡ false
+  go : (t : Bool) → is_digit b ≡ t → says_nothing Commented ((b ∷ bs) ∷ tokens) ≡ false
   go true digit =
       let low : 48 ≤ b = leb-true 48 b (and_parts (leb 48 b) (leb b 57) digit).0 in
       or_from _ _ (ne_eqb b 37 (λ same. omega arith)) (ne_eqb b 35 (λ same. omega arith))
   go false other = absurd (cc (rw other at e))
 
-node-counted : AreNumbers → AreTokens → (with_share : Bool) (node : Node) → IsPrintable with_share node → is_counted true (node_line with_share node) ≡ true
+node-counted : AreNumbers → AreTokens → (with_share : Bool) (node : Node) → IsPrintable with_share node → is_counted Commented (node_line with_share node) ≡ true
 node-counted are tokens with_share node fits =
     and_from _ _ (node_line-tokens tokens with_share node fits.parent fits.out fits.extra fits.share fits.time)
     (ap not (no_comment (decimal node.parent) (decimal node.out ∷ decimal node.extra ∷ (share_tokens with_share node.share ++ decimal node.time ∷ [])) node.parent (are node.parent fits.parent)))
@@ -309,25 +310,25 @@ module _ (numbers : AreNumbers) (are_tokens : AreTokens) (are_rows : AreRows) (w
       ap (λ (b : Bool). map (node_of b) (take (count_stated counted) (rows ++ last ∷ []))) (header_is with_share) ∙ ap (map (node_of with_share)) cut ∙ nodes_of-rows numbers with_share 3 nodes printable
 
   -- the lines count
-  nodes_counted : (ns : List Node) → All (IsPrintable with_share) ns → list_all (is_counted true) (map (node_line with_share) ns) ≡ true
+  nodes_counted : (ns : List Node) → All (IsPrintable with_share) ns → list_all (is_counted Commented) (map (node_line with_share) ns) ≡ true
   nodes_counted [] fit = refl
   nodes_counted (n ∷ ns) fit = and_from _ _ (node-counted numbers are_tokens with_share n (fit 0 n (omega arith))) (nodes_counted ns (All-tail (IsPrintable with_share) n ns fit))
 
-  header_counted : (b : Bool) → is_counted true (header_line b) ≡ true
+  header_counted : (b : Bool) → is_counted Commented (header_line b) ≡ true
   header_counted true = refl
   header_counted false = refl
 
-  count_counted : is_counted true (count_line (length nodes)) ≡ true
+  count_counted : is_counted Commented (count_line (length nodes)) ≡ true
   count_counted = rw (are_tokens (length nodes) (omega (arith, tree.few))) refl
 
-  lines_counted : list_all (is_counted true) (lines_in with_share nodes) ≡ true
+  lines_counted : list_all (is_counted Commented) (lines_in with_share nodes) ≡ true
   lines_counted =
       and_from _ _ (header_counted with_share) (and_from _ _ count_counted
-      (list_all-append (is_counted true) (map (node_line with_share) nodes) (end_line ∷ []) ∙ and_from _ _ (nodes_counted nodes printable) refl))
+      (list_all-append (is_counted Commented) (map (node_line with_share) nodes) (end_line ∷ []) ∙ and_from _ _ (nodes_counted nodes printable) refl))
 
   pub printed-reads : ReadsTree (text_in with_share nodes) nodes
   printed-reads =
-      let read : rows_of_bytes true (text_in with_share nodes) ≡ header ∷ counted ∷ (rows ++ last ∷ []) = are_rows true (lines_in with_share nodes) lines_counted ∙ rows_are in
+      let read : rows_of_bytes Commented (text_in with_share nodes) ≡ header ∷ counted ∷ (rows ++ last ∷ []) = are_rows true (lines_in with_share nodes) lines_counted ∙ rows_are in
       record {
         form = record {
           lines = subst (ArePassed tree_format) (sym read) passed;

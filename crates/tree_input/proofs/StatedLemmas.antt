@@ -3,6 +3,7 @@ use Rattle.std.proofs.Common.{◌≡◌, ℕ, suc, ◌+◌, ◌-◌, ◌<◌, �
 use Rattle.std.proofs.lemmas.List.{length-map, get_or-map, get_or_append_left}
 use Rattle.std.proofs.Math.Seq.{take-append_seam}
 use Rattle.std.proofs.lemmas.Bool.{eqb-true}
+use Rattle.mp_text.specs.declared.layout.Layout.TheVariants.{Commented}
 use Rattle.mp_text.specs.Text.{Row}
 use Rattle.mp_text.specs.Ahead.{rows_of_bytes, past_of_bytes}
 use Rattle.mp_text.specs.Grammar.{IsWellFormed}
@@ -31,11 +32,11 @@ module _ (header counted last : Row) (rows : List Row) (whole : length rows ≡ 
       ap (λ (k : ℕ). get_or (header ∷ counted ∷ (rows ++ last ∷ [])) k row) at ∙ get_or_append_left rows (last ∷ []) row (v - 1) short in
       get_or-map (λ (r : Row). r.number) rows (v - 1) row 0 short ∙ ap (λ (r : Row). r.number) (sym found)
 
-  whole_stated : (bytes : List ℕ) (s : ReaderState) → rows_of_bytes true bytes ≡ header ∷ counted ∷ (rows ++ last ∷ []) → IsWellFormed tree_format (rows_of_bytes true bytes) (past_of_bytes bytes) → TookNodes s header counted rows → AreStated bytes s.nodes s.lines
+  whole_stated : (bytes : List ℕ) (s : ReaderState) → rows_of_bytes Commented bytes ≡ header ∷ counted ∷ (rows ++ last ∷ []) → IsWellFormed tree_format (rows_of_bytes Commented bytes) (past_of_bytes bytes) → TookNodes s header counted rows → AreStated bytes s.nodes s.lines
   unfolding all
   whole_stated bytes s rows_are form taken =
-      let within = well_formed_within (rows_of_bytes true bytes) (past_of_bytes bytes) form in
-      let nodes_are : s.nodes ≡ nodes_stated (rows_of_bytes true bytes) = taken.nodes ∙ sym (ap nodes_stated rows_are ∙ stated_is) in
+      let within = well_formed_within (rows_of_bytes Commented bytes) (past_of_bytes bytes) form in
+      let nodes_are : s.nodes ≡ nodes_stated (rows_of_bytes Commented bytes) = taken.nodes ∙ sym (ap nodes_stated rows_are ∙ stated_is) in
       let kept : AreWithin s.nodes = subst AreWithin (sym nodes_are) within in
       let len : length s.nodes ≡ length rows = ap length taken.nodes ∙ length-map rows (node_of (has_shares header)) in
       record {
@@ -49,7 +50,7 @@ module _ (header counted last : Row) (rows : List Row) (whole : length rows ≡ 
         total = kept.total;
       }
 
-staged_stated : (bytes : List ℕ) (stage : Stage) (s : ReaderState) → IsWellFormed tree_format (rows_of_bytes true bytes) (past_of_bytes bytes) → staged_took stage s (rows_of_bytes true bytes) → AreStated bytes s.nodes s.lines
+staged_stated : (bytes : List ℕ) (stage : Stage) (s : ReaderState) → IsWellFormed tree_format (rows_of_bytes Commented bytes) (past_of_bytes bytes) → staged_took stage s (rows_of_bytes Commented bytes) → AreStated bytes s.nodes s.lines
 staged_stated bytes stages.Header s form taken = absurd (cc (sym (ap is_complete taken.0) ∙ complete _ _ form))
 staged_stated bytes stages.Count s form taken = absurd (cc (sym (ap is_complete taken.rows_are) ∙ complete _ _ form))
 staged_stated bytes stages.Nodes s form taken =
@@ -57,5 +58,5 @@ staged_stated bytes stages.Nodes s form taken =
     absurd (let w = taken.nodes.within in omega (arith, eqb-true _ _ whole, w))
 staged_stated bytes stages.Ended s form taken = whole_stated taken.header taken.counted taken.last taken.node_rows taken.whole bytes s taken.rows_are form taken.nodes
 
-pub took_stated : (bytes : List ℕ) (s : ReaderState) → IsWellFormed tree_format (rows_of_bytes true bytes) (past_of_bytes bytes) → took s (rows_of_bytes true bytes) → AreStated bytes s.nodes s.lines
+pub took_stated : (bytes : List ℕ) (s : ReaderState) → IsWellFormed tree_format (rows_of_bytes Commented bytes) (past_of_bytes bytes) → took s (rows_of_bytes Commented bytes) → AreStated bytes s.nodes s.lines
 took_stated bytes s form taken = staged_stated bytes s.stage s form taken

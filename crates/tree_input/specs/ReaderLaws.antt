@@ -7,7 +7,8 @@ use Rattle.std.proofs.lemmas.List.Sums.{sum_by_push}
 use Rattle.std.proofs.lemmas.Bool.{ltb-true, ltb-false, le-ltb, ne_eqb}
 use Rattle.mp_text.specs.Text.{Row}
 use Rattle.mp_text.specs.Grammar.{Test, ArePassed}
-use Rattle.mp_text.specs.Reading.{Follows, tested, tested-follows}
+use Rattle.mp_text.specs.Reading.{Follows, tested}
+use Rattle.mp_text.specs.ReadingLaws.{tested-follows}
 use Rattle.tree_input.specs.Tree.{node_size}
 use Rattle.tree_input.specs.TreeFile.{tree_format, tree_line_tests, tree_end_tests, header_tests, has_shares, count_tests, count_stated, node_tests, node_of, total_of, last_tests, body_tests, is_complete, fault}
 use Rattle.tree_input.specs.Reader.{ReaderState, IsFresh, TookNodes, staged_step, staged_end, staged_took, body_step, with_node, tree_step, tree_end, took}

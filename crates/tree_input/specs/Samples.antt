@@ -1,6 +1,7 @@
 -- Worked examples: a tree of five nodes, one of two nodes with a share, forests and their terms, and files that are refused.
 use Rattle.std.specs.Prelude.{◌≡◌, ℕ, true, List, [], ◌∷◌, ◌++◌, Option, Some, None, codes, refl}
 use Rattle.std.specs.Fmt.{digits}
+use Rattle.mp_text.specs.declared.layout.Layout.TheVariants.{Commented}
 use Rattle.mp_text.specs.declared.refusals.Refusal.{Refusal}
 use Rattle.mp_text.specs.declared.refusals.Refusal.TheVariants as refusals
 use Rattle.limits.specs.declared.name.LimitName.TheVariants as limits
@@ -49,18 +50,18 @@ shared_text = refl
 
 -- ---- reading
 
-pub stated : nodes_stated (rows_of_bytes true (codes "# two nodes\n\ntree 2\nnodes 2\n2 4 0 0 1\n\t0 03 2 4 1\r\nend")) ≡ shared
+pub stated : nodes_stated (rows_of_bytes Commented (codes "# two nodes\n\ntree 2\nnodes 2\n2 4 0 0 1\n\t0 03 2 4 1\r\nend")) ≡ shared
 unfolding lines_of tokens_of number_of number_from rows_from fields_stated number_at share_at
 stated = refl
 
-pub stating : line_stating (rows_of_bytes true (codes "# two nodes\n\ntree 2\nnodes 2\n2 4 0 0 1\n\t0 03 2 4 1\r\nend")) 2 ≡ 6
+pub stating : line_stating (rows_of_bytes Commented (codes "# two nodes\n\ntree 2\nnodes 2\n2 4 0 0 1\n\t0 03 2 4 1\r\nend")) 2 ≡ 6
 unfolding lines_of tokens_of number_of number_from rows_from
 stating = refl
 
 -- the first test of a file's lines and of its end that fails, if one does
 abbrev pub refusal_of : List ℕ → Option (Refusal TreeKind)
 refusal_of bytes =
-    let rows = rows_of_bytes true bytes in
+    let rows = rows_of_bytes Commented bytes in
     first_failure (tests_of_all tree_line_tests [] rows ++ tree_end_tests rows (past_of_bytes bytes))
 
 pub well_formed : refusal_of (codes "tree 1\nnodes 1\n0 3 2 1\nend\n") ≡ None

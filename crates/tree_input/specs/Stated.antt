@@ -2,6 +2,7 @@
 -- this: the format itself stands in TreeFile.antt.
 use Rattle.std.specs.Prelude.{◌≡◌, ℕ, ◌-◌, ◌^◌, ◌≤◌, true, All, List, length, slice_index_or}
 use Rattle.std.specs.List.{sum_by}
+use Rattle.mp_text.specs.declared.layout.Layout.TheVariants.{Commented}
 use Rattle.mp_text.specs.Ahead.{rows_of_bytes, past_of_bytes}
 use Rattle.mp_text.specs.Grammar.{IsWellFormed}
 use Rattle.tree_input.specs.Tree.{IsNode, IsNodeWithin, node_size}
@@ -9,9 +10,9 @@ use Rattle.tree_input.specs.TreeFile.{tree_format, nodes_stated, line_stating}
 use Rattle.tree_input.specs.declared.node.Node.{Node}
 
 pub record AreStated (bytes : List ℕ) (nodes : List Node) (lines : List ℕ) : Type 0 where
-  pub form : IsWellFormed tree_format (rows_of_bytes true bytes) (past_of_bytes bytes)
-  pub nodes_are : nodes ≡ nodes_stated (rows_of_bytes true bytes)
-  pub lines_are : (v : ℕ) → IsNode nodes v → slice_index_or lines (v - 1) 0 ≡ line_stating (rows_of_bytes true bytes) v
+  pub form : IsWellFormed tree_format (rows_of_bytes Commented bytes) (past_of_bytes bytes)
+  pub nodes_are : nodes ≡ nodes_stated (rows_of_bytes Commented bytes)
+  pub lines_are : (v : ℕ) → IsNode nodes v → slice_index_or lines (v - 1) 0 ≡ line_stating (rows_of_bytes Commented bytes) v
   pub lines_len : length lines ≡ length nodes
   pub some : 1 ≤ length nodes
   pub few : length nodes ≤ 1000000

@@ -5,6 +5,7 @@ use Rattle.std.specs.List.{sum_by}
 use Rattle.std.specs.Str.{bytes_eq}
 use Rattle.std.specs.Cmp.Lexicographic.{pointwise}
 use Rattle.limits.specs.declared.name.LimitName.TheVariants as limits
+use Rattle.mp_text.specs.declared.layout.Layout.TheVariants.{Commented}
 use Rattle.mp_text.specs.declared.refusals.Refusal.{Refusal}
 use Rattle.mp_text.specs.declared.refusals.Refusal.TheVariants as refusals
 use Rattle.mp_text.specs.Text.{Row, number_of}
@@ -129,29 +130,29 @@ pub record IsFirstWithout (fact : ℕ → Type 0) (nodes : List Node) (v : ℕ) 
 
 -- every line passes, all nodes lead to a root, all shares fit, and the nodes are those stated
 pub record ReadsTree (bytes : List ℕ) (nodes : List Node) : Type 0 where
-  pub form : IsWellFormed tree_format (rows_of_bytes true bytes) (past_of_bytes bytes)
-  pub stated : nodes ≡ nodes_stated (rows_of_bytes true bytes)
+  pub form : IsWellFormed tree_format (rows_of_bytes Commented bytes) (past_of_bytes bytes)
+  pub stated : nodes ≡ nodes_stated (rows_of_bytes Commented bytes)
   pub roots : (v : ℕ) → IsNode nodes v → LeadsToRoot nodes v
   pub shares : (v : ℕ) → IsNode nodes v → HasShare nodes v
 
 -- every line passes, and v is the lowest node whose parents lead to no root
 pub record RefusesCycle (bytes : List ℕ) (refusal : Refusal TreeKind) : Type 0 where
-  pub form : IsWellFormed tree_format (rows_of_bytes true bytes) (past_of_bytes bytes)
+  pub form : IsWellFormed tree_format (rows_of_bytes Commented bytes) (past_of_bytes bytes)
   pub node : ℕ
-  pub first : let nodes = nodes_stated (rows_of_bytes true bytes) in IsFirstWithout (LeadsToRoot nodes) nodes node
-  pub refusal_is : refusal ≡ fault_at (line_stating (rows_of_bytes true bytes) node) kinds.Cycle
+  pub first : let nodes = nodes_stated (rows_of_bytes Commented bytes) in IsFirstWithout (LeadsToRoot nodes) nodes node
+  pub refusal_is : refusal ≡ fault_at (line_stating (rows_of_bytes Commented bytes) node) kinds.Cycle
 
 -- every line passes, all nodes lead to a root, and v is the lowest node whose share does not fit
 pub record RefusesShare (bytes : List ℕ) (refusal : Refusal TreeKind) : Type 0 where
-  pub form : IsWellFormed tree_format (rows_of_bytes true bytes) (past_of_bytes bytes)
-  pub roots : let nodes = nodes_stated (rows_of_bytes true bytes) in (v : ℕ) → IsNode nodes v → LeadsToRoot nodes v
+  pub form : IsWellFormed tree_format (rows_of_bytes Commented bytes) (past_of_bytes bytes)
+  pub roots : let nodes = nodes_stated (rows_of_bytes Commented bytes) in (v : ℕ) → IsNode nodes v → LeadsToRoot nodes v
   pub node : ℕ
-  pub first : let nodes = nodes_stated (rows_of_bytes true bytes) in IsFirstWithout (HasShare nodes) nodes node
-  pub refusal_is : refusal ≡ fault_at (line_stating (rows_of_bytes true bytes) node) kinds.Share
+  pub first : let nodes = nodes_stated (rows_of_bytes Commented bytes) in IsFirstWithout (HasShare nodes) nodes node
+  pub refusal_is : refusal ≡ fault_at (line_stating (rows_of_bytes Commented bytes) node) kinds.Share
 
 abbrev pub RefusesTree : List ℕ → Refusal TreeKind → Type 0
 RefusesTree bytes refusal =
-    Refuses tree_format (rows_of_bytes true bytes) (past_of_bytes bytes) refusal ⊎ (RefusesCycle bytes refusal ⊎ RefusesShare bytes refusal)
+    Refuses tree_format (rows_of_bytes Commented bytes) (past_of_bytes bytes) refusal ⊎ (RefusesCycle bytes refusal ⊎ RefusesShare bytes refusal)
 
 -- an answer that is no tree: a refusal of the file, or memory ran out
 abbrev pub IsTreeRefusal : List ℕ → Refusal TreeKind → Type 0

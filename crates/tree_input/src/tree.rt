@@ -7,7 +7,7 @@ use crate::node::{Node, TreeKind};
 use crate::reader::TreeReader;
 use crate::roots::first_cycle;
 use crate::shares::first_unfit_share;
-use mp_text::{Refusal, read_with};
+use mp_text::{Layout, Refusal, read_with};
 use std::alloc::Global;
 use std::marker::Model;
 
@@ -61,7 +61,7 @@ fn read_lines(alloc: Global, bytes: &[u8]) -> Result<Stated, Refusal<TreeKind>>
     ensures stated { IfOk result (λ s. AreStated bytes.now s.nodes.items s.lines.items) }
     ensures refused { IfErr result (IsTreeRefusal bytes.now) }
 {
-    let reader = read_with(bytes, true, TreeReader::new(alloc))?;
+    let reader = read_with(bytes, Layout::Commented, TreeReader::new(alloc))?;
     let TreeReader { nodes, lines, .. } = reader;
     Ok(Stated { nodes, lines })
 }

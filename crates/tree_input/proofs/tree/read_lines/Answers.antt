@@ -1,4 +1,5 @@
 use Rattle.std.proofs.Common.{sym, subst, true}
+use Rattle.mp_text.specs.declared.layout.Layout.TheVariants.{Commented}
 use Rattle.mp_text.specs.Ahead.{rows_of_bytes}
 use Rattle.tree_input.specs.Reader.{ReaderState, took}
 use Rattle.tree_input.proofs.StatedLemmas.{took_stated}
@@ -7,4 +8,4 @@ use Rattle.tree_input.proofs.tree.read_lines.Goals as goal
 pub returns-clause-stated : goal.returns-clause-stated
 returns-clause-stated c =
     let read = c.in_ok-reader.ensures.read in
-    took_stated c.args.bytes.now _ read.0 (subst (λ (s : ReaderState). took s (rows_of_bytes true c.args.bytes.now)) (sym c.reader.view_is) read.1)
+    took_stated c.args.bytes.now _ read.0 (subst (λ (s : ReaderState). took s (rows_of_bytes Commented c.args.bytes.now)) (sym c.reader.view_is) read.1)
