@@ -1,4 +1,6 @@
 pub mod TextLemmas
+pub mod CursorLemmas
+pub mod ScanLemmas
 pub mod ReadingLemmas
 pub mod GrammarLemmas
 pub mod ReportLemmas

@@ -1,20 +1,23 @@
 -- How a report grows, and what is read of it.
-use Rattle.std.proofs.Common.{◌≡◌, ℕ, suc, ◌+◌, ◌-◌, ◌≤◌, ◌<◌, ◌^◌, Bool, true, false, not, nat_le, ltb, unsigned_abs, ◌%◌, List, [], ◌∷◌, ◌++◌, length, map, take, get_or, refl, sym, ap, ◌∙◌, arith, rules, append_assoc, append-nil, Some, ℤ, pos, negsuc, eqb, leb}
+use Rattle.std.proofs.Common.{◌≡◌, ℕ, suc, ◌+◌, ◌-◌, ◌≤◌, ◌<◌, ◌^◌, Bool, true, false, not, nat_le, ltb, List, [], ◌∷◌, ◌++◌, length, map, take, get_or, All, if◌then◌else◌, refl, sym, ap, ◌∙◌, arith, rules, append_assoc, append-nil, Some, ℤ, pos, negsuc, eqb, leb}
 use Rattle.std.proofs.lemmas.Bool.{and_parts, and_from, not-true, or_parts, or_from, lt-ltb, leb-true, le-leb, ne_eqb, and_right}
 use Rattle.std.proofs.lemmas.List.Folds.{list_all-append}
 use Rattle.std.proofs.lemmas.List.Splits.{slice_split-cons_no}
-use Rattle.std.proofs.lemmas.List.{flat_map_more, take_more, map-append}
+use Rattle.std.proofs.lemmas.Grind.{flat_map-append}
+use Rattle.std.proofs.lemmas.List.{flat_map_more, take_more, take_all, take-append-le, length-take, map-append}
 use Rattle.std.specs.List.{list_all, join_with_byte, filter, slice_split, onto_first}
 use Rattle.std.specs.Fmt.{decimal, signed_decimal}
 use Rattle.std.specs.Int.{w64}
 use Rattle.std.specs.Int.RustNames.{FitsSigned}
 use Rattle.std.specs.Option.{option_and_then}
-use Rattle.std.proofs.lemmas.Fmt.{digits_decimal, digits_value-decimal, decimal_nonempty, decimal_by_steps}
-use Rattle.std.proofs.Math.Nat.{mod-eq_of_lt}
+use Rattle.std.proofs.lemmas.Fmt.{digits_decimal, digits_value-decimal, decimal_nonempty}
 use Rattle.std.proofs.lemmas.Str.Parse.{IsNumeralModel, numerals_by_fold}
-use Rattle.mp_text.specs.Text.{is_blank, is_feed, is_filled, is_passed, onto_line, lines_of, tokens_of, Row, rows_from, is_digit, value_from, number_from, number_of, is_comment, positive_of, negative_of, signed_of}
+use Rattle.mp_text.specs.declared.layout.Layout.{Layout}
+use Rattle.mp_text.specs.declared.reports.Token.{Token}
+use Rattle.mp_text.specs.declared.layout.Layout.TheVariants.{Commented, Banner}
+use Rattle.mp_text.specs.Text.{is_blank, is_feed, is_filled, is_passed, is_banner, says_nothing, onto_line, lines_of, tokens_of, Row, rows_from, is_digit, value_from, number_from, number_of, numbers_of, is_comment, positive_of, negative_of, signed_of}
 use Rattle.mp_text.specs.Ahead.{rows_of_bytes, past_of_bytes}
-use Rattle.mp_text.specs.Report.{last_or, is_line_start, with_tokens, line_text, text_of_lines, is_plain, is_token, is_counted, numbered_from}
+use Rattle.mp_text.specs.Report.{token_text, last_or, is_line_start, with_token, with_tokens, line_text, text_of_lines, is_plain, is_token, is_counted, numbered_from}
 use Rattle.mp_text.proofs.TextLemmas.{lines_of-yes, lines_of-no, lines_of-nil, number_of-filled}
 
 -- ---- the last byte
@@ -90,28 +93,53 @@ is_line_start-lines text (line ∷ lines) start =
 pub text_of_lines-push : (text : List ℕ) (lines : List (List (List ℕ))) (line : List (List ℕ)) → (text ++ text_of_lines lines) ++ line_text line ≡ text ++ text_of_lines (lines ++ line ∷ [])
 text_of_lines-push text lines line = flat_map_more line_text text lines line
 
--- a report has these lines more, and stands at the start of a line
-pub record Printed (old new : List ℕ) (lines : List (List (List ℕ))) : Type 0 where
-  pub text : new ≡ old ++ text_of_lines lines
-  pub start : is_line_start new ≡ true
+pub text_of_lines-append : (xs ys : List (List (List ℕ))) → text_of_lines (xs ++ ys) ≡ text_of_lines xs ++ text_of_lines ys
+text_of_lines-append xs ys = flat_map-append line_text xs ys
 
-pub printed_none : (text : List ℕ) → is_line_start text ≡ true → Printed text text []
-printed_none text start = record { text = sym (append-nil text); start = start }
+-- ---- a line that is printed, or a part of it
 
-pub printed_more : (text old new : List ℕ) (lines : List (List (List ℕ))) (line : List (List ℕ)) → new ≡ old ++ line_text line → Printed text old lines → Printed text new (lines ++ line ∷ [])
-printed_more text old new lines line one before = record {
-  text = one ∙ ap (λ (t : List ℕ). t ++ line_text line) before.text ∙ text_of_lines-push text lines line;
-  start = ap is_line_start one ∙ is_line_start-line old line;
-}
+pub with_tokens-push : (text : List ℕ) (tokens : List (List ℕ)) (token : List ℕ) → with_tokens text (tokens ++ token ∷ []) ≡ with_token (with_tokens text tokens) token
+with_tokens-push text [] token = refl
+with_tokens-push text (first ∷ tokens) token = with_tokens-push (with_token text first) tokens token
 
--- a loop that prints a line for each element, after some lines
-pub printed_each : {X : Type 0} (line : X → List (List ℕ)) (first : List (List (List ℕ))) (xs : List X) (i : ℕ) (d : X) (text old new : List ℕ)
-    → i < length xs → new ≡ old ++ line_text (line (get_or xs i d)) → Printed text old (first ++ map line (take i xs)) → Printed text new (first ++ map line (take (i + 1) xs))
-printed_each line first xs i d text old new within one before =
-    let lines : first ++ map line (take (i + 1) xs) ≡ (first ++ map line (take i xs)) ++ line (get_or xs i d) ∷ [] =
-    ap (λ (ys : List _). first ++ map line ys) (take_more xs i d within) ∙ ap (λ (ls : List (List (List ℕ))). first ++ ls) (map-append line (take i xs) (get_or xs i d ∷ []))
-    ∙ sym (append_assoc first (map line (take i xs)) (line (get_or xs i d) ∷ [])) in
-    rw lines (printed_more text old new (first ++ map line (take i xs)) (line (get_or xs i d)) one before)
+texts-more : (tokens : List Token) (i : ℕ) (d : Token) → i < length tokens → map token_text (take (i + 1) tokens) ≡ map token_text (take i tokens) ++ token_text (get_or tokens i d) ∷ []
+texts-more tokens i d within = ap (map token_text) (take_more tokens i d within) ∙ map-append token_text (take i tokens) (get_or tokens i d ∷ [])
+
+-- a loop appends one token more
+module _ (tokens : List Token) (i : ℕ) (d : Token) (within : i < length tokens) where
+  pub text-more : (old text new : List ℕ) → text ≡ with_tokens old (map token_text (take i tokens)) → new ≡ with_token text (token_text (get_or tokens i d)) → new ≡ with_tokens old (map token_text (take (i + 1) tokens))
+  text-more old text new before one =
+      one ∙ ap (λ (t : List ℕ). with_token t (token_text (get_or tokens i d))) before ∙ sym (ap (with_tokens old) (texts-more tokens i d within) ∙ with_tokens-push old (map token_text (take i tokens)) (token_text (get_or tokens i d)))
+
+  pub tokens-more : list_all is_token (map token_text (take i tokens)) ≡ true → is_token (token_text (get_or tokens i d)) ≡ true → list_all is_token (map token_text (take (i + 1) tokens)) ≡ true
+  tokens-more before one =
+      rw (texts-more tokens i d within) (list_all-append is_token (map token_text (take i tokens)) (token_text (get_or tokens i d) ∷ []) ∙ and_from _ _ before (and_from _ _ one refl))
+
+-- a text begins with what stood there
+abbrev pub Begins : List ℕ → List ℕ → Type 0
+Begins old new = take (length old) new ≡ old
+
+begins-first : (text : List ℕ) → Begins text text
+begins-first text = take_all (length text) text (omega arith)
+
+begins-append : (old new more : List ℕ) → Begins old new → Begins old (new ++ more)
+begins-append old new more begins =
+    let within : length old ≤ length new = omega (arith, ap length begins, length-take (length old) new) in
+    take-append-le (length old) new more within ∙ begins
+
+begins-token : (old new token : List ℕ) → Begins old new → Begins old (with_token new token)
+begins-token old new token begins =
+    elim (is_line_start new) as (λ b. Begins old (if b then new ++ token else new ++ 32 ∷ token)) [
+      | true ↦ begins-append old new token begins
+      | false ↦ begins-append old new (32 ∷ token) begins
+    ]
+
+begins-tokens : (old new : List ℕ) (tokens : List (List ℕ)) → Begins old new → Begins old (with_tokens new tokens)
+begins-tokens old new [] begins = begins
+begins-tokens old new (token ∷ tokens) begins = begins-tokens old (with_token new token) tokens (begins-token old new token begins)
+
+pub stopped : (old new : List ℕ) (tokens : List (List ℕ)) → new ≡ with_tokens old tokens → Begins old new
+stopped old new tokens is = ap (take (length old)) is ∙ begins-tokens old old tokens (begins-first old)
 
 -- ---- what is read of printed lines
 
@@ -180,13 +208,14 @@ lines_of-printed : (line : List (List ℕ)) (lines : List (List (List ℕ))) →
 lines_of-printed line lines are =
     ap lines_of (append_assoc (join_with_byte 32 line) (10 ∷ []) (text_of_lines lines)) ∙ lines_of-fed (join_with_byte 32 line) (text_of_lines lines) (joined_kept line are)
 
-pub rows_from-printed : (hash : Bool) (n : ℕ) (lines : List (List (List ℕ))) → list_all (is_counted hash) lines ≡ true → rows_from hash n (lines_of (text_of_lines lines)) ≡ numbered_from n lines
+pub rows_from-printed : (layout : Layout) (n : ℕ) (lines : List (List (List ℕ))) → list_all (is_counted layout) lines ≡ true → rows_from layout n (lines_of (text_of_lines lines)) ≡ numbered_from n lines
 unfolding rows_from
-rows_from-printed hash n [] counted = rw lines_of-nil refl
-rows_from-printed hash n (line ∷ lines) counted =
-    let parts = all_parts (is_counted hash) line lines counted in
-    let here = and_parts (list_all is_token line) (not (is_passed hash line)) parts.0 in
-    rw (lines_of-printed line lines here.0, tokens_of-joined line here.0, not-true _ here.1) (ap (λ (rows : List Row). record { number = n; tokens = line } ∷ rows) (rows_from-printed hash (n + 1) lines parts.1))
+rows_from-printed layout n [] counted = rw lines_of-nil refl
+rows_from-printed layout n (line ∷ lines) counted =
+    let parts = all_parts (is_counted layout) line lines counted in
+    let here = and_parts (list_all is_token line) (not (says_nothing layout line)) parts.0 in
+    let kept : is_passed layout n line ≡ false = and_right (not (is_banner layout n)) _ (not-true _ here.1) in
+    rw (lines_of-printed line lines here.0, tokens_of-joined line here.0, kept) (ap (λ (rows : List Row). record { number = n; tokens = line } ∷ rows) (rows_from-printed layout (n + 1) lines parts.1))
 
 pub length-lines_of-printed : (lines : List (List (List ℕ))) → list_all (list_all is_token) lines ≡ true → length (lines_of (text_of_lines lines)) ≡ length lines
 length-lines_of-printed [] are = ap length lines_of-nil
@@ -194,17 +223,27 @@ length-lines_of-printed (line ∷ lines) are =
     let parts = all_parts (list_all is_token) line lines are in
     ap length (lines_of-printed line lines parts.0) ∙ ap suc (length-lines_of-printed lines parts.1)
 
-counted_tokens : (hash : Bool) (lines : List (List (List ℕ))) → list_all (is_counted hash) lines ≡ true → list_all (list_all is_token) lines ≡ true
-counted_tokens hash [] counted = refl
-counted_tokens hash (line ∷ lines) counted =
-    let parts = all_parts (is_counted hash) line lines counted in
-    and_from _ _ (and_parts (list_all is_token line) (not (is_passed hash line)) parts.0).0 (counted_tokens hash lines parts.1)
+counted_tokens : (layout : Layout) (lines : List (List (List ℕ))) → list_all (is_counted layout) lines ≡ true → list_all (list_all is_token) lines ≡ true
+counted_tokens layout [] counted = refl
+counted_tokens layout (line ∷ lines) counted =
+    let parts = all_parts (is_counted layout) line lines counted in
+    and_from _ _ (and_parts (list_all is_token line) (not (says_nothing layout line)) parts.0).0 (counted_tokens layout lines parts.1)
 
-pub rows_of_bytes-printed : (hash : Bool) (lines : List (List (List ℕ))) → list_all (is_counted hash) lines ≡ true → rows_of_bytes hash (text_of_lines lines) ≡ numbered_from 1 lines
-rows_of_bytes-printed hash lines counted = rows_from-printed hash 1 lines counted
+pub numbered_from-append : (n : ℕ) (xs ys : List (List (List ℕ))) → numbered_from n (xs ++ ys) ≡ numbered_from n xs ++ numbered_from (n + length xs) ys
+numbered_from-append n [] ys = let same : n ≡ n + 0 = omega arith in ap (λ (m : ℕ). numbered_from m ys) same
+numbered_from-append n (x ∷ xs) ys =
+    let same : n + 1 + length xs ≡ n + suc (length xs) = omega arith in
+    ap (λ (rows : List Row). record { number = n; tokens = x } ∷ rows) (numbered_from-append (n + 1) xs ys ∙ ap (λ (m : ℕ). numbered_from (n + 1) xs ++ numbered_from m ys) same)
 
-pub past_of_bytes-printed : (hash : Bool) (lines : List (List (List ℕ))) → list_all (is_counted hash) lines ≡ true → past_of_bytes (text_of_lines lines) ≡ length lines + 1
-past_of_bytes-printed hash lines counted = let e = length-lines_of-printed lines (counted_tokens hash lines counted) in omega arith
+pub length-numbered_from : (n : ℕ) (lines : List (List (List ℕ))) → length (numbered_from n lines) ≡ length lines
+length-numbered_from n [] = refl
+length-numbered_from n (line ∷ lines) = ap suc (length-numbered_from (n + 1) lines)
+
+pub rows_of_bytes-printed : (layout : Layout) (lines : List (List (List ℕ))) → list_all (is_counted layout) lines ≡ true → rows_of_bytes layout (text_of_lines lines) ≡ numbered_from 1 lines
+rows_of_bytes-printed layout lines counted = rows_from-printed layout 1 lines counted
+
+pub past_of_bytes-printed : (layout : Layout) (lines : List (List (List ℕ))) → list_all (is_counted layout) lines ≡ true → past_of_bytes (text_of_lines lines) ≡ length lines + 1
+past_of_bytes-printed layout lines counted = let e = length-lines_of-printed lines (counted_tokens layout lines counted) in omega arith
 
 -- ---- numbers
 
@@ -223,11 +262,12 @@ digit_low : (b : ℕ) → is_digit b ≡ true → 48 ≤ b
 digit_low b digit = leb-true 48 b (and_parts (nat_le 48 b) (nat_le b 57) digit).0
 
 -- digits begin no comment
-no_comment : (hash : Bool) (bs : List ℕ) → list_all is_digit bs ≡ true → is_comment hash bs ≡ false
-no_comment hash [] digits = refl
-no_comment hash (b ∷ bs) digits =
+no_comment : (layout : Layout) (bs : List ℕ) → list_all is_digit bs ≡ true → is_comment layout bs ≡ false
+no_comment layout [] digits = refl
+no_comment Commented (b ∷ bs) digits =
     let low = digit_low b (all_parts is_digit b bs digits).0 in
-    or_from _ _ (ne_eqb b 37 (λ e. omega arith)) (and_right hash _ (ne_eqb b 35 (λ e. omega arith)))
+    or_from _ _ (ne_eqb b 37 (λ e. omega arith)) (ne_eqb b 35 (λ e. omega arith))
+no_comment Banner (b ∷ bs) digits = let low = digit_low b (all_parts is_digit b bs digits).0 in ne_eqb b 37 (λ e. omega arith)
 
 -- a digit parts neither tokens nor lines
 digit_plain : (b : ℕ) → is_digit b ≡ true → is_plain b ≡ true
@@ -249,8 +289,16 @@ digits_plain (b ∷ bytes) digits =
 pub is_token-decimal : (n : ℕ) → n < 2 ^ 64 → is_token (decimal n) ≡ true
 is_token-decimal n fits = and_from _ _ (filled (decimal n) (decimal_nonempty n fits)) (digits_plain (decimal n) (digits_decimal own_digits n fits))
 
-pub is_passed-decimal : (hash : Bool) (n : ℕ) (tokens : List (List ℕ)) → n < 2 ^ 64 → is_passed hash (decimal n ∷ tokens) ≡ false
-is_passed-decimal hash n tokens fits = no_comment hash (decimal n) (digits_decimal own_digits n fits)
+pub is_counted-decimal : (layout : Layout) (n : ℕ) (tokens : List (List ℕ)) → n < 2 ^ 64 → list_all is_token tokens ≡ true → is_counted layout (decimal n ∷ tokens) ≡ true
+is_counted-decimal layout n tokens fits are =
+    and_from _ _ (and_from _ _ (is_token-decimal n fits) are) (ap not (no_comment layout (decimal n) (digits_decimal own_digits n fits)))
+
+pub numbers_of-decimals : (ns : List ℕ) → All (λ n. n < 2 ^ 64) ns → numbers_of (map decimal ns) ≡ Some ns
+unfolding numbers_of
+numbers_of-decimals [] fit = refl
+numbers_of-decimals (n ∷ ns) fit =
+    let first : n < 2 ^ 64 = fit 0 0 (omega arith) in
+    rw (number_of-decimal n first, numbers_of-decimals ns (λ k d lt. fit (suc k) d (omega arith))) refl
 
 -- ---- signed numbers
 
@@ -278,27 +326,3 @@ is_token-signed_decimal (pos n) fits = let small : n < 2 ^ 63 = fits.sfits in is
 is_token-signed_decimal (negsuc n) fits =
     let small : n < 2 ^ 63 = fits.sfits in
     token_plain (decimal (suc n)) (is_token-decimal (suc n) (omega arith))
-
--- ---- for a proof by tactics, where tokens are appended one by one
-
--- the last digit of a number is its remainder by ten
-pub last_or-append_decimal : (b : ℕ) (text : List ℕ) (n : ℕ) → n < 2 ^ 64 → last_or b (text ++ decimal n) ≡ 48 + n % 10
-last_or-append_decimal b text n fits =
-    decimal_by_steps (λ m ds. (c : ℕ) (front : List ℕ) → last_or c (front ++ ds) ≡ 48 + m % 10)
-    (λ m small c front. last_or-append c front (48 + m) [] ∙ ap (λ (d : ℕ). 48 + d) (sym (mod-eq_of_lt small)))
-    (λ m ds large shorter c front. ap (last_or c) (sym (append_assoc front ds ((48 + m % 10) ∷ []))) ∙ last_or-append c (front ++ ds) (48 + m % 10) [])
-    n fits b text
-
-pub last_or-decimal : (b n : ℕ) → n < 2 ^ 64 → last_or b (decimal n) ≡ 48 + n % 10
-last_or-decimal b n fits = last_or-append_decimal b [] n fits
-
-pub last_or-append_signed : (b : ℕ) (text : List ℕ) (z : ℤ) → FitsSigned w64 z → last_or b (text ++ signed_decimal z) ≡ 48 + unsigned_abs z % 10
-last_or-append_signed b text (pos n) fits = let small : n < 2 ^ 63 = fits.sfits in last_or-append_decimal b text n (omega arith)
-last_or-append_signed b text (negsuc n) fits =
-    let small : n < 2 ^ 63 = fits.sfits in
-    last_or-append b text 45 (decimal (suc n)) ∙ last_or-decimal 45 (suc n) (omega arith)
-
-pub last_or-signed : (b : ℕ) (z : ℤ) → FitsSigned w64 z → last_or b (signed_decimal z) ≡ 48 + unsigned_abs z % 10
-last_or-signed b z fits = last_or-append_signed b [] z fits
-
-pub ruleset printing = (last_or-append, last_or-append_decimal, last_or-decimal, last_or-append_signed, last_or-signed, append_assoc)

@@ -8,8 +8,7 @@ use Rattle.std.specs.Option.{SomeIff, MatchOption, option_and_then}
 use Rattle.std.proofs.lemmas.Bool.{and_parts}
 use lib.Pointwise.{pointwise}
 use Rattle.std.proofs.str.Laws.{order}
-use Rattle.mp_text.specs.Ahead.{Ahead, rows_of, past_of, row}
-use Rattle.mp_text.specs.Text.{is_passed, rows_from, is_blank, is_feed, onto_line, lines_of, is_filled, tokens_of, is_digit, value_from, number_from, number_of, positive_of, negative_of, signed_of}
+use Rattle.mp_text.specs.Text.{is_blank, is_feed, onto_line, lines_of, is_filled, tokens_of, is_digit, value_from, number_from, number_of, positive_of, negative_of, signed_of}
 
 -- ---- a cut at the first element that passes
 
@@ -39,7 +38,7 @@ pub lines_of-nil : lines_of [] ≡ []
 unfolding lines_of
 lines_of-nil = refl
 
-bool_cases : (b : Bool) → (b ≡ true) ⊎ (b ≡ false)
+pub bool_cases : (b : Bool) → (b ≡ true) ⊎ (b ≡ false)
 bool_cases true = inl refl
 bool_cases false = inr refl
 
@@ -193,23 +192,6 @@ module _ (line front text : List ℕ) (k : ℕ) (blanks : k ≡ prefix_len is_bl
       let in_line : prefix_len is_blank line < length line = omega (arith, ap length text_is, length-drop k line) in
       let begins : is_blank (get_or text 0 0) ≡ false = rw (text_is, blanks) (not_blank_after line in_line) in
       sym (tokens_of-drop k line (omega arith)) ∙ rw (← text_is) (tokens_of-front text some begins)
-
--- a step of a scan of lines
-module _ (old new : Ahead) (number : ℕ) (text : List ℕ) (number_is : number ≡ old.number) (lines : old.lines ≡ text ∷ new.lines) (next : new.number ≡ old.number + 1) (hash : new.hash ≡ old.hash) where
-  pub rows_of-passed : is_passed old.hash (tokens_of text) ≡ true → rows_of old ≡ rows_of new
-  unfolding rows_from
-  rows_of-passed h = rw (lines, h, next, hash) refl
-
-  pub rows_of-kept : is_passed old.hash (tokens_of text) ≡ false → rows_of old ≡ row number text ∷ rows_of new
-  unfolding rows_from
-  rows_of-kept h = rw (lines, h, next, hash, number_is) refl
-
-  pub past_of-next : past_of new ≡ past_of old
-  past_of-next = omega (arith, ap length lines)
-
-pub rows_of-none : (a : Ahead) → a.lines ≡ [] → rows_of a ≡ []
-unfolding rows_from
-rows_of-none a h = rw h refl
 
 -- with one more digit
 pub number_from-more : (n b tens digit : ℕ) (r : Option ℕ) → is_digit b ≡ true → tens ≡ n * 10 → digit ≡ b - 48 → SomeIff r (tens + digit < 2 ^ 64) (tens + digit)

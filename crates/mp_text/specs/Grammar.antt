@@ -1,8 +1,20 @@
 -- Formats of files. A format is a table: the tests of a line, given the lines before it, and the tests of the end of
 -- the file. A file is read where every test holds, and refused with the first test that fails.
-use Rattle.std.specs.Prelude.{◌≡◌, ℕ, List, [], ◌∷◌, ◌++◌, Bool, if◌then◌else◌, Option, Some, None, ◌⊎◌}
+use Rattle.std.specs.Prelude.{◌≡◌, ℕ, List, [], ◌∷◌, ◌++◌, Bool, if◌then◌else◌, Option, Some, None, ◌⊎◌, slice_index_or}
 use Rattle.mp_text.specs.declared.refusals.Refusal.{Refusal}
+use Rattle.mp_text.specs.declared.refusals.Refusal.TheVariants as refusals
 use Rattle.mp_text.specs.Text.{Row}
+
+-- what a file is refused with for a line, and for a row
+abbrev pub fault_at : {K : Type 0} → ℕ → K → Refusal K
+fault_at line kind = refusals.Format (record { line = line; kind = kind })
+
+abbrev pub fault : {K : Type 0} → K → Row → Refusal K
+fault kind row = fault_at row.number kind
+
+-- the token of a row at a place, counted from 0
+abbrev pub token_at : ℕ → Row → List ℕ
+token_at place row = slice_index_or row.tokens place []
 
 -- a test, and what the file is refused with where it fails
 pub record Test (K : Type 0) : Type 0 where

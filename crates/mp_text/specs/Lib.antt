@@ -1,4 +1,5 @@
 pub mod Text
+pub mod Words
 pub mod Ahead
 pub mod Grammar
 pub mod Reading

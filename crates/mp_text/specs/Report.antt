@@ -1,7 +1,11 @@
 -- What a report holds: lines of tokens, with one blank between two tokens and a line feed at the end of a line.
-use Rattle.std.specs.Prelude.{ℕ, ◌+◌, Bool, ◌&&◌, ◌||◌, not, if◌then◌else◌, List, [], ◌∷◌, ◌++◌}
+use Rattle.std.specs.Prelude.{ℕ, ◌+◌, Bool, true, ◌&&◌, ◌||◌, not, if◌then◌else◌, List, [], ◌∷◌, ◌++◌}
 use Rattle.std.specs.List.{list_all, join_with_byte, flat_map}
-use Rattle.mp_text.specs.Text.{Row, is_blank, is_feed, is_filled, is_passed}
+use Rattle.std.specs.Fmt.{decimal, signed_decimal}
+use Rattle.mp_text.specs.declared.layout.Layout.{Layout}
+use Rattle.mp_text.specs.declared.reports.Token.{Token}
+use Rattle.mp_text.specs.declared.reports.Token.TheVariants.{Word, Number, Signed}
+use Rattle.mp_text.specs.Text.{Row, is_blank, is_feed, is_filled, says_nothing}
 
 -- the last byte of a text, or this one before it
 abbrev pub last_or : ℕ → List ℕ → ℕ
@@ -37,9 +41,20 @@ is_plain b = not (is_blank b || is_feed b)
 abbrev pub is_token : List ℕ → Bool
 is_token token = is_filled token && list_all is_plain token
 
+-- what is printed as a token, and whether that is one
+abbrev pub token_text : Token → List ℕ
+token_text (Word word) = word.now
+token_text (Number n) = decimal n
+token_text (Signed n) = signed_decimal n
+
+abbrev pub is_printable : Token → Bool
+is_printable (Word word) = is_token word.now
+is_printable (Number n) = true
+is_printable (Signed n) = true
+
 -- tokens that make a line that counts: at least one, and the first begins no comment
-abbrev pub is_counted : Bool → List (List ℕ) → Bool
-is_counted hash tokens = list_all is_token tokens && not (is_passed hash tokens)
+abbrev pub is_counted : Layout → List (List ℕ) → Bool
+is_counted layout tokens = list_all is_token tokens && not (says_nothing layout tokens)
 
 -- lines with their numbers, from this number on
 abbrev pub numbered_from : ℕ → List (List (List ℕ)) → List Row

@@ -1,7 +1,9 @@
 -- What a file of bytes is: lines, their tokens, and the numbers that tokens spell.
-use Rattle.std.specs.Prelude.{ℕ, ◌+◌, ◌*◌, ◌-◌, ◌^◌, Bool, true, false, ◌&&◌, ◌||◌, ◌==◌, nat_lt, nat_le, if◌then◌else◌, List, [], ◌∷◌, ℤ, pos, neg_ℤ, Option, Some, None}
-use Rattle.std.specs.Option.{option_and_then}
+use Rattle.std.specs.Prelude.{ℕ, ◌+◌, ◌*◌, ◌-◌, ◌^◌, Bool, true, false, ◌&&◌, ◌||◌, not, ◌==◌, nat_lt, nat_le, if◌then◌else◌, List, [], ◌∷◌, length, ℤ, pos, neg_ℤ, Option, Some, None}
+use Rattle.std.specs.Option.{option_and_then, option_map}
 use Rattle.std.specs.List.{filter, slice_split, list_all}
+use Rattle.mp_text.specs.declared.layout.Layout.{Layout}
+use Rattle.mp_text.specs.declared.layout.Layout.TheVariants.{Commented, Banner}
 
 -- a byte that parts two tokens of a line
 abbrev pub is_blank : ℕ → Bool
@@ -45,6 +47,15 @@ number_from n bs = if list_all is_digit bs && nat_lt (value_from n bs) (2 ^ 64) 
 unfoldable pub number_of : List ℕ → Option ℕ
 number_of token = if is_filled token then number_from 0 token else None
 
+-- the numbers that tokens spell, if each spells one
+unfoldable pub numbers_of : List (List ℕ) → Option (List ℕ)
+numbers_of [] = Some []
+numbers_of (token ∷ tokens) = option_and_then (λ n. option_map (λ ns. n ∷ ns) (numbers_of tokens)) (number_of token)
+
+-- a list, where it has just so many elements
+abbrev pub exactly : {X : Type 0} → ℕ → List X → Option (List X)
+exactly n xs = if length xs == n then Some xs else None
+
 -- a number and its negative, where they fit in a signed number
 abbrev pub positive_of : ℕ → Option ℤ
 positive_of n = if nat_lt n (2 ^ 63) then Some (pos n) else None
@@ -62,19 +73,35 @@ pub record Row : Type 0 where
   pub number : ℕ
   pub tokens : List (List ℕ)
 
--- a line is passed over where it has no token, or its first begins a comment
-abbrev pub is_comment : Bool → List ℕ → Bool
-is_comment hash [] = false
-is_comment hash (b ∷ bs) = b == 37 || (hash && (b == 35))
+-- a token that begins a comment
+abbrev pub is_comment : Layout → List ℕ → Bool
+is_comment layout [] = false
+is_comment Commented (b ∷ bs) = b == 37 || b == 35
+is_comment Banner (b ∷ bs) = b == 37
 
-abbrev pub is_passed : Bool → List (List ℕ) → Bool
-is_passed hash [] = true
-is_passed hash (token ∷ tokens) = is_comment hash token
+-- a line without a token, or with a first one that begins a comment
+abbrev pub says_nothing : Layout → List (List ℕ) → Bool
+says_nothing layout [] = true
+says_nothing layout (token ∷ tokens) = is_comment layout token
+
+-- line 1 of a file with a banner
+abbrev pub is_banner : Layout → ℕ → Bool
+is_banner Commented number = false
+is_banner Banner number = number == 1
+
+-- a line with this number is passed over where it says nothing and is no banner
+abbrev pub is_passed : Layout → ℕ → List (List ℕ) → Bool
+is_passed layout number tokens = not (is_banner layout number) && says_nothing layout tokens
+
+-- lines that are all passed over, the first of this number
+abbrev pub are_passed : Layout → ℕ → List (List ℕ) → Bool
+are_passed layout number [] = true
+are_passed layout number (line ∷ lines) = is_passed layout number (tokens_of line) && are_passed layout (number + 1) lines
 
 -- the lines that count, from the line with this number on
-unfoldable pub rows_from : Bool → ℕ → List (List ℕ) → List Row
-rows_from hash n [] = []
-rows_from hash n (line ∷ lines) =
-    if is_passed hash (tokens_of line)
-    then rows_from hash (n + 1) lines
-    else record { number = n; tokens = tokens_of line } ∷ rows_from hash (n + 1) lines
+unfoldable pub rows_from : Layout → ℕ → List (List ℕ) → List Row
+rows_from layout number [] = []
+rows_from layout number (line ∷ lines) =
+    if is_passed layout number (tokens_of line)
+    then rows_from layout (number + 1) lines
+    else record { number = number; tokens = tokens_of line } ∷ rows_from layout (number + 1) lines

@@ -1,8 +1,9 @@
-ghost use Rattle.std.specs.Prelude.{◌≡◌, ◌≤◌, ◌+◌, ℕ, length, ◌<◌, [], ◌∷◌, MatchOption, IfNone, IfSome, OnSome};
+ghost use Rattle.std.specs.Prelude.{◌≡◌, ◌≤◌, ◌+◌, ℕ, length, ◌<◌, [], ◌∷◌, MatchOption, IfNone, IfSome, OnSome, IsTrue};
 ghost use Rattle.std.specs.List.{position_or_len};
-ghost use Rattle.mp_text.specs.Text.{is_feed, is_passed, lines_of, tokens_of};
-ghost use Rattle.mp_text.specs.Ahead.{Ahead, rows_of, past_of, row};
+ghost use Rattle.mp_text.specs.Text.{is_feed, says_nothing, is_passed, are_passed, lines_of, tokens_of};
+ghost use Rattle.mp_text.specs.Ahead.{Ahead, IsNextLine, rows_of, past_of, row};
 
+use crate::layout::Layout;
 use crate::split::tokens;
 use std::marker::Model;
 
@@ -20,7 +21,7 @@ pub struct Line<'a> {
 pub struct Lines<'a> {
     rest: &'a [u8],
     number: u64,
-    hash: bool,
+    layout: Layout,
 }
 
 impl<'a> Model for Lines<'a> {
@@ -30,22 +31,32 @@ impl<'a> Model for Lines<'a> {
 
     ghost Value = { Ahead };
 
-    ghost view = { λ s. record { number = s.number; lines = lines_of s.rest.now; hash = s.hash } };
+    ghost view = { λ s. record { number = s.number; lines = lines_of s.rest.now; layout = s.layout } };
 
     ghost invariant = { λ s. s.number + length s.rest.now ≤ 2 ^ 63 };
 }
 
 // Whether a line has no token, or begins a comment.
-fn is_passed(line: &[u8], hash: bool) -> bool
-    ensures { result ≡ is_passed hash (tokens_of line.now) }
+fn says_nothing(layout: Layout, line: &[u8]) -> bool
+    ensures { result ≡ says_nothing layout (tokens_of line.now) }
 {
     match tokens(line).next() {
         None => true,
         Some(token) => match token {
             [b'%', ..] => true,
-            [b'#', ..] => hash,
+            [b'#', ..] => layout == Layout::Commented,
             _ => false,
         },
+    }
+}
+
+// Whether a line with this number is passed over.
+fn is_passed(layout: Layout, line: Line<'_>) -> bool
+    ensures { result ≡ is_passed layout line.entry.number (tokens_of line.entry.text.now) }
+{
+    match layout {
+        Layout::Commented => says_nothing(layout, line.text),
+        Layout::Banner => line.number != 1 && says_nothing(layout, line.text),
     }
 }
 
@@ -71,15 +82,14 @@ fn first_line(bytes: &[u8]) -> (&[u8], &[u8])
 }
 
 impl<'a> Lines<'a> {
-    /// The lines of a text, from the first on. `hash` says whether a line that begins with `#` is a comment, as one that
-    /// begins with `%` always is.
-    pub fn new(bytes: &'a [u8], hash: bool) -> Lines<'a>
-        ensures { result ≡ record { number = 1; lines = lines_of bytes.now; hash = hash } }
+    /// The lines of a text, from the first on.
+    pub fn new(bytes: &'a [u8], layout: Layout) -> Lines<'a>
+        ensures { result ≡ record { number = 1; lines = lines_of bytes.now; layout = layout } }
     {
         Lines {
             rest: bytes,
             number: 1,
-            hash,
+            layout,
         }
     }
 
@@ -87,7 +97,7 @@ impl<'a> Lines<'a> {
     pub fn raw(&mut self) -> Option<Line<'a>>
         ensures none { IfNone result ((self.old.lines ≡ []) × (self.new ≡ self.old)) }
         ensures line { IfSome result (λ line. (line.number ≡ self.old.number) × (self.old.lines ≡ line.text.now ∷ self.new.lines)) }
-        ensures next { OnSome result ((self.new.number ≡ self.old.number + 1) × (self.new.hash ≡ self.old.hash)) }
+        ensures next { OnSome result ((self.new.number ≡ self.old.number + 1) × (self.new.layout ≡ self.old.layout)) }
     {
         if self.rest.is_empty() {
             return None;
@@ -99,16 +109,20 @@ impl<'a> Lines<'a> {
         Some(Line { number, text })
     }
 
-    /// The next line that is neither blank nor a comment, if one is left.
+    /// The next line that counts, if one is left: one that is neither blank nor a comment, or the banner.
     pub fn next_line(&mut self) -> Option<Line<'a>>
+        // the lines before it are passed over
+        ensures line { IfSome result (λ line. IsNextLine self.old line.number line.text.now self.new) }
+        // all lines are passed over
+        ensures end { IfNone result ((self.new.lines ≡ []) × IsTrue (are_passed self.old.layout self.old.number self.old.lines)) }
         ensures rows { MatchOption result (rows_of self.old ≡ []) (λ line. rows_of self.old ≡ row line.number line.text.now ∷ rows_of self.new) }
         ensures none { IfNone result (rows_of self.new ≡ []) }
         ensures past { past_of self.new ≡ past_of self.old }
-        ensures hash { self.new.hash ≡ self.old.hash }
+        ensures layout { self.new.layout ≡ self.old.layout }
     {
-        let hash = self.hash;
+        let layout = self.layout;
         while let Some(line) = self.raw() {
-            if !is_passed(line.text, hash) {
+            if !is_passed(layout, line) {
                 return Some(line);
             }
         }

@@ -7,6 +7,7 @@ ghost use Rattle.mp_text.specs.Ahead.{row, rows_of_bytes, past_of_bytes};
 ghost use Rattle.mp_text.specs.Grammar.{Format, ArePassed, IsWellFormed};
 ghost use Rattle.mp_text.specs.Reading.{Steps, Follows, IsRefusal};
 
+use crate::layout::Layout;
 use crate::line_scan::{Line, Lines};
 use crate::refusals::Refusal;
 
@@ -42,14 +43,19 @@ pub trait Reader: Drop {
 }
 
 /// Reads a file: the reader after all its lines and its end, or the first refusal.
-pub fn read_with<J: Reader>(bytes: &[u8], hash: bool, mut reader: J) -> Result<J, Refusal<J::Kind>>
+pub fn read_with<J: Reader>(
+    bytes: &[u8],
+    layout: Layout,
+    mut reader: J,
+) -> Result<J, Refusal<J::Kind>>
     requires { J.took reader [] }
     // a file that is read is well formed, and the reader took its lines
-    ensures read { IfOk result (λ done. IsWellFormed (J.format reader) (rows_of_bytes hash bytes.now) (past_of_bytes bytes.now) × J.took done (rows_of_bytes hash bytes.now)) }
+    ensures read { let rows = rows_of_bytes layout bytes.now in
+        IfOk result (λ done. IsWellFormed (J.format reader) rows (past_of_bytes bytes.now) × J.took done rows) }
     // a refusal is that of the first test that fails
-    ensures refused { IfErr result (IsRefusal (J.format reader) (rows_of_bytes hash bytes.now) (past_of_bytes bytes.now)) }
+    ensures refused { IfErr result (IsRefusal (J.format reader) (rows_of_bytes layout bytes.now) (past_of_bytes bytes.now)) }
 {
-    let mut lines = Lines::new(bytes, hash);
+    let mut lines = Lines::new(bytes, layout);
     while let Some(line) = lines.next_line() {
         reader.line(line)?;
     }

@@ -5,6 +5,7 @@ ghost use Rattle.mp_text.specs.declared.refusals.Refusal.TheVariants.{NoMemory};
 
 use limits::LimitName;
 use std::alloc::{AllocError, AllocFailed};
+use std::fmt::{self, Display, Formatter, Write};
 
 /// What is wrong with a file, and where.
 #[derive(Clone, Copy, Debug, PartialEq, Eq)]
@@ -39,5 +40,21 @@ impl<K, T: Drop> From<AllocFailed<T>> for Refusal<K> {
 
     fn from(_e: AllocFailed<T>) -> Refusal<K> {
         Refusal::NoMemory
+    }
+}
+
+impl<K: Display> Display for Fault<K> {
+    fn fmt<W: Write>(&self, f: &mut Formatter<W>) -> fmt::Result {
+        write!(f, "{} at line {}", self.kind, self.line)
+    }
+}
+
+impl<K: Display> Display for Refusal<K> {
+    fn fmt<W: Write>(&self, f: &mut Formatter<W>) -> fmt::Result {
+        match self {
+            Refusal::Format(fault) => fault.fmt(f),
+            Refusal::Limit(limit) => write!(f, "limit {limit}"),
+            Refusal::NoMemory => f.write_str("no memory"),
+        }
     }
 }

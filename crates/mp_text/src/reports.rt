@@ -1,17 +1,27 @@
 //! Reports: lines of tokens that are printed.
 
-ghost use Rattle.std.specs.Prelude.{◌≡◌, [], ◌∷◌, ◌++◌, OnOk, OnErr};
+ghost use Rattle.std.specs.Prelude.{◌≡◌, ◌≤◌, [], ◌∷◌, ◌++◌, length, map, take, IsTrue, OnOk, OnErr};
 ghost use Rattle.std.specs.Fmt.{decimal, signed_decimal};
-ghost use Rattle.mp_text.specs.Report.{is_line_start, with_token};
+ghost use Rattle.std.specs.List.{list_all};
+ghost use Rattle.mp_text.specs.Report.{is_line_start, is_printable, is_token, line_text, token_text, with_token};
 
+use crate::NoMemory;
 use itoa::Buffer;
-use std::alloc::{AllocError, Global};
+use std::alloc::Global;
 use std::marker::Model;
 
-/// Want of memory: an allocation was refused.
-pub type NoMemory = AllocError;
+/// What is printed as one token of a line.
+#[derive(Clone, Copy, Debug)]
+pub enum Token<'a> {
+    /// A word: one byte or more, and none that parts tokens or lines.
+    Word(&'a str),
+    /// A number, in decimal digits.
+    Number(u64),
+    /// A signed number, in decimal digits, with a minus before it where it is negative.
+    Signed(i64),
+}
 
-/// A text that is printed token by token, and held whole. Each call that appends changes nothing where memory runs out.
+/// A text that is printed and held whole. Each call that appends changes nothing where memory runs out.
 #[derive(Drop)]
 pub struct Report {
     text: Vec<u8>,
@@ -68,6 +78,7 @@ impl Report {
 
     /// Appends a number in decimal digits, with a blank before it unless it begins a line.
     pub fn num(&mut self, n: u64) -> Result<(), NoMemory>
+        ensures token { IsTrue (is_token (decimal n)) }
         ensures ok { OnOk result (self.new ≡ with_token self.old (decimal n)) }
         ensures err { OnErr result (self.new ≡ self.old) }
     {
@@ -77,6 +88,7 @@ impl Report {
 
     /// Appends a signed number in decimal digits, with a blank before it unless it begins a line.
     pub fn int(&mut self, n: i64) -> Result<(), NoMemory>
+        ensures token { IsTrue (is_token (signed_decimal n)) }
         ensures ok { OnOk result (self.new ≡ with_token self.old (signed_decimal n)) }
         ensures err { OnErr result (self.new ≡ self.old) }
     {
@@ -91,6 +103,64 @@ impl Report {
     {
         self.text.push(b'\n')?;
         Ok(())
+    }
+
+    // Appends a token of a line.
+    fn put(&mut self, token: Token<'_>) -> Result<(), NoMemory>
+        requires { IsTrue (is_printable token) }
+        ensures token { IsTrue (is_token (token_text token.entry)) }
+        ensures ok { OnOk result (self.new ≡ with_token self.old (token_text token.entry)) }
+        ensures err { OnErr result (self.new ≡ self.old) }
+    {
+        match token {
+            Token::Word(word) => self.word(word),
+            Token::Number(n) => self.num(n),
+            Token::Signed(n) => self.int(n),
+        }
+    }
+
+    // Appends a line of tokens, or a part of it.
+    fn put_line(&mut self, tokens: &[Token<'_>]) -> Result<(), NoMemory>
+        requires start { IsTrue (is_line_start self.old) }
+        requires words { IsTrue (list_all is_printable tokens.now) }
+        ensures ok { OnOk result (self.new ≡ self.old ++ line_text (map token_text tokens.now)) }
+        ensures err { OnErr result (take (length self.old) self.new ≡ self.old) }
+    {
+        for token in tokens {
+            self.put(*token)?;
+        }
+        self.end_line()
+    }
+
+    /// Appends a whole line of tokens, with one blank between two of them.
+    pub fn line(&mut self, tokens: &[Token<'_>]) -> Result<(), NoMemory>
+        requires start { IsTrue (is_line_start self.old) }
+        requires words { IsTrue (list_all is_printable tokens.now) }
+        ensures ok { OnOk result (self.new ≡ self.old ++ line_text (map token_text tokens.now)) }
+        ensures start { OnOk result (IsTrue (is_line_start self.new)) }
+        ensures err { OnErr result (self.new ≡ self.old) }
+    {
+        let start = self.len();
+        let printed = self.put_line(tokens);
+        if printed.is_err() {
+            self.cut(start);
+        }
+        printed
+    }
+
+    /// How many bytes were printed.
+    pub fn len(&self) -> usize
+        ensures { result ≡ length self.now }
+    {
+        self.text.len()
+    }
+
+    /// Takes back what was printed after the first bytes.
+    pub fn cut(&mut self, len: usize)
+        requires { len ≤ length self.old }
+        ensures { self.new ≡ take len self.old }
+    {
+        self.text.truncate(len);
     }
 
     /// The text so far.

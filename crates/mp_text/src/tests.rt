@@ -1,13 +1,14 @@
 //! Each public call with rows worked by hand.
 
 ghost use Rattle.std.specs.Prelude.{◌≡◌, ◌+◌, length, nat_lt, [], ◌∷◌};
-ghost use Rattle.mp_text.specs.declared.refusals.Refusal.TheVariants as refusals;
-ghost use Rattle.mp_text.specs.Grammar.{test};
+ghost use Rattle.mp_text.specs.Grammar.{fault, fault_at, test};
 ghost use Rattle.mp_text.specs.Reading.{tested};
 
 use crate::{
-    Fault, Line, Lines, NoMemory, Reader, Refusal, Report, number, read_with, signed, tokens,
+    Fault, Layout, Line, Lines, NoMemory, Reader, Refusal, Report, Token, Version, after_word,
+    fault, is_word, number, read_with, signed, tokens, version_of,
 };
+use limits::LimitName;
 use std::alloc::Global;
 use std::test::Fail;
 
@@ -20,23 +21,20 @@ struct Few {
 impl Reader for Few {
     type Kind = u8;
 
-    ghost step = { λ reader row. tested (test (nat_lt reader.taken 2) (refusals.Format (record { line = row.number; kind = 3 })) ∷ []) (record { taken = reader.taken + 1 }) };
+    ghost step = { λ reader row. tested (test (nat_lt reader.taken 2) (fault 3 row) ∷ []) (record { taken = reader.taken + 1 }) };
 
-    ghost end_step = { λ reader past. tested (test (nat_lt 0 reader.taken) (refusals.Format (record { line = past; kind = 0 })) ∷ []) reader };
+    ghost end_step = { λ reader past. tested (test (nat_lt 0 reader.taken) (fault_at past 0) ∷ []) reader };
 
     ghost format = { λ _. record {
-      line_tests = λ before row. test (nat_lt (length before) 2) (refusals.Format (record { line = row.number; kind = 3 })) ∷ [];
-      end_tests = λ rows past. test (nat_lt 0 (length rows)) (refusals.Format (record { line = past; kind = 0 })) ∷ [];
+      line_tests = λ before row. test (nat_lt (length before) 2) (fault 3 row) ∷ [];
+      end_tests = λ rows past. test (nat_lt 0 (length rows)) (fault_at past 0) ∷ [];
     } };
 
     ghost took = { λ reader rows. reader.taken ≡ length rows };
 
     fn line(&mut self, line: Line<'_>) -> Result<(), Refusal<u8>> {
         if self.taken >= 2 {
-            return Err(Refusal::Format(Fault {
-                line: line.number,
-                kind: 3,
-            }));
+            return Err(fault(line.number, 3));
         }
         self.taken += 1;
         Ok(())
@@ -44,10 +42,7 @@ impl Reader for Few {
 
     fn end(&mut self, past: u64) -> Result<(), Refusal<u8>> {
         if self.taken == 0 {
-            return Err(Refusal::Format(Fault {
-                line: past,
-                kind: 0,
-            }));
+            return Err(fault(past, 0));
         }
         Ok(())
     }
@@ -60,9 +55,9 @@ impl Reader for Few {
 }
 
 // The lines that count, as a report: number and tokens of each.
-fn listed(alloc: Global, text: &[u8], hash: bool) -> Result<Report, NoMemory> {
+fn listed(alloc: Global, text: &[u8], layout: Layout) -> Result<Report, NoMemory> {
     let mut report = Report::new(alloc);
-    let mut lines = Lines::new(text, hash);
+    let mut lines = Lines::new(text, layout);
     while let Some(line) = lines.next_line() {
         report.num(line.number)?;
         for token in tokens(line.text) {
@@ -78,22 +73,32 @@ fn listed(alloc: Global, text: &[u8], hash: bool) -> Result<Report, NoMemory> {
 
 #[test]
 fn reads_lines_and_tokens(rt: HostRuntime) -> Result<(), Fail> {
-    for (hash, text, expected) in [
+    for (layout, text, expected) in [
         (
-            true,
+            Layout::Commented,
             "tree 1\r\n\tnodes  2 \r\nend",
             "1 tree 1\n2 nodes 2\n3 end\npast 4\n",
         ),
-        (true, "# a\n% b\n\n x#y %z\n", "4 x#y %z\npast 5\n"),
-        (false, "# a\n% b\n \n", "1 # a\npast 4\n"),
-        (true, "", "past 1\n"),
-        (true, "\n", "past 2\n"),
-        (true, "a\n\n", "1 a\npast 3\n"),
+        (
+            Layout::Commented,
+            "# a\n% b\n\n x#y %z\n",
+            "4 x#y %z\npast 5\n",
+        ),
+        (
+            Layout::Banner,
+            "%%a b\n# c\n% d\n \ne",
+            "1 %%a b\n2 # c\n5 e\npast 6\n",
+        ),
+        (Layout::Banner, "\n% a\n\n1", "1\n4 1\npast 5\n"),
+        (Layout::Banner, "", "past 1\n"),
+        (Layout::Commented, "", "past 1\n"),
+        (Layout::Commented, "\n", "past 2\n"),
+        (Layout::Commented, "a\n\n", "1 a\npast 3\n"),
     ] {
-        let report = listed(rt.alloc(), text.as_bytes(), hash)?;
+        let report = listed(rt.alloc(), text.as_bytes(), layout)?;
         assert_eq!(rt; report.bytes(), expected.as_bytes(), "at {text:?}");
     }
-    let mut lines = Lines::new(b"% b\n\nlast", true);
+    let mut lines = Lines::new(b"% b\n\nlast", Layout::Commented);
     for (line, text) in [(1, "% b"), (2, ""), (3, "last")] {
         let next = lines.raw().expect(&rt, "a line");
         assert_eq!(rt; next.number, line);
@@ -160,8 +165,89 @@ fn reads_a_format(rt: HostRuntime) -> Result<(), Fail> {
         ),
         ("# a\n", Err(Refusal::Format(Fault { line: 2, kind: 0 }))),
     ] {
-        let read = read_with(text.as_bytes(), true, Few { taken: 0 });
+        let read = read_with(text.as_bytes(), Layout::Commented, Few { taken: 0 });
         assert_eq!(rt; read.map(|done| done.taken), expected, "at {text:?}");
+    }
+    Ok(())
+}
+
+#[test]
+fn reads_lines_of_a_form(rt: HostRuntime) -> Result<(), Fail> {
+    for (text, one, two, four, numbers) in [
+        ("", false, false, false, None),
+        (" 7 ", true, false, false, None),
+        ("7 8", false, true, false, Some([7, 8])),
+        (
+            "007\t18446744073709551615\r",
+            false,
+            true,
+            false,
+            Some([7, u64::MAX]),
+        ),
+        ("7 18446744073709551616", false, true, false, None),
+        ("-7 8", false, true, false, None),
+        ("7 8 9", false, false, false, None),
+        ("1 2 3 4", false, false, true, None),
+        ("1 2 3 4 5", false, false, false, None),
+    ] {
+        let line = text.as_bytes();
+        assert_eq!(rt; tokens(line).one().is_some(), one, "at {text:?}");
+        assert_eq!(rt; tokens(line).two().is_some(), two, "at {text:?}");
+        assert_eq!(rt; tokens(line).four().is_some(), four, "at {text:?}");
+        assert_eq!(rt; tokens(line).numbers::<2>(), numbers, "at {text:?}");
+    }
+    let mut words = tokens(b"3 x 5");
+    assert_eq!(rt; words.next_number(), Some(3));
+    assert_eq!(rt; words.next_number(), None);
+    assert_eq!(rt; words.numbers::<1>(), Some([5]));
+    for (text, end, nodes, version) in [
+        ("end", true, None, None),
+        ("end end", false, None, None),
+        ("nodes 5", false, Some("5"), None),
+        ("nodes 5 6", false, None, None),
+        ("tree 1", false, None, Some(Version::One)),
+        (" tree  2", false, None, Some(Version::Two)),
+        ("tree 3", false, None, None),
+        ("tree", false, None, None),
+        ("trees 1", false, None, None),
+    ] {
+        let line = text.as_bytes();
+        assert_eq!(rt; is_word(line, b"end"), end, "at {text:?}");
+        let after = after_word(line, b"nodes").and_then(|token| str::from_utf8(token).ok());
+        assert_eq!(rt; after, nodes, "at {text:?}");
+        assert_eq!(rt; version_of(line, b"tree"), version, "at {text:?}");
+    }
+    Ok(())
+}
+
+#[test]
+fn prints_lines(rt: HostRuntime) -> Result<(), Fail> {
+    let mut report = Report::new(rt.alloc());
+    report.line(&[Token::Word("tree"), Token::Word(Version::Two.word())])?;
+    report.line(&[])?;
+    let before = report.len();
+    report.line(&[
+        Token::Number(u64::MAX),
+        Token::Word("F"),
+        Token::Signed(i64::MIN),
+    ])?;
+    assert_eq!(rt;
+        report.bytes(),
+        "tree 2\n\n18446744073709551615 F -9223372036854775808\n".as_bytes()
+    );
+    report.cut(before);
+    assert_eq!(rt; report.bytes(), "tree 2\n\n".as_bytes());
+    Ok(())
+}
+
+#[test]
+fn names_refusals(rt: HostRuntime) -> Result<(), Fail> {
+    for (refusal, words) in [
+        (fault(3, "header"), "header at line 3"),
+        (Refusal::Limit(LimitName::Tasks), "limit tasks"),
+        (Refusal::NoMemory, "no memory"),
+    ] {
+        assert_eq!(rt; format!(in rt.alloc(); "{refusal}")?.as_str(), words);
     }
     Ok(())
 }

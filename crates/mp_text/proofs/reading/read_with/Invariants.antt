@@ -5,7 +5,7 @@ use Rattle.mp_text.proofs.reading.read_with.Given as goal
 
 abbrev pub invariant-loop-line : goal.invariant-loop-line
 invariant-loop-line g l = record {
-  stands : Stands g.J.Reader.format g.J.Reader.took l.fn.reader l.reader (rows_of_bytes l.hash l.bytes) (rows_of l.lines);
+  stands : Stands g.J.Reader.format g.J.Reader.took l.fn.reader l.reader (rows_of_bytes l.fn.layout l.bytes) (rows_of l.lines);
   past : past_of l.lines ≡ past_of_bytes l.bytes;
 }
 

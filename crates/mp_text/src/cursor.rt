@@ -1,0 +1,70 @@
+//! A line's tokens as a cursor: the numbers that they spell, and lines of so many tokens.
+
+ghost use Rattle.std.specs.Prelude.{◌≡◌, ◌==◌, [], ◌∷◌, false, length, drop, slice_index_or, MatchOption};
+ghost use Rattle.std.specs.Option.{option_and_then};
+ghost use Rattle.mp_text.specs.Text.{number_of, numbers_of, exactly};
+
+use crate::numbers::number;
+use crate::token_scan::Tokens;
+
+impl<'a> Tokens<'a> {
+    /// Takes the next token, and gives the number that it spells: none where it spells none, or no token is left.
+    pub fn next_number(&mut self) -> Option<u64>
+        ensures number { result ≡ number_of (slice_index_or self.old 0 []) }
+        ensures rest { self.new ≡ drop 1 self.old }
+    {
+        let token = self.next()?;
+        number(token)
+    }
+
+    /// The numbers that the tokens spell, where they are `N` and each spells one.
+    pub fn numbers<const N: usize>(mut self) -> Option<[u64; N]>
+        ensures { result ≡ option_and_then (exactly N) (numbers_of self.entry) }
+    {
+        let mut values = [0; N];
+        for i in 0..N {
+            values[i] = self.next_number()?;
+        }
+        match self.next() {
+            Some(_) => None,
+            None => Some(values),
+        }
+    }
+
+    /// The token, where there is just one.
+    pub fn one(mut self) -> Option<&'a [u8]>
+        ensures { MatchOption result ((length self.entry == 1) ≡ false) (λ t. self.entry ≡ t.now ∷ []) }
+    {
+        let only = self.next()?;
+        match self.next() {
+            Some(_) => None,
+            None => Some(only),
+        }
+    }
+
+    /// The tokens, where there are two.
+    pub fn two(mut self) -> Option<(&'a [u8], &'a [u8])>
+        ensures { MatchOption result ((length self.entry == 2) ≡ false) (λ p. self.entry ≡ p.0.now ∷ p.1.now ∷ []) }
+    {
+        let first = self.next()?;
+        let second = self.next()?;
+        match self.next() {
+            Some(_) => None,
+            None => Some((first, second)),
+        }
+    }
+
+    /// The tokens, where there are four.
+    pub fn four(mut self) -> Option<(&'a [u8], &'a [u8], &'a [u8], &'a [u8])>
+        ensures { MatchOption result ((length self.entry == 4) ≡ false) (λ p. self.entry ≡ p.0.now ∷ p.1.now ∷ p.2.now ∷ p.3.now ∷ []) }
+    {
+        let first = self.next()?;
+        let second = self.next()?;
+        let third = self.next()?;
+        let fourth = self.next()?;
+        match self.next() {
+            Some(_) => None,
+            None => Some((first, second, third, fourth)),
+        }
+    }
+}
