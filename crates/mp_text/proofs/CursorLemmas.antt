@@ -1,8 +1,7 @@
 -- Numbers of tokens, one after another.
 use Rattle.std.proofs.Common.{◌≡◌, ◌≢◌, ℕ, ◌<◌, List, [], ◌∷◌, ◌++◌, length, get_or, drop, map, refl, sym, ap, ◌∙◌, Option, Some, None, arith, append_assoc, append-nil, length-append}
-use Rattle.std.specs.Option.{option_map, option_and_then}
-use Rattle.std.proofs.lemmas.Bool.{eq-eqb, ne_eqb}
-use Rattle.mp_text.specs.Text.{number_of, numbers_of, exactly}
+use Rattle.std.specs.Option.{IfSome, option_map, option_and_then}
+use Rattle.mp_text.specs.Text.{number_of, numbers_of}
 use Rattle.mp_text.proofs.TextLemmas.{number_of-empty}
 
 pub numbers_of-nil : numbers_of [] ≡ Some []
@@ -28,12 +27,6 @@ joined_to-push : (before : List ℕ) (n : ℕ) (o : Option (List ℕ)) → joine
 joined_to-push before n None = refl
 joined_to-push before n (Some ns) = ap Some (sym (append_assoc before (n ∷ []) ns))
 
-exactly-other : (n : ℕ) (ns : List ℕ) → length ns ≢ n → exactly n ns ≡ None
-exactly-other n ns other = rw (ne_eqb (length ns) n other) refl
-
-exactly-so_many : (n : ℕ) (ns : List ℕ) → length ns ≡ n → exactly n ns ≡ Some ns
-exactly-so_many n ns same = rw (eq-eqb (length ns) n same) refl
-
 pub goes-first : (all : List (List ℕ)) → Goes all [] all
 goes-first all = joined_to-nil (numbers_of all)
 
@@ -44,32 +37,29 @@ goes-next all (token ∷ rest) before n goes is =
     numbers_of-cons token rest ∙ ap (option_and_then (λ n. option_map (λ ns. n ∷ ns) (numbers_of rest))) (sym is) in
     goes ∙ ap (joined_to before) first ∙ joined_to-push before n (numbers_of rest)
 
--- a token spells no number, or none is left
-pub goes-stops : (all rest : List (List ℕ)) (before : List ℕ) (n : ℕ) → Goes all before rest → None ≡ number_of (get_or rest 0 []) → length before < n → option_and_then (exactly n) (numbers_of all) ≡ None
-goes-stops all [] before n goes is fewer =
-    let whole : numbers_of all ≡ Some before = goes ∙ ap (joined_to before) numbers_of-nil ∙ ap Some (append-nil before) in
-    ap (option_and_then (exactly n)) whole ∙ exactly-other n before (λ e. omega arith)
-goes-stops all (token ∷ rest) before n goes is fewer =
-    let first : numbers_of (token ∷ rest) ≡ None =
-    numbers_of-cons token rest ∙ ap (option_and_then (λ n. option_map (λ ns. n ∷ ns) (numbers_of rest))) (sym is) in
-    ap (option_and_then (exactly n)) (goes ∙ ap (joined_to before) first)
+-- the numbers are not so many, if all tokens spell one
+abbrev pub AreNot : ℕ → Option (List ℕ) → Type 0
+AreNot n numbers = IfSome numbers (λ ns. length ns ≢ n)
 
 -- all tokens are taken
-pub goes-ends : (all : List (List ℕ)) (before : List ℕ) (n : ℕ) → Goes all before [] → length before ≡ n → option_and_then (exactly n) (numbers_of all) ≡ Some before
-goes-ends all before n goes same =
-    let whole : numbers_of all ≡ Some before = goes ∙ ap (joined_to before) numbers_of-nil ∙ ap Some (append-nil before) in
-    ap (option_and_then (exactly n)) whole ∙ exactly-so_many n before same
+pub goes-ends : (all : List (List ℕ)) (before : List ℕ) → Goes all before [] → numbers_of all ≡ Some before
+goes-ends all before goes = goes ∙ ap (joined_to before) numbers_of-nil ∙ ap (λ (ns : List ℕ). Some ns) (append-nil before)
 
-more_than : (n : ℕ) (before : List ℕ) (o : Option (List ℕ)) (k : Option ℕ) → length before ≡ n
-    → option_and_then (exactly n) (joined_to before (option_and_then (λ m. option_map (λ ns. m ∷ ns) o) k)) ≡ None
-more_than n before o None same = refl
-more_than n before None (Some m) same = refl
-more_than n before (Some ns) (Some m) same = exactly-other n (before ++ m ∷ ns) (λ e. omega (arith, length-append before (m ∷ ns)))
+-- a token spells no number, or none is left
+pub goes-stops : (all rest : List (List ℕ)) (before : List ℕ) (n : ℕ) → Goes all before rest → None ≡ number_of (get_or rest 0 []) → length before < n → AreNot n (numbers_of all)
+goes-stops all [] before n goes is fewer = rw (goes-ends all before goes) (λ e. omega arith)
+goes-stops all (token ∷ rest) before n goes is fewer =
+    let first : numbers_of (token ∷ rest) ≡ None = numbers_of-cons token rest ∙ ap (option_and_then (λ n. option_map (λ ns. n ∷ ns) (numbers_of rest))) (sym is) in
+    rw (goes, first) tt
+
+more_than : (n : ℕ) (before : List ℕ) (rest : Option (List ℕ)) (first : Option ℕ) → length before ≡ n → AreNot n (joined_to before (option_and_then (λ m. option_map (λ ns. m ∷ ns) rest) first))
+more_than n before rest None same = tt
+more_than n before None (Some m) same = tt
+more_than n before (Some ns) (Some m) same = λ e. omega (arith, length-append before (m ∷ ns))
 
 -- a token is left
-pub goes-on : (all rest : List (List ℕ)) (token : List ℕ) (before : List ℕ) (n : ℕ) → Goes all before (token ∷ rest) → length before ≡ n → option_and_then (exactly n) (numbers_of all) ≡ None
-goes-on all rest token before n goes same =
-    ap (option_and_then (exactly n)) (goes ∙ ap (joined_to before) (numbers_of-cons token rest)) ∙ more_than n before (numbers_of rest) (number_of token) same
+pub goes-on : (all rest : List (List ℕ)) (token : List ℕ) (before : List ℕ) (n : ℕ) → Goes all before (token ∷ rest) → length before ≡ n → AreNot n (numbers_of all)
+goes-on all rest token before n goes same = rw (goes, numbers_of-cons token rest) (more_than n before (numbers_of rest) (number_of token) same)
 
 -- the numbers of tokens, one by one
 each-step : (token : List ℕ) (tokens : List (List ℕ)) (ns : List ℕ) (first : Option ℕ) (rest : Option (List ℕ)) → number_of token ≡ first

@@ -1,5 +1,5 @@
 -- What a file of bytes is: lines, their tokens, and the numbers that tokens spell.
-use Rattle.std.specs.Prelude.{ℕ, ◌+◌, ◌*◌, ◌-◌, ◌^◌, Bool, true, false, ◌&&◌, ◌||◌, not, ◌==◌, nat_lt, nat_le, if◌then◌else◌, List, [], ◌∷◌, length, ℤ, pos, neg_ℤ, Option, Some, None}
+use Rattle.std.specs.Prelude.{ℕ, ◌+◌, ◌*◌, ◌-◌, ◌^◌, Bool, true, false, ◌&&◌, ◌||◌, not, ◌==◌, nat_lt, nat_le, if◌then◌else◌, List, [], ◌∷◌, ℤ, pos, neg_ℤ, Option, Some, None}
 use Rattle.std.specs.Option.{option_and_then, option_map}
 use Rattle.std.specs.List.{filter, slice_split, list_all}
 use Rattle.mp_text.specs.declared.layout.Layout.{Layout}
@@ -51,10 +51,6 @@ number_of token = if is_filled token then number_from 0 token else None
 unfoldable pub numbers_of : List (List ℕ) → Option (List ℕ)
 numbers_of [] = Some []
 numbers_of (token ∷ tokens) = option_and_then (λ n. option_map (λ ns. n ∷ ns) (numbers_of tokens)) (number_of token)
-
--- a list, where it has just so many elements
-abbrev pub exactly : {X : Type 0} → ℕ → List X → Option (List X)
-exactly n xs = if length xs == n then Some xs else None
 
 -- a number and its negative, where they fit in a signed number
 abbrev pub positive_of : ℕ → Option ℤ

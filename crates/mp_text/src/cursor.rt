@@ -1,8 +1,7 @@
 //! A line's tokens as a cursor: the numbers that they spell, and lines of so many tokens.
 
-ghost use Rattle.std.specs.Prelude.{◌≡◌, ◌==◌, [], ◌∷◌, false, length, drop, slice_index_or, MatchOption};
-ghost use Rattle.std.specs.Option.{option_and_then};
-ghost use Rattle.mp_text.specs.Text.{number_of, numbers_of, exactly};
+ghost use Rattle.std.specs.Prelude.{◌≡◌, ◌≢◌, ◌==◌, [], ◌∷◌, false, length, drop, slice_index_or, MatchOption, IfSome, IfNone};
+ghost use Rattle.mp_text.specs.Text.{number_of, numbers_of};
 
 use crate::numbers::number;
 use crate::token_scan::Tokens;
@@ -19,7 +18,8 @@ impl<'a> Tokens<'a> {
 
     /// The numbers that the tokens spell, where they are `N` and each spells one.
     pub fn numbers<const N: usize>(mut self) -> Option<[u64; N]>
-        ensures { result ≡ option_and_then (exactly N) (numbers_of self.entry) }
+        ensures some { IfSome result (λ ns. (numbers_of self.entry ≡ Some ns) × (length ns ≡ N)) }
+        ensures none { IfNone result (IfSome (numbers_of self.entry) (λ ns. length ns ≢ N)) }
     {
         let mut values = [0; N];
         for i in 0..N {

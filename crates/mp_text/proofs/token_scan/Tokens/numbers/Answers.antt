@@ -1,4 +1,4 @@
-use Rattle.std.proofs.Common.{◌∙◌, take, sym, arith, length-set}
+use Rattle.std.proofs.Common.{◌∙◌, take, arith, length-set}
 use Rattle.std.proofs.lemmas.List.{take_more_set, length-take-le, length-replicate, take_all}
 use Rattle.mp_text.proofs.CursorLemmas.{Goes, goes-first, goes-next, goes-stops, goes-ends, goes-on}
 use Rattle.mp_text.proofs.token_scan.Tokens.numbers.Goals as goal
@@ -10,7 +10,7 @@ pub returns-in_err-values : goal.returns-in_err-values
 returns-in_err-values g c =
     let at = c.loop-i.invariant in
     let within = length-take-le c.loop-i.i c.loop-i.values (omega (arith, at.long)) in
-    rw c.from_residual.ensures (sym (goes-stops c.args.self c.loop-i.self (take c.loop-i.i c.loop-i.values) g.row.N at.goes c.in_err-values.ensures.number (omega (arith, within))))
+    rw c.from_residual.ensures (record { some = tt; none = goes-stops c.args.self c.loop-i.self (take c.loop-i.i c.loop-i.values) g.row.N at.goes c.in_err-values.ensures.number (omega (arith, within)) })
 
 pub loop-i-preserved : goal.loop-i-preserved
 loop-i-preserved g c =
@@ -27,11 +27,11 @@ returns-in-Some g c =
     let at = c.loop-i.invariant in
     let goes : Goes c.args.self c.loop-i.values c.loop-i.self = rw (take_all c.loop-i.i c.loop-i.values (omega (arith, at.long))) at at.goes in
     let left = c.in-Some.ensures.steps in
-    sym (goes-on c.args.self c.next.new.self c.in-Some.field-0.now c.loop-i.values g.row.N (rw left at goes) at.long)
+    record { some = tt; none = goes-on c.args.self c.next.new.self c.in-Some.field-0.now c.loop-i.values g.row.N (rw left at goes) at.long }
 
 pub returns-in-None : goal.returns-in-None
 returns-in-None g c =
     let at = c.loop-i.invariant in
     let goes : Goes c.args.self c.loop-i.values c.loop-i.self = rw (take_all c.loop-i.i c.loop-i.values (omega (arith, at.long))) at at.goes in
     let left = c.in-None.ensures.steps.0 in
-    sym (goes-ends c.args.self c.loop-i.values g.row.N (rw left at goes) at.long)
+    record { some = (goes-ends c.args.self c.loop-i.values (rw left at goes), at.long); none = tt }
