@@ -1,5 +1,5 @@
 use Rattle.elim_tree.proofs.Growth.{pattern_by_columns, within_by_columns}
-use Rattle.elim_tree.proofs.laws.renamed_pattern.Goals as goal
+use Rattle.elim_tree.proofs.laws.renumbered_pattern.Goals as goal
 
 pub returns-clause-pattern : goal.returns-clause-pattern
 returns-clause-pattern c = pattern_by_columns
