@@ -1,18 +1,19 @@
 -- The rows of the factor, by ways up from earlier neighbours, and what marking them all counts.
-use Rattle.std.proofs.Common.{sym, ◌∙◌, subst, ap, ◌+◌, ◌-◌, ◌≡◌, ◌≢◌, ◌↔◌, inl, inr, refl, ℕ, zero, suc, ◌<◌, ◌≤◌, Bool, true, false, IsTrue, ◌==◌, List, [], ◌∷◌, ◌++◌, length, get_or, drop, map, arith}
+use Rattle.std.proofs.Common.{sym, ◌∙◌, subst, ap, ◌+◌, ◌-◌, ◌≡◌, ◌≢◌, ◌↔◌, inl, inr, refl, ℕ, zero, suc, ◌<◌, ◌≤◌, Bool, true, false, IsTrue, ◌==◌, List, [], ◌∷◌, ◌++◌, length, get_or, drop, map, arith, slice_index}
 use Rattle.std.specs.List.{range_with_len, count_by}
 use Rattle.std.proofs.lemmas.Bool.{cases_eq, or_cases, or_left, eqb-true, eq-eqb}
 use Rattle.std.proofs.lemmas.List.{ext_get_or, map_push}
 use Rattle.std.proofs.lemmas.List.Folds.{list_any_at}
 use Rattle.std.proofs.lemmas.List.FromFn.{get_or-map-range_with_len, length-map-range_with_len, length-range_with_len}
 use Rattle.std.proofs.lemmas.List.Sums.{sum_by_push, count_by-le-length}
-use Rattle.matrix_market.specs.Pattern as rows_of
-use Rattle.matrix_market.specs.Pattern.{neighbours_of, has, is_joined}
+use Rattle.limits.specs.Limits.{most_order}
+use Rattle.matrix_market.specs.Pattern.{neighbours_of, has, is_joined, IsPattern}
 use Rattle.ordering.specs.Perm.{IsVertex, vertex_at, place_of}
-use Rattle.ordering.specs.Fill.{graph_at, structure_of, parent_of, parents_of, count_of, counts_of, renamed, IsPattern, IsParent}
+use Rattle.ordering.specs.Fill.{graph_at, structure_of, parent_of, parents_of, count_of, counts_of, renumbered, IsAdjacency, IsParent}
 use Rattle.elim_tree.specs.Paths.{IsWithin, IsInRowSubtree}
 use Rattle.elim_tree.specs.Trees.{parent_at, IsForest, IsAbove, self, step}
-use Rattle.column_counts.specs.Marks.{Row, IsFactorRow, IsMarked, CanMarkRow, IsMarkedRow, column_in, bit, at}
+use Rattle.elim_tree.specs.Forests.{column_in}
+use Rattle.column_counts.specs.Marks.{Row, IsFactorRow, IsMarked, CanMarkRow, IsMarkedRow, bit}
 
 -- ---- counts over ranges
 
@@ -85,55 +86,57 @@ pub length_parents : (joined : ℕ → ℕ → Bool) (n : ℕ) (parents : List �
 length_parents joined n parents tree = ap length tree ∙ length-map-range_with_len (parent_of joined n) 1 n
 
 -- a table of all counts, without its place 0
-pub are_counts : (joined : ℕ → ℕ → Bool) (n : ℕ) (table : List ℕ) → length table ≡ suc n → ((x : ℕ) → at table x ≡ count_of joined n x) → drop 1 table ≡ counts_of joined n
+pub are_counts : (joined : ℕ → ℕ → Bool) (n : ℕ) (table : List ℕ) → length table ≡ suc n → ((x : ℕ) → slice_index table x ≡ count_of joined n x) → drop 1 table ≡ counts_of joined n
 are_counts joined n [] long all = absurd (omega arith)
 are_counts joined n (unused ∷ counts) long all =
     ext_get_or 0 counts (counts_of joined n) (let len = length-map-range_with_len (count_of joined n) 1 n in omega arith)
     (λ i lt. all (suc i) ∙ sym (get_or-map-range_with_len (count_of joined n) 1 n i (suc i) 0 (omega arith) (omega arith)))
 
--- ---- what the laws say of structures and parents
+-- ---- a factor: n columns and their tree, with what the laws say of structures and parents
 
-abbrev pub SubtreesLaw : Type 0
-SubtreesLaw = (joined : ℕ → ℕ → Bool) (n i x : ℕ) → IsPattern joined → IsWithin n joined → x < i → IsTrue (structure_of joined x i) ↔ IsInRowSubtree joined n i x
+pub record IsFactor (joined : ℕ → ℕ → Bool) (n : ℕ) (parents : List ℕ) : Type 0 where
+  pub pattern : IsAdjacency joined
+  pub inside : IsWithin n joined
+  pub forest : IsForest parents
+  pub tree : parents ≡ parents_of joined n
+  pub subtrees : (i x : ℕ) → x < i → IsTrue (structure_of joined x i) ↔ IsInRowSubtree joined n i x
+  pub first : (j : ℕ) → IsParent joined n j (parent_of joined n j)
+  pub later : (j i : ℕ) → IsTrue (structure_of joined j i) → j ≤ i
 
-abbrev pub ParentsLaw : Type 0
-ParentsLaw = (joined : ℕ → ℕ → Bool) (n j : ℕ) → IsParent joined n j (parent_of joined n j)
+module _ (joined : ℕ → ℕ → Bool) (n : ℕ) (parents : List ℕ) (factor : IsFactor joined n parents) where
+  pub long_parents : length parents ≡ n
+  long_parents = length_parents joined n parents factor.tree
 
-abbrev pub LaterLaw : Type 0
-LaterLaw = (joined : ℕ → ℕ → Bool) (j i : ℕ) → IsTrue (structure_of joined j i) → j ≤ i
-
-module _ (subtrees : SubtreesLaw) (firsts : ParentsLaw) (later : LaterLaw) (joined : ℕ → ℕ → Bool) (pattern : IsPattern joined) (n : ℕ) (inside : IsWithin n joined)
-    (parents : List ℕ) (forest : IsForest parents) (tree : parents ≡ parents_of joined n) where
   vertex_of : (x i : ℕ) → IsTrue (structure_of joined x i) → x ≢ i → i ≤ n → IsVertex n x
   unfolding graph_at
   vertex_of zero i h ne le =
       elim (or_cases (i == 0) _ h) [
         | inl e ↦ absurd (ne (sym (eqb-true i 0 e)))
-        | inr r ↦ (let some = (inside 0 i r).0 in absurd (omega arith))
+        | inr r ↦ absurd (factor.pattern.none_of_0 i r)
       ]
-  vertex_of (suc x) i h ne le = let low = later joined (suc x) i h in (omega arith, omega arith)
+  vertex_of (suc x) i h ne le = let low = factor.later (suc x) i h in (omega arith, omega arith)
 
   parent_of_vertex : (j : ℕ) → IsVertex n j → parent_at parents j ≡ parent_of joined n j
   parent_of_vertex zero vertex = absurd (let some = vertex.0 in omega arith)
   parent_of_vertex (suc j) vertex =
       let le = vertex.1 in
-      ap (λ ps. parent_at ps (suc j)) tree ∙ get_or-map-range_with_len (parent_of joined n) 1 n j (suc j) 0 (omega arith) (omega arith)
+      ap (λ ps. parent_at ps (suc j)) factor.tree ∙ get_or-map-range_with_len (parent_of joined n) 1 n j (suc j) 0 (omega arith) (omega arith)
 
   pub way_of : (x i : ℕ) → x < i → IsTrue (structure_of joined x i) → (k : ℕ) × IsTrue (joined i k) × (k < i) × IsAbove parents k x
-  way_of x i lt h = let w = (subtrees joined n i x pattern inside lt).0 h in (w.0, w.1, w.2, subst (λ ps. IsAbove ps w.0 x) (sym tree) w.3)
+  way_of x i lt h = let w = (factor.subtrees i x lt).0 h in (w.0, w.1, w.2, subst (λ ps. IsAbove ps w.0 x) (sym factor.tree) w.3)
 
   pub of_way : (x i k : ℕ) → x < i → IsTrue (joined i k) → k < i → IsAbove parents k x → IsTrue (structure_of joined x i)
-  of_way x i k lt h below way = (subtrees joined n i x pattern inside lt).1 (k, h, below, subst (λ ps. IsAbove ps k x) tree way)
+  of_way x i k lt h below way = (factor.subtrees i x lt).1 (k, h, below, subst (λ ps. IsAbove ps k x) factor.tree way)
 
   pub factor_row : (i : ℕ) → i ≤ n → IsFactorRow (parent_at parents) i (λ x. structure_of joined x i)
   factor_row i le = record {
     own = or_left _ _ (eq-eqb i i refl);
     up = λ x h ne.
-        let low = later joined x i h in
+        let low = factor.later x i h in
         let lt : x < i = omega arith in
         let vertex = vertex_of x i h ne le in
         let is = parent_of_vertex x vertex in
-        let first = firsts joined n x in
+        let first = factor.first x in
         let least = first.least i lt le h in
         let up = (first.reached least.0).0 in
         let some = least.0 in
@@ -157,12 +160,12 @@ module _ (subtrees : SubtreesLaw) (firsts : ParentsLaw) (later : LaterLaw) (join
   marks_complete : (row : Row) (i : ℕ) (counts marks : ℕ → ℕ) → IsMarked row (parent_at parents) i i counts marks → ((k : ℕ) → k < i → IsTrue (joined i k) → marks k ≡ i)
       → (x : ℕ) → IsTrue (structure_of joined x i) → marks x ≡ i
   marks_complete row i counts marks m done x h =
-      let low = later joined x i h in
+      let low = factor.later x i h in
       elim (cases_eq x i) [
         | inl e ↦ ap marks e ∙ m.own
         | inr ne ↦ (
             let way = way_of x i (omega arith) h in
-            marked_above row parents forest i counts marks m way.3 (done way.0 way.2 way.1) (omega arith)
+            marked_above row parents factor.forest i counts marks m way.3 (done way.0 way.2 way.1) (omega arith)
             )
       ]
 
@@ -175,43 +178,59 @@ module _ (subtrees : SubtreesLaw) (firsts : ParentsLaw) (later : LaterLaw) (join
 
 -- ---- rows as lists of neighbours
 
-module _ (subtrees : SubtreesLaw) (firsts : ParentsLaw) (later : LaterLaw) (rows : List (List ℕ)) (order : List ℕ) (rows_pattern : rows_of.IsPattern rows)
-    (pattern : IsPattern (renamed (is_joined rows) order)) (n : ℕ) (inside : IsWithin n (renamed (is_joined rows) order)) (same : n ≡ length rows)
-    (vertex_back : (v : ℕ) → v ≤ n → vertex_at order (place_of order v) ≡ v) (place_back : (k : ℕ) → k ≤ n → place_of order (vertex_at order k) ≡ k)
-    (parents : List ℕ) (forest : IsForest parents) (tree : parents ≡ parents_of (renamed (is_joined rows) order) n)
-    (i : ℕ) (list : List ℕ) (e : list ≡ neighbours_of rows (vertex_at order i)) where
-  pub vertex_in_list : (j : ℕ) → j < length list → at list j ≤ n
+-- the rows of a pattern, and an order of its vertices
+pub record AreRows (rows : List (List ℕ)) (order : List ℕ) : Type 0 where
+  pub pattern : IsPattern rows
+  pub same : length order ≡ length rows
+  pub vertex_back : (v : ℕ) → v ≤ length order → vertex_at order (place_of order v) ≡ v
+  pub place_back : (k : ℕ) → k ≤ length order → place_of order (vertex_at order k) ≡ k
+
+pub few_columns : (rows : List (List ℕ)) (order : List ℕ) → AreRows rows order → length order ≤ most_order
+few_columns rows order are = let few = are.pattern.few in let same = are.same in omega arith
+
+module _ (rows : List (List ℕ)) (order : List ℕ) (are : AreRows rows order) (i : ℕ) (list : List ℕ) (e : list ≡ neighbours_of rows (vertex_at order i)) where
+  pub vertex_in_list : (j : ℕ) → j < length list → slice_index list j ≤ length order
   vertex_in_list j lt =
-      let there : has (neighbours_of rows (vertex_at order i)) (at list j) ≡ true = subst (λ xs. has xs (at list j) ≡ true) e (is_in list (at list j) j lt refl) in
-      let low = (rows_pattern.inside (vertex_at order i) (at list j) there).1 in
+      let there : has (neighbours_of rows (vertex_at order i)) (slice_index list j) ≡ true = subst (λ xs. has xs (slice_index list j) ≡ true) e (is_in list (slice_index list j) j lt refl) in
+      let low = (are.pattern.inside (vertex_at order i) (slice_index list j) there).1 in
+      let same = are.same in
       omega arith
 
-  pub joined_in_list : (j : ℕ) → j < length list → IsTrue (renamed (is_joined rows) order i (column_in list order j))
+  pub joined_in_list : (j : ℕ) → j < length list → IsTrue (renumbered (is_joined rows) order i (column_in list order j))
   joined_in_list j lt =
-      subst (λ v. is_joined rows (vertex_at order i) v ≡ true) (sym (vertex_back (at list j) (vertex_in_list j lt)))
-      (subst (λ xs. has xs (at list j) ≡ true) e (is_in list (at list j) j lt refl))
+      subst (λ v. is_joined rows (vertex_at order i) v ≡ true) (sym (are.vertex_back (slice_index list j) (vertex_in_list j lt)))
+      (subst (λ xs. has xs (slice_index list j) ≡ true) e (is_in list (slice_index list j) j lt refl))
 
-  pub can_mark : i ≤ n → n ≤ 1000000 → (counts marks : List ℕ) → ((x : ℕ) → (at counts x ≡ (row_of (renamed (is_joined rows) order) i).before x) × (at marks x < i))
-      → CanMarkRow (row_of (renamed (is_joined rows) order) i) i list order parents counts marks
-  can_mark le few counts marks before = (
-    factor_row subtrees firsts later (renamed (is_joined rows) order) pattern n inside parents forest tree i le,
-    λ x.
-        let most = count_by-le-length (structure_of (renamed (is_joined rows) order) x) (range_with_len 1 (i - 1)) in
-        let long = length-range_with_len 1 (i - 1) in
-        omega arith,
-    λ j lt below. earlier_in_row subtrees firsts later (renamed (is_joined rows) order) pattern n inside parents forest tree i (column_in list order j) (joined_in_list j lt) below,
-    before,
-  )
+  -- who is joined to column i stands in the list
+  pub stands_in_list : (k : ℕ) → k ≤ length order → IsTrue (renumbered (is_joined rows) order i k) → (j : ℕ) × (j < length list) × (column_in list order j ≡ k)
+  stands_in_list k le h =
+      let f = place_in list (vertex_at order k) (subst (λ xs. has xs (vertex_at order k) ≡ true) (sym e) h) in
+      (f.0, f.1, ap (place_of order) f.2 ∙ are.place_back k le)
 
-  pub all_marked : 0 < i → (counts marks : List ℕ) → IsMarkedRow (row_of (renamed (is_joined rows) order) i) i list order (length list) parents counts marks
-      → (x : ℕ) → (at counts x ≡ count_by (structure_of (renamed (is_joined rows) order) x) (range_with_len 1 i)) × (at marks x < i + 1)
-  all_marked some counts marks m x = (
-    counted subtrees firsts later (renamed (is_joined rows) order) pattern n inside parents forest tree i some (at counts) (at marks) m.0
-        (λ k lt h.
-        let f = place_in list (vertex_at order k) (subst (λ xs. has xs (vertex_at order k) ≡ true) (sym e) h) in
-        let le = (inside k i (pattern.symmetric i k h)).1 in
-        let is : column_in list order f.0 ≡ k = ap (place_of order) f.2 ∙ place_back k le in
-        subst (λ c. at marks c ≡ i) is (m.1 f.0 f.1 (omega arith)))
-        x,
-    (let low = m.0.low x in omega arith),
-  )
+  module _ (parents : List ℕ) (factor : IsFactor (renumbered (is_joined rows) order) (length order) parents) where
+    pub can_mark : i ≤ length order → (counts marks : List ℕ)
+        → ((x : ℕ) → (slice_index counts x ≡ (row_of (renumbered (is_joined rows) order) i).before x) × (slice_index marks x < i))
+        → CanMarkRow (row_of (renumbered (is_joined rows) order) i) i list order parents counts marks
+    can_mark le counts marks before = (
+      factor_row (renumbered (is_joined rows) order) (length order) parents factor i le,
+      λ x.
+          let most = count_by-le-length (structure_of (renumbered (is_joined rows) order) x) (range_with_len 1 (i - 1)) in
+          let long = length-range_with_len 1 (i - 1) in
+          let few = few_columns rows order are in
+          omega arith,
+      λ j lt below. earlier_in_row (renumbered (is_joined rows) order) (length order) parents factor i (column_in list order j) (joined_in_list j lt) below,
+      before,
+    )
+
+    pub all_marked : 0 < i → (counts marks : List ℕ) → IsMarkedRow (row_of (renumbered (is_joined rows) order) i) i list order (length list) parents counts marks
+        → (x : ℕ) → (slice_index counts x ≡ count_by (structure_of (renumbered (is_joined rows) order) x) (range_with_len 1 i)) × (slice_index marks x < i + 1)
+    all_marked some counts marks m x = (
+      counted (renumbered (is_joined rows) order) (length order) parents factor i some (slice_index counts) (slice_index marks) m.0
+          (λ k lt h.
+          let le = (factor.inside k i (factor.pattern.symmetric i k h)).1 in
+          let f = stands_in_list k le h in
+          let is = f.2 in
+          subst (λ c. slice_index marks c ≡ i) is (m.1 f.0 f.1 (omega arith)))
+          x,
+      (let low = m.0.low x in omega arith),
+    )

@@ -1,16 +1,16 @@
 -- The leaves of the row subtrees give the counts.
-use Rattle.std.proofs.Common.{add-zero, add-suc, ◌∙◌, subst, ap, ◌+◌, ◌-◌, ◌≡◌, inl, inr, ℕ, zero, suc, ◌<◌, ◌≤◌, Bool, true, false, List, length, arith, refl}
+use Rattle.std.proofs.Common.{add-zero, add-suc, ◌∙◌, subst, ap, ◌+◌, ◌-◌, ◌≡◌, inl, inr, ℕ, zero, suc, ◌<◌, ◌≤◌, Bool, true, false, List, length, arith, refl, slice_index}
 use Rattle.std.specs.List.{range_with_len, count_by}
 use Rattle.std.proofs.lemmas.Bool.{cases_lt, false_from_ne_true}
 use Rattle.std.proofs.lemmas.List.FromFn.{length-range_with_len}
 use Rattle.std.proofs.lemmas.List.Sums.{count_by-le-length}
-use Rattle.ordering.specs.Fill.{structure_of, count_of, parents_of, IsPattern}
-use Rattle.elim_tree.specs.Paths.{IsWithin}
-use Rattle.elim_tree.specs.Trees.{IsForest}
-use Rattle.column_counts.specs.Marks.{bit, at}
+use Rattle.limits.specs.Limits.{most_order}
+use Rattle.ordering.specs.Fill.{structure_of, count_of}
+use Rattle.column_counts.specs.declared.leaves.Leaves.{Leaves}
+use Rattle.column_counts.specs.Marks.{bit}
 use Rattle.column_counts.specs.Sums.{any_in, sum_in, passing}
 use Rattle.column_counts.specs.Leaves.{IsFirsts, AreLeaves, AreTaken, AreLeavesBefore, AreBalanced, AreSums, HasCount}
-use Rattle.column_counts.proofs.FactorRows.{SubtreesLaw, ParentsLaw, LaterLaw, same_from_true, count_more}
+use Rattle.column_counts.proofs.FactorRows.{IsFactor, long_parents, same_from_true, count_more}
 use Rattle.column_counts.proofs.SumLemmas.{any_from, any_to, passing_none, sum_in_split}
 use Rattle.column_counts.proofs.SpanRows.{spans, first_some, row_from, row_to, beyond}
 
@@ -39,28 +39,27 @@ unfolding passing
 passing_count s zero none = let z : bit (s 0) ≡ 0 = ap bit none in omega arith
 passing_count s (suc m) none = let ih = passing_count s m none in let more = count_more s m in omega arith
 
-module _ (subtrees : SubtreesLaw) (parent_is : ParentsLaw) (later : LaterLaw) (joined : ℕ → ℕ → Bool) (pattern : IsPattern joined) (n : ℕ) (inside : IsWithin n joined)
-    (parents : List ℕ) (forest : IsForest parents) (tree : parents ≡ parents_of joined n) (same : length parents ≡ n)
-    (firsts : List ℕ) (len : length firsts ≡ n + 1) (is : IsFirsts parents firsts) where
+module _ (joined : ℕ → ℕ → Bool) (n : ℕ) (parents : List ℕ) (factor : IsFactor joined n parents) (firsts : List ℕ) (len : length firsts ≡ n + 1) (is : IsFirsts parents firsts) where
   unreached : (x i : ℕ) → i < x → structure_of joined x i ≡ false
-  unreached x i lt = false_from_ne_true (structure_of joined x i) (λ h. let le = later joined x i h in absurd (omega arith))
+  unreached x i lt = false_from_ne_true (structure_of joined x i) (λ h. let le = factor.later x i h in absurd (omega arith))
 
-  balanced : (taken : ℕ → ℕ → Bool) (last leaves meetings : ℕ → ℕ) (j : ℕ) → n < j → AreLeaves (at firsts) (length firsts) j taken last leaves meetings → AreTaken joined (length firsts) j taken
-      → (x : ℕ) → 0 < x → x ≤ n → sum_in leaves (at firsts x) (suc x) ≡ count_of joined n x + (x - at firsts x) + sum_in meetings (at firsts x) (suc x)
+  balanced : (taken : ℕ → ℕ → Bool) (last leaves meetings : ℕ → ℕ) (j : ℕ) → n < j → AreLeaves (slice_index firsts) (length firsts) j taken last leaves meetings → AreTaken joined (length firsts) j taken
+      → (x : ℕ) → 0 < x → x ≤ n → sum_in leaves (slice_index firsts x) (suc x) ≡ count_of joined n x + (x - slice_index firsts x) + sum_in meetings (slice_index firsts x) (suc x)
   balanced taken last leaves meetings j all t entries x some le =
-      let a = at firsts x in
+      let a = slice_index firsts x in
       let p : ℕ → Bool = λ i. any_in (taken i) a (suc x) in
-      let own = (spans parents forest firsts (omega arith) is).own x in
-      let pos = first_some parents forest firsts (omega arith) is x some (omega arith) in
+      let same = long_parents joined n parents factor in
+      let own = (spans parents factor.forest firsts (omega arith) is).own x in
+      let pos = first_some parents factor.forest firsts (omega arith) is x some (omega arith) in
       let low = passing_low p a x
       (λ i lt h. let y = any_to (taken i) a (suc x) h in
-      beyond subtrees parent_is later joined pattern n inside parents forest tree same firsts len is i x y.0 lt y.1 (entries.sound i y.0 y.3).0)
+      beyond joined n parents factor firsts len is i x y.0 lt y.1 (entries.sound i y.0 y.3).0)
       (λ i lt high. any_from (taken i) a (suc x) i high (omega arith) (entries.whole i i (omega arith) (omega arith) (omega arith) (inl refl))) in
       let nothing = passing_none (structure_of joined x) x (unreached x) in
       let high = passing_high p (structure_of joined x) x (suc n - x) (λ i far lt. same_from_true (p i) (structure_of joined x i)
       (λ h. let y = any_to (taken i) a (suc x) h in
-      row_from subtrees parent_is later joined pattern n inside parents forest tree same firsts len is i x y.0 le far y.1 (let b = y.2 in omega arith) (entries.sound i y.0 y.3).0)
-      (λ h. let y = row_to subtrees parent_is later joined pattern n inside parents forest tree same firsts len is i x le far h in
+      row_from joined n parents factor firsts len is i x y.0 le far y.1 (let b = y.2 in omega arith) (entries.sound i y.0 y.3).0)
+      (λ h. let y = row_to joined n parents factor firsts len is i x le far h in
       let b = y.2 in let c = y.1 in
       any_from (taken i) a (suc x) y.0 y.1 (omega arith) (entries.whole i y.0 (omega arith) (omega arith) (omega arith) y.3)))
       (x - a) (omega arith) in
@@ -72,24 +71,25 @@ module _ (subtrees : SubtreesLaw) (parent_is : ParentsLaw) (later : LaterLaw) (j
       let b = t.balance x (omega arith) in
       omega arith
 
-  pub are_balanced : (last leaves meetings : List ℕ) (j : ℕ) → n < j → AreLeavesBefore joined firsts j last leaves meetings → AreBalanced joined n firsts leaves meetings
-  are_balanced last leaves meetings j all before = balanced before.0 (at last) (at leaves) (at meetings) j all before.1 before.2
+  pub are_balanced : (t : Leaves) (j : ℕ) → n < j → AreLeavesBefore joined firsts j t → AreBalanced joined n firsts t
+  are_balanced t j all before = balanced before.0 (slice_index t.last.items) (slice_index t.leaves.items) (slice_index t.meetings.items) j all before.1 before.2
 
 -- ---- counts of sums
 
-sums_below : (table sums : List ℕ) → AreSums table sums → (a : ℕ) → 0 < a → a ≤ length table → at sums (a - 1) ≡ sum_in (at table) 0 a
-sums_below table sums are a some le = let e : suc (a - 1) ≡ a = omega arith in are (a - 1) (omega arith) ∙ ap (sum_in (at table) 0) e
+sums_below : (table sums : List ℕ) → AreSums table sums → (a : ℕ) → 0 < a → a ≤ length table → slice_index sums (a - 1) ≡ sum_in (slice_index table) 0 a
+sums_below table sums are a some le = let e : suc (a - 1) ≡ a = omega arith in are.1 (a - 1) (omega arith) ∙ ap (sum_in (slice_index table) 0) e
 
-pub has_count : (joined : ℕ → ℕ → Bool) (n : ℕ) (firsts leaves meetings leaves_sums meetings_sums : List ℕ) → AreBalanced joined n firsts leaves meetings → AreSums leaves leaves_sums → AreSums meetings meetings_sums
-    → length leaves ≡ n + 1 → length meetings ≡ n + 1 → n ≤ 1000000 → (x : ℕ) → 0 < x → x ≤ n → 0 < at firsts x → at firsts x ≤ x → HasCount firsts leaves_sums meetings_sums x (count_of joined n x)
-has_count joined n firsts leaves meetings leaves_sums meetings_sums balanced are_leaves are_meetings long_leaves long_meetings few x some le pos own =
-    let a = at firsts x in
-    let low_leaves = sums_below leaves leaves_sums are_leaves a pos (omega arith) in
-    let low_meetings = sums_below meetings meetings_sums are_meetings a pos (omega arith) in
-    let all_leaves = are_leaves x (omega arith) in
-    let all_meetings = are_meetings x (omega arith) in
-    let two_leaves = sum_in_split (at leaves) a (suc x) (omega arith) in
-    let two_meetings = sum_in_split (at meetings) a (suc x) (omega arith) in
+pub has_count : (joined : ℕ → ℕ → Bool) (n : ℕ) (firsts : List ℕ) (t sums : Leaves) → AreBalanced joined n firsts t → AreSums t.leaves.items sums.leaves.items → AreSums t.meetings.items sums.meetings.items
+    → length t.leaves.items ≡ n + 1 → length t.meetings.items ≡ n + 1 → n ≤ most_order
+    → (x : ℕ) → 0 < x → x ≤ n → 0 < slice_index firsts x → slice_index firsts x ≤ x → HasCount firsts sums x (count_of joined n x)
+has_count joined n firsts t sums balanced are_leaves are_meetings long_leaves long_meetings few x some le pos own =
+    let a = slice_index firsts x in
+    let low_leaves = sums_below t.leaves.items sums.leaves.items are_leaves a pos (omega arith) in
+    let low_meetings = sums_below t.meetings.items sums.meetings.items are_meetings a pos (omega arith) in
+    let all_leaves = are_leaves.1 x (omega arith) in
+    let all_meetings = are_meetings.1 x (omega arith) in
+    let two_leaves = sum_in_split (slice_index t.leaves.items) a (suc x) (omega arith) in
+    let two_meetings = sum_in_split (slice_index t.meetings.items) a (suc x) (omega arith) in
     let is = balanced x some le in
     let most = count_by-le-length (structure_of joined x) (range_with_len 1 n) in
     let long = length-range_with_len 1 n in

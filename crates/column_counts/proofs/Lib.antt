@@ -3,7 +3,7 @@ pub mod RowLemmas
 pub mod FactorRows
 pub mod SumLemmas
 pub mod RowLeaves
-pub mod Jumps
+pub mod AncestorLemmas
 pub mod SpanRows
 pub mod LeafCounts
 pub mod ColumnLemmas

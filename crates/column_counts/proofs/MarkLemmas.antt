@@ -1,16 +1,21 @@
 -- One way up a row of the factor: what is marked, and what it takes to go on.
-use Rattle.std.proofs.Common.{sym, ◌∙◌, subst, ap, ◌+◌, ◌^◌, ◌≡◌, ◌≢◌, inl, inr, ℕ, ◌<◌, ◌≤◌, IsTrue, List, ◌++◌, length, take, set, get_or-set_other, get_or-set_same, arith, ◌==◌}
+use Rattle.std.proofs.Common.{sym, ◌∙◌, subst, ap, ◌+◌, ◌^◌, ◌≡◌, ◌≢◌, inl, inr, ℕ, ◌<◌, ◌≤◌, IsTrue, List, ◌++◌, length, take, set, get_or-set_other, get_or-set_same, get_or, arith, ◌==◌, slice_index}
 use Rattle.std.proofs.Math.Seq.{take-append_seam}
+use Rattle.std.proofs.lemmas.Grind.{get_or_default_zero}
 use Rattle.std.proofs.lemmas.Bool.{cases_eq, eq-eqb, ne_eqb}
-use Rattle.column_counts.specs.Marks.{Row, IsFactorRow, IsMarked, CanGoOn, bit, at}
+use Rattle.column_counts.specs.Marks.{Row, IsFactorRow, IsMarked, CanGoOn, bit}
 
 -- ---- one entry of a table is written
 
-pub at_other : (xs : List ℕ) (i v x : ℕ) → x ≢ i → at (set xs i v) x ≡ at xs x
+pub at_other : (xs : List ℕ) (i v x : ℕ) → x ≢ i → slice_index (set xs i v) x ≡ slice_index xs x
 at_other xs i v x ne = rw get_or-set_other
 
-pub at_here : (xs : List ℕ) (i v : ℕ) → i < length xs → at (set xs i v) i ≡ v
+pub at_here : (xs : List ℕ) (i v : ℕ) → i < length xs → slice_index (set xs i v) i ≡ v
 at_here xs i v lt = rw get_or-set_same
+
+-- what was read at a place that is there
+pub read_at : (xs : List ℕ) (i x : ℕ) → i < length xs → x ≡ get_or xs i x → x ≡ slice_index xs i
+read_at xs i x lt e = e ∙ get_or_default_zero xs i x lt
 
 -- what was written through the slice is the whole table
 pub written : (new rest : List ℕ) (len : ℕ) → len ≡ length new → take len (new ++ rest) ≡ new

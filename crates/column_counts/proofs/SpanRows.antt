@@ -1,20 +1,19 @@
--- Subtrees as spans: first descendants, the jumps that the parents are, and the rows of the factor.
-use Rattle.std.proofs.Common.{sym, ◌∙◌, subst, ap, ◌≡◌, ◌≢◌, inl, inr, refl, ℕ, zero, suc, ◌+◌, ◌<◌, ◌≤◌, Bool, IsTrue, List, length, set, arith}
+-- Subtrees as spans: first descendants, the parents as ancestors, and the rows of the factor.
+use Rattle.std.proofs.Common.{sym, ◌∙◌, subst, ap, ◌≡◌, ◌≢◌, inl, inr, refl, ℕ, zero, suc, ◌+◌, ◌<◌, ◌≤◌, Bool, IsTrue, List, length, set, arith, slice_index}
 use Rattle.std.proofs.lemmas.Bool.{cases_eq, cases_lt, or_left, eq-eqb}
 use Rattle.std.proofs.lemmas.List.{get_or_past}
-use Rattle.ordering.specs.Fill.{structure_of, parents_of, IsPattern}
-use Rattle.elim_tree.specs.Paths.{IsWithin}
+use Rattle.ordering.specs.Fill.{structure_of}
 use Rattle.elim_tree.specs.Trees.{parent_at, IsForest, IsAbove, self, step}
 use Rattle.elim_tree.specs.Postorders.{IsNumberedInPostorder}
-use Rattle.column_counts.specs.Marks.{IsFactorRow, at}
-use Rattle.column_counts.specs.Leaves.{IsFirsts, AreSpans, AreCarried, CanJump, IsInRow}
+use Rattle.column_counts.specs.Marks.{IsFactorRow}
+use Rattle.column_counts.specs.Leaves.{IsFirsts, AreSpans, AreCarried, AreAncestors, IsInRow}
 use Rattle.column_counts.proofs.MarkLemmas.{at_here, at_other}
-use Rattle.column_counts.proofs.FactorRows.{SubtreesLaw, ParentsLaw, LaterLaw, above_on, above_le, way_of, of_way, factor_row}
+use Rattle.column_counts.proofs.FactorRows.{IsFactor, long_parents, above_on, above_le, way_of, of_way, factor_row}
 
 -- ---- first descendants
 
 module _ (parents : List ℕ) (forest : IsForest parents) where
-  pub carried_none : (firsts : List ℕ) → ((x : ℕ) → x ≤ length parents → at firsts x ≡ x) → AreCarried parents firsts 1
+  pub carried_none : (firsts : List ℕ) → ((x : ℕ) → x ≤ length parents → slice_index firsts x ≡ x) → AreCarried parents firsts 1
   carried_none firsts own = record {
     low = λ x le. subst (λ y. IsAbove parents y x) (sym (own x le)) self;
     carried = λ c lt some. (let e : c ≡ 0 = omega arith in absurd (let none : parent_at parents c ≡ 0 = ap (parent_at parents) e in omega arith));
@@ -22,19 +21,19 @@ module _ (parents : List ℕ) (forest : IsForest parents) where
 
   module _ (firsts : List ℕ) (j : ℕ) (low_j : 0 < j) (high_j : j ≤ length parents) (old : AreCarried parents firsts j) where
     -- the first of the column is less than that of the parent: it is carried up
-    carried_up_to : length firsts ≡ length parents + 1 → at firsts j < at firsts (parent_at parents j) → AreCarried parents (set firsts (parent_at parents j) (at firsts j)) (j + 1)
+    carried_up_to : length firsts ≡ length parents + 1 → slice_index firsts j < slice_index firsts (parent_at parents j) → AreCarried parents (set firsts (parent_at parents j) (slice_index firsts j)) (j + 1)
     carried_up_to len less =
         let p = parent_at parents j in
         let some : 0 < p = elim (cases_eq p 0) [
-          | inl e ↦ (let le = above_le forest (old.low 0 (omega arith)) in let z : at firsts p ≡ at firsts 0 = ap (at firsts) e in omega arith)
+          | inl e ↦ (let le = above_le forest (old.low 0 (omega arith)) in let z : slice_index firsts p ≡ slice_index firsts 0 = ap (slice_index firsts) e in omega arith)
           | inr ne ↦ omega arith
         ] in
         let up = forest.rising j some in
-        let here = at_here firsts p (at firsts j) (let most = up.1 in omega arith) in
-        let other = at_other firsts p (at firsts j) in
+        let here = at_here firsts p (slice_index firsts j) (let most = up.1 in omega arith) in
+        let other = at_other firsts p (slice_index firsts j) in
         record {
           low = λ x le. elim (cases_eq x p) [
-            | inl e ↦ subst (λ v. IsAbove parents (at (set firsts p (at firsts j)) v) v) (sym e) (subst (λ v. IsAbove parents v p) (sym here) (above_on (old.low j high_j) some))
+            | inl e ↦ subst (λ v. IsAbove parents (slice_index (set firsts p (slice_index firsts j)) v) v) (sym e) (subst (λ v. IsAbove parents v p) (sym here) (above_on (old.low j high_j) some))
             | inr ne ↦ subst (λ v. IsAbove parents v x) (sym (other x ne)) (old.low x le)
           ];
           carried = λ c lt pos.
@@ -45,16 +44,16 @@ module _ (parents : List ℕ) (forest : IsForest parents) where
               elim (cases_eq c j) [
                 | inl e ↦ (
                     let q : parent_at parents c ≡ p = ap (parent_at parents) e in
-                    let l : at (set firsts p (at firsts j)) (parent_at parents c) ≡ at firsts j = ap (at (set firsts p (at firsts j))) q ∙ here in
-                    let r : at firsts c ≡ at firsts j = ap (at firsts) e in
+                    let l : slice_index (set firsts p (slice_index firsts j)) (parent_at parents c) ≡ slice_index firsts j = ap (slice_index (set firsts p (slice_index firsts j))) q ∙ here in
+                    let r : slice_index firsts c ≡ slice_index firsts j = ap (slice_index firsts) e in
                     omega arith
                     )
                 | inr ne ↦ (
                     let was = old.carried c (omega arith) pos in
                     elim (cases_eq (parent_at parents c) p) [
                       | inl q ↦ (
-                          let l : at (set firsts p (at firsts j)) (parent_at parents c) ≡ at firsts j = ap (at (set firsts p (at firsts j))) q ∙ here in
-                          let r : at firsts (parent_at parents c) ≡ at firsts p = ap (at firsts) q in
+                          let l : slice_index (set firsts p (slice_index firsts j)) (parent_at parents c) ≡ slice_index firsts j = ap (slice_index (set firsts p (slice_index firsts j))) q ∙ here in
+                          let r : slice_index firsts (parent_at parents c) ≡ slice_index firsts p = ap (slice_index firsts) q in
                           omega arith
                           )
                       | inr nq ↦ (let l = other (parent_at parents c) nq in omega arith)
@@ -63,20 +62,20 @@ module _ (parents : List ℕ) (forest : IsForest parents) where
               ];
         }
 
-    pub carried_up : (p : ℕ) → p ≡ parent_at parents j → length firsts ≡ length parents + 1 → at firsts j < at firsts p → AreCarried parents (set firsts p (at firsts j)) (j + 1)
-    carried_up p e len = subst (λ q. at firsts j < at firsts q → AreCarried parents (set firsts q (at firsts j)) (j + 1)) (sym e) (carried_up_to len)
+    pub carried_up : (p v : ℕ) → p ≡ parent_at parents j → v ≡ slice_index firsts j → length firsts ≡ length parents + 1 → v < slice_index firsts p → AreCarried parents (set firsts p v) (j + 1)
+    carried_up p v e f len = rw (e, f) (carried_up_to len)
 
-    pub carried_on : (p : ℕ) → p ≡ parent_at parents j → at firsts p ≤ at firsts j → AreCarried parents firsts (j + 1)
+    pub carried_on : (p : ℕ) → p ≡ parent_at parents j → slice_index firsts p ≤ slice_index firsts j → AreCarried parents firsts (j + 1)
     carried_on p is not = record {
       low = old.low;
       carried = λ c lt pos. elim (cases_eq c j) [
-        | inl e ↦ subst (λ v. at firsts (parent_at parents v) ≤ at firsts v) (sym e) (subst (λ q. at firsts q ≤ at firsts j) is not)
+        | inl e ↦ subst (λ v. slice_index firsts (parent_at parents v) ≤ slice_index firsts v) (sym e) (subst (λ q. slice_index firsts q ≤ slice_index firsts j) is not)
         | inr ne ↦ old.carried c (omega arith) pos
       ];
     }
 
   module _ (firsts : List ℕ) (all : AreCarried parents firsts (length parents + 1)) where
-    below_first : {y x : ℕ} → IsAbove parents y x → x ≤ length parents → (at firsts x ≤ at firsts y) × (y ≤ length parents)
+    below_first : {y x : ℕ} → IsAbove parents y x → x ≤ length parents → (slice_index firsts x ≤ slice_index firsts y) × (y ≤ length parents)
     below_first self le = (omega arith, le)
     below_first {y} {x} (step some way) le =
         let up = forest.rising y some in
@@ -93,7 +92,7 @@ module _ (parents : List ℕ) (forest : IsForest parents) where
           let c = b.0 in
           let own = above_le forest (all.low y b.1) in
           (omega arith, above_le forest way),
-      λ span. numbered (at firsts x) y x (all.low x le) span.0 span.1,
+      λ span. numbered (slice_index firsts x) y x (all.low x le) span.0 span.1,
     )
 
 -- ---- spans
@@ -102,18 +101,18 @@ pub parent_low : (parents : List ℕ) → IsForest parents → (x : ℕ) → par
 parent_low parents forest x = elim (cases_eq (parent_at parents x) 0) [ inl e ↦ omega arith | inr ne ↦ (forest.rising x (omega arith)).1 ]
 
 module _ (parents : List ℕ) (forest : IsForest parents) (firsts : List ℕ) (len : length firsts ≡ length parents + 1) (is : IsFirsts parents firsts) where
-  past : (x : ℕ) → length parents < x → at firsts x ≡ 0
+  past : (x : ℕ) → length parents < x → slice_index firsts x ≡ 0
   past x lt = get_or_past firsts x 0 (omega arith)
 
-  pub spans : AreSpans (at firsts)
+  pub spans : AreSpans (slice_index firsts)
   spans = record {
     own = λ x. elim (cases_lt (length parents) x) [ inl l ↦ (let z = past x l in omega arith) | inr l ↦ ((is x x l).0 self).0 ];
     nested = λ x y a b. elim (cases_lt (length parents) x) [
       | inl l ↦ (let z = past x l in omega arith)
       | inr l ↦ (
           let own = ((is y y (omega arith)).0 self).0 in
-          let low = (is y (at firsts y) (omega arith)).1 (omega arith, own) in
-          ((is x (at firsts y) l).0 (above_trans low ((is x y l).1 (a, b)))).0
+          let low = (is y (slice_index firsts y) (omega arith)).1 (omega arith, own) in
+          ((is x (slice_index firsts y) l).0 (above_trans low ((is x y l).1 (a, b)))).0
           )
     ];
   }
@@ -126,15 +125,15 @@ module _ (parents : List ℕ) (forest : IsForest parents) (firsts : List ℕ) (l
   from_zero self = refl
   from_zero (step some way) = absurd (omega arith)
 
-  pub first_some : (x : ℕ) → 0 < x → x ≤ length parents → 0 < at firsts x
-  first_some x some le = elim (cases_eq (at firsts x) 0) [
+  pub first_some : (x : ℕ) → 0 < x → x ≤ length parents → 0 < slice_index firsts x
+  first_some x some le = elim (cases_eq (slice_index firsts x) 0) [
     | inl e ↦ (let z = from_zero ((is x 0 le).1 (omega arith, omega arith)) in absurd (omega arith))
     | inr ne ↦ omega arith
   ]
 
-  -- the parents themselves are jumps
-  pub first_jumps : (jump : ℕ → ℕ) → ((x : ℕ) → x ≤ length parents → jump x ≡ parent_at parents x) → ((x : ℕ) → length parents < x → jump x ≡ 0) → (j : ℕ) → CanJump (at firsts) (length firsts) j jump
-  first_jumps jump here none j = record {
+  -- the parents themselves are ancestors that lead up
+  pub first_ancestors : (ancestor : ℕ → ℕ) → ((x : ℕ) → x ≤ length parents → ancestor x ≡ parent_at parents x) → ((x : ℕ) → length parents < x → ancestor x ≡ 0) → (j : ℕ) → AreAncestors (slice_index firsts) (length firsts) j ancestor
+  first_ancestors ancestor here none j = record {
     rises = λ z some. elim (cases_lt (length parents) z) [
       | inl l ↦ (let e = none z l in absurd (omega arith))
       | inr l ↦ (
@@ -142,7 +141,7 @@ module _ (parents : List ℕ) (forest : IsForest parents) (firsts : List ℕ) (l
           let p : 0 < parent_at parents z = omega arith in
           let up = forest.rising z p in
           let lt = up.0 in
-          (omega arith, subst (λ v. at firsts v ≤ z) (sym e) (((is (parent_at parents z) z up.1).0 (step p self)).0))
+          (omega arith, subst (λ v. slice_index firsts v ≤ z) (sym e) (((is (parent_at parents z) z up.1).0 (step p self)).0))
           )
     ];
     nearest = λ z w lt wn f le.
@@ -170,44 +169,48 @@ leads_to parents i holds row (suc room) x le h ne most =
       | inr other ↦ step some (leads_to parents i holds row room (parent_at parents x) (omega arith) up.3 other up.2)
     ]
 
-module _ (subtrees : SubtreesLaw) (parent_is : ParentsLaw) (later : LaterLaw) (joined : ℕ → ℕ → Bool) (pattern : IsPattern joined) (n : ℕ) (inside : IsWithin n joined)
-    (parents : List ℕ) (forest : IsForest parents) (tree : parents ≡ parents_of joined n) (same : length parents ≡ n)
-    (firsts : List ℕ) (len : length firsts ≡ n + 1) (is : IsFirsts parents firsts) where
+module _ (joined : ℕ → ℕ → Bool) (n : ℕ) (parents : List ℕ) (factor : IsFactor joined n parents) (firsts : List ℕ) (len : length firsts ≡ n + 1) (is : IsFirsts parents firsts) where
+  same : length parents ≡ n
+  same = long_parents joined n parents factor
+
   -- a row has no column before the first descendant of its own
-  pub below_row : (i y : ℕ) → i < length firsts → IsInRow joined i y → at firsts i ≤ y
+  pub below_row : (i y : ℕ) → i < length firsts → IsInRow joined i y → slice_index firsts i ≤ y
   below_row i y lt row =
       elim row [
-        | inl e ↦ (let own = ((is i i (omega arith)).0 self).0 in omega arith)
+        | inl e ↦ (let long = same in let own = ((is i i (omega arith)).0 self).0 in omega arith)
         | inr h ↦ (
-            let factor = factor_row subtrees parent_is later joined pattern n inside parents forest tree i (omega arith) in
-            let holds = of_way subtrees parent_is later joined pattern n inside parents forest tree y i y h.1 h.0 h.1 self in
+            let long = same in
+            let row = factor_row joined n parents factor i (omega arith) in
+            let holds = of_way joined n parents factor y i y h.1 h.0 h.1 self in
             let below = h.1 in
-            ((is i y (omega arith)).0 (leads_to parents i (λ x. structure_of joined x i) factor i y (omega arith) holds (λ e. absurd (omega arith)) (omega arith))).0
+            ((is i y (omega arith)).0 (leads_to parents i (λ x. structure_of joined x i) row i y (omega arith) holds (λ e. absurd (omega arith)) (omega arith))).0
             )
       ]
 
   -- column x is in row i of the factor where the row has a column in its span
-  pub row_from : (i x y : ℕ) → x ≤ n → x ≤ i → at firsts x ≤ y → y ≤ x → IsInRow joined i y → IsTrue (structure_of joined x i)
+  pub row_from : (i x y : ℕ) → x ≤ n → x ≤ i → slice_index firsts x ≤ y → y ≤ x → IsInRow joined i y → IsTrue (structure_of joined x i)
   row_from i x y xn le a b row =
+      let long = same in
       elim (cases_eq x i) [
         | inl e ↦ or_left _ _ (eq-eqb i x (sym e))
         | inr ne ↦ elim row [
           | inl e ↦ absurd (omega arith)
-          | inr h ↦ of_way subtrees parent_is later joined pattern n inside parents forest tree x i y (omega arith) h.0 h.1 ((is x y (omega arith)).1 (a, b))
+          | inr h ↦ of_way joined n parents factor x i y (omega arith) h.0 h.1 ((is x y (omega arith)).1 (a, b))
         ]
       ]
 
-  pub row_to : (i x : ℕ) → x ≤ n → x ≤ i → IsTrue (structure_of joined x i) → (y : ℕ) × (at firsts x ≤ y) × (y ≤ x) × IsInRow joined i y
+  pub row_to : (i x : ℕ) → x ≤ n → x ≤ i → IsTrue (structure_of joined x i) → (y : ℕ) × (slice_index firsts x ≤ y) × (y ≤ x) × IsInRow joined i y
   row_to i x xn le h =
+      let long = same in
       elim (cases_eq x i) [
         | inl e ↦ (x, ((is x x (omega arith)).0 self).0, omega arith, inl e)
         | inr ne ↦ (
-            let way = way_of subtrees parent_is later joined pattern n inside parents forest tree x i (omega arith) h in
+            let way = way_of joined n parents factor x i (omega arith) h in
             let span = (is x way.0 (omega arith)).0 way.3 in
             (way.0, span.0, span.1, inr (way.1, way.2))
             )
       ]
 
   -- and a column beyond the row, where the row's own column is in its span
-  pub beyond : (i x y : ℕ) → i < x → at firsts x ≤ y → IsInRow joined i y → at firsts x ≤ i
+  pub beyond : (i x y : ℕ) → i < x → slice_index firsts x ≤ y → IsInRow joined i y → slice_index firsts x ≤ i
   beyond i x y lt a row = elim row [ inl e ↦ omega arith | inr h ↦ (let b = h.1 in omega arith) ]

@@ -1,8 +1,9 @@
 -- Tests and sums over a span.
-use Rattle.std.proofs.Common.{sym, ◌∙◌, subst, ap, ◌+◌, ◌*◌, ◌≡◌, ◌≢◌, ◌⊎◌, inl, inr, ℕ, zero, suc, ◌<◌, ◌≤◌, Bool, true, false, arith, refl, ◌&&◌, nat_le}
+use Rattle.std.proofs.Common.{sym, ◌∙◌, subst, ap, ◌+◌, ◌*◌, ◌≡◌, ◌≢◌, ◌⊎◌, inl, inr, ℕ, zero, suc, ◌<◌, ◌≤◌, Bool, true, false, arith, refl, ◌&&◌, nat_le, List, length, set, slice_index, ◌-◌, length-set}
 use Rattle.std.proofs.Math.Nat.{mul-suc}
 use Rattle.std.proofs.lemmas.Bool.{cases_eq, cases_lt, cases_Bool, both_ways, and_parts, or_cases, and_from, or_left, or_right, le-leb, lt-leb, leb-true, cond-true, cond-false, false_from_ne_true}
 use Rattle.column_counts.specs.Marks.{bit}
+use Rattle.column_counts.proofs.MarkLemmas.{at_here, at_other}
 use Rattle.column_counts.specs.Sums.{any_in, sum_in, passing}
 
 pub any_from : (p : ℕ → Bool) (a n y : ℕ) → a ≤ y → y < n → p y ≡ true → any_in p a n ≡ true
@@ -133,3 +134,50 @@ passing_none p (suc m) h = let z : bit (p m) ≡ 0 = ap bit (h m (omega arith)) 
 
 pub any_in_none : (a n : ℕ) → any_in (λ y. false) a n ≡ false
 any_in_none a n = false_from_ne_true (any_in (λ y. false) a n) (λ h. let y = any_to (λ y. false) a n h in absurd (let f = y.3 in cc))
+
+-- ---- a table becomes its sums
+
+-- the entries before x are sums, and the others are as they were
+pub record AreSummedTo (x : ℕ) (old now : List ℕ) : Type 0 where
+  pub len : length now ≡ length old
+  pub done : (y : ℕ) → y < x → slice_index now y ≡ sum_in (slice_index old) 0 (suc y)
+  pub rest : (y : ℕ) → x ≤ y → slice_index now y ≡ slice_index old y
+
+pub none_summed : (table : List ℕ) → AreSummedTo 1 table table
+none_summed table = record {
+  len = refl;
+  done = λ y lt.
+      let e : y ≡ 0 = omega arith in
+      let one = sum_in_at (slice_index table) 0 0 (omega arith) in
+      let none = sum_in_zero (slice_index table) 0 in
+      subst (λ x. slice_index table x ≡ sum_in (slice_index table) 0 (suc x)) (sym e) (omega arith);
+  rest = λ y le. refl;
+}
+
+-- the sum before a place
+pub sum_before : (x : ℕ) (old now : List ℕ) → 0 < x → AreSummedTo x old now → slice_index now (x - 1) ≡ sum_in (slice_index old) 0 x
+sum_before x old now some are = let e : suc (x - 1) ≡ x = omega arith in are.done (x - 1) (omega arith) ∙ ap (sum_in (slice_index old) 0) e
+
+pub summed_fits : (x bound : ℕ) (old now : List ℕ) → 0 < x → AreSummedTo x old now → ((y : ℕ) → slice_index old y ≤ bound) → slice_index now x + slice_index now (x - 1) ≤ bound * x + bound
+summed_fits x bound old now some are small =
+    let before = sum_before x old now some are in
+    let most = sum_in_bound (slice_index old) bound x small in
+    let here = are.rest x (omega arith) in
+    let one = small x in
+    omega arith
+
+pub summed_more : (x : ℕ) (old now : List ℕ) → 0 < x → x < length now → AreSummedTo x old now → AreSummedTo (x + 1) old (set now x (slice_index now x + slice_index now (x - 1)))
+summed_more x old now some lt are =
+    let sum = slice_index now x + slice_index now (x - 1) in
+    let before = sum_before x old now some are in
+    let same = are.rest x (omega arith) in
+    let one = sum_in_at (slice_index old) 0 x (omega arith) in
+    let here = at_here now x sum lt in
+    record {
+      len = length-set now x sum ∙ are.len;
+      done = λ y far. elim (cases_eq y x) [
+        | inl e ↦ subst (λ z. slice_index (set now x sum) z ≡ sum_in (slice_index old) 0 (suc z)) (sym e) (omega arith)
+        | inr ne ↦ at_other now x sum y ne ∙ are.done y (omega arith)
+      ];
+      rest = λ y le. at_other now x sum y (omega arith) ∙ are.rest y (omega arith);
+    }

@@ -1,17 +1,20 @@
+-- No public clause names this.
 -- Row subtrees by their leaves: what holds of the tables while columns are taken into rows one after another. Where the columns are numbered
--- in postorder, the subtree of column x is a span, from the first column below x to x itself. Gilbert, Ng and Peyton 1994. No public clause
--- names this. Columns are counted from 1, and n is one more than there are.
-use Rattle.std.specs.Prelude.{◌≡◌, ◌⊎◌, ◌↔◌, ◌==◌, ℕ, suc, ◌+◌, ◌-◌, ◌*◌, ◌<◌, ◌≤◌, Bool, true, ◌&&◌, ◌||◌, IsTrue, List, length}
+-- in postorder, the subtree of column x is a span, from the first column below x to x itself. Gilbert, Ng and Peyton 1994.
+-- Columns are counted from 1, and n is one more than there are.
+use Rattle.std.specs.Prelude.{◌≡◌, ◌⊎◌, ◌↔◌, ◌==◌, ℕ, suc, ◌+◌, ◌-◌, ◌*◌, ◌<◌, ◌≤◌, Bool, true, ◌&&◌, ◌||◌, IsTrue, List, length, slice_index}
 use Rattle.ordering.specs.Fill.{count_of}
+use Rattle.limits.specs.Limits.{most_order}
+use Rattle.elim_tree.specs.Forests.{column_in}
 use Rattle.elim_tree.specs.Trees.{parent_at, IsAbove}
-use Rattle.column_counts.specs.Marks.{at, column_in}
+use Rattle.column_counts.specs.declared.leaves.Leaves.{Leaves}
 use Rattle.column_counts.specs.Sums.{any_in, sum_in, passing}
 
 -- ---- subtrees as spans
 
 -- the first of the columns from which the ways up come to x
 abbrev pub IsFirsts : List ℕ → List ℕ → Type 0
-IsFirsts parents firsts = (x y : ℕ) → x ≤ length parents → IsAbove parents y x ↔ ((at firsts x ≤ y) × (y ≤ x))
+IsFirsts parents firsts = (x y : ℕ) → x ≤ length parents → IsAbove parents y x ↔ ((slice_index firsts x ≤ y) × (y ≤ x))
 
 -- x itself is in its span; spans are nested or apart
 pub record AreSpans (first : ℕ → ℕ) : Type 0 where
@@ -20,15 +23,15 @@ pub record AreSpans (first : ℕ → ℕ) : Type 0 where
 
 -- first descendants are made: each is below its column, and those of the columns before j were carried to the parents
 pub record AreCarried (parents firsts : List ℕ) (j : ℕ) : Type 0 where
-  pub low : (x : ℕ) → x ≤ length parents → IsAbove parents (at firsts x) x
-  pub carried : (c : ℕ) → c < j → 0 < parent_at parents c → at firsts (parent_at parents c) ≤ at firsts c
+  pub low : (x : ℕ) → x ≤ length parents → IsAbove parents (slice_index firsts x) x
+  pub carried : (c : ℕ) → c < j → 0 < parent_at parents c → slice_index firsts (parent_at parents c) ≤ slice_index firsts c
 
 -- ---- least common ancestors
 
--- from a column below j the jumps lead up its ancestors, and pass over none that is not below j
-pub record CanJump (first : ℕ → ℕ) (n j : ℕ) (jump : ℕ → ℕ) : Type 0 where
-  pub rises : (z : ℕ) → 0 < jump z → (z < jump z) × (first (jump z) ≤ z)
-  pub nearest : (z w : ℕ) → z < w → w < n → first w ≤ z → j ≤ w → (0 < jump z) × (jump z ≤ w)
+-- from a column below j the ancestors lead up the tree, and pass over none that is not below j
+pub record AreAncestors (first : ℕ → ℕ) (n j : ℕ) (ancestor : ℕ → ℕ) : Type 0 where
+  pub rises : (z : ℕ) → 0 < ancestor z → (z < ancestor z) × (first (ancestor z) ≤ z)
+  pub nearest : (z w : ℕ) → z < w → w < n → first w ≤ z → j ≤ w → (0 < ancestor z) × (ancestor z ≤ w)
 
 -- q is the least common ancestor of a column and a later one, j: the least above the column that is not below j
 pub record IsCommonAncestor (first : ℕ → ℕ) (n column j q : ℕ) : Type 0 where
@@ -60,47 +63,75 @@ pub record AreTaken (joined : ℕ → ℕ → Bool) (n j : ℕ) (taken : ℕ →
   pub sound : (i y : ℕ) → taken i y ≡ true → IsInRow joined i y × (0 < y)
   pub whole : (i y : ℕ) → 0 < y → y < j → i < n → IsInRow joined i y → taken i y ≡ true
 
+-- ---- the tables
+
+-- each has so many places
+pub record HaveLength (n : ℕ) (t : Leaves) : Type 0 where
+  pub ancestors : length t.ancestors.table.items ≡ n
+  pub last : length t.last.items ≡ n
+  pub leaves : length t.leaves.items ≡ n
+  pub meetings : length t.meetings.items ≡ n
+
+-- nothing is in them, and the ancestors are the parents
+pub record AreEmpty (parents : List ℕ) (t : Leaves) : Type 0 where
+  pub long : HaveLength (length parents + 1) t
+  pub ancestors : (x : ℕ) → x ≤ length parents → slice_index t.ancestors.table.items x ≡ parent_at parents x
+  pub clear : (x : ℕ) → (slice_index t.last.items x ≡ 0) × (slice_index t.leaves.items x ≡ 0) × (slice_index t.meetings.items x ≡ 0)
+
+-- column j may be taken
+pub record AreReady (firsts : List ℕ) (j : ℕ) (t : Leaves) : Type 0 where
+  pub long : HaveLength (length firsts) t
+  pub inside : (x : ℕ) → slice_index t.ancestors.table.items x < length firsts
+  pub ancestors : AreAncestors (slice_index firsts) (length firsts) j (slice_index t.ancestors.table.items)
+
+-- no entry is above a bound
+abbrev pub AreAtMost : ℕ → Leaves → Type 0
+AreAtMost bound t = (x : ℕ) → (slice_index t.leaves.items x ≤ bound) × (slice_index t.meetings.items x ≤ bound)
+
+-- a column is taken into its own row and at most 10^6 others, so that an entry grows by no more
+abbrev pub growth : ℕ → ℕ
+growth j = (most_order + 1) * j
+
+-- these columns were taken, and none after j
+abbrev pub HoldLeaves : List ℕ → ℕ → (ℕ → ℕ → Bool) → Leaves → Type 0
+HoldLeaves firsts j taken t =
+    AreLeaves (slice_index firsts) (length firsts) j taken (slice_index t.last.items) (slice_index t.leaves.items) (slice_index t.meetings.items)
+
 -- the columns before j were taken into all of their rows
-abbrev pub AreLeavesBefore : (ℕ → ℕ → Bool) → List ℕ → ℕ → List ℕ → List ℕ → List ℕ → Type 0
-AreLeavesBefore joined firsts j last leaves meetings =
-    (taken : ℕ → ℕ → Bool) × AreLeaves (at firsts) (length firsts) j taken (at last) (at leaves) (at meetings) × AreTaken joined (length firsts) j taken
+abbrev pub AreLeavesBefore : (ℕ → ℕ → Bool) → List ℕ → ℕ → Leaves → Type 0
+AreLeavesBefore joined firsts j t = (taken : ℕ → ℕ → Bool) × HoldLeaves firsts j taken t × AreTaken joined (length firsts) j taken
 
 -- column j, with this list of neighbours, may be taken into its rows
-pub record CanTakeColumn (joined : ℕ → ℕ → Bool) (firsts list order : List ℕ) (j : ℕ) (last leaves meetings : List ℕ) : Type 0 where
-  pub below : (i y : ℕ) → i < length firsts → IsInRow joined i y → at firsts i ≤ y
+pub record CanTakeColumn (joined : ℕ → ℕ → Bool) (firsts list order : List ℕ) (j : ℕ) (t : Leaves) : Type 0 where
+  pub below : (i y : ℕ) → i < length firsts → IsInRow joined i y → slice_index firsts i ≤ y
   pub sound : (k : ℕ) → k < length list → j < column_in list order k → IsTrue (joined (column_in list order k) j)
   pub whole : (i : ℕ) → j < i → IsTrue (joined i j) → (k : ℕ) × (k < length list) × (column_in list order k ≡ i)
-  pub before : AreLeavesBefore joined firsts j last leaves meetings
+  pub before : AreLeavesBefore joined firsts j t
 
 -- it was taken into its own row and those of the first k of the list
-abbrev pub AreLeavesWith : (ℕ → ℕ → Bool) → List ℕ → List ℕ → List ℕ → ℕ → ℕ → List ℕ → List ℕ → List ℕ → Type 0
-AreLeavesWith joined firsts list order j k last leaves meetings =
-    (taken : ℕ → ℕ → Bool) × AreLeaves (at firsts) (length firsts) j taken (at last) (at leaves) (at meetings) × AreTaken joined (length firsts) j taken
+abbrev pub AreLeavesWith : (ℕ → ℕ → Bool) → List ℕ → List ℕ → List ℕ → ℕ → ℕ → Leaves → Type 0
+AreLeavesWith joined firsts list order j k t =
+    (taken : ℕ → ℕ → Bool) × HoldLeaves firsts j taken t × AreTaken joined (length firsts) j taken
     × (taken j j ≡ true) × ((e : ℕ) → e < k → j < column_in list order e → taken (column_in list order e) j ≡ true)
 
 -- ---- the counts
 
--- no entry is above a bound
-abbrev pub AreAtMost : ℕ → List ℕ → Type 0
-AreAtMost bound table = (x : ℕ) → at table x ≤ bound
-
--- a column is taken into its own row and at most 10^6 others, so that an entry grows by no more
-abbrev pub growth : ℕ → ℕ
-growth j = 1000001 * j
-
 -- over the span of x, leaves less meetings come to the count of x and one for each column below it
-abbrev pub AreBalanced : (ℕ → ℕ → Bool) → ℕ → List ℕ → List ℕ → List ℕ → Type 0
-AreBalanced joined n firsts leaves meetings = (x : ℕ) → 0 < x → x ≤ n →
-    sum_in (at leaves) (at firsts x) (suc x) ≡ count_of joined n x + (x - at firsts x) + sum_in (at meetings) (at firsts x) (suc x)
+abbrev pub AreBalanced : (ℕ → ℕ → Bool) → ℕ → List ℕ → Leaves → Type 0
+AreBalanced joined n firsts t = (x : ℕ) → 0 < x → x ≤ n →
+    sum_in (slice_index t.leaves.items) (slice_index firsts x) (suc x)
+    ≡ count_of joined n x + (x - slice_index firsts x) + sum_in (slice_index t.meetings.items) (slice_index firsts x) (suc x)
 
 -- a table as its sums: at x that of the entries up to x
 abbrev pub AreSums : List ℕ → List ℕ → Type 0
-AreSums table sums = (x : ℕ) → x < length table → at sums x ≡ sum_in (at table) 0 (suc x)
+AreSums table sums = (length sums ≡ length table) × ((x : ℕ) → x < length table → slice_index sums x ≡ sum_in (slice_index table) 0 (suc x))
 
 -- over the span of x, the difference of the sums of leaves less that of meetings is the count and one for each column below x
-pub record HasCount (firsts leaves meetings : List ℕ) (x count : ℕ) : Type 0 where
-  pub some : 0 < at firsts x
-  pub own : at firsts x ≤ x
-  pub rising : (at leaves (at firsts x - 1) ≤ at leaves x) × (at meetings (at firsts x - 1) ≤ at meetings x)
-  pub is : at leaves x + at meetings (at firsts x - 1) ≡ count + (x - at firsts x) + at meetings x + at leaves (at firsts x - 1)
-  pub few : count ≤ 1000000
+pub record HasCount (firsts : List ℕ) (t : Leaves) (x count : ℕ) : Type 0 where
+  pub some : 0 < slice_index firsts x
+  pub own : slice_index firsts x ≤ x
+  pub rising : (slice_index t.leaves.items (slice_index firsts x - 1) ≤ slice_index t.leaves.items x)
+      × (slice_index t.meetings.items (slice_index firsts x - 1) ≤ slice_index t.meetings.items x)
+  pub is : slice_index t.leaves.items x + slice_index t.meetings.items (slice_index firsts x - 1)
+      ≡ count + (x - slice_index firsts x) + slice_index t.meetings.items x + slice_index t.leaves.items (slice_index firsts x - 1)
+  pub few : count ≤ most_order

@@ -1,11 +1,8 @@
--- What holds of counts and marks while the columns of a row are marked. No public clause names this.
+-- No public clause names this.
+-- What holds of counts and marks while the columns of a row are marked.
 use Rattle.std.specs.Prelude.{◌≡◌, ◌≢◌, ◌⊎◌, ◌==◌, ℕ, ◌+◌, ◌^◌, ◌<◌, ◌≤◌, Bool, cond, IsTrue, List, length, slice_index}
-use Rattle.ordering.specs.Perm.{place_of}
+use Rattle.elim_tree.specs.Forests.{column_in}
 use Rattle.elim_tree.specs.Trees.{parent_at}
-
--- a table as a function
-abbrev pub at : List ℕ → ℕ → ℕ
-at table x = slice_index table x
 
 -- one, where a test holds
 abbrev pub bit : Bool → ℕ
@@ -37,26 +34,22 @@ CanGoOn i c parent counts marks = (c ≤ i) × ((marks c ≡ i → ⊥) → (c <
 abbrev pub CanMarkUp : Row → ℕ → ℕ → List ℕ → List ℕ → List ℕ → Type 0
 CanMarkUp row i start parents counts marks =
     IsFactorRow (parent_at parents) i row.holds × ((x : ℕ) → row.before x + 1 < 2 ^ 32) × IsTrue (row.holds start)
-    × IsMarked row (parent_at parents) i i (at counts) (at marks)
+    × IsMarked row (parent_at parents) i i (slice_index counts) (slice_index marks)
 
 -- it is marked, and whoever was marked still is
 abbrev pub IsMarkedUp : Row → ℕ → ℕ → List ℕ → List ℕ → List ℕ → List ℕ → Type 0
 IsMarkedUp row i start parents marked counts marks =
-    IsMarked row (parent_at parents) i i (at counts) (at marks) × (at marks start ≡ i) × ((x : ℕ) → at marked x ≡ i → at marks x ≡ i)
-
--- the column of the j-th vertex of a list
-abbrev pub column_in : List ℕ → List ℕ → ℕ → ℕ
-column_in list order j = place_of order (at list j)
+    IsMarked row (parent_at parents) i i (slice_index counts) (slice_index marks) × (slice_index marks start ≡ i) × ((x : ℕ) → slice_index marked x ≡ i → slice_index marks x ≡ i)
 
 -- row i may be marked from this list of neighbours
 abbrev pub CanMarkRow : Row → ℕ → List ℕ → List ℕ → List ℕ → List ℕ → List ℕ → Type 0
 CanMarkRow row i list order parents counts marks =
     IsFactorRow (parent_at parents) i row.holds × ((x : ℕ) → row.before x + 1 < 2 ^ 32)
     × ((j : ℕ) → j < length list → column_in list order j < i → IsTrue (row.holds (column_in list order j)))
-    × ((x : ℕ) → (at counts x ≡ row.before x) × (at marks x < i))
+    × ((x : ℕ) → (slice_index counts x ≡ row.before x) × (slice_index marks x < i))
 
 -- the ways up from the earlier ones among the first k of the list are marked
 abbrev pub IsMarkedRow : Row → ℕ → List ℕ → List ℕ → ℕ → List ℕ → List ℕ → List ℕ → Type 0
 IsMarkedRow row i list order k parents counts marks =
-    IsMarked row (parent_at parents) i i (at counts) (at marks)
-    × ((j : ℕ) → j < k → column_in list order j < i → at marks (column_in list order j) ≡ i)
+    IsMarked row (parent_at parents) i i (slice_index counts) (slice_index marks)
+    × ((j : ℕ) → j < k → column_in list order j < i → slice_index marks (column_in list order j) ≡ i)

@@ -1,4 +1,5 @@
--- Sums and tests over numbers in a span. No public clause names this.
+-- No public clause names this.
+-- Sums and tests over numbers in a span.
 use Rattle.std.specs.Prelude.{ℕ, zero, suc, ◌+◌, Bool, false, cond, ◌&&◌, ◌||◌, nat_le}
 use Rattle.column_counts.specs.Marks.{bit}
 

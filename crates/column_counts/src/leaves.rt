@@ -1,153 +1,159 @@
 //! The leaves of the row subtrees, and where the ways up from them meet.
 
-ghost use Rattle.std.specs.Prelude.{◌≡◌, ℕ, Bool, ◌+◌, ◌-◌, ◌^◌, ◌<◌, ◌≤◌, length, slice_index};
+ghost use Rattle.std.specs.Prelude.{◌≡◌, ℕ, Bool, ◌+◌, ◌-◌, ◌^◌, ◌<◌, ◌≤◌, length, map, IfOk, slice_index};
+ghost use Rattle.std.specs.List.{range_with_len};
+ghost use Rattle.limits.specs.Limits.{most_order};
 ghost use Rattle.matrix_market.specs.Pattern.{is_joined};
-ghost use Rattle.ordering.specs.Fill.{renamed, count_of, parents_of};
-ghost use Rattle.elim_tree.specs.Trees.{parent_at};
-ghost use Rattle.column_counts.specs.Marks.{at};
-ghost use Rattle.column_counts.specs.Leaves.{IsFirsts, AreSpans, CanJump, AreLeaves, with_entry, CanTakeColumn, AreLeavesBefore, AreAtMost, growth, AreBalanced, HasCount};
+ghost use Rattle.ordering.specs.Fill.{renumbered, count_of, parents_of};
+ghost use Rattle.column_counts.specs.Leaves.{IsFirsts, AreSpans, with_entry, AreEmpty, AreReady, HoldLeaves, CanTakeColumn, AreLeavesBefore, AreAtMost, growth, AreBalanced, AreSums, HasCount};
 
-use crate::ancestors::least_common_ancestor;
-use crate::sums::sum_up;
+use crate::NoMemory;
+use crate::ancestors::Ancestors;
 use elim_tree::Parents;
-use elim_tree::laws::{no_earlier_row, renamed_pattern, row_subtrees};
+use elim_tree::laws::{no_earlier_row, renumbered_pattern, row_subtrees};
 use matrix_market::Pattern;
 use ordering::Perm;
 use ordering::laws::{parent_is_first, places_are_inverse};
+use std::alloc::Global;
 
-// Takes column `j` into row `i`. Where it is a further leaf of the row subtree, its way up is new as far as it meets that of the last leaf.
-fn take_leaf(
-    firsts: &[u32],
-    jumps: &mut [u32],
-    last: &mut [u32],
-    leaves: &mut [u64],
-    meetings: &mut [u64],
-    i: u32,
-    j: u32,
-)
-    requires lengths { (length jumps.old ≡ length firsts.now) × (length last.old ≡ length firsts.now) × (length leaves.old ≡ length firsts.now) × (length meetings.old ≡ length firsts.now) }
-    requires places { (0 < at firsts.now j) × (j ≤ i) × (i < length firsts.now) }
-    requires inside { (x : ℕ) → at jumps.old x < length jumps.old }
-    requires small { (x : ℕ) → (at leaves.old x < 2 ^ 63) × (at meetings.old x < 2 ^ 63) }
-    requires spans { AreSpans (at firsts.now) }
-    requires jumps { CanJump (at firsts.now) (length firsts.now) j (at jumps.old) }
-    requires before { 0 < at last.old i → at firsts.now i ≤ at last.old i }
-    ensures taken { (taken : ℕ → ℕ → Bool) → AreLeaves (at firsts.now) (length firsts.now) j taken (at last.old) (at leaves.old) (at meetings.old) →
-        AreLeaves (at firsts.now) (length firsts.now) j (with_entry taken i j) (at last.new) (at leaves.new) (at meetings.new) }
-    ensures jumps { CanJump (at firsts.now) (length firsts.now) j (at jumps.new) }
-    ensures inside { (x : ℕ) → at jumps.new x < length jumps.new }
-    ensures lengths { (length jumps.new ≡ length jumps.old) × (length last.new ≡ length last.old) × (length leaves.new ≡ length leaves.old) × (length meetings.new ≡ length meetings.old) }
-    ensures growth { (bound : ℕ) → AreAtMost bound leaves.old → AreAtMost bound meetings.old → (x : ℕ) → (at leaves.new x ≤ bound + 1) × (at meetings.new x ≤ bound + 1) }
-{
-    let leaf = last[i as usize];
-    if firsts[j as usize] <= leaf {
-        return;
-    }
-    leaves[j as usize] += 1;
-    last[i as usize] = j;
-    if leaf == 0 {
-        return;
-    }
-    let meeting = least_common_ancestor(jumps, leaf, j);
-    meetings[meeting as usize] += 1;
+// The leaves of the row subtrees, as columns are taken into their rows one after another.
+#[derive(Drop)]
+pub(crate) struct Leaves {
+    pub(crate) ancestors: Ancestors,
+    // the last leaf of each row, or 0
+    pub(crate) last: Vec<u32>,
+    // of how many rows each column is a leaf
+    pub(crate) leaves: Vec<u64>,
+    // how often a way up meets another one at each column
+    pub(crate) meetings: Vec<u64>,
 }
 
-// Takes column `j` into its own row and into those of its later neighbours.
-fn take_column(
-    firsts: &[u32],
-    jumps: &mut [u32],
-    last: &mut [u32],
-    leaves: &mut [u64],
-    meetings: &mut [u64],
-    row: &[u32],
-    perm: &Perm,
-    j: u32,
-)
-    requires lengths { (length jumps.old ≡ length firsts.now) × (length last.old ≡ length firsts.now) × (length leaves.old ≡ length firsts.now) × (length meetings.old ≡ length firsts.now) × (length firsts.now ≡ length perm.now + 1) }
-    requires places { (0 < at firsts.now j) × (j < length firsts.now) × (j ≤ 1000000) × (length row.now ≤ 1000000) }
-    requires vertices { (k : ℕ) → k < length row.now → slice_index row.now k ≤ length perm.now }
-    requires inside { (x : ℕ) → at jumps.old x < length jumps.old }
-    requires small { AreAtMost (growth (j - 1)) leaves.old × AreAtMost (growth (j - 1)) meetings.old }
-    requires spans { AreSpans (at firsts.now) }
-    requires jumps { CanJump (at firsts.now) (length firsts.now) j (at jumps.old) }
-    requires row { (joined : ℕ → ℕ → Bool) × CanTakeColumn joined firsts.now row.now perm.now j last.old leaves.old meetings.old }
-    ensures taken { (joined : ℕ → ℕ → Bool) → CanTakeColumn joined firsts.now row.now perm.now j last.old leaves.old meetings.old →
-        AreLeavesBefore joined firsts.now (j + 1) last.new leaves.new meetings.new }
-    ensures jumps { CanJump (at firsts.now) (length firsts.now) (j + 1) (at jumps.new) }
-    ensures inside { (x : ℕ) → at jumps.new x < length jumps.new }
-    ensures lengths { (length jumps.new ≡ length jumps.old) × (length last.new ≡ length last.old) × (length leaves.new ≡ length leaves.old) × (length meetings.new ≡ length meetings.old) }
-    ensures small { AreAtMost (growth j) leaves.new × AreAtMost (growth j) meetings.new }
-{
-    take_leaf(firsts, jumps, last, leaves, meetings, j, j);
-    for vertex in row {
-        let i = perm.place(*vertex);
-        if j < i {
-            take_leaf(firsts, jumps, last, leaves, meetings, i, j);
+impl Leaves {
+    // Before any column is taken.
+    pub(crate) fn new(alloc: Global, parents: &Parents) -> Result<Leaves, NoMemory>
+        ensures { IfOk result (AreEmpty parents.now) }
+    {
+        let places = parents.len() as usize + 1;
+        let ancestors = Ancestors::new(alloc, parents)?;
+        let last = vec![in alloc; 0u32; places]?;
+        let leaves = vec![in alloc; 0u64; places]?;
+        let meetings = vec![in alloc; 0u64; places]?;
+        Ok(Leaves {
+            ancestors,
+            last,
+            leaves,
+            meetings,
+        })
+    }
+
+    // Takes column `j` into row `i`. Where it is a further leaf of the row subtree, its way up is new as far as it meets that of the
+    // last leaf.
+    fn take_leaf(&mut self, firsts: &[u32], i: u32, j: u32)
+        requires places { (0 < slice_index firsts.now j) × (j ≤ i) × (i < length firsts.now) }
+        requires small { AreAtMost (2 ^ 63) self.old }
+        requires spans { AreSpans (slice_index firsts.now) }
+        requires ready { AreReady firsts.now j self.old }
+        requires before { 0 < slice_index self.old.last.items i → slice_index firsts.now i ≤ slice_index self.old.last.items i }
+        ensures taken { (taken : ℕ → ℕ → Bool) → HoldLeaves firsts.now j taken self.old → HoldLeaves firsts.now j (with_entry taken i j) self.new }
+        ensures ready { AreReady firsts.now j self.new }
+        ensures growth { (bound : ℕ) → AreAtMost bound self.old → AreAtMost (bound + 1) self.new }
+    {
+        let leaf = self.last[i as usize];
+        if firsts[j as usize] <= leaf {
+            return;
+        }
+        self.leaves[j as usize] += 1;
+        self.last[i as usize] = j;
+        if leaf == 0 {
+            return;
+        }
+        let meeting = self.ancestors.least_common(leaf, j);
+        self.meetings[meeting as usize] += 1;
+    }
+
+    // Takes column `j` into its own row and into those of its later neighbours.
+    fn take_column(&mut self, firsts: &[u32], row: &[u32], perm: &Perm, j: u32)
+        requires len { length firsts.now ≡ length perm.now + 1 }
+        requires places { (0 < slice_index firsts.now j) × (j < length firsts.now) × (j ≤ most_order) × (length row.now ≤ most_order) }
+        requires vertices { (k : ℕ) → k < length row.now → slice_index row.now k ≤ length perm.now }
+        requires small { AreAtMost (growth (j - 1)) self.old }
+        requires spans { AreSpans (slice_index firsts.now) }
+        requires ready { AreReady firsts.now j self.old }
+        requires row { (joined : ℕ → ℕ → Bool) × CanTakeColumn joined firsts.now row.now perm.now j self.old }
+        ensures taken { (joined : ℕ → ℕ → Bool) → CanTakeColumn joined firsts.now row.now perm.now j self.old →
+            AreLeavesBefore joined firsts.now (j + 1) self.new }
+        ensures ready { AreReady firsts.now (j + 1) self.new }
+        ensures small { AreAtMost (growth j) self.new }
+    {
+        self.take_leaf(firsts, j, j);
+        for vertex in row {
+            let i = perm.place(*vertex);
+            if j < i {
+                self.take_leaf(firsts, i, j);
+            }
         }
     }
-}
 
-// Takes column after column. Over the span of a column, leaves less meetings then come to its count and one for each column below it.
-fn take_columns(
-    firsts: &[u32],
-    jumps: &mut [u32],
-    last: &mut [u32],
-    leaves: &mut [u64],
-    meetings: &mut [u64],
-    pattern: &Pattern,
-    perm: &Perm,
-    parents: &Parents,
-)
-    requires lengths { (length jumps.old ≡ length firsts.now) × (length last.old ≡ length firsts.now) × (length leaves.old ≡ length firsts.now) × (length meetings.old ≡ length firsts.now) × (length firsts.now ≡ length perm.now + 1) }
-    requires len { length perm.now ≡ length pattern.now }
-    requires tree { parents.now ≡ parents_of (renamed (is_joined pattern.now) perm.now) (length perm.now) }
-    requires firsts { IsFirsts parents.now firsts.now }
-    requires jumps { (x : ℕ) → x ≤ length parents.now → at jumps.old x ≡ parent_at parents.now x }
-    requires clear { (x : ℕ) → (at last.old x ≡ 0) × (at leaves.old x ≡ 0) × (at meetings.old x ≡ 0) }
-    ensures lengths { (length leaves.new ≡ length leaves.old) × (length meetings.new ≡ length meetings.old) }
-    ensures balanced { AreBalanced (renamed (is_joined pattern.now) perm.now) (length perm.now) firsts.now leaves.new meetings.new }
-    ensures small { AreAtMost (growth 1000000) leaves.new × AreAtMost (growth 1000000) meetings.new }
-{
-    row_subtrees();
-    renamed_pattern();
-    no_earlier_row();
-    parent_is_first();
-    places_are_inverse();
-    let _order = pattern.order();
-    let _columns = parents.len();
-    let n = perm.len();
-    for j in 1..n + 1 {
-        let row = pattern.neighbours(perm.at(j));
-        take_column(firsts, jumps, last, leaves, meetings, row, perm, j);
+    // Takes column after column. Over the span of a column, leaves less meetings then come to its count and one for each column below it.
+    pub(crate) fn take_columns(
+        &mut self,
+        firsts: &[u32],
+        pattern: &Pattern,
+        perm: &Perm,
+        parents: &Parents,
+    )
+        requires len { length perm.now ≡ length pattern.now }
+        requires tree { parents.now ≡ parents_of (renumbered (is_joined pattern.now) perm.now) (length perm.now) }
+        requires long { length firsts.now ≡ length parents.now + 1 }
+        requires firsts { IsFirsts parents.now firsts.now }
+        requires empty { AreEmpty parents.now self.old }
+        ensures balanced { AreBalanced (renumbered (is_joined pattern.now) perm.now) (length perm.now) firsts.now self.new }
+        ensures small { AreAtMost (growth most_order) self.new }
+        ensures lengths { (length self.new.leaves.items ≡ length firsts.now) × (length self.new.meetings.items ≡ length firsts.now) }
+    {
+        row_subtrees();
+        renumbered_pattern();
+        no_earlier_row();
+        parent_is_first();
+        places_are_inverse();
+        perm.keeps();
+        parents.keeps();
+        for j in 1..pattern.order() + 1 {
+            let row = pattern.neighbours(perm.at(j));
+            self.take_column(firsts, row, perm, j);
+        }
     }
-}
 
-// Sums up the leaves of all row subtrees, and the meetings of the ways up from them, over the columns up to each.
-pub(crate) fn sum_leaves(
-    firsts: &[u32],
-    jumps: &mut [u32],
-    last: &mut [u32],
-    leaves: &mut [u64],
-    meetings: &mut [u64],
-    pattern: &Pattern,
-    perm: &Perm,
-    parents: &Parents,
-)
-    requires lengths { (length jumps.old ≡ length firsts.now) × (length last.old ≡ length firsts.now) × (length leaves.old ≡ length firsts.now) × (length meetings.old ≡ length firsts.now) × (length firsts.now ≡ length perm.now + 1) }
-    requires len { length perm.now ≡ length pattern.now }
-    requires tree { parents.now ≡ parents_of (renamed (is_joined pattern.now) perm.now) (length perm.now) }
-    requires firsts { IsFirsts parents.now firsts.now }
-    requires jumps { (x : ℕ) → x ≤ length parents.now → at jumps.old x ≡ parent_at parents.now x }
-    requires clear { (x : ℕ) → (at last.old x ≡ 0) × (at leaves.old x ≡ 0) × (at meetings.old x ≡ 0) }
-    ensures lengths { (length leaves.new ≡ length leaves.old) × (length meetings.new ≡ length meetings.old) }
-    ensures counts { (x : ℕ) → 0 < x → x ≤ length perm.now →
-        HasCount firsts.now leaves.new meetings.new x (count_of (renamed (is_joined pattern.now) perm.now) (length perm.now) x) }
-{
-    let _order = pattern.order();
-    let _columns = parents.len();
-    take_columns(
-        firsts, jumps, last, leaves, meetings, pattern, perm, parents,
-    );
-    sum_up(leaves);
-    sum_up(meetings);
+    // Puts at each column the sums of leaves and of meetings over the columns up to it.
+    pub(crate) fn sum_up(&mut self)
+        requires len { length self.old.meetings.items ≡ length self.old.leaves.items }
+        requires few { length self.old.leaves.items ≤ most_order + 1 }
+        requires small { AreAtMost (growth most_order) self.old }
+        ensures leaves { AreSums self.old.leaves.items self.new.leaves.items }
+        ensures meetings { AreSums self.old.meetings.items self.new.meetings.items }
+    {
+        for x in 1..self.leaves.len() {
+            self.leaves[x] += self.leaves[x - 1];
+            self.meetings[x] += self.meetings[x - 1];
+        }
+    }
+
+    // The counts, of the sums up to each column: over the span of a column, leaves less meetings are its count and one for each column
+    // below it.
+    pub(crate) fn counts(&self, alloc: Global, firsts: &[u32]) -> Result<Vec<u32>, NoMemory>
+        requires lengths { (0 < length firsts.now) × (length self.now.leaves.items ≡ length firsts.now) × (length self.now.meetings.items ≡ length firsts.now) }
+        requires counts { (count : ℕ → ℕ) × ((x : ℕ) → 0 < x → x < length firsts.now → HasCount firsts.now self.now x (count x)) }
+        ensures { (count : ℕ → ℕ) → ((x : ℕ) → 0 < x → x < length firsts.now → HasCount firsts.now self.now x (count x)) →
+            IfOk result (λ counts. counts.items ≡ map count (range_with_len 1 (length firsts.now - 1))) }
+    {
+        let mut counts = Vec::with_capacity(alloc, firsts.len() - 1)?;
+        for column in 1..firsts.len() {
+            let first = firsts[column] as usize;
+            let leaves = self.leaves[column] - self.leaves[first - 1];
+            let meetings = self.meetings[column] - self.meetings[first - 1];
+            let descendants = (column - first) as u64;
+            counts.push((leaves - meetings - descendants) as u32)?;
+        }
+        Ok(counts)
+    }
 }

@@ -8,9 +8,12 @@ mod counting;
 mod leaves;
 mod marking;
 mod spans;
-mod sums;
 #[cfg(test)]
 mod tests;
 
-pub use counting::{NoMemory, counts};
+pub use counting::counts;
 pub use marking::counts_by_marking;
+use std::alloc::AllocError;
+
+/// Want of memory: an allocation was refused.
+pub type NoMemory = AllocError;

@@ -2,13 +2,13 @@
 
 ghost use Rattle.std.specs.Prelude.{◌≡◌, ℕ, ◌+◌, ◌<◌, ◌≤◌, length, slice_index, IfOk};
 ghost use Rattle.matrix_market.specs.Pattern.{is_joined};
-ghost use Rattle.ordering.specs.Fill.{renamed, count_of, parents_of, counts_of};
+ghost use Rattle.ordering.specs.Fill.{renumbered, count_of, parents_of, counts_of};
 ghost use Rattle.elim_tree.specs.Postorders.{IsNumberedInPostorder};
-ghost use Rattle.column_counts.specs.Marks.{Row, CanMarkUp, IsMarkedUp, CanMarkRow, IsMarkedRow, at};
+ghost use Rattle.column_counts.specs.Marks.{Row, CanMarkUp, IsMarkedUp, CanMarkRow, IsMarkedRow};
 
-use crate::counting::NoMemory;
+use crate::NoMemory;
 use elim_tree::Parents;
-use elim_tree::laws::{no_earlier_row, renamed_pattern, row_subtrees};
+use elim_tree::laws::{no_earlier_row, renumbered_pattern, row_subtrees};
 use matrix_market::Pattern;
 use ordering::Perm;
 use ordering::laws::{parent_is_first, places_are_inverse};
@@ -63,21 +63,20 @@ fn mark_rows(
     parents: &Parents,
 )
     requires lengths { (length counts.old ≡ length perm.now + 1) × (length marks.old ≡ length perm.now + 1) }
-    requires clear { (x : ℕ) → (at counts.old x ≡ 0) × (at marks.old x ≡ 0) }
+    requires clear { (x : ℕ) → (slice_index counts.old x ≡ 0) × (slice_index marks.old x ≡ 0) }
     requires len { length perm.now ≡ length pattern.now }
-    requires tree { parents.now ≡ parents_of (renamed (is_joined pattern.now) perm.now) (length perm.now) }
+    requires tree { parents.now ≡ parents_of (renumbered (is_joined pattern.now) perm.now) (length perm.now) }
     ensures len { length counts.new ≡ length counts.old }
-    ensures all { (x : ℕ) → at counts.new x ≡ count_of (renamed (is_joined pattern.now) perm.now) (length perm.now) x }
+    ensures all { (x : ℕ) → slice_index counts.new x ≡ count_of (renumbered (is_joined pattern.now) perm.now) (length perm.now) x }
 {
     row_subtrees();
-    renamed_pattern();
+    renumbered_pattern();
     no_earlier_row();
     parent_is_first();
     places_are_inverse();
-    let _order = pattern.order();
-    let _columns = parents.len();
-    let n = perm.len();
-    for i in 1..=n {
+    perm.keeps();
+    parents.keeps();
+    for i in 1..pattern.order() + 1 {
         let row = pattern.neighbours(perm.at(i));
         mark_row(counts, marks, parents, row, perm, i);
     }
@@ -91,9 +90,9 @@ pub fn counts_by_marking(
     parents: &Parents,
 ) -> Result<Vec<u32>, NoMemory>
     requires len { length perm.now ≡ length pattern.now }
-    requires tree { parents.now ≡ parents_of (renamed (is_joined pattern.now) perm.now) (length perm.now) }
+    requires tree { parents.now ≡ parents_of (renumbered (is_joined pattern.now) perm.now) (length perm.now) }
     requires in_postorder { IsNumberedInPostorder parents.now }
-    ensures { IfOk result (λ counts. counts.items ≡ counts_of (renamed (is_joined pattern.now) perm.now) (length perm.now)) }
+    ensures { IfOk result (λ counts. counts.items ≡ counts_of (renumbered (is_joined pattern.now) perm.now) (length perm.now)) }
 {
     let places = perm.len() as usize + 1;
     let mut counts = vec![in alloc; 0u32; places]?;

@@ -1,75 +1,151 @@
-//! Counts worked by hand.
+//! Counts worked by hand, and a plain elimination beside them.
 
 use crate::{counts, counts_by_marking};
 use elim_tree::laws::pattern_of_rows;
-use elim_tree::{etree, postorder, renumber};
+use elim_tree::{Numbered, etree, postorder, renumber};
 use matrix_market::{Pattern, read_pattern};
-use ordering::{Perm, read_perm};
+use ordering::read_perm;
 use std::alloc::Global;
+use std::collections::BTreeSet;
 use std::process::Abort;
 use std::test::Fail;
 
+// The pattern of so many vertices that joins these pairs.
+fn pattern_of(alloc: Global, n: u32, pairs: &[(u32, u32)]) -> Result<Pattern, Fail> {
+    let count = pairs.len();
+    let mut text = format!(in alloc;
+        "%%MatrixMarket matrix coordinate pattern symmetric\n{n} {n} {count}\n"
+    )?;
+    for (a, b) in pairs {
+        text.push_str(format!(in alloc; "{b} {a}\n")?.as_str())?;
+    }
+    Ok(read_pattern(alloc, text.as_bytes())?)
+}
+
+// The counts, the plain way: one vertex after another joins those after it that it is joined to, and counts them and itself.
+fn counts_by_elimination(
+    alloc: Global,
+    pairs: &[(u32, u32)],
+    order: &[u32],
+) -> Result<Vec<usize>, Fail> {
+    let mut joined = BTreeSet::new(alloc);
+    for (a, b) in pairs {
+        joined.insert((*a, *b))?;
+        joined.insert((*b, *a))?;
+    }
+    let mut counts = Vec::new(alloc);
+    for (j, vertex) in order.iter().enumerate() {
+        let mut structure = vec![in alloc; *vertex]?;
+        for later in &order[j + 1..] {
+            if joined.contains(&(*vertex, *later)) {
+                structure.push(*later)?;
+            }
+        }
+        for a in &structure {
+            for b in &structure {
+                if a != b {
+                    joined.insert((*a, *b))?;
+                }
+            }
+        }
+        counts.push(structure.len())?;
+    }
+    Ok(counts)
+}
+
+// The counts along the postorder, both ways, which agree with the plain elimination.
 fn check_counts(
     rt: &impl Abort,
     alloc: Global,
-    pattern: &Pattern,
-    perm: &Perm,
-    wanted: &[u32],
-) -> Result<(), Fail> {
+    n: u32,
+    pairs: &[(u32, u32)],
+    order: &str,
+) -> Result<Vec<u32>, Fail> {
     pattern_of_rows();
-    let columns = wanted.len();
-    assert_eq!(rt; pattern.order() as usize, columns);
-    assert_eq!(rt; perm.len() as usize, columns);
-    let parents = etree(alloc, pattern, perm)?;
-    assert_eq!(rt; parents.len() as usize, columns);
+    let pattern = pattern_of(alloc, n, pairs)?;
+    let perm = read_perm(alloc, order.as_bytes(), n)?;
+    assert_eq!(rt; pattern.order(), n);
+    assert_eq!(rt; perm.len(), n);
+    let parents = etree(alloc, &pattern, &perm)?;
+    assert_eq!(rt; parents.len(), n);
     let post = postorder(alloc, &parents)?;
-    let numbered = renumber(alloc, perm, &parents, &post)?;
-    assert_eq!(rt; numbered.perm.len() as usize, columns);
-    let found = counts(alloc, pattern, &numbered.perm, &numbered.parents)?;
-    assert_eq!(rt; found.as_slice(), wanted);
-    let marked = counts_by_marking(alloc, pattern, &numbered.perm, &numbered.parents)?;
-    assert_eq!(rt; marked.as_slice(), wanted);
-    Ok(())
+    let Numbered { perm, parents } = renumber(alloc, &perm, &parents, &post)?;
+    assert_eq!(rt; perm.len(), n);
+    let found = counts(alloc, &pattern, &perm, &parents)?;
+    let marked = counts_by_marking(alloc, &pattern, &perm, &parents)?;
+    assert_eq!(rt; found.as_slice(), marked.as_slice());
+    let vertices: Vec<u32> = (0..n).map(|k| perm.at(k + 1)).collect(alloc)?;
+    let plain = counts_by_elimination(alloc, pairs, &vertices)?;
+    assert_eq!(rt; found.len(), plain.len());
+    for (count, wanted) in found.iter().zip(&plain) {
+        assert_eq!(rt; *count as usize, *wanted);
+    }
+    Ok(found)
 }
 
+// Vertices, pairs, an order, and the counts along the postorder.
+const ROWS: [(u32, &[(u32, u32)], &str, &[u32]); 8] = [
+    // the arrow, two pairs twice, the grid of 2 by 2, and no pairs
+    (4, &[(1, 2), (1, 3), (1, 4)], "1 2 3 4", &[4, 3, 2, 1]),
+    (4, &[(1, 2), (1, 3), (1, 4)], "2 3 1 4", &[2, 2, 2, 1]),
+    (4, &[(1, 2), (3, 4)], "1 2 3 4", &[2, 1, 2, 1]),
+    (4, &[(1, 3), (2, 4)], "1 2 3 4", &[2, 1, 2, 1]),
+    (
+        4,
+        &[(1, 2), (1, 3), (2, 4), (3, 4)],
+        "1 2 3 4",
+        &[3, 3, 2, 1],
+    ),
+    (4, &[], "1 2 3 4", &[1, 1, 1, 1]),
+    // the ways up from 1 and 2 meet in 3, below row 5; those from 4 go through it
+    (
+        5,
+        &[(1, 3), (2, 3), (3, 4), (1, 5), (2, 5), (4, 5)],
+        "1 2 3 4 5",
+        &[3, 3, 3, 2, 1],
+    ),
+    // row 6 has the leaves 1, 2 and 4, whose ways up meet in 3 and in 5; its entry 3 is no leaf
+    (
+        6,
+        &[
+            (1, 3),
+            (2, 3),
+            (3, 5),
+            (4, 5),
+            (1, 6),
+            (2, 6),
+            (3, 6),
+            (4, 6),
+        ],
+        "1 2 3 4 5 6",
+        &[3, 3, 3, 3, 2, 1],
+    ),
+];
+
 #[test]
-fn small_patterns(rt: HostRuntime) -> Result<(), Fail> {
-    let alloc = rt.alloc();
-    // the arrow, two pairs twice, the grid of 2 by 2, and no pairs: entries of the lower triangle, an order, and the counts along the
-    // postorder
-    let rows: [(&str, &str, [u32; 4]); 6] = [
-        ("4 4 3\n2 1\n3 1\n4 1\n", "1 2 3 4", [4, 3, 2, 1]),
-        ("4 4 3\n2 1\n3 1\n4 1\n", "2 3 1 4", [2, 2, 2, 1]),
-        ("4 4 2\n2 1\n4 3\n", "1 2 3 4", [2, 1, 2, 1]),
-        ("4 4 2\n3 1\n4 2\n", "1 2 3 4", [2, 1, 2, 1]),
-        ("4 4 4\n2 1\n3 1\n4 2\n4 3\n", "1 2 3 4", [3, 3, 2, 1]),
-        ("4 4 0\n", "1 2 3 4", [1, 1, 1, 1]),
-    ];
-    for (entries, order, wanted) in rows {
-        let matrix = format!(in alloc;
-            "%%MatrixMarket matrix coordinate pattern symmetric\n{entries}"
-        )?;
-        let pattern = read_pattern(alloc, matrix.as_bytes())?;
-        let perm = read_perm(alloc, order.as_bytes(), 4)?;
-        check_counts(&rt, alloc, &pattern, &perm, wanted.as_slice())?;
+fn worked_counts(rt: HostRuntime) -> Result<(), Fail> {
+    for (n, pairs, order, wanted) in ROWS {
+        let found = check_counts(&rt, rt.alloc(), n, pairs, order)?;
+        assert_eq!(rt; found.as_slice(), wanted);
     }
     Ok(())
 }
 
 #[test]
-fn rows_of_several_leaves(rt: HostRuntime) -> Result<(), Fail> {
+fn counts_of_all_patterns_of_five_vertices(rt: HostRuntime) -> Result<(), Fail> {
     let alloc = rt.alloc();
-    // the ways up from 1 and 2 meet in 3, below row 5; those from 4 go through it
-    let entries =
-        "%%MatrixMarket matrix coordinate pattern symmetric\n5 5 6\n3 1\n3 2\n4 3\n5 1\n5 2\n5 4\n";
-    let pattern = read_pattern(alloc, entries.as_bytes())?;
-    let perm = read_perm(alloc, b"1 2 3 4 5", 5)?;
-    check_counts(&rt, alloc, &pattern, &perm, &[3, 3, 3, 2, 1])?;
-    // row 6 has the leaves 1, 2 and 4, whose ways up meet in 3 and in 5; its entry 3 is no leaf
-    let entries =
-        "%%MatrixMarket matrix coordinate pattern symmetric\n6 6 8\n3 1\n3 2\n5 3\n5 4\n6 1\n6 2\n6 3\n6 4\n";
-    let pattern = read_pattern(alloc, entries.as_bytes())?;
-    let perm = read_perm(alloc, b"1 2 3 4 5 6", 6)?;
-    check_counts(&rt, alloc, &pattern, &perm, &[3, 3, 3, 3, 2, 1])?;
+    for pattern in 0..1024u32 {
+        let mut rest = pattern;
+        let mut pairs = Vec::new(alloc);
+        for a in 1..=5u32 {
+            for b in a + 1..=5 {
+                if rest % 2 == 1 {
+                    pairs.push((a, b))?;
+                }
+                rest /= 2;
+            }
+        }
+        check_counts(&rt, alloc, 5, &pairs, "1 2 3 4 5")?;
+    }
     Ok(())
 }

@@ -1,7 +1,7 @@
 -- What a column reaches, by its children in the elimination tree.
 use Rattle.std.proofs.Common.{sym, subst, ◌+◌, ◌≡◌, ◌≢◌, ◌⊎◌, ◌↔◌, inl, inr, ℕ, zero, suc, ◌<◌, ◌≤◌, Bool, true, false, IsTrue, arith}
 use Rattle.std.proofs.lemmas.Bool.{cases_eq, cases_Bool, cases_order, both_ways}
-use Rattle.ordering.specs.Fill.{graph_at, IsPattern}
+use Rattle.ordering.specs.Fill.{graph_at, IsAdjacency}
 use Rattle.elim_tree.specs.Reaches.{Reaches, IsFirst}
 use Rattle.elim_tree.proofs.Fills.{later, different, clique, from_pattern, origin}
 
@@ -21,7 +21,7 @@ least_below p (suc n) =
 abbrev pub FromChild : (ℕ → ℕ → Bool) → ℕ → ℕ → Type 0
 FromChild joined j i = (c : ℕ) × IsFirst joined c j × (0 < j) × Reaches joined c i × (i ≢ j)
 
-module _ (joined : ℕ → ℕ → Bool) (pattern : IsPattern joined) where
+module _ (joined : ℕ → ℕ → Bool) (pattern : IsAdjacency joined) where
   pub reaches_later : (j i : ℕ) → Reaches joined j i → j < i
   reaches_later j i h =
       let le = later joined j j i h in

@@ -5,7 +5,7 @@ use Rattle.std.proofs.lemmas.List.{get_or_past}
 use Rattle.std.proofs.lemmas.List.FromFn.{get_or-map-range_with_len}
 use Rattle.std.proofs.lemmas.Grind.{get_or_after_one, get_or_default_zero}
 use Rattle.ordering.specs.Perm.{IsVertex}
-use Rattle.ordering.specs.Fill.{structure_of, parent_of, parents_of, IsPattern, IsParent}
+use Rattle.ordering.specs.Fill.{structure_of, parent_of, parents_of, IsAdjacency, IsParent}
 use Rattle.elim_tree.specs.ParentTables.{parents_in, IsParentTable}
 use Rattle.elim_tree.specs.Paths.{IsWithin}
 use Rattle.elim_tree.specs.Reaches.{Reaches, IsFirst}
@@ -24,7 +24,7 @@ own_row joined j i e = or_left _ _ (eq-eqb i j e)
 pub reached_or_own : (joined : ℕ → ℕ → Bool) (j i : ℕ) → IsTrue (structure_of joined j i) → i ≢ j → Reaches joined j i
 reached_or_own joined j i h ne = elim (or_cases (i == j) _ h) [ inl e ↦ absurd (ne (eqb-true i j e)) | inr r ↦ r ]
 
-module _ (joined : ℕ → ℕ → Bool) (pattern : IsPattern joined) (n : ℕ) (inside : IsWithin n joined) where
+module _ (joined : ℕ → ℕ → Bool) (pattern : IsAdjacency joined) (n : ℕ) (inside : IsWithin n joined) where
   -- columns and rows are vertices
   pub row_within : (j i : ℕ) → Reaches joined j i → i ≤ n
   row_within j i h =

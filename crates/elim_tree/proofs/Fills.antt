@@ -1,7 +1,7 @@
 -- What an elimination does to the pairs of a pattern, and where the pairs that stand as a column is eliminated come from.
 use Rattle.std.proofs.Common.{sym, ◌-◌, add-zero, add-suc, ◌+◌, ◌≡◌, ◌≢◌, ◌⊎◌, inl, inr, ℕ, zero, suc, ◌<◌, ◌≤◌, Bool, true, not, ◌==◌, arith}
 use Rattle.std.proofs.lemmas.Bool.{and_parts, or_cases, and_from, or_left, or_right, eqb-false, ne_eqb, not-true, not_from_false}
-use Rattle.ordering.specs.Fill.{eliminate, graph_at, IsPattern}
+use Rattle.ordering.specs.Fill.{eliminate, graph_at, IsAdjacency}
 use Rattle.elim_tree.specs.Reaches.{Reaches}
 
 -- ---- one elimination
@@ -88,7 +88,7 @@ within joined n h (suc j) a b e =
     elim (at_suc joined j a b e).from [ inl f ↦ within joined n h j a b f | inr f ↦ within joined n h j j b f.2 ]
 
 -- a pattern stays symmetric and irreflexive
-module _ (joined : ℕ → ℕ → Bool) (pattern : IsPattern joined) where
+module _ (joined : ℕ → ℕ → Bool) (pattern : IsAdjacency joined) where
   pub different : (k a b : ℕ) → graph_at joined k a b ≡ true → a ≢ b
   different zero a b h = λ e. pattern.irreflexive a (let x = at_zero joined a b h in rw (← e) at x)
   different (suc j) a b h =

@@ -1,15 +1,15 @@
-use Rattle.std.proofs.Common.{List, length, get_or-set_other, get_or-set_same, set, sym, ◌∙◌, subst, ap, ◌≡◌, ◌≢◌, inl, inr, ℕ, zero, suc, ◌<◌, Bool, IsTrue, arith, refl, cond, ◌==◌}
+use Rattle.std.proofs.Common.{List, length, get_or-set_other, get_or-set_same, set, sym, ◌∙◌, subst, ap, ◌≡◌, ◌≢◌, inl, inr, ℕ, zero, suc, ◌<◌, Bool, IsTrue, arith, refl, cond, ◌==◌, slice_index}
 use Rattle.std.proofs.lemmas.Bool.{cases_eq, cases_order, cond-true, cond-false, eq-eqb, ne_eqb}
-use Rattle.ordering.specs.Fill.{IsPattern}
+use Rattle.ordering.specs.Fill.{IsAdjacency}
 use Rattle.elim_tree.specs.Reaches.{Reaches, IsFirst}
-use Rattle.elim_tree.specs.Forests.{IsGrown, IsOnWay, Covers, at}
+use Rattle.elim_tree.specs.Forests.{IsGrown, IsOnWay, Covers}
 use Rattle.elim_tree.proofs.Fills.{clique}
 use Rattle.elim_tree.proofs.Children.{reaches_later, reaches_by_children}
 
-pub at_other : (xs : List ℕ) (i v x : ℕ) → x ≢ i → at (set xs i v) x ≡ at xs x
+pub at_other : (xs : List ℕ) (i v x : ℕ) → x ≢ i → slice_index (set xs i v) x ≡ slice_index xs x
 at_other xs i v x ne = rw get_or-set_other
 
-pub at_here : (xs : List ℕ) (i v : ℕ) → i < length xs → at (set xs i v) i ≡ v
+pub at_here : (xs : List ℕ) (i v : ℕ) → i < length xs → slice_index (set xs i v) i ≡ v
 at_here xs i v lt = rw get_or-set_same
 
 -- the new roots: the tree of c goes under k
@@ -28,7 +28,7 @@ pub put_under_same : (root : ℕ → ℕ) (c k x y : ℕ) → root x ≡ root y 
 unfolding put_under
 put_under_same root c k x y e = ap (λ v. cond (v == c) k v) e
 
-module _ (joined : ℕ → ℕ → Bool) (pattern : IsPattern joined) where
+module _ (joined : ℕ → ℕ → Bool) (pattern : IsAdjacency joined) where
   pub covers_up : (x k : ℕ) → Reaches joined x k → Covers joined x k
   covers_up x k h = λ m lt hm. clique joined pattern x k m h hm lt
 

@@ -1,15 +1,15 @@
 -- The forest grows by the rows of a pattern, and ends as the list of all parents.
-use Rattle.std.proofs.Common.{sym, ◌∙◌, subst, ap, ◌≡◌, inl, inr, refl, ℕ, zero, suc, ◌<◌, ◌≤◌, Bool, true, IsTrue, ◌==◌, List, [], ◌∷◌, length, get_or, arith}
+use Rattle.std.proofs.Common.{sym, ◌∙◌, subst, ap, ◌≡◌, inl, inr, refl, ℕ, zero, suc, ◌<◌, ◌≤◌, Bool, true, IsTrue, ◌==◌, List, [], ◌∷◌, length, get_or, arith, slice_index}
 use Rattle.std.proofs.lemmas.Bool.{or_cases, eqb-true, eq-eqb, both_ways, cases_order, cases_lt}
 use Rattle.std.proofs.lemmas.List.{get_or_past, ext_get_or}
 use Rattle.std.proofs.lemmas.Grind.{get_or_after_one}
 use Rattle.std.proofs.lemmas.List.Folds.{list_any_at}
 use Rattle.std.proofs.lemmas.List.FromFn.{get_or-map-range_with_len, length-map-range_with_len}
-use Rattle.matrix_market.specs.Pattern as rows_of
-use Rattle.matrix_market.specs.Pattern.{neighbours_of, has, is_joined}
+use Rattle.limits.specs.Limits.{most_order}
+use Rattle.matrix_market.specs.Pattern.{neighbours_of, has, is_joined, IsPattern}
 use Rattle.ordering.specs.Perm.{IsVertex, vertex_at, place_of}
-use Rattle.ordering.specs.Fill.{renamed, parent_of, parents_of, IsPattern}
-use Rattle.elim_tree.specs.Forests.{IsGrown, CanTake, IsTaken, column_in, at}
+use Rattle.ordering.specs.Fill.{renumbered, parent_of, parents_of, IsAdjacency}
+use Rattle.elim_tree.specs.Forests.{IsGrown, CanTake, IsTaken, column_in}
 use Rattle.elim_tree.specs.ParentTables.{parents_in, IsParentTable}
 use Rattle.elim_tree.specs.Paths.{IsWithin}
 use Rattle.elim_tree.specs.Reaches.{Reaches, IsFirst}
@@ -35,10 +35,14 @@ is_in xs b j lt e = list_any_at (λ x. x == b) xs j 0 lt (eq-eqb _ b e)
 
 -- ---- the pattern, and the pattern by columns
 
-pub pattern_by_rows : (rows : List (List ℕ)) → rows_of.IsPattern rows → IsPattern (is_joined rows)
-pattern_by_rows rows pattern = record { symmetric = pattern.symmetric; irreflexive = λ a h. both_ways _ (pattern.irreflexive a) h }
+pub pattern_by_rows : (rows : List (List ℕ)) → IsPattern rows → IsAdjacency (is_joined rows)
+pattern_by_rows rows pattern = record {
+  symmetric = pattern.symmetric;
+  irreflexive = λ a h. both_ways _ (pattern.irreflexive a) h;
+  none_of_0 = λ b h. absurd cc;
+}
 
-pub within_by_rows : (rows : List (List ℕ)) → rows_of.IsPattern rows → IsWithin (length rows) (is_joined rows)
+pub within_by_rows : (rows : List (List ℕ)) → IsPattern rows → IsWithin (length rows) (is_joined rows)
 within_by_rows rows pattern a b h = pattern.inside b a (pattern.symmetric a b h)
 
 pub vertex_within : (order : List ℕ) (a : ℕ) → 0 < vertex_at order a → IsVertex (length order) a
@@ -49,42 +53,50 @@ vertex_within order (suc i) some =
       | inr le ↦ (omega arith, le)
     ]
 
-pub pattern_by_columns : (rows : List (List ℕ)) (order : List ℕ) → rows_of.IsPattern rows → IsPattern (renamed (is_joined rows) order)
-pattern_by_columns rows order pattern = record {
+-- a pattern by the numbers of an order
+pub pattern_renumbered : (joined : ℕ → ℕ → Bool) (order : List ℕ) → IsAdjacency joined → IsAdjacency (renumbered joined order)
+pattern_renumbered joined order pattern = record {
   symmetric = λ a b h. pattern.symmetric (vertex_at order a) (vertex_at order b) h;
-  irreflexive = λ a h. both_ways _ (pattern.irreflexive (vertex_at order a)) h;
+  irreflexive = λ a h. pattern.irreflexive (vertex_at order a) h;
+  none_of_0 = λ b h. pattern.none_of_0 (vertex_at order b) h;
 }
 
-pub within_by_columns : (rows : List (List ℕ)) (order : List ℕ) → rows_of.IsPattern rows → IsWithin (length order) (renamed (is_joined rows) order)
-within_by_columns rows order pattern a b h =
-    let some = (pattern.inside (vertex_at order b) (vertex_at order a) (pattern.symmetric (vertex_at order a) (vertex_at order b) h)).0 in
-    vertex_within order a (omega arith)
+pub within_renumbered : (m n : ℕ) (joined : ℕ → ℕ → Bool) (order : List ℕ) → IsWithin m joined → length order ≡ n → IsWithin n (renumbered joined order)
+within_renumbered m n joined order inside len a b h =
+    let some = (inside (vertex_at order a) (vertex_at order b) h).0 in
+    subst (λ k. IsVertex k a) len (vertex_within order a (omega arith))
 
-module _ (rows : List (List ℕ)) (order : List ℕ) (n : ℕ) (pattern : rows_of.IsPattern rows) (len : length order ≡ n) (same : n ≡ length rows)
-    (vertex_back : (v : ℕ) → v ≤ n → vertex_at order (place_of order v) ≡ v) (place_back : (k : ℕ) → k ≤ n → place_of order (vertex_at order k) ≡ k) where
-  by_columns : IsPattern (renamed (is_joined rows) order)
+pub pattern_by_columns : (rows : List (List ℕ)) (order : List ℕ) → IsPattern rows → IsAdjacency (renumbered (is_joined rows) order)
+pattern_by_columns rows order pattern = pattern_renumbered (is_joined rows) order (pattern_by_rows rows pattern)
+
+pub within_by_columns : (rows : List (List ℕ)) (order : List ℕ) → IsPattern rows → IsWithin (length order) (renumbered (is_joined rows) order)
+within_by_columns rows order pattern = within_renumbered (length rows) (length order) (is_joined rows) order (within_by_rows rows pattern) refl
+
+module _ (rows : List (List ℕ)) (order : List ℕ) (pattern : IsPattern rows) (same : length order ≡ length rows)
+    (vertex_back : (v : ℕ) → v ≤ length order → vertex_at order (place_of order v) ≡ v) (place_back : (k : ℕ) → k ≤ length order → place_of order (vertex_at order k) ≡ k) where
+  by_columns : IsAdjacency (renumbered (is_joined rows) order)
   by_columns = pattern_by_columns rows order pattern
 
-  pub inside : IsWithin n (renamed (is_joined rows) order)
-  inside = subst (λ m. IsWithin m (renamed (is_joined rows) order)) len (within_by_columns rows order pattern)
+  inside : IsWithin (length order) (renumbered (is_joined rows) order)
+  inside = within_by_columns rows order pattern
 
-  pub vertex_in_row : (v j : ℕ) → j < length (neighbours_of rows v) → at (neighbours_of rows v) j ≤ n
-  vertex_in_row v j lt = let low = (pattern.inside v (at (neighbours_of rows v) j) (is_in (neighbours_of rows v) (at (neighbours_of rows v) j) j lt refl)).1 in omega arith
+  pub vertex_in_row : (v j : ℕ) → j < length (neighbours_of rows v) → slice_index (neighbours_of rows v) j ≤ length order
+  vertex_in_row v j lt = let low = (pattern.inside v (slice_index (neighbours_of rows v) j) (is_in (neighbours_of rows v) (slice_index (neighbours_of rows v) j) j lt refl)).1 in omega arith
 
   -- the earlier ones among the row of the k-th vertex are joined to column k
   row_reaches : (k : ℕ) (row : List ℕ) → row ≡ neighbours_of rows (vertex_at order k) → (j : ℕ) → j < length row → column_in row order j < k
-      → Reaches (renamed (is_joined rows) order) (column_in row order j) k
+      → Reaches (renumbered (is_joined rows) order) (column_in row order j) k
   row_reaches k row e j lt below =
-      let v = at row j in
+      let v = slice_index row j in
       let lt' : j < length (neighbours_of rows (vertex_at order k)) = subst (λ xs. j < length xs) e lt in
       let there : has (neighbours_of rows (vertex_at order k)) v ≡ true = subst (λ xs. has xs v ≡ true) e (is_in row v j lt refl) in
-      let small : v ≤ n = subst (λ xs. at xs j ≤ n) (sym e) (vertex_in_row (vertex_at order k) j lt') in
+      let small : v ≤ length order = subst (λ xs. slice_index xs j ≤ length order) (sym e) (vertex_in_row (vertex_at order k) j lt') in
       let back : vertex_at order (place_of order v) ≡ v = vertex_back v small in
-      from_pattern (renamed (is_joined rows) order) by_columns (place_of order v) k
+      from_pattern (renumbered (is_joined rows) order) by_columns (place_of order v) k
       (pattern.symmetric (vertex_at order k) (vertex_at order (place_of order v)) (subst (λ x. has (neighbours_of rows (vertex_at order k)) x ≡ true) (sym back) there)) below
 
   -- .. and they are all that are joined to it
-  row_has : (k : ℕ) (row : List ℕ) → row ≡ neighbours_of rows (vertex_at order k) → (i : ℕ) → IsTrue (renamed (is_joined rows) order i k)
+  row_has : (k : ℕ) (row : List ℕ) → row ≡ neighbours_of rows (vertex_at order k) → (i : ℕ) → IsTrue (renumbered (is_joined rows) order i k)
       → (j : ℕ) × (j < length row) × (column_in row order j ≡ i)
   row_has k row e i h =
       let le = (inside i k h).1 in
@@ -93,36 +105,36 @@ module _ (rows : List (List ℕ)) (order : List ℕ) (n : ℕ) (pattern : rows_o
       (f.0, f.1, ap (place_of order) f.2 ∙ place_back i le)
 
   pub can_take : (k : ℕ) (root : ℕ → ℕ) (parents ancestors row : List ℕ) → row ≡ neighbours_of rows (vertex_at order k)
-      → IsGrown (renamed (is_joined rows) order) k root (at parents) (at ancestors)
-      → CanTake (record { joined = renamed (is_joined rows) order; root = root }) k row order parents ancestors
+      → IsGrown (renumbered (is_joined rows) order) k root (slice_index parents) (slice_index ancestors)
+      → CanTake (record { joined = renumbered (is_joined rows) order; root = root }) k row order parents ancestors
   can_take k root parents ancestors row e grown = (by_columns, row_reaches k row e, grown)
 
   pub taken : (k : ℕ) (root : ℕ → ℕ) (parents ancestors row : List ℕ) → row ≡ neighbours_of rows (vertex_at order k)
-      → IsTaken (record { joined = renamed (is_joined rows) order; root = root }) k row order (length row) parents ancestors
-      → (new : ℕ → ℕ) × IsGrown (renamed (is_joined rows) order) (suc k) new (at parents) (at ancestors)
+      → IsTaken (record { joined = renumbered (is_joined rows) order; root = root }) k row order (length row) parents ancestors
+      → (new : ℕ → ℕ) × IsGrown (renumbered (is_joined rows) order) (suc k) new (slice_index parents) (slice_index ancestors)
   taken k root parents ancestors row e t = (
     t.0,
-    next_column (renamed (is_joined rows) order) by_columns k 0 t.0 (at parents) (at ancestors) t.1
+    next_column (renumbered (is_joined rows) order) by_columns k 0 t.0 (slice_index parents) (slice_index ancestors) t.1
         (λ i below h. let f = row_has k row e i h in
         let lt : f.0 < length row = f.1 in
         let is = f.2 in
         ap t.0 (sym is) ∙ t.2 f.0 lt (omega arith)),
   )
 
-  pub grown_firsts : (k : ℕ) → k ≡ n → (root : ℕ → ℕ) (parents ancestors : List ℕ) → IsGrown (renamed (is_joined rows) order) (suc k) root (at parents) (at ancestors)
-      → (j : ℕ) → j ≤ n → IsFirst (renamed (is_joined rows) order) j (at parents j)
-  grown_firsts k e root parents ancestors grown j le =
-      elim (cases_order (at parents j) 0) [
+  pub grown_firsts : (k : ℕ) → length order < k → (root : ℕ → ℕ) (parents ancestors : List ℕ) → IsGrown (renumbered (is_joined rows) order) k root (slice_index parents) (slice_index ancestors)
+      → (j : ℕ) → j ≤ length order → IsFirst (renumbered (is_joined rows) order) j (slice_index parents j)
+  grown_firsts k past root parents ancestors grown j le =
+      elim (cases_order (slice_index parents j) 0) [
         | inl none ↦ record {
           reached = λ some. absurd (omega arith);
-          least = λ i h. absurd ((grown.bare j (omega arith) none).2 i (let w = row_within (renamed (is_joined rows) order) by_columns n inside j i h in omega arith) h);
+          least = λ i h. absurd ((grown.bare j (omega arith) none).2 i (let w = row_within (renumbered (is_joined rows) order) by_columns (length order) inside j i h in omega arith) h);
         }
         | inr o ↦ elim o [ inl w ↦ absurd (omega arith) | inr some ↦ (grown.tied j (omega arith) some).0 ]
       ]
 
 -- before the first column the forest is bare
-pub first_column : (joined : ℕ → ℕ → Bool) → IsPattern joined → (parents ancestors : List ℕ) → ((x : ℕ) → (at parents x ≡ 0) × (at ancestors x ≡ 0))
-    → IsGrown joined 1 (λ x. x) (at parents) (at ancestors)
+pub first_column : (joined : ℕ → ℕ → Bool) → IsAdjacency joined → (parents ancestors : List ℕ) → ((x : ℕ) → (slice_index parents x ≡ 0) × (slice_index ancestors x ≡ 0))
+    → IsGrown joined 1 (λ x. x) (slice_index parents) (slice_index ancestors)
 first_column joined pattern parents ancestors clear = record {
   bare = λ x lt e. (refl, (clear x).1, λ i below h. let w = reaches_later joined pattern x i h in omega arith);
   tied = λ x lt some. let none = (clear x).0 in absurd (omega arith);
@@ -132,15 +144,15 @@ first_column joined pattern parents ancestors clear = record {
 
 -- ---- the table of all firsts
 
-module _ (parents_are_first : ParentsAreFirst) (joined : ℕ → ℕ → Bool) (pattern : IsPattern joined) (n : ℕ) (inside : IsWithin n joined)
-    (table : List ℕ) (long : length table ≡ suc n) (firsts : (j : ℕ) → j ≤ n → IsFirst joined j (at table j)) where
-  none_of_0 : at table 0 ≡ 0
+module _ (parents_are_first : ParentsAreFirst) (joined : ℕ → ℕ → Bool) (pattern : IsAdjacency joined) (n : ℕ) (inside : IsWithin n joined)
+    (table : List ℕ) (long : length table ≡ suc n) (firsts : (j : ℕ) → j ≤ n → IsFirst joined j (slice_index table j)) where
+  none_of_0 : slice_index table 0 ≡ 0
   none_of_0 =
-      elim (cases_order (at table 0) 0) [
+      elim (cases_order (slice_index table 0) 0) [
         | inl e ↦ e
         | inr o ↦ elim o [
           | inl w ↦ absurd (omega arith)
-          | inr some ↦ let v = (column_within joined pattern n inside 0 (at table 0) ((firsts 0 (omega arith)).reached some)).0 in absurd (omega arith)
+          | inr some ↦ let v = (column_within joined pattern n inside 0 (slice_index table 0) ((firsts 0 (omega arith)).reached some)).0 in absurd (omega arith)
         ]
       ]
 
@@ -159,17 +171,17 @@ module _ (parents_are_first : ParentsAreFirst) (joined : ℕ → ℕ → Bool) (
       (λ i lt.
       let small : i < n = subst (λ m. i < m) length_parents lt in
       let first = firsts (suc i) (omega arith) in
-      let one : get_or (parents_in table) i 0 ≡ at table (suc i) = get_or_after_one table i 0 ∙ ap (λ k. get_or table k 0) (omega arith) in
-      one ∙ sym (parent_is_first parents_are_first joined pattern n inside (suc i) (at table (suc i)) first)
+      let one : get_or (parents_in table) i 0 ≡ slice_index table (suc i) = get_or_after_one table i 0 ∙ ap (λ k. get_or table k 0) (omega arith) in
+      one ∙ sym (parent_is_first parents_are_first joined pattern n inside (suc i) (slice_index table (suc i)) first)
       ∙ sym (get_or-map-range_with_len (parent_of joined n) 1 n i (suc i) 0 small (omega arith)))
 
-  pub is_table : 1 ≤ n → n ≤ 1000000 → IsParentTable table
+  pub is_table : 1 ≤ n → n ≤ most_order → IsParentTable table
   is_table some few = record {
     some = some_parents;
     unused = none_of_0;
     forest = record {
       some = subst (λ m. 1 ≤ m) (sym length_parents) some;
-      few = subst (λ m. m ≤ 1000000) (sym length_parents) few;
+      few = subst (λ m. m ≤ most_order) (sym length_parents) few;
       rising = rise;
     };
   }
@@ -177,13 +189,13 @@ module _ (parents_are_first : ParentsAreFirst) (joined : ℕ → ℕ → Bool) (
       rise : (j : ℕ) → 0 < parent_at (parents_in table) j → (j < parent_at (parents_in table) j) × (parent_at (parents_in table) j ≤ length (parents_in table))
       rise zero have = absurd (omega arith)
       rise (suc i) have =
-          let one : get_or (parents_in table) i 0 ≡ at table (suc i) = get_or_after_one table i 0 ∙ ap (λ k. get_or table k 0) (omega arith) in
+          let one : get_or (parents_in table) i 0 ≡ slice_index table (suc i) = get_or_after_one table i 0 ∙ ap (λ k. get_or table k 0) (omega arith) in
           elim (cases_lt n (suc i)) [
-            | inl past ↦ let none : at table (suc i) ≡ 0 = get_or_past table (suc i) 0 (omega arith) in absurd (omega arith)
+            | inl past ↦ let none : slice_index table (suc i) ≡ 0 = get_or_past table (suc i) 0 (omega arith) in absurd (omega arith)
             | inr le ↦
                 let r = (firsts (suc i) le).reached (omega arith) in
-                let up = reaches_later joined pattern (suc i) (at table (suc i)) r in
-                let most = row_within joined pattern n inside (suc i) (at table (suc i)) r in
+                let up = reaches_later joined pattern (suc i) (slice_index table (suc i)) r in
+                let most = row_within joined pattern n inside (suc i) (slice_index table (suc i)) r in
                 let len = length_parents in
                 (omega arith, omega arith)
           ]

@@ -10,5 +10,6 @@ pub mod SpanLemmas
 pub mod Postorderings
 pub mod Places
 pub mod OnePostorder
+pub mod PermCounts
 pub mod Reorderings
 pub mod Renumberings

@@ -1,7 +1,7 @@
 -- Paths whose inner vertices were eliminated, and the pairs that they leave.
 use Rattle.std.proofs.Common.{subst, sym, ◌≡◌, ◌≢◌, ◌⊎◌, ◌↔◌, inl, inr, ℕ, zero, suc, ◌<◌, ◌≤◌, Bool, true, arith}
 use Rattle.std.proofs.lemmas.Bool.{cases_eq}
-use Rattle.ordering.specs.Fill.{graph_at, IsPattern}
+use Rattle.ordering.specs.Fill.{graph_at, IsAdjacency}
 use Rattle.elim_tree.specs.Paths.{Path, edge, via}
 use Rattle.elim_tree.specs.Reaches.{Reaches}
 use Rattle.elim_tree.proofs.Fills.{at_suc, at_zero, to_zero, to_suc_old, to_suc_new}
@@ -27,7 +27,7 @@ split {joined} {k} {a} {b} (via {c = c} h lt p) =
           elim (split p) [ inl q ↦ inl (via h lt' q) | inr q ↦ inr (via h lt' q.0, q.1) ]
     ]
 
-module _ (joined : ℕ → ℕ → Bool) (pattern : IsPattern joined) where
+module _ (joined : ℕ → ℕ → Bool) (pattern : IsAdjacency joined) where
   pub back : {k a b : ℕ} → Path joined k a b → Path joined k b a
   back {k} {a} {b} (edge h) = edge (pattern.symmetric a b h)
   back {k} {a} {b} (via {c = c} h lt p) = join (back p) lt (edge (pattern.symmetric a c h))

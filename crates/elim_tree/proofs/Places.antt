@@ -1,12 +1,11 @@
 -- The places that the two passes give are a postorder: spans are nested or apart, and fill all places.
-use Rattle.std.proofs.Common.{sym, ◌∙◌, subst, ap, ◌+◌, ◌-◌, ◌≡◌, ◌≢◌, inl, inr, ℕ, zero, suc, ◌<◌, ◌≤◌, List, ◌++◌, length, take, arith, refl, cond, ◌==◌}
+use Rattle.std.proofs.Common.{sym, ◌∙◌, subst, ap, ◌+◌, ◌-◌, ◌≡◌, ◌≢◌, inl, inr, ℕ, zero, suc, ◌<◌, ◌≤◌, List, ◌++◌, length, take, arith, refl, cond, ◌==◌, slice_index}
 use Rattle.std.proofs.lemmas.Bool.{cases_eq, cases_lt, cond-true, cond-false, eq-eqb, ne_eqb}
 use Rattle.std.proofs.Math.Seq.{take-append_seam}
 use Rattle.ordering.specs.Perm.{IsVertex, IsPerm, place_of}
 use Rattle.elim_tree.specs.ParentTables.{parents_in, IsParentTable}
 use Rattle.elim_tree.specs.Trees.{parent_at, IsForest, IsAbove, self, step}
 use Rattle.elim_tree.specs.Postorders.{Precedes, below, beside, IsPostorder}
-use Rattle.elim_tree.specs.Forests.{at}
 use Rattle.elim_tree.specs.Spans.{in_children, IsCounted, ArePlaces}
 use Rattle.elim_tree.proofs.Columns.{in_table, length_of_table, parent_within}
 use Rattle.elim_tree.proofs.SpanLemmas.{IsPlaced, IsPlacedFrom, placed_all}
@@ -176,10 +175,10 @@ module _ (parents : List ℕ) (forest : IsForest parents) (n : ℕ) (len : n ≡
 
 module _ (table : List ℕ) (is : IsParentTable table) where
   -- a table is its parents, as a function
-  table_is : at table ≡ parent_at (parents_in table)
+  table_is : slice_index table ≡ parent_at (parents_in table)
   table_is = λ i. λ x. sym (in_table table is x) i
 
-  pub table_rising : IsRising (length table) (at table)
+  pub table_rising : IsRising (length table) (slice_index table)
   table_rising =
       let len = length_of_table table is in
       subst (IsRising (length table)) (sym table_is) (λ x some. let f = is.forest.rising x some in (f.0, omega arith))
@@ -187,19 +186,19 @@ module _ (table : List ℕ) (is : IsParentTable table) where
   pub table_short : length table ≤ 1000001
   table_short = let len = length_of_table table is in let few = is.forest.few in omega arith
 
-  pub table_within : (x : ℕ) → at table x < length table
+  pub table_within : (x : ℕ) → slice_index table x < length table
   table_within x =
       let len = length_of_table table is in
       let same = in_table table is x in
       let most = parent_within (parents_in table) is.forest x in
       omega arith
 
-  module _ (many before start place : ℕ → ℕ) (counted : IsCounted (length table) (at table) many before) (j : ℕ) (done : j ≤ 1) (from : IsPlacedFrom j (length table) (at table) many before start place) where
+  module _ (many before start place : ℕ → ℕ) (counted : IsCounted (length table) (slice_index table) many before) (j : ℕ) (done : j ≤ 1) (from : IsPlacedFrom j (length table) (slice_index table) many before start place) where
     here_counted : IsCounted (length table) (parent_at (parents_in table)) many before
     here_counted = subst (λ parent. IsCounted (length table) parent many before) table_is counted
 
     here_placed : IsPlaced (length table) (parent_at (parents_in table)) many start place
-    here_placed = subst (λ parent. IsPlaced (length table) parent many start place) table_is (placed_all (length table) (at table) many before table_rising counted j start place done from)
+    here_placed = subst (λ parent. IsPlaced (length table) parent many start place) table_is (placed_all (length table) (slice_index table) many before table_rising counted j start place done from)
 
     pub table_places : ArePlaces (length table) place
     table_places = are_places (parents_in table) is.forest (length table) (length_of_table table is) many before start place here_counted here_placed
@@ -211,8 +210,8 @@ module _ (table : List ℕ) (is : IsParentTable table) where
 pub written : (new rest : List ℕ) (len : ℕ) → len ≡ length new → take len (new ++ rest) ≡ new
 written new rest len e = ap (λ n. take n (new ++ rest)) e ∙ take-append_seam new rest
 
-pub is_postorder : (parents order places : List ℕ) → IsPerm (length order) order → length order ≡ length parents → ((v : ℕ) → place_of order v ≡ at places v)
-    → ((a b : ℕ) → IsVertex (length parents) a → IsVertex (length parents) b → Precedes parents a b → at places a < at places b) → IsPostorder parents order
+pub is_postorder : (parents order places : List ℕ) → IsPerm (length order) order → length order ≡ length parents → ((v : ℕ) → place_of order v ≡ slice_index places v)
+    → ((a b : ℕ) → IsVertex (length parents) a → IsVertex (length parents) b → Precedes parents a b → slice_index places a < slice_index places b) → IsPostorder parents order
 is_postorder parents order places perm len same before = record {
   perm = subst (λ n. IsPerm n order) len perm;
   before = λ a b va vb h. (let less = before a b va vb h in let pa = same a in let pb = same b in omega arith);

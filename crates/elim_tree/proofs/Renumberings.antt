@@ -5,7 +5,7 @@ use Rattle.std.proofs.lemmas.Bool.{cases_eq, cases_lt}
 use Rattle.std.proofs.lemmas.List.{get_or-map, get_or_past, length-map}
 use Rattle.std.proofs.lemmas.List.FromFn.{map-range_with_len_more, get_or-map-range_with_len, length-map-range_with_len}
 use Rattle.ordering.specs.Perm.{AreInverse, IsVertex, IsPerm, vertex_at, place_of}
-use Rattle.ordering.specs.Fill.{renamed}
+use Rattle.ordering.specs.Fill.{renumbered}
 use Rattle.elim_tree.specs.ParentTables.{parents_in, IsParentTable}
 use Rattle.elim_tree.specs.Postorders.{below, IsPostorder, IsNumberedInPostorder}
 use Rattle.elim_tree.specs.Trees.{parent_at, IsForest, IsAbove, self, step}
@@ -53,9 +53,9 @@ vertex_along perm post (suc i) =
           ∙ sym (ap (vertex_at perm) (get_or_past post i 0 le))
     ]
 
--- so a pattern along it is the pattern that was renamed, renamed again
-pub renamed_along : (joined : ℕ → ℕ → Bool) (perm post : List ℕ) → renamed joined (map (vertex_at perm) post) ≡ renamed (renamed joined perm) post
-renamed_along joined perm post = λ i. λ a b. joined (vertex_along perm post a i) (vertex_along perm post b i)
+-- so a pattern along it is the pattern that was renumbered, renumbered again
+pub renumbered_along : (joined : ℕ → ℕ → Bool) (perm post : List ℕ) → renumbered joined (map (vertex_at perm) post) ≡ renumbered (renumbered joined perm) post
+renumbered_along joined perm post = λ i. λ a b. joined (vertex_along perm post a i) (vertex_along perm post b i)
 
 module _ (vertices_back : VerticesAreInverse) (places_back : PlacesAreInverse) where
   -- ---- orders

@@ -1,10 +1,12 @@
 -- A new order of the columns in which each comes before its parent: structures and parents are carried over.
-use Rattle.std.proofs.Common.{sym, ◌∙◌, subst, ap, ◌+◌, ◌≡◌, ◌≢◌, inl, inr, ℕ, zero, suc, ◌<◌, ◌≤◌, Bool, IsTrue, List, length, map, arith, refl}
+use Rattle.std.proofs.Common.{sym, ◌∙◌, subst, ap, ◌+◌, ◌≡◌, ◌≢◌, inl, inr, ℕ, zero, suc, ◌<◌, ◌≤◌, Bool, false, IsTrue, List, length, map, arith, refl}
 use Rattle.std.proofs.lemmas.Bool.{cases_eq, cases_order, cases_Bool}
-use Rattle.std.proofs.lemmas.List.{get_or-map, length-map}
-use Rattle.std.proofs.lemmas.List.FromFn.{length-map-range_with_len}
+use Rattle.std.specs.List.{fold, range_with_len}
+use Rattle.std.proofs.lemmas.List.{get_or-map, length-map, ext_get_or}
+use Rattle.std.proofs.lemmas.List.Folds.{fold-map}
+use Rattle.std.proofs.lemmas.List.FromFn.{get_or-map-range_with_len, length-map-range_with_len}
 use Rattle.ordering.specs.Perm.{IsVertex, IsPerm, vertex_at, place_of}
-use Rattle.ordering.specs.Fill.{structure_of, parent_of, parents_of, renamed, IsPattern}
+use Rattle.ordering.specs.Fill.{structure_of, parent_of, count_of, parents_of, counts_of, renumbered, IsAdjacency}
 use Rattle.elim_tree.specs.Paths.{Path, edge, via, IsWithin}
 use Rattle.elim_tree.specs.Postorders.{below, IsPostorder}
 use Rattle.elim_tree.specs.Reaches.{Reaches, IsFirst}
@@ -14,23 +16,12 @@ use Rattle.elim_tree.proofs.Paths.{reaches_by_path}
 use Rattle.elim_tree.proofs.Children.{reaches_later, first_reaches}
 use Rattle.elim_tree.proofs.Columns.{in_structure, own_row, reached_or_own, column_within, row_within, parent_in_list, vertex_with_parent}
 use Rattle.elim_tree.proofs.RowSubtrees.{ParentsAreFirst, above_le, first_in_list, parent_is_first, parents_rise}
-use Rattle.elim_tree.proofs.Growth.{vertex_within}
+use Rattle.elim_tree.proofs.Growth.{pattern_renumbered, within_renumbered}
 use Rattle.elim_tree.proofs.Postorderings.{above_trans}
+use Rattle.elim_tree.proofs.PermCounts.{bit, count_along}
 use Rattle.elim_tree.proofs.OnePostorder.{VerticesAreInverse, PlacesAreInverse, vertex_of, place_within, same_list}
 
--- a pattern by the numbers of an order
-pub pattern_renamed : (joined : ℕ → ℕ → Bool) (order : List ℕ) → IsPattern joined → IsPattern (renamed joined order)
-pattern_renamed joined order pattern = record {
-  symmetric = λ a b h. pattern.symmetric (vertex_at order a) (vertex_at order b) h;
-  irreflexive = λ a h. pattern.irreflexive (vertex_at order a) h;
-}
-
-pub within_renamed : (m n : ℕ) (joined : ℕ → ℕ → Bool) (order : List ℕ) → IsWithin m joined → length order ≡ n → IsWithin n (renamed joined order)
-within_renamed m n joined order inside len a b h =
-    let some = (inside (vertex_at order a) (vertex_at order b) h).0 in
-    subst (λ k. IsVertex k a) len (vertex_within order a (omega arith))
-
-module _ (parents_are_first : ParentsAreFirst) (joined : ℕ → ℕ → Bool) (pattern : IsPattern joined) (n : ℕ) (inside : IsWithin n joined) where
+module _ (parents_are_first : ParentsAreFirst) (joined : ℕ → ℕ → Bool) (pattern : IsAdjacency joined) (n : ℕ) (inside : IsWithin n joined) where
   rises : (x : ℕ) → 0 < parent_at (parents_of joined n) x → x < parent_at (parents_of joined n) x
   rises = parents_rise parents_are_first joined pattern n inside
 
@@ -81,22 +72,22 @@ module _ (parents_are_first : ParentsAreFirst) (joined : ℕ → ℕ → Bool) (
     reaches_rises : (j i : ℕ) → Reaches joined j i → place_of post j < place_of post i
     reaches_rises j i h = let lt = reaches_later joined pattern j i h in rises_up (reaches_above j i h) (omega arith)
 
-    renamed_pattern : IsPattern (renamed joined post)
-    renamed_pattern = pattern_renamed joined post pattern
+    renumbered_pattern : IsAdjacency (renumbered joined post)
+    renumbered_pattern = pattern_renumbered joined post pattern
 
-    renamed_within : IsWithin n (renamed joined post)
-    renamed_within = within_renamed n n joined post inside perm.len
+    renumbered_within : IsWithin n (renumbered joined post)
+    renumbered_within = within_renumbered n n joined post inside perm.len
 
     back_to : (v : ℕ) → IsVertex n v → vertex_at post (place_of post v) ≡ v
     back_to v vertex = vertices_back n post perm v vertex.1
 
-    there : (a b : ℕ) → IsTrue (joined a b) → IsTrue (renamed joined post (place_of post a) (place_of post b))
+    there : (a b : ℕ) → IsTrue (joined a b) → IsTrue (renumbered joined post (place_of post a) (place_of post b))
     there a b h =
         subst (λ x. IsTrue (joined x (vertex_at post (place_of post b)))) (sym (back_to a (inside a b h)))
         (subst (λ x. IsTrue (joined a x)) (sym (back_to b (inside b a (pattern.symmetric a b h)))) h)
 
     -- a path to j through columns less than it, by the new numbers; where it starts before j, it starts below j in the tree
-    forth : (j : ℕ) → {a b : ℕ} → Path joined j a b → b ≡ j → Path (renamed joined post) (place_of post j) (place_of post a) (place_of post j) × (a < j → IsAbove (parents_of joined n) a j)
+    forth : (j : ℕ) → {a b : ℕ} → Path joined j a b → b ≡ j → Path (renumbered joined post) (place_of post j) (place_of post a) (place_of post j) × (a < j → IsAbove (parents_of joined n) a j)
     forth j {a} {b} (edge h) e =
         let h' : IsTrue (joined a j) = subst (λ v. IsTrue (joined a v)) e h in
         (edge (there a j h'), λ lt. reaches_above a j (from_pattern joined pattern a j h' lt))
@@ -106,12 +97,12 @@ module _ (parents_are_first : ParentsAreFirst) (joined : ℕ → ℕ → Bool) (
         (via (there a c h) (rises_up up (omega arith)) r.0, λ la. neighbour_below a c j h up la)
 
     -- the way back
-    back : (j : ℕ) → IsVertex n j → {a b : ℕ} → Path (renamed joined post) (place_of post j) a b → b ≡ place_of post j
+    back : (j : ℕ) → IsVertex n j → {a b : ℕ} → Path (renumbered joined post) (place_of post j) a b → b ≡ place_of post j
         → Path joined j (vertex_at post a) j × (a < place_of post j → IsAbove (parents_of joined n) (vertex_at post a) j × (vertex_at post a < j))
     back j vj {a} {b} (edge h) e =
         let old = vertex_at post a in
         let h' : IsTrue (joined old j) = subst (λ v. IsTrue (joined old v)) (ap (vertex_at post) e ∙ back_to j vj) h in
-        let na = places_back n post perm a (renamed_within a b h).1 in (
+        let na = places_back n post perm a (renumbered_within a b h).1 in (
           edge h',
           λ lt. elim (cases_order (vertex_at post a) j) [
             | inl q ↦ absurd (pattern.irreflexive j (subst (λ v. IsTrue (joined v j)) q h'))
@@ -126,7 +117,7 @@ module _ (parents_are_first : ParentsAreFirst) (joined : ℕ → ℕ → Bool) (
         let mid = vertex_at post c in
         let r = back j vj p e in
         let f = r.1 lc in
-        let na = places_back n post perm a (renamed_within a c h).1 in (
+        let na = places_back n post perm a (renumbered_within a c h).1 in (
           via h f.1 r.0,
           λ lt.
               let small : vertex_at post a < j = elim (cases_order (vertex_at post a) j) [
@@ -143,16 +134,16 @@ module _ (parents_are_first : ParentsAreFirst) (joined : ℕ → ℕ → Bool) (
               (neighbour_below old mid j h f.0 small, small),
         )
 
-    reaches_forth : (j i : ℕ) → Reaches joined j i → Reaches (renamed joined post) (place_of post j) (place_of post i)
+    reaches_forth : (j i : ℕ) → Reaches joined j i → Reaches (renumbered joined post) (place_of post j) (place_of post i)
     reaches_forth j i h =
         let lt = reaches_later joined pattern j i h in
         let p = (reaches_by_path joined pattern j i lt).0 h in
-        (reaches_by_path (renamed joined post) renamed_pattern (place_of post j) (place_of post i) (reaches_rises j i h)).1 (forth j p refl).0
+        (reaches_by_path (renumbered joined post) renumbered_pattern (place_of post j) (place_of post i) (reaches_rises j i h)).1 (forth j p refl).0
 
-    reaches_back : (j i : ℕ) → IsVertex n j → IsVertex n i → Reaches (renamed joined post) (place_of post j) (place_of post i) → Reaches joined j i
+    reaches_back : (j i : ℕ) → IsVertex n j → IsVertex n i → Reaches (renumbered joined post) (place_of post j) (place_of post i) → Reaches joined j i
     reaches_back j i vj vi h =
-        let lt = reaches_later (renamed joined post) renamed_pattern (place_of post j) (place_of post i) h in
-        let p = (reaches_by_path (renamed joined post) renamed_pattern (place_of post j) (place_of post i) lt).0 h in
+        let lt = reaches_later (renumbered joined post) renumbered_pattern (place_of post j) (place_of post i) h in
+        let p = (reaches_by_path (renumbered joined post) renumbered_pattern (place_of post j) (place_of post i) lt).0 h in
         let q' : Path joined j i j = subst (λ v. Path joined j v j) (back_to i vi) (back j vj p refl).0 in
         elim (cases_order i j) [
           | inl e ↦ let z = ap (place_of post) e in absurd (omega arith)
@@ -164,22 +155,22 @@ module _ (parents_are_first : ParentsAreFirst) (joined : ℕ → ℕ → Bool) (
 
     -- ---- structures
 
-    structure_forth : (j i : ℕ) → IsTrue (structure_of joined j i) → IsTrue (structure_of (renamed joined post) (place_of post j) (place_of post i))
+    structure_forth : (j i : ℕ) → IsTrue (structure_of joined j i) → IsTrue (structure_of (renumbered joined post) (place_of post j) (place_of post i))
     structure_forth j i h =
         elim (cases_eq i j) [
-          | inl e ↦ own_row (renamed joined post) (place_of post j) (place_of post i) (ap (place_of post) e)
-          | inr ne ↦ in_structure (renamed joined post) (place_of post j) (place_of post i) (reaches_forth j i (reached_or_own joined j i h ne))
+          | inl e ↦ own_row (renumbered joined post) (place_of post j) (place_of post i) (ap (place_of post) e)
+          | inr ne ↦ in_structure (renumbered joined post) (place_of post j) (place_of post i) (reaches_forth j i (reached_or_own joined j i h ne))
         ]
 
-    structure_back : (j i : ℕ) → IsVertex n j → IsVertex n i → IsTrue (structure_of (renamed joined post) (place_of post j) (place_of post i)) → IsTrue (structure_of joined j i)
+    structure_back : (j i : ℕ) → IsVertex n j → IsVertex n i → IsTrue (structure_of (renumbered joined post) (place_of post j) (place_of post i)) → IsTrue (structure_of joined j i)
     structure_back j i vj vi h =
         elim (cases_eq i j) [
           | inl e ↦ own_row joined j i e
           | inr ne ↦ in_structure joined j i (reaches_back j i vj vi
-              (reached_or_own (renamed joined post) (place_of post j) (place_of post i) h (λ e. ne (sym (back_to i vi) ∙ ap (vertex_at post) e ∙ back_to j vj))))
+              (reached_or_own (renumbered joined post) (place_of post j) (place_of post i) h (λ e. ne (sym (back_to i vi) ∙ ap (vertex_at post) e ∙ back_to j vj))))
         ]
 
-    pub structures_same : (j i : ℕ) → IsVertex n j → IsVertex n i → structure_of joined j i ≡ structure_of (renamed joined post) (place_of post j) (place_of post i)
+    pub structures_same : (j i : ℕ) → IsVertex n j → IsVertex n i → structure_of joined j i ≡ structure_of (renumbered joined post) (place_of post j) (place_of post i)
     structures_same j i vj vi = same_tests _ _ (structure_forth j i) (structure_back j i vj vi)
       where
         same_tests : (s t : Bool) → (IsTrue s → IsTrue t) → (IsTrue t → IsTrue s) → s ≡ t
@@ -191,15 +182,15 @@ module _ (parents_are_first : ParentsAreFirst) (joined : ℕ → ℕ → Bool) (
 
     -- ---- parents
 
-    first_carried : (j p : ℕ) → IsVertex n j → IsFirst joined j p → IsFirst (renamed joined post) (place_of post j) (place_of post p)
+    first_carried : (j p : ℕ) → IsVertex n j → IsFirst joined j p → IsFirst (renumbered joined post) (place_of post j) (place_of post p)
     first_carried j p vj first = record {
       reached = λ some. reaches_forth j p (first.reached (elim (cases_eq p 0) [ inl e ↦ let z = ap (place_of post) e ∙ places_back n post perm 0 (omega arith) in absurd (omega arith) | inr ne ↦ omega arith ]));
       least = λ m h.
-          let le = row_within (renamed joined post) renamed_pattern n renamed_within (place_of post j) m h in
-          let later = reaches_later (renamed joined post) renamed_pattern (place_of post j) m h in
+          let le = row_within (renumbered joined post) renumbered_pattern n renumbered_within (place_of post j) m h in
+          let later = reaches_later (renumbered joined post) renumbered_pattern (place_of post j) m h in
           let vm : IsVertex n m = (omega arith, le) in
           let again = places_back n post perm m le in
-          let h' = reaches_back j (vertex_at post m) vj (vertex_of n post perm m vm) (subst (λ v. Reaches (renamed joined post) (place_of post j) v) (sym again) h) in
+          let h' = reaches_back j (vertex_at post m) vj (vertex_of n post perm m vm) (subst (λ v. Reaches (renumbered joined post) (place_of post j) v) (sym again) h) in
           let f = first.least (vertex_at post m) h' in
           let vp : IsVertex n p = (let some = f.0 in omega arith, row_within joined pattern n inside j p (first.reached f.0)) in
           let place = place_within vertices_back places_back n post perm p vp in (
@@ -211,27 +202,62 @@ module _ (parents_are_first : ParentsAreFirst) (joined : ℕ → ℕ → Bool) (
           );
     }
 
-    parent_carried : (j : ℕ) → IsVertex n j → parent_of (renamed joined post) n (place_of post j) ≡ place_of post (parent_at (parents_of joined n) j)
+    parent_carried : (j : ℕ) → IsVertex n j → parent_of (renumbered joined post) n (place_of post j) ≡ place_of post (parent_at (parents_of joined n) j)
     parent_carried j vj =
-        parent_is_first parents_are_first (renamed joined post) renamed_pattern n renamed_within (place_of post j) (place_of post (parent_at (parents_of joined n) j))
+        parent_is_first parents_are_first (renumbered joined post) renumbered_pattern n renumbered_within (place_of post j) (place_of post (parent_at (parents_of joined n) j))
         (first_carried j (parent_at (parents_of joined n) j) vj (first_in_list parents_are_first joined pattern n inside j vj))
 
-    pub parents_carried : parents_of (renamed joined post) n ≡ map (λ j. place_of post (parent_at (parents_of joined n) j)) post
-    parents_carried =
-        same_list (parents_of (renamed joined post) n) (map (λ j. place_of post (parent_at (parents_of joined n) j)) post) n
-        (length-map-range_with_len (parent_of (renamed joined post) n) 1 n) (length-map post (λ j. place_of post (parent_at (parents_of joined n) j)) ∙ perm.len) at_each
+    -- ---- counts
+
+    count_carried : (k : ℕ) → IsVertex n k → count_of (renumbered joined post) n k ≡ count_of joined n (vertex_at post k)
+    count_carried k vk =
+        sym (fold-map (λ a b. a + bit b) (structure_of (renumbered joined post) k) 0 (range_with_len 1 n)) ∙ ap (fold (λ a b. a + bit b) 0) same
+        ∙ fold-map (λ a b. a + bit b) (structure_of joined (vertex_at post k)) 0 post ∙ count_along (structure_of joined (vertex_at post k)) n post perm
       where
-        at_each : (k : ℕ) → IsVertex n k → vertex_at (parents_of (renamed joined post) n) k ≡ vertex_at (map (λ j. place_of post (parent_at (parents_of joined n) j)) post) k
+        long : length (map (structure_of (renumbered joined post) k) (range_with_len 1 n)) ≡ n
+        long = length-map-range_with_len (structure_of (renumbered joined post) k) 1 n
+
+        same : map (structure_of (renumbered joined post) k) (range_with_len 1 n) ≡ map (structure_of joined (vertex_at post k)) post
+        same = ext_get_or false (map (structure_of (renumbered joined post) k) (range_with_len 1 n)) (map (structure_of joined (vertex_at post k)) post)
+            (long ∙ sym (length-map post (structure_of joined (vertex_at post k)) ∙ perm.len))
+            (λ i lt.
+            let len = perm.len in
+            let vi : IsVertex n (suc i) = (omega arith, omega (arith, long)) in
+            get_or-map-range_with_len (structure_of (renumbered joined post) k) 1 n i (suc i) false (omega (arith, long)) (omega arith)
+            ∙ sym (structures_same (vertex_at post k) (vertex_at post (suc i)) (vertex_of n post perm k vk) (vertex_of n post perm (suc i) vi)
+            ∙ ap (λ v. structure_of (renumbered joined post) v (place_of post (vertex_at post (suc i)))) (places_back n post perm k vk.1)
+            ∙ ap (structure_of (renumbered joined post) k) (places_back n post perm (suc i) vi.1))
+            ∙ sym (get_or-map (structure_of joined (vertex_at post k)) post i 0 false (omega (arith, long))))
+
+    pub counts_carried : counts_of (renumbered joined post) n ≡ map (count_of joined n) post
+    counts_carried =
+        same_list (counts_of (renumbered joined post) n) (map (count_of joined n) post) n
+        (length-map-range_with_len (count_of (renumbered joined post) n) 1 n) (length-map post (count_of joined n) ∙ perm.len) at_each
+      where
+        at_each : (k : ℕ) → IsVertex n k → vertex_at (counts_of (renumbered joined post) n) k ≡ vertex_at (map (count_of joined n) post) k
+        at_each zero vk = absurd (let some = vk.0 in omega arith)
+        at_each (suc i) vk =
+            let le = vk.1 in
+            let len = perm.len in
+            get_or-map-range_with_len (count_of (renumbered joined post) n) 1 n i (suc i) 0 (omega arith) (omega arith) ∙ count_carried (suc i) vk
+            ∙ sym (get_or-map (count_of joined n) post i 0 0 (omega arith))
+
+    pub parents_carried : parents_of (renumbered joined post) n ≡ map (λ j. place_of post (parent_at (parents_of joined n) j)) post
+    parents_carried =
+        same_list (parents_of (renumbered joined post) n) (map (λ j. place_of post (parent_at (parents_of joined n) j)) post) n
+        (length-map-range_with_len (parent_of (renumbered joined post) n) 1 n) (length-map post (λ j. place_of post (parent_at (parents_of joined n) j)) ∙ perm.len) at_each
+      where
+        at_each : (k : ℕ) → IsVertex n k → vertex_at (parents_of (renumbered joined post) n) k ≡ vertex_at (map (λ j. place_of post (parent_at (parents_of joined n) j)) post) k
         at_each zero vk = absurd (let some = vk.0 in omega arith)
         at_each (suc i) vk =
             let le = vk.1 in
             let len = perm.len in
             let carried = parent_carried (vertex_at post (suc i)) (vertex_of n post perm (suc i) vk) in
-            parent_in_list (renamed joined post) n (suc i) vk ∙ ap (parent_of (renamed joined post) n) (sym (places_back n post perm (suc i) vk.1)) ∙ carried
+            parent_in_list (renumbered joined post) n (suc i) vk ∙ ap (parent_of (renumbered joined post) n) (sym (places_back n post perm (suc i) vk.1)) ∙ carried
             ∙ sym (get_or-map (λ j. place_of post (parent_at (parents_of joined n) j)) post i 0 0 (omega arith))
 
 module _ (parents_are_first : ParentsAreFirst) (vertices_back : VerticesAreInverse) (places_back : PlacesAreInverse)
-    (joined : ℕ → ℕ → Bool) (n : ℕ) (post : List ℕ) (pattern : IsPattern joined) (inside : IsWithin n joined) (order : IsPostorder (parents_of joined n) post) where
+    (joined : ℕ → ℕ → Bool) (n : ℕ) (post : List ℕ) (pattern : IsAdjacency joined) (inside : IsWithin n joined) (order : IsPostorder (parents_of joined n) post) where
   all_parents : length (parents_of joined n) ≡ n
   all_parents = length-map-range_with_len (parent_of joined n) 1 n
 
@@ -248,8 +274,11 @@ module _ (parents_are_first : ParentsAreFirst) (vertices_back : VerticesAreInver
       let vp : IsVertex n (parent_at (parents_of joined n) j) = (omega arith, row_within joined pattern n inside j (parent_at (parents_of joined n) j) reached) in
       order.before j (parent_at (parents_of joined n) j) vj (subst (λ m. IsVertex m (parent_at (parents_of joined n) j)) (sym all_parents) vp) (below (step some self) (λ e. absurd (omega arith)))
 
-  pub structure_by_postorder : (j i : ℕ) → IsVertex n j → IsVertex n i → structure_of joined j i ≡ structure_of (renamed joined post) (place_of post j) (place_of post i)
+  pub structure_by_postorder : (j i : ℕ) → IsVertex n j → IsVertex n i → structure_of joined j i ≡ structure_of (renumbered joined post) (place_of post j) (place_of post i)
   structure_by_postorder = structures_same parents_are_first joined pattern n inside vertices_back places_back post perm_of_all keeps_order
 
-  pub parents_by_postorder : parents_of (renamed joined post) n ≡ map (λ j. place_of post (parent_at (parents_of joined n) j)) post
+  pub parents_by_postorder : parents_of (renumbered joined post) n ≡ map (λ j. place_of post (parent_at (parents_of joined n) j)) post
   parents_by_postorder = parents_carried parents_are_first joined pattern n inside vertices_back places_back post perm_of_all keeps_order
+
+  pub counts_by_postorder : counts_of (renumbered joined post) n ≡ map (count_of joined n) post
+  counts_by_postorder = counts_carried parents_are_first joined pattern n inside vertices_back places_back post perm_of_all keeps_order

@@ -3,7 +3,7 @@ use Rattle.std.proofs.Common.{sym, ◌∙◌, subst, ◌≡◌, ◌↔◌, inl, 
 use Rattle.std.proofs.lemmas.Bool.{cases_eq}
 use Rattle.std.proofs.lemmas.List.FromFn.{length-map-range_with_len}
 use Rattle.ordering.specs.Perm.{IsVertex}
-use Rattle.ordering.specs.Fill.{structure_of, parent_of, parents_of, IsPattern, IsParent}
+use Rattle.ordering.specs.Fill.{structure_of, parent_of, parents_of, IsAdjacency, IsParent}
 use Rattle.elim_tree.specs.Paths.{Path, IsWithin, IsInherited, IsInRowSubtree}
 use Rattle.elim_tree.specs.Reaches.{Reaches, IsFirst}
 use Rattle.elim_tree.specs.Trees.{parent_at, IsAbove, self, step}
@@ -36,7 +36,7 @@ one_first joined j (suc p) (suc q) one two =
     let high = (one.least (suc q) (two.reached (omega arith))).1 in
     omega arith
 
-module _ (parents_are_first : ParentsAreFirst) (joined : ℕ → ℕ → Bool) (pattern : IsPattern joined) (n : ℕ) (inside : IsWithin n joined) where
+module _ (parents_are_first : ParentsAreFirst) (joined : ℕ → ℕ → Bool) (pattern : IsAdjacency joined) (n : ℕ) (inside : IsWithin n joined) where
   pub first_is_parent : (j : ℕ) → IsFirst joined j (parent_of joined n j)
   first_is_parent j = parent_is joined pattern n inside j (parent_of joined n j) (parents_are_first joined n j)
 
@@ -112,7 +112,7 @@ module _ (parents_are_first : ParentsAreFirst) (joined : ℕ → ℕ → Bool) (
     λ r. in_structure joined x i (reaches_up i r.3 (from_pattern joined pattern r.0 i (pattern.symmetric i r.0 r.1) r.2) lt),
   )
 
-pub by_paths : (joined : ℕ → ℕ → Bool) (j i : ℕ) → IsPattern joined → j < i → IsTrue (structure_of joined j i) ↔ Path joined j i j
+pub by_paths : (joined : ℕ → ℕ → Bool) (j i : ℕ) → IsAdjacency joined → j < i → IsTrue (structure_of joined j i) ↔ Path joined j i j
 by_paths joined j i pattern lt = (
   λ h. (reaches_by_path joined pattern j i lt).0 (reached_or_own joined j i h (omega arith)),
   λ p. in_structure joined j i ((reaches_by_path joined pattern j i lt).1 p),

@@ -1,6 +1,7 @@
--- The forest of the columns so far, as it grows: what holds of the two tables in which it is kept. No public clause names this.
+-- No public clause names this.
+-- The forest of the columns so far, as it grows: what holds of the two tables in which it is kept.
 use Rattle.std.specs.Prelude.{◌≡◌, ◌⊎◌, ℕ, ◌<◌, ◌≤◌, Bool, List, length, slice_index}
-use Rattle.ordering.specs.Fill.{IsPattern}
+use Rattle.ordering.specs.Fill.{IsAdjacency}
 use Rattle.ordering.specs.Perm.{place_of}
 use Rattle.elim_tree.specs.Reaches.{Reaches, IsFirst}
 
@@ -35,33 +36,29 @@ pub record IsOnWay (joined : ℕ → ℕ → Bool) (k start c : ℕ) (root paren
       × ((root x ≡ root (ancestor x)) ⊎ ((x < c) × (ancestor x ≡ k) × (root x ≡ root start)))
   pub fresh : (x : ℕ) → k ≤ x → (parent x ≡ 0) × (ancestor x ≡ 0) × (root x ≡ x)
 
--- a table as a function
-abbrev pub at : List ℕ → ℕ → ℕ
-at table x = slice_index table x
-
 -- the tree of `start` may be put under k
 abbrev pub CanLink : Rooted → ℕ → ℕ → List ℕ → List ℕ → Type 0
 CanLink forest k start parents ancestors =
-    IsPattern forest.joined × (start < k) × Reaches forest.joined start k × IsGrown forest.joined k forest.root (at parents) (at ancestors)
+    IsAdjacency forest.joined × (start < k) × Reaches forest.joined start k × IsGrown forest.joined k forest.root (slice_index parents) (slice_index ancestors)
 
 -- it is under k, and whoever was there is still there
 abbrev pub IsLinked : Rooted → ℕ → ℕ → List ℕ → List ℕ → Type 0
 IsLinked forest k start parents ancestors =
-    (root : ℕ → ℕ) × IsGrown forest.joined k root (at parents) (at ancestors) × (root start ≡ k) × ((x : ℕ) → forest.root x ≡ k → root x ≡ k)
+    (root : ℕ → ℕ) × IsGrown forest.joined k root (slice_index parents) (slice_index ancestors) × (root start ≡ k) × ((x : ℕ) → forest.root x ≡ k → root x ≡ k)
 
 -- the column of the j-th vertex of a row
 abbrev pub column_in : List ℕ → List ℕ → ℕ → ℕ
-column_in row order j = place_of order (at row j)
+column_in row order j = place_of order (slice_index row j)
 
 -- the trees of the earlier columns of a row may be put under k
 abbrev pub CanTake : Rooted → ℕ → List ℕ → List ℕ → List ℕ → List ℕ → Type 0
 CanTake forest k row order parents ancestors =
-    IsPattern forest.joined
+    IsAdjacency forest.joined
     × ((j : ℕ) → j < length row → column_in row order j < k → Reaches forest.joined (column_in row order j) k)
-    × IsGrown forest.joined k forest.root (at parents) (at ancestors)
+    × IsGrown forest.joined k forest.root (slice_index parents) (slice_index ancestors)
 
 -- those of the first n of the row are under k
 abbrev pub IsTaken : Rooted → ℕ → List ℕ → List ℕ → ℕ → List ℕ → List ℕ → Type 0
 IsTaken forest k row order n parents ancestors =
-    (root : ℕ → ℕ) × IsGrown forest.joined k root (at parents) (at ancestors)
+    (root : ℕ → ℕ) × IsGrown forest.joined k root (slice_index parents) (slice_index ancestors)
     × ((j : ℕ) → j < n → column_in row order j < k → root (column_in row order j) ≡ k)

@@ -1,3 +1,4 @@
+-- No public clause names this.
 -- How parents are kept: by column, with a place for column 0.
 use Rattle.std.specs.Prelude.{◌≡◌, ℕ, ◌<◌, List, length, drop, slice_index}
 use Rattle.elim_tree.specs.Trees.{IsForest}

@@ -1,4 +1,5 @@
--- What a column reaches: the rows after it in its structure. No public clause names this.
+-- No public clause names this.
+-- What a column reaches: the rows after it in its structure.
 use Rattle.std.specs.Prelude.{ℕ, ◌<◌, ◌≤◌, Bool, IsTrue}
 use Rattle.ordering.specs.Fill.{graph_at}
 

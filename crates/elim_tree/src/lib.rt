@@ -5,15 +5,17 @@
 
 pub mod laws;
 mod parents;
-#[cfg(test)]
-mod post_tests;
 mod postordering;
 mod renumbering;
 #[cfg(test)]
 mod tests;
 mod tree;
 
-pub use parents::{NoMemory, Parents};
+pub use parents::Parents;
 pub use postordering::postorder;
 pub use renumbering::{Numbered, renumber};
+use std::alloc::AllocError;
 pub use tree::etree;
+
+/// Want of memory: an allocation was refused.
+pub type NoMemory = AllocError;

@@ -1,11 +1,7 @@
 ghost use Rattle.std.specs.Prelude.{◌≡◌, ◌≤◌, length};
 ghost use Rattle.elim_tree.specs.Trees.{IsForest, parent_at};
 
-use std::alloc::AllocError;
 use std::marker::Model;
-
-/// Want of memory: an allocation was refused.
-pub type NoMemory = AllocError;
 
 /// The parents of 1 to 10^6 columns in a forest: that of each is 0, for none, or a greater column. Contracts see the list of the
 /// parents.
@@ -28,6 +24,14 @@ impl Model for Parents {
 }
 
 impl Parents {
+    /// What every value of this type keeps; a proof that needs it calls it. It does nothing.
+    pub fn keeps(&self)
+        // each parent is a greater column, or 0
+        ensures { IsForest self.now }
+    {
+        let _ = &self.table;
+    }
+
     /// How many columns there are, 1 to 10^6.
     pub fn len(&self) -> u32
         ensures value { result ≡ length self.now }

@@ -1,21 +1,21 @@
 ghost use Rattle.std.specs.Prelude.{◌≡◌, ℕ, ◌+◌, ◌<◌, ◌≤◌, ◌^◌, length, slice_index, IfOk};
 ghost use Rattle.ordering.specs.Perm.{AreInverse, IsVertex};
-ghost use Rattle.elim_tree.specs.Forests.{at};
 ghost use Rattle.elim_tree.specs.ParentTables.{parents_in, IsParentTable};
 ghost use Rattle.elim_tree.specs.Postorders.{Precedes, IsPostorder};
 ghost use Rattle.elim_tree.specs.Spans.{IsCounted, ArePlaces};
 
+use crate::NoMemory;
 use crate::parents::Parents;
-use ordering::{NoMemory, Perm};
+use ordering::Perm;
 use std::alloc::Global;
 
 // Counts for each column the columns below it, and those in the subtrees of its earlier siblings.
 fn count_below(parents: &[u32], below: &mut [u32], before: &mut [u32])
     requires lengths { (length below.old ≡ length parents.now) × (length before.old ≡ length parents.now) }
     requires table { IsParentTable parents.now }
-    requires none { (x : ℕ) → at below.old x ≡ 0 }
-    ensures counted { IsCounted (length parents.now) (at parents.now) (at below.new) (at before.new) }
-    ensures unused { at before.new 0 ≡ at before.old 0 }
+    requires none { (x : ℕ) → slice_index below.old x ≡ 0 }
+    ensures counted { IsCounted (length parents.now) (slice_index parents.now) (slice_index below.new) (slice_index before.new) }
+    ensures unused { slice_index before.new 0 ≡ slice_index before.old 0 }
 {
     for j in 1..parents.len() {
         let p = parents[j] as usize;
@@ -29,12 +29,12 @@ fn count_below(parents: &[u32], below: &mut [u32], before: &mut [u32])
 fn place_columns(parents: &[u32], below: &[u32], starts: &mut [u32], places: &mut [u32])
     requires lengths { (length below.now ≡ length parents.now) × (length starts.old ≡ length parents.now) × (length places.old ≡ length parents.now) }
     requires table { IsParentTable parents.now }
-    requires counted { IsCounted (length parents.now) (at parents.now) (at below.now) (at starts.old) }
-    requires unused { (at starts.old 0 ≡ 0) × (at places.old 0 ≡ 0) }
+    requires counted { IsCounted (length parents.now) (slice_index parents.now) (slice_index below.now) (slice_index starts.old) }
+    requires unused { (slice_index starts.old 0 ≡ 0) × (slice_index places.old 0 ≡ 0) }
     ensures len { length places.new ≡ length places.old }
-    ensures places { ArePlaces (length parents.now) (at places.new) }
+    ensures places { ArePlaces (length parents.now) (slice_index places.new) }
     ensures before { (a b : ℕ) → IsVertex (length (parents_in parents.now)) a → IsVertex (length (parents_in parents.now)) b →
-        Precedes (parents_in parents.now) a b → at places.new a < at places.new b }
+        Precedes (parents_in parents.now) a b → slice_index places.new a < slice_index places.new b }
 {
     for j in (1..parents.len()).rev() {
         let start = starts[parents[j] as usize] + starts[j];
@@ -46,7 +46,7 @@ fn place_columns(parents: &[u32], below: &[u32], starts: &mut [u32], places: &mu
 // Writes each column at its place.
 fn invert(places: &[u32], vertices: &mut [u32])
     requires lengths { (length vertices.old ≡ length places.now) × (0 < length places.now) × (length places.now ≤ 2 ^ 32) }
-    requires places { ArePlaces (length places.now) (at places.now) }
+    requires places { ArePlaces (length places.now) (slice_index places.now) }
     ensures { AreInverse vertices.new places.now }
 {
     for (j, place) in places.iter().enumerate() {

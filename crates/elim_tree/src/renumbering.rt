@@ -1,13 +1,15 @@
 ghost use Rattle.std.specs.Prelude.{◌≡◌, ℕ, ◌+◌, ◌≤◌, Bool, length, map, IfOk};
 ghost use Rattle.std.specs.List.{range_with_len};
-ghost use Rattle.ordering.specs.Fill.{IsPattern, parents_of, renamed};
+ghost use Rattle.limits.specs.Limits.{most_order};
+ghost use Rattle.ordering.specs.Fill.{IsAdjacency, parents_of, renumbered};
 ghost use Rattle.ordering.specs.Perm.{vertex_at, place_of};
 ghost use Rattle.elim_tree.specs.Paths.{IsWithin};
 ghost use Rattle.elim_tree.specs.Postorders.{IsPostorder, IsNumberedInPostorder};
 ghost use Rattle.elim_tree.specs.Trees.{parent_at};
 
+use crate::NoMemory;
 use crate::laws::reordering;
-use crate::parents::{NoMemory, Parents};
+use crate::parents::Parents;
 use ordering::Perm;
 use ordering::laws::places_are_inverse;
 use std::alloc::Global;
@@ -23,28 +25,24 @@ pub struct Numbered {
 
 // The vertices by their new places.
 fn vertices_along(alloc: Global, perm: &Perm, post: &Perm) -> Result<Vec<u32>, NoMemory>
-    requires { length perm.now ≡ length post.now }
+    requires len { length perm.now ≡ length post.now }
+    requires few { length post.now ≤ most_order }
     ensures { IfOk result (λ table. table.items ≡ map (λ k. vertex_at perm.now (vertex_at post.now k)) (range_with_len 0 (length post.now + 1))) }
 {
-    let n = post.len();
-    let mut table = Vec::with_capacity(alloc, n as usize + 1)?;
-    for k in 0..=n {
-        table.push(perm.at(post.at(k)))?;
-    }
-    Ok(table)
+    (0..post.len() + 1)
+        .map(|k| perm.at(post.at(k)))
+        .collect(alloc)
 }
 
 // The new places of the vertices.
 fn places_along(alloc: Global, perm: &Perm, post: &Perm) -> Result<Vec<u32>, NoMemory>
-    requires { length perm.now ≡ length post.now }
+    requires len { length perm.now ≡ length post.now }
+    requires few { length post.now ≤ most_order }
     ensures { IfOk result (λ table. table.items ≡ map (λ v. place_of post.now (place_of perm.now v)) (range_with_len 0 (length post.now + 1))) }
 {
-    let n = post.len();
-    let mut table = Vec::with_capacity(alloc, n as usize + 1)?;
-    for v in 0..=n {
-        table.push(post.place(perm.place(v)))?;
-    }
-    Ok(table)
+    (0..post.len() + 1)
+        .map(|v| post.place(perm.place(v)))
+        .collect(alloc)
 }
 
 // The parents by the new numbers.
@@ -52,23 +50,20 @@ fn parents_along(alloc: Global, parents: &Parents, post: &Perm) -> Result<Vec<u3
     requires { length parents.now ≡ length post.now }
     ensures { IfOk result (λ table. table.items ≡ map (λ k. place_of post.now (parent_at parents.now (vertex_at post.now k))) (range_with_len 0 (length post.now + 1))) }
 {
-    let n = post.len();
-    let mut table = Vec::with_capacity(alloc, n as usize + 1)?;
-    for k in 0..=n {
-        table.push(post.place(parents.at(post.at(k))))?;
-    }
-    Ok(table)
+    (0..parents.len() + 1)
+        .map(|k| post.place(parents.at(post.at(k))))
+        .collect(alloc)
 }
 
 // The order along another order of its columns.
 fn order_along(alloc: Global, perm: &Perm, post: &Perm) -> Result<Perm, NoMemory>
     requires len { length perm.now ≡ length post.now }
-    requires few { length post.now ≤ 1000000 }
+    requires few { length post.now ≤ most_order }
     ensures { IfOk result (λ order. order ≡ map (vertex_at perm.now) post.now) }
 {
     places_are_inverse();
-    let _columns = perm.len();
-    let _places = post.len();
+    perm.keeps();
+    post.keeps();
     let vertices = vertices_along(alloc, perm, post)?;
     let places = places_along(alloc, perm, post)?;
     Ok(Perm::from_tables(vertices, places))
@@ -81,7 +76,7 @@ fn tree_along(alloc: Global, parents: &Parents, post: &Perm) -> Result<Parents, 
     ensures in_postorder { IfOk result IsNumberedInPostorder }
 {
     places_are_inverse();
-    let _columns = parents.len();
+    parents.keeps();
     let table = parents_along(alloc, parents, post)?;
     Ok(Parents { table })
 }
@@ -100,12 +95,12 @@ pub fn renumber(
     ensures parents { IfOk result (λ numbered. numbered.parents ≡ map (λ j. place_of post.now (parent_at parents.now j)) post.now) }
     ensures in_postorder { IfOk result (λ numbered. IsNumberedInPostorder numbered.parents) }
     // the parents are the elimination tree of the new order
-    ensures tree { IfOk result (λ numbered. (joined : ℕ → ℕ → Bool) → IsPattern joined → IsWithin (length parents.now) joined →
-        parents.now ≡ parents_of (renamed joined perm.now) (length parents.now) →
-        numbered.parents ≡ parents_of (renamed joined numbered.perm) (length parents.now)) }
+    ensures tree { IfOk result (λ numbered. (joined : ℕ → ℕ → Bool) → IsAdjacency joined → IsWithin (length parents.now) joined →
+        parents.now ≡ parents_of (renumbered joined perm.now) (length parents.now) →
+        numbered.parents ≡ parents_of (renumbered joined numbered.perm) (length parents.now)) }
 {
     reordering();
-    let _columns = parents.len();
+    parents.keeps();
     let perm = order_along(alloc, perm, post)?;
     let parents = tree_along(alloc, parents, post)?;
     Ok(Numbered { perm, parents })

@@ -1,22 +1,155 @@
-//! Trees worked by hand.
+//! Trees and postorders worked by hand, and a plain elimination beside them.
 
-use crate::{etree, laws};
+use crate::{etree, postorder, renumber};
 use matrix_market::{Pattern, read_pattern};
-use ordering::{Perm, identity, read_perm};
+use ordering::{Perm, read_perm};
 use std::alloc::Global;
+use std::collections::BTreeSet;
 use std::process::Abort;
 use std::test::Fail;
 
-fn check_tree(
+// A pattern of four vertices, by its pairs, and an order of them; the parents of the columns, their postorder, the order along it, and the
+// parents in that order.
+#[derive(Clone, Copy)]
+struct Row {
+    pairs: &'static [(u32, u32)],
+    order: [u32; 4],
+    parents: [u32; 4],
+    post: [u32; 4],
+    perm: [u32; 4],
+    carried: [u32; 4],
+}
+
+const ROWS: [Row; 8] = [
+    // the arrow, whose tree is a chain; and with its middle third
+    Row {
+        pairs: &[(1, 2), (1, 3), (1, 4)],
+        order: [1, 2, 3, 4],
+        parents: [2, 3, 4, 0],
+        post: [1, 2, 3, 4],
+        perm: [1, 2, 3, 4],
+        carried: [2, 3, 4, 0],
+    },
+    Row {
+        pairs: &[(1, 2), (1, 3), (1, 4)],
+        order: [2, 3, 1, 4],
+        parents: [3, 3, 4, 0],
+        post: [1, 2, 3, 4],
+        perm: [2, 3, 1, 4],
+        carried: [3, 3, 4, 0],
+    },
+    // two pairs that stand together, two that come to stand together, and two by falling numbers
+    Row {
+        pairs: &[(1, 2), (3, 4)],
+        order: [1, 2, 3, 4],
+        parents: [2, 0, 4, 0],
+        post: [1, 2, 3, 4],
+        perm: [1, 2, 3, 4],
+        carried: [2, 0, 4, 0],
+    },
+    Row {
+        pairs: &[(1, 3), (2, 4)],
+        order: [1, 2, 3, 4],
+        parents: [3, 4, 0, 0],
+        post: [1, 3, 2, 4],
+        perm: [1, 3, 2, 4],
+        carried: [2, 0, 4, 0],
+    },
+    Row {
+        pairs: &[(1, 4), (2, 3)],
+        order: [4, 3, 2, 1],
+        parents: [4, 3, 0, 0],
+        post: [2, 3, 1, 4],
+        perm: [3, 2, 4, 1],
+        carried: [2, 0, 4, 0],
+    },
+    // column 4 has the children 1 and 3
+    Row {
+        pairs: &[(1, 4), (2, 3), (3, 4)],
+        order: [1, 2, 3, 4],
+        parents: [4, 3, 4, 0],
+        post: [1, 2, 3, 4],
+        perm: [1, 2, 3, 4],
+        carried: [4, 3, 4, 0],
+    },
+    // the grid of 2 by 2
+    Row {
+        pairs: &[(1, 2), (1, 3), (2, 4), (3, 4)],
+        order: [1, 2, 3, 4],
+        parents: [2, 3, 4, 0],
+        post: [1, 2, 3, 4],
+        perm: [1, 2, 3, 4],
+        carried: [2, 3, 4, 0],
+    },
+    // roots alone
+    Row {
+        pairs: &[],
+        order: [4, 3, 2, 1],
+        parents: [0, 0, 0, 0],
+        post: [1, 2, 3, 4],
+        perm: [4, 3, 2, 1],
+        carried: [0, 0, 0, 0],
+    },
+];
+
+// The pattern of four vertices that joins these pairs.
+fn pattern_of(alloc: Global, pairs: &[(u32, u32)]) -> Result<Pattern, Fail> {
+    let count = pairs.len();
+    let mut text = format!(in alloc;
+        "%%MatrixMarket matrix coordinate pattern symmetric\n4 4 {count}\n"
+    )?;
+    for (a, b) in pairs {
+        text.push_str(format!(in alloc; "{b} {a}\n")?.as_str())?;
+    }
+    Ok(read_pattern(alloc, text.as_bytes())?)
+}
+
+fn order_of(alloc: Global, order: [u32; 4]) -> Result<Perm, Fail> {
+    let [a, b, c, d] = order;
+    let text = format!(in alloc; "{a} {b} {c} {d}\n")?;
+    Ok(read_perm(alloc, text.as_bytes(), 4)?)
+}
+
+// The parents, the plain way: one vertex after another joins those after it that it is joined to, and the first of them is its parent.
+fn parents_by_elimination(
+    alloc: Global,
+    pairs: &[(u32, u32)],
+    order: [u32; 4],
+) -> Result<[u32; 4], Fail> {
+    let mut joined = BTreeSet::new(alloc);
+    for (a, b) in pairs {
+        joined.insert((*a, *b))?;
+        joined.insert((*b, *a))?;
+    }
+    let mut parents = [0; 4];
+    for j in 0..4usize {
+        for i in (j + 1..4).rev() {
+            if !joined.contains(&(order[j], order[i])) {
+                continue;
+            }
+            parents[j] = i as u32 + 1;
+            for k in j + 1..4 {
+                if k != i && joined.contains(&(order[j], order[k])) {
+                    joined.insert((order[i], order[k]))?;
+                }
+            }
+        }
+    }
+    Ok(parents)
+}
+
+fn check_parents(
     rt: &impl Abort,
     alloc: Global,
-    pattern: &Pattern,
-    perm: &Perm,
+    pairs: &[(u32, u32)],
+    order: [u32; 4],
     wanted: [u32; 4],
 ) -> Result<(), Fail> {
+    let pattern = pattern_of(alloc, pairs)?;
+    let perm = order_of(alloc, order)?;
     assert_eq!(rt; pattern.order(), 4);
     assert_eq!(rt; perm.len(), 4);
-    let parents = etree(alloc, pattern, perm)?;
+    let parents = etree(alloc, &pattern, &perm)?;
     assert_eq!(rt; parents.len(), 4);
     assert_eq!(rt; parents.at(0), 0);
     for j in 1..=4u32 {
@@ -26,37 +159,61 @@ fn check_tree(
 }
 
 #[test]
-fn elimination_trees(rt: HostRuntime) -> Result<(), Fail> {
+fn parents(rt: HostRuntime) -> Result<(), Fail> {
     let alloc = rt.alloc();
-    // the arrow, two pairs, and the grid of 2 by 2: entries of the lower triangle, an order, and the parents
-    let rows: [(&str, &str, [u32; 4]); 5] = [
-        ("4 4 3\n2 1\n3 1\n4 1\n", "1 2 3 4", [2, 3, 4, 0]),
-        ("4 4 3\n2 1\n3 1\n4 1\n", "2 3 1 4", [3, 3, 4, 0]),
-        ("4 4 2\n2 1\n4 3\n", "1 2 3 4", [2, 0, 4, 0]),
-        ("4 4 4\n2 1\n3 1\n4 2\n4 3\n", "1 2 3 4", [2, 3, 4, 0]),
-        ("4 4 0\n", "4 3 2 1", [0, 0, 0, 0]),
-    ];
-    for (entries, order, wanted) in rows {
-        let matrix = format!(in alloc;
-            "%%MatrixMarket matrix coordinate pattern symmetric\n{entries}"
-        )?;
-        let pattern = read_pattern(alloc, matrix.as_bytes())?;
-        let perm = read_perm(alloc, order.as_bytes(), 4)?;
-        check_tree(&rt, alloc, &pattern, &perm, wanted)?;
+    for row in ROWS {
+        check_parents(&rt, alloc, row.pairs, row.order, row.parents)?;
+        let plain = parents_by_elimination(alloc, row.pairs, row.order)?;
+        assert_eq!(rt; plain, row.parents);
     }
     Ok(())
 }
 
 #[test]
-fn the_natural_order(rt: HostRuntime) -> Result<(), Fail> {
+fn parents_of_all_patterns_of_four_vertices(rt: HostRuntime) -> Result<(), Fail> {
     let alloc = rt.alloc();
-    laws::path_theorem();
-    laws::structure_by_children();
-    laws::row_subtrees();
-    laws::pattern_of_rows();
-    laws::renamed_pattern();
-    laws::no_earlier_row();
-    let matrix = b"%%MatrixMarket matrix coordinate pattern symmetric\n4 4 3\n2 1\n3 1\n4 1\n";
-    let pattern = read_pattern(alloc, matrix)?;
-    check_tree(&rt, alloc, &pattern, &identity(alloc, 4)?, [2, 3, 4, 0])
+    for order in [[1, 2, 3, 4], [2, 3, 1, 4]] {
+        for pattern in 0..64u32 {
+            let mut rest = pattern;
+            let mut pairs = Vec::new(alloc);
+            for pair in [(1, 2), (1, 3), (1, 4), (2, 3), (2, 4), (3, 4)] {
+                if rest % 2 == 1 {
+                    pairs.push(pair)?;
+                }
+                rest /= 2;
+            }
+            let plain = parents_by_elimination(alloc, &pairs, order)?;
+            check_parents(&rt, alloc, &pairs, order, plain)?;
+        }
+    }
+    Ok(())
+}
+
+fn check_postorder(rt: &impl Abort, alloc: Global, row: Row) -> Result<(), Fail> {
+    let pattern = pattern_of(alloc, row.pairs)?;
+    let perm = order_of(alloc, row.order)?;
+    assert_eq!(rt; pattern.order(), 4);
+    assert_eq!(rt; perm.len(), 4);
+    let parents = etree(alloc, &pattern, &perm)?;
+    let post = postorder(alloc, &parents)?;
+    assert_eq!(rt; post.len(), 4);
+    let numbered = renumber(alloc, &perm, &parents, &post)?;
+    assert_eq!(rt; numbered.perm.len(), 4);
+    assert_eq!(rt; numbered.parents.len(), 4);
+    for k in 1..=4u32 {
+        let place = k as usize - 1;
+        let (wanted, vertex, parent) = (row.post[place], row.perm[place], row.carried[place]);
+        assert_eq!(rt; post.at(k), wanted);
+        assert_eq!(rt; numbered.perm.at(k), vertex);
+        assert_eq!(rt; numbered.parents.at(k), parent);
+    }
+    Ok(())
+}
+
+#[test]
+fn postorders(rt: HostRuntime) -> Result<(), Fail> {
+    for row in ROWS {
+        check_postorder(&rt, rt.alloc(), row)?;
+    }
+    Ok(())
 }

@@ -2,11 +2,12 @@
 
 ghost use Rattle.std.specs.Prelude.{◌≡◌, ℕ, ◌+◌, ◌<◌, ◌≤◌, length, slice_index, IfOk};
 ghost use Rattle.matrix_market.specs.Pattern.{is_joined};
-ghost use Rattle.ordering.specs.Fill.{renamed, parents_of};
-ghost use Rattle.elim_tree.specs.Forests.{Rooted, CanLink, IsLinked, CanTake, IsTaken, at};
+ghost use Rattle.ordering.specs.Fill.{renumbered, parents_of};
+ghost use Rattle.elim_tree.specs.Forests.{Rooted, CanLink, IsLinked, CanTake, IsTaken};
 ghost use Rattle.elim_tree.specs.Reaches.{IsFirst};
 
-use crate::parents::{NoMemory, Parents};
+use crate::NoMemory;
+use crate::parents::Parents;
 use matrix_market::Pattern;
 use ordering::Perm;
 use ordering::laws::{parent_is_first, places_are_inverse};
@@ -53,15 +54,14 @@ fn take_row(parents: &mut [u32], ancestors: &mut [u32], row: &[u32], perm: &Perm
 // Lets each column in turn take its children.
 fn grow(parents: &mut [u32], ancestors: &mut [u32], pattern: &Pattern, perm: &Perm)
     requires room { (length parents.old ≡ length perm.now + 1) × (length ancestors.old ≡ length perm.now + 1) }
-    requires clear { (x : ℕ) → (at parents.old x ≡ 0) × (at ancestors.old x ≡ 0) }
+    requires clear { (x : ℕ) → (slice_index parents.old x ≡ 0) × (slice_index ancestors.old x ≡ 0) }
     requires len { length perm.now ≡ length pattern.now }
     ensures len { length parents.new ≡ length parents.old }
-    ensures firsts { (j : ℕ) → j ≤ length perm.now → IsFirst (renamed (is_joined pattern.now) perm.now) j (at parents.new j) }
+    ensures firsts { (j : ℕ) → j ≤ length perm.now → IsFirst (renumbered (is_joined pattern.now) perm.now) j (slice_index parents.new j) }
 {
     places_are_inverse();
-    let _order = pattern.order();
-    let n = perm.len();
-    for k in 1..=n {
+    perm.keeps();
+    for k in 1..pattern.order() + 1 {
         let row = pattern.neighbours(perm.at(k));
         take_row(parents, ancestors, row, perm, k);
     }
@@ -71,13 +71,12 @@ fn grow(parents: &mut [u32], ancestors: &mut [u32], pattern: &Pattern, perm: &Pe
 /// compressed ways to the roots: near linear in the entries.
 pub fn etree(alloc: Global, pattern: &Pattern, perm: &Perm) -> Result<Parents, NoMemory>
     requires { length perm.now ≡ length pattern.now }
-    ensures { IfOk result (λ parents. parents ≡ parents_of (renamed (is_joined pattern.now) perm.now) (length perm.now)) }
+    ensures { IfOk result (λ parents. parents ≡ parents_of (renumbered (is_joined pattern.now) perm.now) (length perm.now)) }
 {
     parent_is_first();
-    let _order = pattern.order();
-    let columns = perm.len() as usize;
-    let mut table = vec![in alloc; 0u32; columns + 1]?;
-    let mut ancestors = vec![in alloc; 0u32; columns + 1]?;
+    let places = pattern.order() as usize + 1;
+    let mut table = vec![in alloc; 0u32; places]?;
+    let mut ancestors = vec![in alloc; 0u32; places]?;
     grow(&mut table, &mut ancestors, pattern, perm);
     Ok(Parents { table })
 }

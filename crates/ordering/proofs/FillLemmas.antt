@@ -3,7 +3,7 @@ use Rattle.std.proofs.Common.{◌≡◌, ◌≢◌, ℕ, zero, suc, ◌+◌, ◌
 use Rattle.std.specs.Prelude.{find, unwrap_or}
 use Rattle.std.specs.List.{range_with_len}
 use Rattle.std.proofs.lemmas.Bool.{cases_Bool, cases_eq, and_parts, or_cases, and_from, or_left, or_right, eqb-false, ne_eqb, not-true, not_from_false, lt-ltb}
-use Rattle.ordering.specs.Fill.{eliminate, graph_at, filled, structure_of, parent_of, IsParent}
+use Rattle.ordering.specs.Fill.{IsAdjacency, eliminate, graph_at, filled, structure_of, parent_of, IsParent}
 
 -- ---- one elimination
 
@@ -104,6 +104,14 @@ same_from_true false false to from = refl
 
 pub filled_is : (joined : ℕ → ℕ → Bool) (j a b : ℕ) → j ≤ a → j ≤ b → filled joined j a b ≡ graph_at joined j a b
 filled_is joined j a b ja jb = same_from_true (filled joined j a b) (graph_at joined j a b) (filled_to joined j a b ja jb) (filled_from joined j a b)
+
+-- 0 hands nothing on
+pub without_0 : (joined : ℕ → ℕ → Bool) (a b : ℕ) → IsAdjacency joined → 1 ≤ a → 1 ≤ b → graph_at joined 1 a b ≡ joined a b
+unfolding graph_at
+without_0 joined a b is some_a some_b =
+    same_from_true (graph_at joined 1 a b) (joined a b)
+    (λ h. elim (at_suc joined 0 a b h).from [ inl e ↦ e | inr f ↦ absurd (is.none_of_0 a f.1) ])
+    (to_suc_old joined 0 a b (omega arith) (omega arith))
 
 -- ---- the parent
 

@@ -7,20 +7,22 @@ use Rattle.std.specs.Prelude.{◌==◌, ℕ, zero, suc, ◌+◌, ◌-◌, ◌<�
 use Rattle.std.specs.List.{range_with_len, count_by}
 use Rattle.ordering.specs.Perm.{vertex_at}
 
--- pairs are unordered, and of different vertices
-pub record IsPattern (joined : ℕ → ℕ → Bool) : Type 0 where
+-- pairs are unordered, and of different vertices; 0, which is no vertex, is in none of them
+pub record IsAdjacency (joined : ℕ → ℕ → Bool) : Type 0 where
   pub symmetric : (a b : ℕ) → IsTrue (joined a b) → IsTrue (joined b a)
   pub irreflexive : (a : ℕ) → ¬ (IsTrue (joined a a))
+  pub none_of_0 : (b : ℕ) → ¬ (IsTrue (joined 0 b))
 
 -- the pattern by columns: of the vertices in the order in which they are eliminated
-abbrev pub renamed : (ℕ → ℕ → Bool) → List ℕ → ℕ → ℕ → Bool
-renamed joined order a b = joined (vertex_at order a) (vertex_at order b)
+abbrev pub renumbered : (ℕ → ℕ → Bool) → List ℕ → ℕ → ℕ → Bool
+renumbered joined order a b = joined (vertex_at order a) (vertex_at order b)
 
 -- the pattern without a vertex, whose neighbours are joined to each other
 unfoldable pub eliminate : (ℕ → ℕ → Bool) → ℕ → ℕ → ℕ → Bool
 eliminate joined v a b = not (a == v) && (not (b == v) && (joined a b || (not (a == b) && (joined v a && joined v b))))
 
--- the pattern as column j is eliminated: each column below it was, from the lowest on
+-- the pattern as column j is eliminated: each column below it was, from the lowest on. The lowest is 0, whose elimination changes nothing
+-- among the others: it is joined to none.
 unfoldable pub graph_at : (ℕ → ℕ → Bool) → ℕ → ℕ → ℕ → Bool
 graph_at joined zero a b = joined a b
 graph_at joined (suc j) a b = eliminate (graph_at joined j) j a b

@@ -1,8 +1,9 @@
+-- No public clause names this.
 -- Worked examples of the fill: parents and counts of small patterns.
 use Rattle.std.specs.Prelude.{◌≡◌, ◌==◌, ℕ, Bool, true, false, ◌&&◌, ◌||◌, List, [], ◌∷◌, map, refl}
 use Rattle.std.specs.List.{range_with_len, list_any}
 use Rattle.ordering.specs.Perm.{vertex_at, place_of}
-use Rattle.ordering.specs.Fill.{eliminate, graph_at, filled, structure_of, renamed, parents_of, counts_of}
+use Rattle.ordering.specs.Fill.{eliminate, graph_at, filled, structure_of, renumbered, parents_of, counts_of}
 
 -- the pattern of some pairs
 abbrev pub joined_by : List (ℕ × ℕ) → ℕ → ℕ → Bool
@@ -32,11 +33,11 @@ pub arrow_counts : counts_of arrow 4 ≡ 4 ∷ 3 ∷ 2 ∷ 1 ∷ []
 unfolding graph_at eliminate
 arrow_counts = refl
 
-pub turned_arrow_parents : parents_of (renamed arrow turned) 4 ≡ 3 ∷ 3 ∷ 4 ∷ 0 ∷ []
+pub turned_arrow_parents : parents_of (renumbered arrow turned) 4 ≡ 3 ∷ 3 ∷ 4 ∷ 0 ∷ []
 unfolding graph_at eliminate
 turned_arrow_parents = refl
 
-pub turned_arrow_counts : counts_of (renamed arrow turned) 4 ≡ 2 ∷ 2 ∷ 2 ∷ 1 ∷ []
+pub turned_arrow_counts : counts_of (renumbered arrow turned) 4 ≡ 2 ∷ 2 ∷ 2 ∷ 1 ∷ []
 unfolding graph_at eliminate
 turned_arrow_counts = refl
 
@@ -52,6 +53,10 @@ two_pairs_parents = refl
 pub two_pairs_counts : counts_of two_pairs 4 ≡ 2 ∷ 1 ∷ 2 ∷ 1 ∷ []
 unfolding graph_at eliminate
 two_pairs_counts = refl
+
+pub apart_pairs_parents : parents_of (joined_by ((1, 3) ∷ (2, 4) ∷ [])) 4 ≡ 3 ∷ 4 ∷ 0 ∷ 0 ∷ []
+unfolding graph_at eliminate
+apart_pairs_parents = refl
 
 -- ---- the grid of 2 by 2: 1 and 4 stand across, as 2 and 3 do. The elimination of 1 joins 2 and 3
 

@@ -2,7 +2,7 @@
 
 ghost use Rattle.std.specs.Prelude.{◌≡◌, ◌≤◌, ◌⊎◌, ℕ, Bool, List};
 ghost use Rattle.mp_text.specs.declared.refusals.Refusal.{Refusal};
-ghost use Rattle.ordering.specs.Fill.{graph_at, filled, parent_of, IsParent};
+ghost use Rattle.ordering.specs.Fill.{IsAdjacency, graph_at, filled, parent_of, IsParent};
 ghost use Rattle.ordering.specs.OrderFile.{ReadsOrder, RefusesOrder};
 ghost use Rattle.ordering.specs.Perm.{IsPerm, vertex_at, place_of};
 ghost use Rattle.ordering.specs.PermFile.{ReadsPerm, RefusesPerm};
@@ -53,6 +53,11 @@ pub fn places_are_inverse()
 /// To eliminate the columns below j leaves the pairs that are there once their later neighbours were joined: the fill has two definitions.
 pub fn filling_is_elimination()
     ensures { (joined : ℕ → ℕ → Bool) (j a b : ℕ) → j ≤ a → j ≤ b → filled joined j a b ≡ graph_at joined j a b }
+{}
+
+/// To eliminate 0, which is joined to nothing, leaves every pair as it is.
+pub fn nothing_of_0()
+    ensures { (joined : ℕ → ℕ → Bool) (a b : ℕ) → IsAdjacency joined → 1 ≤ a → 1 ≤ b → graph_at joined 1 a b ≡ joined a b }
 {}
 
 /// The parent of a column is the first column after it in its structure, or 0 where there is none, and no other number is that.

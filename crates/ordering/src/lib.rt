@@ -9,5 +9,10 @@ mod perm_file;
 mod tests;
 
 pub use order_file::{OrderFileKind, read_order};
-pub use perm::{NoMemory, Perm, identity};
+pub use perm::{Perm, identity};
 pub use perm_file::{PermKind, read_perm};
+
+use std::alloc::AllocError;
+
+/// Want of memory: an allocation was refused.
+pub type NoMemory = AllocError;

@@ -2,11 +2,9 @@ ghost use Rattle.std.specs.Prelude.{◌≡◌, ℕ, ◌+◌, ◌≤◌, ◌^◌,
 ghost use Rattle.std.specs.List.{range_with_len};
 ghost use Rattle.ordering.specs.Perm.{AreInverse, IsPerm, vertex_at, place_of};
 
-use std::alloc::{AllocError, Global};
+pub(crate) use crate::NoMemory;
+use std::alloc::Global;
 use std::marker::Model;
-
-/// Want of memory: an allocation was refused.
-pub type NoMemory = AllocError;
 
 /// An order of elimination: each of the vertices 1 to n once, and with it the place of each. Contracts see the list of the vertices.
 #[derive(Drop)]
@@ -41,6 +39,14 @@ impl Perm {
         ensures places { (v : ℕ) → place_of result v ≡ slice_index places.items v }
     {
         Self { vertices, places }
+    }
+
+    /// What every value of this type keeps; a proof that needs it calls it. It does nothing.
+    pub fn keeps(&self)
+        // each vertex stands in the order once
+        ensures { IsPerm (length self.now) self.now }
+    {
+        let _ = &self.vertices;
     }
 
     /// How many vertices there are.

@@ -2,7 +2,7 @@ use Rattle.std.proofs.Common.{◌≡◌, ◌-◌, ℕ, suc, List, [], ◌∷◌,
 use Rattle.std.proofs.Math.Seq.{take-length}
 use Rattle.std.proofs.lemmas.Result.{IfOk-weaker}
 use Rattle.matrix_market.specs.Pattern.{is_joined}
-use Rattle.ordering.specs.Fill.{renamed, counts_of}
+use Rattle.ordering.specs.Fill.{renumbered, counts_of}
 use Rattle.column_counts.proofs.MarkLemmas.{written}
 use Rattle.column_counts.proofs.FactorRows.{are_counts}
 use Rattle.column_counts.proofs.marking.counts_by_marking.Goals as goal
@@ -20,7 +20,7 @@ long c = omega (arith, c.mark_rows.ensures.len, c.in_ok-counts.ensures.len, c.le
 
 pub returns : goal.returns
 returns c =
-    let joined = renamed (is_joined c.args.pattern.now) c.args.perm.now in
+    let joined = renumbered (is_joined c.args.pattern.now) c.args.perm.now in
     let whole : c.deref.result.now ≡ c.mark_rows.new.counts =
     c.deref.ensures.value ∙ written c.mark_rows.new.counts (drop (length c.mark_rows.new.counts) c.in_ok-counts.counts.items) c.in_ok-counts.counts.len (same_len (goal.at.returns c).After-mark_rows) in
     IfOk-weaker c.from_slice.result (λ v. v.items ≡ take (length c.deref.result.now - 1) (drop 1 c.deref.result.now)) (λ v. v.items ≡ counts_of joined (length c.args.perm.now))

@@ -1,6 +1,6 @@
-use Rattle.std.proofs.Common.{◌≡◌, ◌+◌, ◌<◌, length, set, arith, subst}
+use Rattle.std.proofs.Common.{◌≡◌, ◌+◌, ◌<◌, length, set, arith, subst, slice_index}
 use Rattle.elim_tree.specs.Trees.{parent_at}
-use Rattle.column_counts.specs.Marks.{IsMarkedRow, at}
+use Rattle.column_counts.specs.Marks.{IsMarkedRow}
 use Rattle.column_counts.proofs.MarkLemmas.{at_here, at_other, row_start}
 use Rattle.column_counts.proofs.RowLemmas.{can_mark_up, one_more, none_more}
 use Rattle.column_counts.proofs.marking.mark_row.Goals as goal
@@ -12,9 +12,9 @@ loop-vertex-init c = λ factor can.
     let lengths = c.requires.lengths in
     let in_counts : i < length c.args.counts.now = omega arith in
     let in_marks : i < length c.args.marks.now = omega arith in
-    let more = at c.args.counts.now i + 1 in (
-      row_start factor (parent_at c.args.parents.now) i can.0 (at c.args.counts.now) (at c.args.marks.now) can.3
-          (at (set c.args.counts.now i more)) (at (set c.args.marks.now i i))
+    let more = slice_index c.args.counts.now i + 1 in (
+      row_start factor (parent_at c.args.parents.now) i can.0 (slice_index c.args.counts.now) (slice_index c.args.marks.now) can.3
+          (slice_index (set c.args.counts.now i more)) (slice_index (set c.args.marks.now i i))
           (at_here c.args.counts.now i more in_counts) (at_other c.args.counts.now i more) (at_here c.args.marks.now i i in_marks) (at_other c.args.marks.now i i),
       λ j lt. absurd (omega arith),
     )

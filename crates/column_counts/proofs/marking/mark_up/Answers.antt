@@ -1,7 +1,6 @@
-use Rattle.std.proofs.Common.{◌≡◌, ℕ, ◌+◌, ◌<◌, length, arith, refl, sym, ◌∙◌, ap, inl, inr, set}
+use Rattle.std.proofs.Common.{◌≡◌, ℕ, ◌+◌, ◌<◌, length, arith, refl, sym, ◌∙◌, ap, inl, inr, set, slice_index}
 use Rattle.std.proofs.lemmas.Bool.{cases_eq}
 use Rattle.elim_tree.specs.Trees.{parent_at}
-use Rattle.column_counts.specs.Marks.{at}
 use Rattle.column_counts.proofs.MarkLemmas.{at_here, at_other, can_go_on, marked_up, closed_anywhere}
 use Rattle.column_counts.proofs.marking.mark_up.Goals as goal
 
@@ -10,9 +9,9 @@ way-init c =
     let row = c.requires.row.0 in
     let can = c.requires.row.1 in
     let parent = parent_at c.args.parents.now in
-    let anywhere = closed_anywhere row parent c.args.i c.args.start (at c.args.counts.now) (at c.args.marks.now) can.3 in (
-      can_go_on row parent c.args.i can.0 c.args.start (at c.args.counts.now) (at c.args.marks.now) can.2 anywhere (can.1 c.args.start),
-      λ row can. (closed_anywhere row parent c.args.i c.args.start (at c.args.counts.now) (at c.args.marks.now) can.3, can.2, inr refl, λ x e. e),
+    let anywhere = closed_anywhere row parent c.args.i c.args.start (slice_index c.args.counts.now) (slice_index c.args.marks.now) can.3 in (
+      can_go_on row parent c.args.i can.0 c.args.start (slice_index c.args.counts.now) (slice_index c.args.marks.now) can.2 anywhere (can.1 c.args.start),
+      λ row can. (closed_anywhere row parent c.args.i c.args.start (slice_index c.args.counts.now) (slice_index c.args.marks.now) can.3, can.2, inr refl, λ x e. e),
     )
 
 pub way-preserved : goal.way-preserved
@@ -24,24 +23,24 @@ way-preserved c =
     let in_marks : z < length c.way.marks = omega arith in
     let in_counts : z < length c.way.counts = omega arith in
     let marks' = set c.way.marks z c.args.i in
-    let counts' = set c.way.counts z (at c.way.counts z + 1) in
+    let counts' = set c.way.counts z (slice_index c.way.counts z + 1) in
     let hm = at_here c.way.marks z c.args.i in_marks in
     let om = at_other c.way.marks z c.args.i in
-    let hc = at_here c.way.counts z (at c.way.counts z + 1) in_counts in
-    let oc = at_other c.way.counts z (at c.way.counts z + 1) in
+    let hc = at_here c.way.counts z (slice_index c.way.counts z + 1) in_counts in
+    let oc = at_other c.way.counts z (slice_index c.way.counts z + 1) in
     let row = c.requires.row.0 in
     let can = c.requires.row.1 in
     let now = c.way.invariant.1 row can in
-    let next = marked_up row parent c.args.i can.0 z (at c.way.counts) (at c.way.marks) now.1 now.0 c.way-test.true (at counts') (at marks') hc oc hm om in
+    let next = marked_up row parent c.args.i can.0 z (slice_index c.way.counts) (slice_index c.way.marks) now.1 now.0 c.way-test.true (slice_index counts') (slice_index marks') hc oc hm om in
     rw c.at-column.ensures.value (
-      can_go_on row parent c.args.i can.0 (parent z) (at counts') (at marks') next.1 next.0 (can.1 (parent z)),
+      can_go_on row parent c.args.i can.0 (parent z) (slice_index counts') (slice_index marks') next.1 next.0 (can.1 (parent z)),
       λ row can.
           let now = c.way.invariant.1 row can in
-          let next = marked_up row parent c.args.i can.0 z (at c.way.counts) (at c.way.marks) now.1 now.0 c.way-test.true (at counts') (at marks') hc oc hm om in
-          let stays : (x : ℕ) → at c.way.marks x ≡ c.args.i → at marks' x ≡ c.args.i = λ x e. elim (cases_eq x z) [ inl q ↦ ap (at marks') q ∙ hm | inr nq ↦ om x nq ∙ e ] in (
+          let next = marked_up row parent c.args.i can.0 z (slice_index c.way.counts) (slice_index c.way.marks) now.1 now.0 c.way-test.true (slice_index counts') (slice_index marks') hc oc hm om in
+          let stays : (x : ℕ) → slice_index c.way.marks x ≡ c.args.i → slice_index marks' x ≡ c.args.i = λ x e. elim (cases_eq x z) [ inl q ↦ ap (slice_index marks') q ∙ hm | inr nq ↦ om x nq ∙ e ] in (
             next.0,
             next.1,
-            inl (elim now.2 [ inl e ↦ stays c.args.start e | inr e ↦ ap (at marks') (sym e) ∙ hm ]),
+            inl (elim now.2 [ inl e ↦ stays c.args.start e | inr e ↦ ap (slice_index marks') (sym e) ∙ hm ]),
             λ x e. stays x (now.3 x e),
           ),
     )
@@ -55,8 +54,8 @@ returns c = λ row can.
         sound = m.sound;
         own = m.own;
         low = m.low;
-        closed = λ x h ne. elim (m.closed x h ne) [ inl k ↦ inl k | inr k ↦ inl (ap (at c.way.marks) k ∙ c.way-test.false) ];
+        closed = λ x h ne. elim (m.closed x h ne) [ inl k ↦ inl k | inr k ↦ inl (ap (slice_index c.way.marks) k ∙ c.way-test.false) ];
       },
-      elim now.2 [ inl e ↦ e | inr e ↦ ap (at c.way.marks) (sym e) ∙ c.way-test.false ],
+      elim now.2 [ inl e ↦ e | inr e ↦ ap (slice_index c.way.marks) (sym e) ∙ c.way-test.false ],
       now.3,
     )

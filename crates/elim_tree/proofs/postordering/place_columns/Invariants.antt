@@ -1,7 +1,6 @@
-use Rattle.std.proofs.Common.{length}
-use Rattle.elim_tree.specs.Forests.{at}
+use Rattle.std.proofs.Common.{length, slice_index}
 use Rattle.elim_tree.proofs.SpanLemmas.{IsPlacedFrom}
 use Rattle.elim_tree.proofs.postordering.place_columns.Given as goal
 
 abbrev pub invariant-loop-j : goal.invariant-loop-j
-invariant-loop-j l = IsPlacedFrom l.j (length l.parents) (at l.parents) (at l.below) (at l.fn.starts) (at l.starts) (at l.places)
+invariant-loop-j l = IsPlacedFrom l.j (length l.parents) (slice_index l.parents) (slice_index l.below) (slice_index l.fn.starts) (slice_index l.starts) (slice_index l.places)

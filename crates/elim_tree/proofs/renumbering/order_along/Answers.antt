@@ -7,8 +7,7 @@ pub from_tables-requires-clause-inverse : goal.from_tables-requires-clause-inver
 from_tables-requires-clause-inverse c =
     tables_along c.places_are_inverse.ensures.vertex c.places_are_inverse.ensures.place (length c.args.post.now) c.args.perm.now c.args.post.now
     c.in_ok-vertices.vertices.items c.in_ok-places.places.items
-    (subst (λ n. IsPerm n c.args.perm.now) (c.len-columns.ensures.value ∙ c.requires.len) c.len-columns.ensures.perm)
-    (subst (λ n. IsPerm n c.args.post.now) c.len-places.ensures.value c.len-places.ensures.perm) c.in_ok-vertices.ensures c.in_ok-places.ensures
+    (subst (λ n. IsPerm n c.args.perm.now) c.requires.len c.keeps.ensures) c.keeps-2.ensures c.in_ok-vertices.ensures c.in_ok-places.ensures
 
 pub from_tables-requires-clause-small : goal.from_tables-requires-clause-small
 from_tables-requires-clause-small c =

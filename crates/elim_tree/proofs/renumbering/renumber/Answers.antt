@@ -1,10 +1,10 @@
 use Rattle.std.proofs.Common.{ℕ, Bool, List, length, map, sym, ap, subst, ◌∙◌}
-use Rattle.ordering.specs.Fill.{parents_of, renamed}
+use Rattle.ordering.specs.Fill.{parents_of, renumbered}
 use Rattle.ordering.specs.Perm.{place_of}
 use Rattle.elim_tree.specs.Postorders.{IsPostorder}
 use Rattle.elim_tree.specs.Trees.{parent_at}
-use Rattle.elim_tree.proofs.Reorderings.{pattern_renamed, within_renamed}
-use Rattle.elim_tree.proofs.Renumberings.{renamed_along}
+use Rattle.elim_tree.proofs.Growth.{pattern_renumbered, within_renumbered}
+use Rattle.elim_tree.proofs.Renumberings.{renumbered_along}
 use Rattle.elim_tree.proofs.renumbering.renumber.Goals as goal
 
 pub returns-clause-tree : goal.returns-clause-tree
@@ -12,10 +12,10 @@ returns-clause-tree c = λ joined pattern inside e.
     let perm = c.args.perm.now in
     let post = c.args.post.now in
     let n = length c.args.parents.now in
-    let by_columns = renamed joined perm in
+    let by_columns = renumbered joined perm in
     c.in_ok-parents.ensures.parents
     ∙ ap (λ (parents : List ℕ). map (λ j. place_of post (parent_at parents j)) post) e
-    ∙ sym (c.reordering.ensures.parents by_columns n post (pattern_renamed joined perm pattern) (within_renamed n n joined perm inside c.requires.len)
+    ∙ sym (c.reordering.ensures.parents by_columns n post (pattern_renumbered joined perm pattern) (within_renumbered n n joined perm inside c.requires.len)
     (subst (λ (parents : List ℕ). IsPostorder parents post) e c.requires.post))
-    ∙ ap (λ (g : ℕ → ℕ → Bool). parents_of g n) (sym (renamed_along joined perm post))
-    ∙ ap (λ (order : List ℕ). parents_of (renamed joined order) n) (sym c.in_ok-perm.ensures)
+    ∙ ap (λ (g : ℕ → ℕ → Bool). parents_of g n) (sym (renumbered_along joined perm post))
+    ∙ ap (λ (order : List ℕ). parents_of (renumbered joined order) n) (sym c.in_ok-perm.ensures)

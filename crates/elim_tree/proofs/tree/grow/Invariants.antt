@@ -1,8 +1,8 @@
-use Rattle.std.proofs.Common.{ℕ}
+use Rattle.std.proofs.Common.{ℕ, slice_index}
 use Rattle.matrix_market.specs.Pattern.{is_joined}
-use Rattle.ordering.specs.Fill.{renamed}
-use Rattle.elim_tree.specs.Forests.{IsGrown, at}
+use Rattle.ordering.specs.Fill.{renumbered}
+use Rattle.elim_tree.specs.Forests.{IsGrown}
 use Rattle.elim_tree.proofs.tree.grow.Given as goal
 
 abbrev pub invariant-loop-k : goal.invariant-loop-k
-invariant-loop-k l = (root : ℕ → ℕ) × IsGrown (renamed (is_joined l.pattern) l.perm) l.k root (at l.parents) (at l.ancestors)
+invariant-loop-k l = (root : ℕ → ℕ) × IsGrown (renumbered (is_joined l.pattern) l.perm) l.k root (slice_index l.parents) (slice_index l.ancestors)

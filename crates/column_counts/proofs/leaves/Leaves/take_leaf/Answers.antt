@@ -1,0 +1,93 @@
+use Rattle.std.proofs.Common.{sym, ap, ◌∙◌, ◌+◌, ◌<◌, ◌≤◌, length, arith, set, slice_index, subst}
+use Rattle.column_counts.specs.Leaves.{AreAncestors}
+use Rattle.column_counts.proofs.MarkLemmas.{at_here, at_other, read_at}
+use Rattle.column_counts.proofs.RowLeaves.{no_leaf, first_leaf, further_leaf}
+use Rattle.column_counts.proofs.leaves.Leaves.take_leaf.Goals as goal
+
+pub returns-then-firsts-j-clause-taken : goal.returns-then-firsts-j-clause-taken
+returns-then-firsts-j-clause-taken c = λ taken st.
+    let t = c.args.self.now in
+    let p = c.requires.places in
+    let most = p.2 in
+    let long = c.requires.ready.long.last in
+    let leaf = read_at t.last.items c.args.i c.index-leaf.result.now (omega arith) c.index-leaf.ensures in
+    let under : slice_index c.args.firsts.now c.args.j ≤ slice_index t.last.items c.args.i = omega (arith, c.if-firsts-j.true) in
+    no_leaf (slice_index c.args.firsts.now) (length c.args.firsts.now) c.args.j c.args.i most (omega (arith, p.0, c.requires.spans.own c.args.j)) taken
+    (slice_index t.last.items) (slice_index t.leaves.items) (slice_index t.meetings.items) c.requires.spans.nested c.requires.spans.own st (omega (arith, p.0)) under
+
+pub overflow_add-index_mut : goal.overflow_add-index_mut
+overflow_add-index_mut c =
+    let p = c.requires.places in
+    let low = p.1 in
+    let most = p.2 in
+    let long = c.requires.ready.long.leaves in
+    let few = (c.requires.small c.args.j).0 in
+    let count = read_at c.args.self.now.leaves.items c.args.j c.index_mut.result.now (omega arith) c.index_mut.ensures.value in
+    omega arith
+
+pub returns-then-leaf-eq0-clause-taken : goal.returns-then-leaf-eq0-clause-taken
+returns-then-leaf-eq0-clause-taken c = λ taken st.
+    let t = c.args.self.now in
+    let i = c.args.i in
+    let j = c.args.j in
+    let p = c.requires.places in
+    let low = p.1 in
+    let most = p.2 in
+    let long = c.requires.ready.long in
+    let long_last = long.last in
+    let long_leaves = long.leaves in
+    let leaf = read_at t.last.items i c.index-leaf.result.now (omega arith) c.index-leaf.ensures in
+    let count = read_at t.leaves.items j c.index_mut.result.now (omega arith) c.index_mut.ensures.value in
+    let more = c.index_mut.result.now + 1 in
+    first_leaf (slice_index c.args.firsts.now) (length c.args.firsts.now) j i most (omega (arith, p.0, c.requires.spans.own j)) taken
+    (slice_index t.last.items) (slice_index t.leaves.items) (slice_index t.meetings.items) c.requires.spans.nested c.requires.spans.own st
+    (slice_index (set t.last.items i j)) (slice_index (set t.leaves.items j more)) (at_here t.last.items i j (omega arith)) (at_other t.last.items i j)
+    (at_here t.leaves.items j more (omega arith) ∙ ap (λ v. v + 1) count) (at_other t.leaves.items j more) (sym leaf ∙ c.if-leaf-eq0.true)
+
+pub overflow_add-index_mut-2 : goal.overflow_add-index_mut-2
+overflow_add-index_mut-2 c =
+    let q = c.least_common-meeting.result in
+    let place = c.least_common-meeting.ensures.place in
+    let same = c.least_common-meeting.ensures.len in
+    let long = c.requires.ready.long in
+    let long_ancestors = long.ancestors in
+    let long_meetings = long.meetings in
+    let few = (c.requires.small q).1 in
+    let count = read_at c.args.self.now.meetings.items q c.index_mut-3.result.now (omega arith) c.index_mut-3.ensures.value in
+    omega arith
+
+pub returns-clause-taken : goal.returns-clause-taken
+returns-clause-taken c = λ taken st.
+    let t = c.args.self.now in
+    let first = slice_index c.args.firsts.now in
+    let i = c.args.i in
+    let j = c.args.j in
+    let q = c.least_common-meeting.result in
+    let p = c.requires.places in
+    let low = p.1 in
+    let most = p.2 in
+    let long = c.requires.ready.long in
+    let long_ancestors = long.ancestors in
+    let long_last = long.last in
+    let long_leaves = long.leaves in
+    let long_meetings = long.meetings in
+    let leaf = read_at t.last.items i c.index-leaf.result.now (omega arith) c.index-leaf.ensures in
+    let count = read_at t.leaves.items j c.index_mut.result.now (omega arith) c.index_mut.ensures.value in
+    let more = c.index_mut.result.now + 1 in
+    let some : 0 < slice_index t.last.items i = omega (arith, c.if-leaf-eq0.false) in
+    let over : slice_index t.last.items i < first j = omega (arith, c.if-firsts-j.false) in
+    let ancestors : AreAncestors first (length t.ancestors.table.items) j (slice_index t.ancestors.table.items) =
+    subst (λ m. AreAncestors first m j (slice_index t.ancestors.table.items)) (sym long_ancestors) c.requires.ready.ancestors in
+    let met = c.least_common-meeting.ensures.found first c.requires.spans ancestors i low (omega arith) (omega (arith, c.requires.before some)) in
+    let from = met.from in
+    let above : first q ≤ slice_index t.last.items i = omega (arith, met.above) in
+    let place = c.least_common-meeting.ensures.place in
+    let same = c.least_common-meeting.ensures.len in
+    let met_count = read_at t.meetings.items q c.index_mut-3.result.now (omega arith) c.index_mut-3.ensures.value in
+    let met_more = c.index_mut-3.result.now + 1 in
+    further_leaf first (length c.args.firsts.now) j i most (omega (arith, p.0, c.requires.spans.own j)) taken
+    (slice_index t.last.items) (slice_index t.leaves.items) (slice_index t.meetings.items) c.requires.spans.nested c.requires.spans.own st
+    (slice_index (set t.last.items i j)) (slice_index (set t.leaves.items j more)) (at_here t.last.items i j (omega arith)) (at_other t.last.items i j)
+    (at_here t.leaves.items j more (omega arith) ∙ ap (λ v. v + 1) count) (at_other t.leaves.items j more)
+    some over q from above (λ z zn le f. met.least z (omega arith) le (omega arith))
+    (slice_index (set t.meetings.items q met_more)) (at_here t.meetings.items q met_more (omega arith) ∙ ap (λ v. v + 1) met_count) (at_other t.meetings.items q met_more)

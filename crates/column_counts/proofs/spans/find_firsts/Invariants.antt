@@ -1,9 +1,0 @@
-use Rattle.std.proofs.Common.{◌≡◌, ◌+◌, length}
-use Rattle.column_counts.specs.Leaves.{AreCarried}
-use Rattle.column_counts.proofs.spans.find_firsts.Given as goal
-
-abbrev pub invariant-loop-j : goal.invariant-loop-j
-invariant-loop-j l = record {
-  len : length l.firsts ≡ length l.parents + 1;
-  carried : AreCarried l.parents l.firsts l.j;
-}
