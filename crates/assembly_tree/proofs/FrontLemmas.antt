@@ -14,17 +14,18 @@ use Rattle.assembly_tree.specs.declared.assembly.Super.{Super}
 use Rattle.assembly_tree.specs.declared.front.Shape.{Shape}
 use Rattle.assembly_tree.specs.declared.front.Shape.TheVariants.{Triangle, Square}
 use Rattle.assembly_tree.specs.Assembly.{AssemblyTree, IsSuper, IsAssembly, no_super, super_at, front_of}
-use Rattle.assembly_tree.specs.Fronts.{size_of, block_of, share_of, front_node, front_at, fronts_of}
+use Rattle.assembly_tree.specs.Fronts.{kept_entries, block_of, share_of, front_node, front_at, fronts_of}
 use Rattle.assembly_tree.proofs.ListLemmas.{sum_by-map}
 use Rattle.assembly_tree.proofs.RunLemmas.{supers-le, last-all}
+use Rattle.assembly_tree.proofs.SupernodeLemmas.{supers-range}
 
 -- ---- sizes
 
-pub size-le : (shape : Shape) (r t : ℕ) → r ≤ t → size_of shape r ≤ size_of shape t
+pub size-le : (shape : Shape) (r t : ℕ) → r ≤ t → kept_entries shape r ≤ kept_entries shape t
 size-le Triangle r t le = omega (arith, mul-le r (r + 1) t (t + 1) le (omega arith))
 size-le Square r t le = mul-le r r t t le le
 
-pub size-small : (shape : Shape) (r : ℕ) → r ≤ 1000000 → size_of shape r ≤ 1000000000000
+pub size-small : (shape : Shape) (r : ℕ) → r ≤ 1000000 → kept_entries shape r ≤ 1000000000000
 size-small Triangle r le = omega (arith, mul-le r (r + 1) 1000000 1000001 le (omega arith))
 size-small Square r le = mul-le r r 1000000 1000000 le le
 
@@ -38,13 +39,6 @@ map-range_same {X} f g n same =
     let in_range : k < n = omega (arith, lt, lf) in
     let at : 1 + k ≡ suc k = omega arith in
     get_or-map-range_with_len f 1 n k (suc k) d in_range at ∙ same (suc k) (omega arith) (omega arith) ∙ sym (get_or-map-range_with_len g 1 n k (suc k) d in_range at))
-
-supers-range : (supers : List Super) → map (super_at supers) (range_with_len 1 (length supers)) ≡ supers
-supers-range supers =
-    let len = length-map-range_with_len (super_at supers) 1 (length supers) in
-    same_lists (map (super_at supers) (range_with_len 1 (length supers))) supers len (λ k d lt.
-    let in_range : k < length supers = omega (arith, lt, len) in
-    get_or-map-range_with_len (super_at supers) 1 (length supers) k (1 + k) d in_range refl ∙ (let back : 1 + k - 1 ≡ k = omega arith in ap (λ (i : ℕ). get_or supers i no_super) back) ∙ get_or_default supers k no_super d in_range)
 
 -- ---- shares
 
@@ -119,10 +113,10 @@ module _ (shape : Shape) (inplace : Bool) (assembly : AssemblyTree) (is : IsAsse
   inside : (s : ℕ) → IsSuper assembly.supers s → (super_at assembly.supers s).parent ≤ length assembly.supers
   inside s h = elim (cases_eq (super_at assembly.supers s).parent 0) [ inl root ↦ omega (arith, root) | inr child ↦ ((is.each s h).parent (omega (arith, child))).1 ]
 
-  small : (s : ℕ) → IsSuper assembly.supers s → size_of shape (front_of (super_at assembly.supers s)) ≤ 1000000000000
+  small : (s : ℕ) → IsSuper assembly.supers s → kept_entries shape (front_of (super_at assembly.supers s)) ≤ 1000000000000
   small s h = size-small shape (front_of (super_at assembly.supers s)) (omega (arith, is.fits s h, is.few))
 
-  below : (s : ℕ) → block_of shape (super_at assembly.supers s) ≤ size_of shape (front_of (super_at assembly.supers s))
+  below : (s : ℕ) → block_of shape (super_at assembly.supers s) ≤ kept_entries shape (front_of (super_at assembly.supers s))
   below s = size-le shape (super_at assembly.supers s).rest (front_of (super_at assembly.supers s)) (omega arith)
 
   sizes : (s : ℕ) → IsSuper assembly.supers s → node_size (front_at shape inplace assembly.supers s) ≤ 1000000000000
@@ -136,10 +130,10 @@ module _ (shape : Shape) (inplace : Bool) (assembly : AssemblyTree) (is : IsAsse
       let g = λ (x : Super). cond (eqb x.parent s) (block_of shape x) 0 in
       sum_by-map (out_below s) (front_at shape inplace assembly.supers) (range_with_len 1 (length assembly.supers)) ∙ sym (sum_by-map g (super_at assembly.supers) (range_with_len 1 (length assembly.supers))) ∙ ap (sum_by g) (supers-range assembly.supers)
 
-  share : (s : ℕ) → IsSuper assembly.supers s → (cond inplace (share_of shape assembly.supers s) 0 ≤ children_out (fronts_of shape inplace assembly.supers) s) × (cond inplace (share_of shape assembly.supers s) 0 ≤ size_of shape (front_of (super_at assembly.supers s)))
+  share : (s : ℕ) → IsSuper assembly.supers s → (cond inplace (share_of shape assembly.supers s) 0 ≤ children_out (fronts_of shape inplace assembly.supers) s) × (cond inplace (share_of shape assembly.supers s) 0 ≤ kept_entries shape (front_of (super_at assembly.supers s)))
   share s h =
       let sum = share-sum shape (λ x. eqb x.parent s) assembly.supers 0 in
-      let bound = share-bound shape (λ x. eqb x.parent s) (size_of shape (front_of (super_at assembly.supers s))) assembly.supers 0 (omega arith) (λ k lt passes.
+      let bound = share-bound shape (λ x. eqb x.parent s) (kept_entries shape (front_of (super_at assembly.supers s))) assembly.supers 0 (omega arith) (λ k lt passes.
       let c = number k lt in
       let back : 1 + k - 1 ≡ k = omega arith in
       let here : super_at assembly.supers (1 + k) ≡ get_or assembly.supers k no_super = ap (λ (i : ℕ). get_or assembly.supers i no_super) back in
@@ -149,7 +143,7 @@ module _ (shape : Shape) (inplace : Bool) (assembly : AssemblyTree) (is : IsAsse
       let child = ap (λ (x : Super). x.rest) here in
       size-le shape (get_or assembly.supers k no_super).rest (front_of (super_at assembly.supers s)) (omega (arith, rest, parent, child))) in
       let whole = outs s in
-      elim inplace as (λ b. (cond b (share_of shape assembly.supers s) 0 ≤ children_out (fronts_of shape inplace assembly.supers) s) × (cond b (share_of shape assembly.supers s) 0 ≤ size_of shape (front_of (super_at assembly.supers s)))) [
+      elim inplace as (λ b. (cond b (share_of shape assembly.supers s) 0 ≤ children_out (fronts_of shape inplace assembly.supers) s) × (cond b (share_of shape assembly.supers s) 0 ≤ kept_entries shape (front_of (super_at assembly.supers s)))) [
         | true ↦ (omega (arith, sum, whole), bound)
         | false ↦ (omega arith, omega arith)
       ]

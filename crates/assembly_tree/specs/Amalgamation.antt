@@ -14,12 +14,12 @@ abbrev pub zeros_of : Super → Super → ℕ
 zeros_of child parent = child.columns * (front_of parent - child.rest)
 
 -- p in place of s
-abbrev pub renamed : ℕ → ℕ → ℕ → ℕ
-renamed s p x = if x == s then p else x
+abbrev pub merged_number : ℕ → ℕ → ℕ → ℕ
+merged_number s p x = if x == s then p else x
 
 -- the supernodes, where s gives its columns to p
-abbrev pub joined : List Super → ℕ → ℕ → List Super
-joined supers s p =
+abbrev pub merged_supers : List Super → ℕ → ℕ → List Super
+merged_supers supers s p =
     let child = super_at supers s in
     let parent = super_at supers p in
     slice_set (slice_set supers (p - 1) (record parent { columns = parent.columns + child.columns })) (s - 1) (record child { columns = 0 })
@@ -27,8 +27,8 @@ joined supers s p =
 -- supernode s, merged into p: its columns and its children are those of p
 abbrev pub merged : AssemblyTree → ℕ → ℕ → AssemblyTree
 merged assembly s p = record {
-  supers = map (reparented (renamed s p)) (joined assembly.supers s p);
-  nodes = map (renamed s p) assembly.nodes;
+  supers = map (reparented (merged_number s p)) (merged_supers assembly.supers s p);
+  nodes = map (merged_number s p) assembly.nodes;
 }
 
 -- supernode s is merged into its parent, where that takes at most so many zeros
@@ -41,14 +41,14 @@ abbrev pub is_left : Super → Bool
 is_left x = not (x.columns == 0)
 
 -- the number of supernode s among those that are left
-abbrev pub number_of : List Super → ℕ → ℕ
-number_of supers s = count_by is_left (take s supers)
+abbrev pub new_number : List Super → ℕ → ℕ
+new_number supers s = count_by is_left (take s supers)
 
 -- those that are left, in their old order
 abbrev pub numbered : AssemblyTree → AssemblyTree
 numbered assembly = record {
-  supers = map (reparented (number_of assembly.supers)) (filter is_left assembly.supers);
-  nodes = map (number_of assembly.supers) assembly.nodes;
+  supers = map (reparented (new_number assembly.supers)) (filter is_left assembly.supers);
+  nodes = map (new_number assembly.supers) assembly.nodes;
 }
 
 -- the supernodes are visited by rising number, each as it then stands

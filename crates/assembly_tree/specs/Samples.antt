@@ -1,3 +1,4 @@
+-- No public clause names this.
 -- Worked examples: the arrow, whose vertex 1 is joined to 2, 3 and 4, in two orders, and the grid of 2 by 2.
 use Rattle.std.specs.Prelude.{◌≡◌, ℕ, true, false, [], ◌∷◌, refl, map}
 use Rattle.std.specs.List.{range_with_len}

@@ -8,6 +8,7 @@ ghost use Rattle.assembly_tree.specs.declared.front.Shape.{Shape};
 ghost use Rattle.assembly_tree.specs.Assembly.{AssemblyTree, IsAssembly};
 ghost use Rattle.assembly_tree.specs.Supernodes.{AreColumnCounts, AreSupernodes};
 ghost use Rattle.assembly_tree.specs.Amalgamation.{amalgamated};
+ghost use Rattle.assembly_tree.specs.Relaxation.{IsRelaxed};
 ghost use Rattle.assembly_tree.specs.Fronts.{fronts_of};
 
 use elim_tree::laws as tree_laws;
@@ -30,6 +31,12 @@ pub fn one_list_of_supernodes()
 /// An amalgamated assembly tree is one.
 pub fn amalgamation_is_assembly()
     ensures { (zeros : ℕ) (assembly : AssemblyTree) → IsAssembly assembly → IsAssembly (amalgamated zeros assembly) }
+{}
+
+/// What amalgamation yields, without its visits: each supernode goes into its parent or stays, by what both have with those that went into
+/// them before; those that stay are numbered in their old order, and each column is in the one in which its supernode stands in the end.
+pub fn amalgamation_is_relaxed()
+    ensures { (zeros : ℕ) (assembly : AssemblyTree) → IsAssembly assembly → IsRelaxed zeros assembly (amalgamated zeros assembly) }
 {}
 
 /// The fronts of an assembly tree are a tree within the limits, with shares that fit.

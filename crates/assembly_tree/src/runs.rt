@@ -4,11 +4,12 @@ ghost use Rattle.std.specs.Prelude.{◌≡◌, ◌≤◌, ◌<◌, ◌+◌, ◌�
 ghost use Rattle.ordering.specs.Perm.{IsVertex};
 ghost use Rattle.elim_tree.specs.Trees.{IsForest};
 ghost use Rattle.assembly_tree.specs.declared.assembly.Super.{Super as SuperValue};
-ghost use Rattle.assembly_tree.specs.Assembly.{node_of, reparented};
+ghost use Rattle.assembly_tree.specs.Assembly.{super_of, reparented};
 ghost use Rattle.assembly_tree.specs.Supernodes.{AreColumnCounts, AreSupernodes, Continues};
 ghost use Rattle.assembly_tree.specs.RunTables.{AreFirstChildren, AreRuns};
 
-use crate::assembly::{Assembly, NoMemory, Super, node_in};
+use crate::NoMemory;
+use crate::assembly::{Assembly, Super, super_in};
 use elim_tree::Parents;
 use std::alloc::Global;
 
@@ -75,17 +76,18 @@ fn cut(alloc: Global, parents: &Parents, counts: &[u32], children: &[u32]) -> Re
 // Puts the number of each parent in place of its column.
 fn name_parents(supers: &mut [Super], nodes: &[u32])
     requires { All (λ x. x.parent ≤ length nodes.now) supers.old }
-    ensures { supers.new ≡ map (reparented (node_of nodes.now)) supers.old }
+    ensures { supers.new ≡ map (reparented (super_of nodes.now)) supers.old }
 {
     for supernode in supers.iter_mut() {
-        supernode.parent = node_in(nodes, supernode.parent);
+        supernode.parent = super_in(nodes, supernode.parent);
     }
 }
 
 /// The fundamental supernodes of a factor, by its elimination tree and the counts of its columns: the longest runs of columns in which
 /// each column but the first has the one before it as its only child, and one row less. Linear in the columns.
 ///
-/// Meant for columns that are numbered in postorder, where no supernode can be longer. Liu, Ng and Peyton 1993.
+/// A caller tests by `are_counts` what this asks of counts; those of a fill meet it (`laws::counts_of_fill`). Meant for columns that are
+/// numbered in postorder, where no supernode can be longer. Liu, Ng and Peyton 1993.
 pub fn supernodes(alloc: Global, parents: &Parents, counts: &[u32]) -> Result<Assembly, NoMemory>
     requires { AreColumnCounts parents.now counts.now }
     ensures { IfOk result (λ assembly. AreSupernodes parents.now counts.now assembly) }

@@ -1,6 +1,6 @@
 use Rattle.std.proofs.Common.{◌≡◌, ◌≤◌, ◌+◌, ◌∙◌, ℕ, length, ap, arith}
 use Rattle.std.proofs.lemmas.List.{length_push}
-use Rattle.assembly_tree.specs.Amalgamation.{number_of}
+use Rattle.assembly_tree.specs.Amalgamation.{new_number}
 use Rattle.assembly_tree.proofs.NumberLemmas.{count_yes, count_no, count_more}
 use Rattle.assembly_tree.proofs.merges.count_left.Goals as goal
 use Rattle.assembly_tree.proofs.merges.count_left.Goals.{then-supernode-ne0, else-supernode-ne0}
@@ -9,7 +9,7 @@ pub loop-supernode-preserved : goal.loop-supernode-preserved
 loop-supernode-preserved c =
     let before = c.loop-supernode.invariant in
     let i = c.loop-supernode.supernode-index in
-    let count : c.if-supernode-ne0.left ≡ number_of c.args.supers.now (i + 1) = elim c.if-supernode-ne0.branch [
+    let count : c.if-supernode-ne0.left ≡ new_number c.args.supers.now (i + 1) = elim c.if-supernode-ne0.branch [
       | then-supernode-ne0 w ↦ w.left-is ∙ count_yes c.args.supers.now i c.loop-supernode.left c.loop-supernode-test.true w.if-supernode-ne0.true before.left
       | else-supernode-ne0 w ↦ w.left-is ∙ count_no c.args.supers.now i c.loop-supernode.left c.loop-supernode-test.true w.if-supernode-ne0.false before.left
     ] in

@@ -2,16 +2,16 @@ use Rattle.std.proofs.Common.{◌≡◌, ℕ, length, map, List, sym, ap, ◌∙
 use Rattle.std.proofs.lemmas.List.{with_items_is, length-map}
 use Rattle.std.specs.Vec.{with_items}
 use Rattle.assembly_tree.specs.declared.assembly.Super.{Super}
-use Rattle.assembly_tree.specs.Assembly.{node_of, reparented, IsAssembly}
+use Rattle.assembly_tree.specs.Assembly.{super_of, reparented, IsAssembly}
 use Rattle.assembly_tree.specs.Supernodes.{AreSupernodes}
 use Rattle.assembly_tree.proofs.SupernodeLemmas.{are_supernodes, are_assembly, parents_within}
 use Rattle.assembly_tree.proofs.runs.supernodes.Goals as goal
 
 -- the supernodes once their parents are named
-named : (supers : Vec Super Global) (nodes stated : List ℕ) (old new : List Super) → old ≡ supers.items → stated ≡ nodes → new ≡ map (reparented (node_of stated)) old → (with_items supers new).items ≡ map (reparented (node_of nodes)) supers.items
+named : (supers : Vec Super Global) (nodes stated : List ℕ) (old new : List Super) → old ≡ supers.items → stated ≡ nodes → new ≡ map (reparented (super_of stated)) old → (with_items supers new).items ≡ map (reparented (super_of nodes)) supers.items
 named supers nodes stated old new from by is =
-    let all : new ≡ map (reparented (node_of nodes)) supers.items = rw (← from, ← by) is in
-    with_items_is supers new (omega (arith, ap length all, length-map supers.items (reparented (node_of nodes)), supers.ok)) ∙ all
+    let all : new ≡ map (reparented (super_of nodes)) supers.items = rw (← from, ← by) is in
+    with_items_is supers new (omega (arith, ap length all, length-map supers.items (reparented (super_of nodes)), supers.ok)) ∙ all
 
 pub name_parents-requires : goal.name_parents-requires
 name_parents-requires c =
