@@ -1,6 +1,6 @@
 -- An amalgamated assembly tree is one, and what the code makes.
 use mathlib.Core.Path.{fun_ext}
-use Rattle.std.proofs.Common.{◌≡◌, ◌≢◌, ℕ, zero, suc, ◌+◌, ◌-◌, ◌<◌, ◌≤◌, Bool, cond, eqb, List, length, get_or, map, filter, refl, sym, ap, ◌∙◌, subst, inl, inr, arith, All, slice_index}
+use Rattle.std.proofs.Common.{◌≡◌, ℕ, zero, suc, ◌+◌, ◌-◌, ◌<◌, ◌≤◌, Bool, cond, eqb, List, length, get_or, map, filter, sym, ap, ◌∙◌, subst, inl, inr, arith, All, slice_index}
 use Rattle.std.specs.List.{sum_by, count_by}
 use Rattle.std.proofs.lemmas.List.{length-map, get_or-map, get_or_default}
 use Rattle.std.proofs.lemmas.List.Elements.{All-filter}
@@ -9,7 +9,7 @@ use Rattle.std.proofs.lemmas.Bool.{cases_eq, cases_order, eq-eqb, ne_eqb}
 use Rattle.limits.specs.Limits.{most_order}
 use Rattle.ordering.specs.Perm.{IsVertex}
 use Rattle.assembly_tree.specs.declared.assembly.Super.{Super}
-use Rattle.assembly_tree.specs.Assembly.{AssemblyTree, IsSuper, IsSuperWithin, IsAssembly, HaveColumns, no_super, super_at, super_of, columns_in, front_of, reparented}
+use Rattle.assembly_tree.specs.Assembly.{AssemblyTree, IsSuper, IsSuperWithin, IsAssembly, no_super, super_at, super_of, columns_in, front_of, reparented}
 use Rattle.assembly_tree.specs.Amalgamation.{is_left, new_number, numbered, amalgamated}
 use Rattle.assembly_tree.specs.MergeTables.{AreNames, IsMerging, named, left_of, gathered}
 use Rattle.assembly_tree.proofs.ListLemmas.{sum_by-map, filter-map, map_agree, sum_by_agree}

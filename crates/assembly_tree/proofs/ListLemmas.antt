@@ -3,8 +3,8 @@ use Rattle.std.proofs.Common.{◌≡◌, ℕ, zero, suc, ◌+◌, ◌<◌, ◌�
 use Rattle.std.specs.List.{sum_by, count_by, range_with_len}
 use Rattle.std.proofs.lemmas.List.{take-map, map-append, map-id}
 use Rattle.std.proofs.lemmas.List.Elements.{filter-append}
-use Rattle.std.proofs.lemmas.List.FromFn.{map-range_with_len_more}
-use Rattle.std.proofs.lemmas.List.Sums.{sum-map, fold_push, sum_by_push, sum_by-append, length-filter}
+use Rattle.std.proofs.lemmas.List.FromFn.{length-range_with_len, get_or-range_with_len, map-range_with_len_more}
+use Rattle.std.proofs.lemmas.List.Sums.{sum-map, fold_push, sum_by_push, sum_by-cons}
 use Rattle.std.proofs.lemmas.Bool.{cases_Bool}
 use Rattle.std.proofs.lemmas.Simd.{map-map}
 
@@ -21,6 +21,14 @@ filter-map {X} {Y} p g (x ∷ xs) =
       | true ↦ ap (λ (ys : List Y). g x ∷ ys) (filter-map p g xs)
       | false ↦ filter-map p g xs
     ]
+
+pub sum_by-filter : {X : Type 0} (f : X → ℕ) (p : X → Bool) (xs : List X) → sum_by f (filter p xs) ≡ sum_by (λ x. cond (p x) (f x) 0) xs
+sum_by-filter f p [] = refl
+sum_by-filter f p (x ∷ xs) =
+    elim (p x) as (λ b. sum_by f (cond b (x ∷ filter p xs) (filter p xs)) ≡ cond b (f x) 0 + sum_by (λ y. cond (p y) (f y) 0) xs) [
+      | true ↦ omega (arith, sum_by-cons f x (filter p xs), sum_by-filter f p xs)
+      | false ↦ omega (arith, sum_by-filter f p xs)
+    ] ∙ sym (sum_by-cons (λ y. cond (p y) (f y) 0) x xs)
 
 -- functions that agree at each element
 pub map_agree : {X Y : Type 0} (f g : X → Y) (d : X) (xs : List X) → ((i : ℕ) → i < length xs → f (get_or xs i d) ≡ g (get_or xs i d)) → map f xs ≡ map g xs
@@ -46,8 +54,9 @@ pick_more p f n = ap (λ (ns : List ℕ). map f (filter p ns)) (range_more n) �
 
 pub sum_of_picked_more : (p : ℕ → Bool) (f : ℕ → ℕ) (n : ℕ) → sum_by f (filter p (range_with_len 1 (n + 1))) ≡ sum_by f (filter p (range_with_len 1 n)) + cond (p (n + 1)) (f (n + 1)) 0
 sum_of_picked_more p f n =
-    ap (λ (ns : List ℕ). sum_by f (filter p ns)) (range_more n) ∙ ap (sum_by f) (filter-append p (range_with_len 1 n) ((n + 1) ∷ [])) ∙ sum_by-append f (filter p (range_with_len 1 n)) (cond (p (n + 1)) ((n + 1) ∷ []) [])
-    ∙ ap (λ (k : ℕ). sum_by f (filter p (range_with_len 1 n)) + k) (elim (p (n + 1)) as (λ b. sum_by f (cond b ((n + 1) ∷ []) []) ≡ cond b (f (n + 1)) 0) [ true ↦ omega arith | false ↦ refl ])
+    let g = λ (k : ℕ). cond (p k) (f k) 0 in
+    let more = ap (sum_by g) (range_more n) ∙ sum_by_push g (range_with_len 1 n) (n + 1) in
+    omega (arith, more, sum_by-filter f p (range_with_len 1 (n + 1)), sum_by-filter f p (range_with_len 1 n))
 
 -- tests that agree, and functions that agree at what passes
 pub pick_agree : {X : Type 0} (p q : ℕ → Bool) (f g : ℕ → X) (n : ℕ) → ((s : ℕ) → 1 ≤ s → s ≤ n → p s ≡ q s) → ((s : ℕ) → 1 ≤ s → s ≤ n → q s ≡ true → f s ≡ g s) → map f (filter p (range_with_len 1 n)) ≡ map g (filter q (range_with_len 1 n))
@@ -64,5 +73,7 @@ pick_agree {X} p q f g (suc n) tests same =
 
 pub count_agree : (p q : ℕ → Bool) (n : ℕ) → ((s : ℕ) → 1 ≤ s → s ≤ n → p s ≡ q s) → count_by p (range_with_len 1 n) ≡ count_by q (range_with_len 1 n)
 count_agree p q n tests =
-    let ids = λ (r : ℕ → Bool). ap length (map-id (filter r (range_with_len 1 n))) ∙ length-filter r (range_with_len 1 n) in
-    sym (ids p) ∙ ap length (pick_agree p q (λ s. s) (λ s. s) n tests (λ s low high passes. refl)) ∙ ids q
+    sum_by_agree (λ s. cond (p s) 1 0) (λ s. cond (q s) 1 0) 0 (range_with_len 1 n) (λ i lt.
+    let within : i < n = omega (arith, lt, length-range_with_len 1 n) in
+    let here : get_or (range_with_len 1 n) i 0 ≡ 1 + i = get_or-range_with_len 1 n i 0 within in
+    ap (λ (b : Bool). cond b 1 0) (tests (get_or (range_with_len 1 n) i 0) (omega (arith, here)) (omega (arith, here, within))))

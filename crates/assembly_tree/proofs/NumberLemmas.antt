@@ -1,6 +1,8 @@
 -- The table of new numbers, one place more at a time.
-use Rattle.std.proofs.Common.{◌≡◌, ◌≢◌, ℕ, ◌+◌, ◌-◌, ◌<◌, ◌≤◌, List, [], ◌∷◌, ◌++◌, length, get_or, set, sym, ap, ◌∙◌, inl, inr, arith}
-use Rattle.std.proofs.lemmas.List.{get_or_append_left, get_or_push, get_or-set_same, get_or-set_other}
+use Rattle.std.proofs.Common.{◌≡◌, ◌≢◌, ℕ, ◌+◌, ◌-◌, ◌<◌, ◌≤◌, List, [], ◌∷◌, ◌++◌, length, get_or, set, map, sym, ap, ◌∙◌, inl, inr, arith}
+use Rattle.std.specs.List.{range_with_len}
+use Rattle.std.proofs.lemmas.List.{get_or-set_same, get_or-set_other}
+use Rattle.std.proofs.lemmas.List.FromFn.{get_or-map-range_with_len, map-range_with_len_more}
 use Rattle.std.proofs.lemmas.List.Sums.{count_by_more_yes, count_by_more_no}
 use Rattle.std.proofs.lemmas.Bool.{cases_lt, cases_eq}
 use Rattle.assembly_tree.specs.declared.assembly.Super.{Super}
@@ -15,16 +17,14 @@ count_yes supers i left lt some is = omega (arith, is, count_by_more_yes is_left
 pub count_no : (supers : List Super) (i left : ℕ) → i < length supers → (get_or supers i no_super).columns ≡ 0 → left ≡ new_number supers i → left ≡ new_number supers (i + 1)
 count_no supers i left lt none is = omega (arith, is, count_by_more_no is_left supers i no_super lt (left-none (get_or supers i no_super) none))
 
-pub count_more : (supers : List Super) (numbers more : List ℕ) (i left : ℕ) → more ≡ numbers ++ left ∷ [] → length numbers ≡ i + 1 → left ≡ new_number supers (i + 1) → ((s : ℕ) → s < i + 1 → get_or numbers s 0 ≡ new_number supers s) → (s : ℕ) → s < i + 1 + 1 → get_or more s 0 ≡ new_number supers s
-count_more supers numbers more i left is len count each s high =
-    let here = ap (λ (xs : List ℕ). get_or xs s 0) is in
-    elim (cases_lt s (i + 1)) [
-      | inl lt ↦ here ∙ get_or_append_left numbers (left ∷ []) 0 s (omega (arith, lt, len)) ∙ each s lt
-      | inr le ↦ (
-          let last : s ≡ i + 1 = omega (arith, le, high) in
-          here ∙ get_or_push numbers left 0 s (omega (arith, len, last)) ∙ count ∙ ap (new_number supers) (sym last)
-          )
-    ]
+pub count_more : (supers : List Super) (numbers more : List ℕ) (i left : ℕ) → more ≡ numbers ++ left ∷ [] → left ≡ new_number supers (i + 1) → numbers ≡ map (new_number supers) (range_with_len 0 (i + 1)) → more ≡ map (new_number supers) (range_with_len 0 (i + 1 + 1))
+count_more supers numbers more i left is count before = is ∙ ap (λ (v : ℕ). numbers ++ v ∷ []) count ∙ ap (λ (xs : List ℕ). xs ++ new_number supers (i + 1) ∷ []) before ∙ sym (map-range_with_len_more (new_number supers) 0 (i + 1) (i + 1) (omega arith))
+
+pub counted : (supers : List Super) (numbers : List ℕ) (name : ℕ → ℕ) → numbers ≡ map (new_number supers) (range_with_len 0 (length supers + 1)) → AreNumbers supers numbers name (length supers)
+counted supers numbers name is = record {
+  earlier = λ s le. ap (λ (xs : List ℕ). get_or xs s 0) is ∙ get_or-map-range_with_len (new_number supers) 0 (length supers + 1) s s 0 (omega (arith, le)) (omega arith);
+  later = λ s low high. absurd (omega (arith, low, high));
+}
 
 module _ (supers : List Super) (numbers : List ℕ) (name : ℕ → ℕ) (names : AreNames supers name) (s : ℕ) (is : IsSuper supers s) (are : AreNumbers supers numbers name s) where
   pub follow_left : (super_at supers s).columns ≢ 0 → AreNumbers supers numbers name (s - 1)

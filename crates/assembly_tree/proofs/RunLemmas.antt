@@ -1,14 +1,14 @@
 -- Cutting columns into runs, one column more at a time.
-use Rattle.std.proofs.Common.{◌≡◌, ℕ, zero, suc, Bool, false, cond, IsTrue, eqb, ◌+◌, ◌-◌, ◌<◌, ◌≤◌, List, [], ◌∷◌, ◌++◌, length, get_or, set, take, refl, sym, ap, ◌∙◌, subst, inl, inr, arith}
+use Rattle.std.proofs.Common.{◌≡◌, ◌↔◌, ℕ, zero, suc, Bool, false, cond, IsTrue, eqb, ◌+◌, ◌-◌, ◌<◌, ◌≤◌, List, [], ◌∷◌, ◌++◌, length, get_or, take, refl, sym, ap, ◌∙◌, subst, inl, inr, arith}
 use Rattle.std.specs.List.{sum_by, count_by}
-use Rattle.std.proofs.lemmas.List.{take-append-le, take_all, take-take, get_or_append_left, get_or_push, length_push, get_or-set_same, get_or-set_other, length-set}
+use Rattle.std.proofs.lemmas.List.{take-append-le, take_all, take-take, get_or_append_left, get_or_push, length_push}
 use Rattle.std.proofs.lemmas.List.Sums.{sum_by_more, sum_by_push, sum_by-take-le}
-use Rattle.std.proofs.lemmas.Bool.{cases_eq, cases_lt, eq-eqb, ne_eqb, eqb-true, false≢true}
+use Rattle.std.proofs.lemmas.Bool.{cases_eq, cases_lt, eq-eqb, ne_eqb, false≢true}
 use Rattle.ordering.specs.Perm.{IsVertex}
 use Rattle.elim_tree.specs.Trees.{parent_at, IsForest}
 use Rattle.assembly_tree.specs.declared.assembly.Super.{Super}
 use Rattle.assembly_tree.specs.Assembly.{IsSuper, no_super, super_at, super_of, columns_in, front_of}
-use Rattle.assembly_tree.specs.Supernodes.{count_at, AreColumnCounts, Continues, first_of, last_of}
+use Rattle.assembly_tree.specs.Supernodes.{count_at, Continues, first_of, last_of}
 use Rattle.assembly_tree.specs.RunTables.{AreFirstChildren, AreRuns}
 
 -- ---- whether a run goes on
@@ -199,15 +199,12 @@ supers-le supers (suc s) some high =
     omega (arith, before, last-more supers (suc s) (omega arith) high, some (suc s) (omega arith, high), ap (last_of supers) back)
 
 -- the test of counts decides
-pub goes_by_counts : (parents counts children : List ℕ) (j next : ℕ) → IsForest parents → AreColumnCounts parents counts → AreFirstChildren parents children 0 → IsVertex (length parents) j → next ≡ parent_at parents j → next ≡ j + 1 → get_or children next 0 ≡ j
-    → (IsTrue (eqb (get_or counts (j - 1) 0 - 1) (get_or counts j 0)) → Continues parents counts j) × (Continues parents counts j → IsTrue (eqb (get_or counts (j - 1) 0 - 1) (get_or counts j 0)))
-goes_by_counts parents counts children j next forest are first is up next_is least =
-    let back : j + 1 - 1 ≡ j = omega arith in
-    let later = ap (λ (k : ℕ). get_or counts k 0) back in
-    let there = ap (λ (k : ℕ). get_or children k 0) next_is in
-    let some = (are.each j is).some in (
-      λ test. (let same = eqb-true (get_or counts (j - 1) 0 - 1) (get_or counts j 0) test in goes_on parents counts children j forest first is (omega (arith, up, next_is)) (omega (arith, there, least)) (omega (arith, same, later, some))),
-      λ goes. eq-eqb (get_or counts (j - 1) 0 - 1) (get_or counts j 0) (omega (arith, goes.count, later)),
+pub goes_by_counts : (parents counts children : List ℕ) (j next : ℕ) (result : Bool) → IsForest parents → AreFirstChildren parents children 0 → IsVertex (length parents) j → next ≡ parent_at parents j → next ≡ j + 1 → get_or children next 0 ≡ j
+    → IsTrue result ↔ (count_at counts j ≡ count_at counts (j + 1) + 1) → IsTrue result ↔ Continues parents counts j
+goes_by_counts parents counts children j next result forest first is next_is up least rows =
+    let there = ap (λ (k : ℕ). get_or children k 0) up in (
+      λ test. goes_on parents counts children j forest first is (omega (arith, up, next_is)) (omega (arith, there, least)) (rows.0 test),
+      λ goes. rows.1 goes.count,
     )
 
 pub ends_here : (parents counts : List ℕ) (j : ℕ) (result : Bool) → result ≡ false → (Continues parents counts j → IsTrue result) → ¬ (Continues parents counts j)

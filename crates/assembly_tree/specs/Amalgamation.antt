@@ -3,8 +3,8 @@
 -- partitions on the multifrontal method, 1989.
 --
 -- A merged supernode keeps its number until the end, and has no columns any more.
-use Rattle.std.specs.Prelude.{◌==◌, ℕ, ◌+◌, ◌-◌, ◌*◌, Bool, not, ◌||◌, nat_lt, if◌then◌else◌, List, length, map, take, filter, fold, slice_set}
-use Rattle.std.specs.List.{range_with_len, count_by}
+use Rattle.std.specs.Prelude.{◌==◌, ℕ, ◌+◌, ◌-◌, ◌*◌, Bool, not, ◌||◌, nat_lt, if◌then◌else◌, List, length, map, take, filter, fold}
+use Rattle.std.specs.List.{range_with_len, count_by, slice_set}
 use Rattle.assembly_tree.specs.declared.assembly.Super.{Super}
 use Rattle.assembly_tree.specs.Assembly.{AssemblyTree, super_at, front_of, reparented}
 
@@ -35,7 +35,8 @@ merged assembly s p = record {
 abbrev pub visited : ℕ → AssemblyTree → ℕ → AssemblyTree
 visited zeros assembly s =
     let child = super_at assembly.supers s in
-    if child.parent == 0 || nat_lt zeros (zeros_of child (super_at assembly.supers child.parent)) then assembly else merged assembly s child.parent
+    if child.parent == 0 || nat_lt zeros (zeros_of child (super_at assembly.supers child.parent)) then assembly
+    else merged assembly s child.parent
 
 abbrev pub is_left : Super → Bool
 is_left x = not (x.columns == 0)

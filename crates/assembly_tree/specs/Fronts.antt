@@ -28,7 +28,13 @@ share_of shape supers s = fold max 0 (map (block_of shape) (child_supers supers 
 
 -- the front of a supernode, as a task: its block is left, the rest of it is needed while its columns are eliminated
 abbrev pub front_node : Shape → ℕ → Super → Node
-front_node shape share x = record { parent = x.parent; out = block_of shape x; extra = kept_entries shape (front_of x) - block_of shape x; share = share; time = x.columns }
+front_node shape share x = record {
+  parent = x.parent;
+  out = block_of shape x;
+  extra = kept_entries shape (front_of x) - block_of shape x;
+  share = share;
+  time = x.columns;
+}
 
 -- that of supernode s. With in-place assembly it takes over the greatest block of its children; without, nothing
 abbrev pub front_at : Shape → Bool → List Super → ℕ → Node

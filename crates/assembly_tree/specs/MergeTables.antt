@@ -8,7 +8,9 @@ use Rattle.assembly_tree.specs.Amalgamation.{zeros_of, merged_supers, visited, i
 
 -- whether supernode s stays as it is when it is visited
 abbrev pub stays : ℕ → List Super → ℕ → Bool
-stays zeros supers s = (super_at supers s).parent == 0 || nat_lt zeros (zeros_of (super_at supers s) (super_at supers (super_at supers s).parent))
+stays zeros supers s =
+    let child = super_at supers s in
+    child.parent == 0 || nat_lt zeros (zeros_of child (super_at supers child.parent))
 
 -- the supernodes once s was visited, and once the first `done` of them were
 abbrev pub gathered_at : ℕ → List Super → ℕ → List Super
@@ -21,7 +23,8 @@ gathered zeros supers done = fold (gathered_at zeros) supers (range_with_len 1 d
 pub record AreNames (supers : List Super) (name : ℕ → ℕ) : Type 0 where
   pub none : name 0 ≡ 0
   pub left : (s : ℕ) → IsSuper supers s → 0 < (super_at supers s).columns → name s ≡ s
-  pub gone : (s : ℕ) → IsSuper supers s → (super_at supers s).columns ≡ 0 → (s < (super_at supers s).parent) × ((super_at supers s).parent ≤ length supers) × (name s ≡ name ((super_at supers s).parent))
+  pub gone : (s : ℕ) → IsSuper supers s → (super_at supers s).columns ≡ 0 → let parent = (super_at supers s).parent in
+      (s < parent) × (parent ≤ length supers) × (name s ≡ name parent)
 
 -- the assembly tree that the code's supernodes stand for, and that of those that are left
 abbrev pub named : (ℕ → ℕ) → List Super → List ℕ → AssemblyTree
@@ -38,7 +41,8 @@ pub record IsMerging (zeros : ℕ) (old new : List Super) (done : ℕ) : Type 0 
   pub is : new ≡ gathered zeros old done
   pub name : ℕ → ℕ
   pub names : AreNames new name
-  pub stands : (nodes : List ℕ) → fold (visited zeros) (record { supers = old; nodes = nodes }) (range_with_len 1 done) ≡ named name new nodes
+  pub stands : (nodes : List ℕ) →
+      fold (visited zeros) (record { supers = old; nodes = nodes }) (range_with_len 1 done) ≡ named name new nodes
   -- only columns change, and those that were not visited have all of theirs
   pub len : length new ≡ length old
   pub rest : (s : ℕ) → 1 ≤ s → (super_at new s).rest ≡ (super_at old s).rest
@@ -47,7 +51,13 @@ pub record IsMerging (zeros : ℕ) (old new : List Super) (done : ℕ) : Type 0 
   pub total : sum_by columns_in new ≡ sum_by columns_in old
   pub held : (nodes : List ℕ) → HaveColumns old nodes → HaveColumns new (map name nodes)
   -- where its parent stands, the front holds the further rows of a supernode
-  pub fits : (s : ℕ) → IsSuper old s → 0 < (super_at old s).parent → (super_at old s).rest ≤ front_of (super_at new (name ((super_at old s).parent)))
+  pub fits : (s : ℕ) → IsSuper old s → 0 < (super_at old s).parent →
+      (super_at old s).rest ≤ front_of (super_at new (name ((super_at old s).parent)))
+
+-- by old number, the new number of where each supernode stands
+abbrev pub AreNewNumbers : List Super → List ℕ → Type 0
+AreNewNumbers supers numbers = (name : ℕ → ℕ) → AreNames supers name →
+    (s : ℕ) → s ≤ length supers → slice_index numbers s ≡ new_number supers (name s)
 
 -- the numbers of the supernodes that are left, by old number; from above `done` on, merged ones have the number of where they stand
 pub record AreNumbers (supers : List Super) (numbers : List ℕ) (name : ℕ → ℕ) (done : ℕ) : Type 0 where

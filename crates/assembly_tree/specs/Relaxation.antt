@@ -22,14 +22,17 @@ pub record IsRelaxed (zeros : ℕ) (old new : AssemblyTree) : Type 0 where
   pub width : ℕ → ℕ
   pub widths : (s : ℕ) → IsSuper old.supers s → width s ≡ (enlarged goes width old.supers (s - 1) s).columns
   -- it goes where it has a parent and that puts at most so many zeros into the factor, as both are after all that have lower numbers
-  pub rule : (s : ℕ) → IsSuper old.supers s → let parent = (super_at old.supers s).parent in
-      IsTrue (goes s) ↔ ((0 < parent) × (zeros_of (enlarged goes width old.supers (s - 1) s) (enlarged goes width old.supers (s - 1) parent) ≤ zeros))
+  pub rule : (s : ℕ) → IsSuper old.supers s →
+      let parent = (super_at old.supers s).parent in
+      let so_far = enlarged goes width old.supers (s - 1) in
+      IsTrue (goes s) ↔ ((0 < parent) × (zeros_of (so_far s) (so_far parent) ≤ zeros))
   -- where it stands in the end: a union of supernodes that are joined by parent links stands in the last of them
   pub home : ℕ → ℕ
   pub none : home 0 ≡ 0
   pub homes : (s : ℕ) → IsSuper old.supers s → home s ≡ (if goes s then home ((super_at old.supers s).parent) else s)
   -- those that stay are numbered in their old order
-  pub supers : new.supers ≡ map
-      (λ s. record (enlarged goes width old.supers (length old.supers) s) { parent = number_among goes (home ((super_at old.supers s).parent)) })
-      (filter (λ s. not (goes s)) (range_with_len 1 (length old.supers)))
+  pub supers :
+      let n = length old.supers in
+      let kept = λ (s : ℕ). record (enlarged goes width old.supers n s) { parent = number_among goes (home ((super_at old.supers s).parent)) } in
+      new.supers ≡ map kept (filter (λ s. not (goes s)) (range_with_len 1 n))
   pub nodes : new.nodes ≡ map (λ s. number_among goes (home s)) old.nodes

@@ -1,6 +1,6 @@
 -- No public clause names this.
 -- How the code finds supernodes: tables that it keeps, and what it has cut so far.
-use Rattle.std.specs.Prelude.{◌≡◌, ◌==◌, ℕ, ◌+◌, ◌<◌, ◌≤◌, List, length, slice_index_or}
+use Rattle.std.specs.Prelude.{◌≡◌, ◌==◌, ℕ, ◌+◌, ◌<◌, ◌≤◌, List, length, slice_index}
 use Rattle.std.specs.List.{count_by}
 use Rattle.ordering.specs.Perm.{IsVertex}
 use Rattle.elim_tree.specs.Trees.{parent_at}
@@ -11,8 +11,9 @@ use Rattle.assembly_tree.specs.Supernodes.{count_at, Continues, first_of, last_o
 -- of the columns above `done`, the least child of each column; 0 where it has none. Column 0 has a place too
 pub record AreFirstChildren (parents children : List ℕ) (done : ℕ) : Type 0 where
   pub len : length children ≡ length parents + 1
-  pub least : (c : ℕ) → IsVertex (length parents) c → done < c → (1 ≤ slice_index_or children (parent_at parents c) 0) × (slice_index_or children (parent_at parents c) 0 ≤ c)
-  pub child : (p : ℕ) → 0 < p → p ≤ length parents → 0 < slice_index_or children p 0 → IsVertex (length parents) (slice_index_or children p 0) × (parent_at parents (slice_index_or children p 0) ≡ p)
+  pub least : (c : ℕ) → IsVertex (length parents) c → done < c → let first = slice_index children (parent_at parents c) in (1 ≤ first) × (first ≤ c)
+  pub child : (p : ℕ) → 0 < p → p ≤ length parents → let first = slice_index children p in
+      0 < first → IsVertex (length parents) first × (parent_at parents first ≡ p)
 
 -- the first `done` columns are cut into supernodes and one run of `running` columns that may go on; the parent of a supernode stands as the
 -- column that it has

@@ -17,7 +17,7 @@ pub struct Super {
 /// An assembly tree: its supernodes, each numbered before its parent, and the supernode of each of the 1 to 10^6 columns.
 #[derive(Drop)]
 pub struct Assembly {
-    pub(crate) supers: Vec<Super>,
+    supers: Vec<Super>,
     // by column, of which the first stands at 0
     pub(crate) nodes: Vec<u32>,
 }
@@ -45,6 +45,13 @@ pub(crate) fn super_in(nodes: &[u32], column: u32) -> u32
 }
 
 impl Assembly {
+    pub(crate) fn of(supers: Vec<Super>, nodes: Vec<u32>) -> Assembly
+        requires { IsAssembly (record { supers = supers.items; nodes = nodes.items }) }
+        ensures { result ≡ record { supers = supers.items; nodes = nodes.items } }
+    {
+        Assembly { supers, nodes }
+    }
+
     /// How many columns there are, 1 to 10^6.
     pub fn columns(&self) -> u32
         ensures { result ≡ length self.now.nodes }

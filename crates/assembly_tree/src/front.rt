@@ -58,7 +58,8 @@ fn shares_of(
     requires parents { All (λ x. x.parent ≤ length supers.now) supers.now }
     requires fits { All (λ x. front_of x ≤ most_order) supers.now }
     ensures len { IfOk result (λ shares. length shares.items ≡ length supers.now + 1) }
-    ensures shares { IfOk result (λ shares. (s : ℕ) → s ≤ length supers.now → slice_index shares.items s ≡ (if inplace then share_of shape supers.now s else 0)) }
+    ensures shares { IfOk result (λ shares. (s : ℕ) → s ≤ length supers.now →
+        slice_index shares.items s ≡ (if inplace then share_of shape supers.now s else 0)) }
 {
     let mut shares: Vec<u64> = vec![in alloc; 0; supers.len() + 1]?;
     if inplace {

@@ -16,7 +16,8 @@ use ordering::laws as fill_laws;
 
 /// The counts of the fill meet what supernodes ask of counts.
 pub fn counts_of_fill()
-    ensures { (joined : ℕ → ℕ → Bool) (n : ℕ) → IsPattern joined → IsWithin n joined → AreColumnCounts (parents_of joined n) (counts_of joined n) }
+    ensures { (joined : ℕ → ℕ → Bool) (n : ℕ) → IsPattern joined → IsWithin n joined →
+        AreColumnCounts (parents_of joined n) (counts_of joined n) }
 {
     fill_laws::parent_is_first();
     tree_laws::structure_by_children();
@@ -25,7 +26,8 @@ pub fn counts_of_fill()
 
 /// There is one list of fundamental supernodes.
 pub fn one_list_of_supernodes()
-    ensures { (parents counts : List ℕ) (one two : AssemblyTree) → AreSupernodes parents counts one → AreSupernodes parents counts two → one ≡ two }
+    ensures { (parents counts : List ℕ) (one two : AssemblyTree) → AreSupernodes parents counts one →
+        AreSupernodes parents counts two → one ≡ two }
 {}
 
 /// An amalgamated assembly tree is one.
@@ -41,5 +43,6 @@ pub fn amalgamation_is_relaxed()
 
 /// The fronts of an assembly tree are a tree within the limits, with shares that fit.
 pub fn fronts_are_tree()
-    ensures { (shape : Shape) (inplace : Bool) (assembly : AssemblyTree) → IsAssembly assembly → IsTree (fronts_of shape inplace assembly.supers) }
+    ensures { (shape : Shape) (inplace : Bool) (assembly : AssemblyTree) → IsAssembly assembly →
+        IsTree (fronts_of shape inplace assembly.supers) }
 {}

@@ -1,12 +1,12 @@
 //! The amalgamation of supernodes with their parents.
 
 ghost use Rattle.std.specs.Prelude.{◌≡◌, ◌<◌, ◌≤◌, ◌+◌, ◌*◌, ◌^◌, ◌↔◌, ℕ, length, map, filter, All, slice_index, IfOk, IsTrue};
-ghost use Rattle.std.specs.List.{sum_by};
+ghost use Rattle.std.specs.List.{range_with_len, sum_by};
 ghost use Rattle.limits.specs.Limits.{most_order};
 ghost use Rattle.assembly_tree.specs.declared.assembly.Super.{Super as SuperValue};
 ghost use Rattle.assembly_tree.specs.Assembly.{IsSuper, IsSuperWithin, IsAssembly, super_at, front_of, columns_in, reparented};
 ghost use Rattle.assembly_tree.specs.Amalgamation.{zeros_of, merged_supers, is_left, new_number, amalgamated};
-ghost use Rattle.assembly_tree.specs.MergeTables.{AreNames, IsMerging, left_of};
+ghost use Rattle.assembly_tree.specs.MergeTables.{AreNames, AreNewNumbers, IsMerging, left_of};
 
 use crate::NoMemory;
 use crate::assembly::{Assembly, Super};
@@ -68,7 +68,7 @@ fn merged(alloc: Global, supers: &[Super], zeros: u64) -> Result<Vec<Super>, NoM
 fn count_left(alloc: Global, supers: &[Super]) -> Result<Vec<u32>, NoMemory>
     requires { length supers.now ≤ most_order }
     ensures len { IfOk result (λ numbers. length numbers.items ≡ length supers.now + 1) }
-    ensures left { IfOk result (λ numbers. (s : ℕ) → s ≤ length supers.now → slice_index numbers.items s ≡ new_number supers.now s) }
+    ensures left { IfOk result (λ numbers. numbers.items ≡ map (new_number supers.now) (range_with_len 0 (length supers.now + 1))) }
 {
     let mut numbers: Vec<u32> = Vec::with_capacity(alloc, supers.len() + 1)?;
     let mut left = 0;
@@ -85,9 +85,9 @@ fn count_left(alloc: Global, supers: &[Super]) -> Result<Vec<u32>, NoMemory>
 // Gives each merged supernode the number of its parent, the later ones first.
 fn follow(numbers: &mut [u32], supers: &[Super])
     requires len { length numbers.old ≡ length supers.now + 1 }
-    requires left { (s : ℕ) → s ≤ length supers.now → slice_index numbers.old s ≡ new_number supers.now s }
+    requires left { numbers.old ≡ map (new_number supers.now) (range_with_len 0 (length supers.now + 1)) }
     requires names { (name : ℕ → ℕ) × AreNames supers.now name }
-    ensures { (name : ℕ → ℕ) → AreNames supers.now name → (s : ℕ) → s ≤ length supers.now → slice_index numbers.new s ≡ new_number supers.now (name s) }
+    ensures { AreNewNumbers supers.now numbers.new }
 {
     for i in 0..supers.len() {
         let s = supers.len() - i;
@@ -130,7 +130,7 @@ fn numbers_of(alloc: Global, supers: &[Super]) -> Result<Vec<u32>, NoMemory>
     requires few { length supers.now ≤ most_order }
     requires names { (name : ℕ → ℕ) × AreNames supers.now name }
     ensures len { IfOk result (λ numbers. length numbers.items ≡ length supers.now + 1) }
-    ensures numbers { IfOk result (λ numbers. (name : ℕ → ℕ) → AreNames supers.now name → (s : ℕ) → s ≤ length supers.now → slice_index numbers.items s ≡ new_number supers.now (name s)) }
+    ensures numbers { IfOk result (λ numbers. AreNewNumbers supers.now numbers.items) }
 {
     let mut numbers = count_left(alloc, supers)?;
     follow(&mut numbers, supers);
@@ -148,10 +148,7 @@ fn renumber(alloc: Global, supers: &[Super], nodes: &[u32]) -> Result<Assembly, 
     let numbers = numbers_of(alloc, supers)?;
     let kept = keep(alloc, supers, &numbers)?;
     let nodes = rename(alloc, nodes, &numbers)?;
-    Ok(Assembly {
-        supers: kept,
-        nodes,
-    })
+    Ok(Assembly::of(kept, nodes))
 }
 
 /// The assembly tree with relaxed supernodes: by rising number, each supernode is merged into its parent where that puts at most

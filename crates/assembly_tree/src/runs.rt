@@ -5,7 +5,7 @@ ghost use Rattle.ordering.specs.Perm.{IsVertex};
 ghost use Rattle.elim_tree.specs.Trees.{IsForest};
 ghost use Rattle.assembly_tree.specs.declared.assembly.Super.{Super as SuperValue};
 ghost use Rattle.assembly_tree.specs.Assembly.{super_of, reparented};
-ghost use Rattle.assembly_tree.specs.Supernodes.{AreColumnCounts, AreSupernodes, Continues};
+ghost use Rattle.assembly_tree.specs.Supernodes.{count_at, AreColumnCounts, AreSupernodes, Continues};
 ghost use Rattle.assembly_tree.specs.RunTables.{AreFirstChildren, AreRuns};
 
 use crate::NoMemory;
@@ -27,6 +27,14 @@ fn first_children(alloc: Global, parents: &Parents) -> Result<Vec<u32>, NoMemory
     Ok(children)
 }
 
+// Whether column j has one row more than the column after it.
+fn has_one_row_more(counts: &[u32], j: u32) -> bool
+    requires { (1 ≤ j) × (j < length counts.now) }
+    ensures { IsTrue result ↔ (count_at counts.now j ≡ count_at counts.now (j + 1) + 1) }
+{
+    u64::from(counts[j as usize - 1]) == u64::from(counts[j as usize]) + 1
+}
+
 // Whether the column after j goes on with the supernode of j.
 fn goes_on(parents: &Parents, counts: &[u32], children: &[u32], j: u32) -> bool
     requires forest { IsForest parents.now }
@@ -36,9 +44,7 @@ fn goes_on(parents: &Parents, counts: &[u32], children: &[u32], j: u32) -> bool
     ensures { IsTrue result ↔ Continues parents.now counts.now j }
 {
     let next = parents.at(j);
-    next == j + 1
-        && children[next as usize] == j
-        && counts[j as usize - 1] - 1 == counts[j as usize]
+    next == j + 1 && children[next as usize] == j && has_one_row_more(counts, j)
 }
 
 // The supernodes with the columns of their parents, and the supernode of each column.
@@ -95,5 +101,5 @@ pub fn supernodes(alloc: Global, parents: &Parents, counts: &[u32]) -> Result<As
     let children = first_children(alloc, parents)?;
     let Runs { mut supers, nodes } = cut(alloc, parents, counts, &children)?;
     name_parents(&mut supers, &nodes);
-    Ok(Assembly { supers, nodes })
+    Ok(Assembly::of(supers, nodes))
 }

@@ -15,8 +15,8 @@ joins kept nodes to left old numbers first second one two is are whole =
     let with_nodes : List ℕ → AssemblyTree = λ ys. record { supers = to.supers; nodes = ys } in
     ap with_supers a ∙ ap with_nodes b
 
-pub invariant_of-result : goal.invariant_of-result
-invariant_of-result c =
+pub of-requires : goal.of-requires
+of-requires c =
     let supers = c.args.supers.now in
     let nodes = c.args.nodes.now in
     let numbers = c.in_ok-numbers.numbers.items in
@@ -31,4 +31,4 @@ returns c = λ name names.
     let nodes = c.args.nodes.now in
     let numbers = c.in_ok-numbers.numbers.items in
     let whole = left_by supers nodes numbers name (c.in_ok-numbers.ensures.numbers name names) c.requires.parents c.requires.nodes in
-    joins c.in_ok-kept.kept.items c.in_ok-nodes.nodes.items (left_of name supers nodes) (filter is_left supers) nodes numbers c.deref.result.now c.deref-2.result.now c.deref.ensures.value c.deref-2.ensures.value c.in_ok-kept.ensures c.in_ok-nodes.ensures whole
+    c.of.ensures ∙ joins c.in_ok-kept.kept.items c.in_ok-nodes.nodes.items (left_of name supers nodes) (filter is_left supers) nodes numbers c.deref.result.now c.deref-2.result.now c.deref.ensures.value c.deref-2.ensures.value c.in_ok-kept.ensures c.in_ok-nodes.ensures whole

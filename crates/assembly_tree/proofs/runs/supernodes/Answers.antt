@@ -18,8 +18,8 @@ name_parents-requires c =
     let made = c.in_ok-supers.field-0 in
     rw (c.deref_mut.ensures.value, c.deref-2.ensures.value) (parents_within c.args.parents.now c.args.counts.now made.supers.items made.nodes.items c.in_ok-children.ensures.forest c.requires c.in_ok-supers.ensures)
 
-pub invariant_of-result : goal.invariant_of-result
-invariant_of-result c =
+pub of-requires : goal.of-requires
+of-requires c =
     let made = c.in_ok-supers.field-0 in
     let is = named made.supers made.nodes.items c.deref-2.result.now c.deref_mut.result.now c.name_parents.new.supers c.deref_mut.ensures.value c.deref-2.ensures.value c.name_parents.ensures in
     subst (λ (xs : List Super). IsAssembly (record { supers = xs; nodes = made.nodes.items })) (sym is) (are_assembly c.args.parents.now c.args.counts.now made.supers.items made.nodes.items c.in_ok-children.ensures.forest c.requires c.in_ok-supers.ensures)
@@ -28,4 +28,4 @@ pub returns : goal.returns
 returns c =
     let made = c.in_ok-supers.field-0 in
     let is = named made.supers made.nodes.items c.deref-2.result.now c.deref_mut.result.now c.name_parents.new.supers c.deref_mut.ensures.value c.deref-2.ensures.value c.name_parents.ensures in
-    subst (λ (xs : List Super). AreSupernodes c.args.parents.now c.args.counts.now (record { supers = xs; nodes = made.nodes.items })) (sym is) (are_supernodes c.args.parents.now c.args.counts.now made.supers.items made.nodes.items c.in_ok-children.ensures.forest c.requires c.in_ok-supers.ensures)
+    subst (AreSupernodes c.args.parents.now c.args.counts.now) (sym c.of.ensures) (subst (λ (xs : List Super). AreSupernodes c.args.parents.now c.args.counts.now (record { supers = xs; nodes = made.nodes.items })) (sym is) (are_supernodes c.args.parents.now c.args.counts.now made.supers.items made.nodes.items c.in_ok-children.ensures.forest c.requires c.in_ok-supers.ensures))
