@@ -11,7 +11,7 @@ use Rattle.ordering.specs.Perm.{IsVertex}
 use Rattle.assembly_tree.specs.declared.assembly.Super.{Super}
 use Rattle.assembly_tree.specs.Assembly.{AssemblyTree, IsSuper, IsSuperWithin, IsAssembly, no_super, super_at, super_of, columns_in, front_of, reparented}
 use Rattle.assembly_tree.specs.Amalgamation.{is_left, new_number, numbered, amalgamated}
-use Rattle.assembly_tree.specs.MergeTables.{AreNames, IsMerging, named, left_of, gathered}
+use Rattle.assembly_tree.specs.MergeTables.{AreNames, IsMerging, AreStanding, named, left_of, gathered}
 use Rattle.assembly_tree.proofs.ListLemmas.{sum_by-map, filter-map, map_agree, sum_by_agree}
 use Rattle.assembly_tree.proofs.AssemblyLemmas.{front_fits}
 use Rattle.assembly_tree.proofs.JoinLemmas.{stands_in}
@@ -33,11 +33,14 @@ left_is name supers nodes =
     ∙ ap (λ (ns : List ℕ). record { supers = map (reparented (λ s. by (name s))) (filter is_left supers); nodes = ns }) (map-map by name nodes)
 
 module _ (zeros : ℕ) (a : AssemblyTree) (is : IsAssembly a) (new : List Super) (m : IsMerging zeros a.supers new (length a.supers)) where
-  pub amalgamated_is : amalgamated zeros a ≡ left_of m.name new a.nodes
-  amalgamated_is = ap numbered (m.stands a.nodes) ∙ left_is m.name new a.nodes
+  pub standing : AreStanding zeros a.supers new (length a.supers)
+  standing = subst (λ (xs : List Super). AreStanding zeros a.supers xs (length a.supers)) (sym m.is) (merging zeros a.supers is.each (length a.supers) (omega arith)).1
+
+  pub amalgamated_is : amalgamated zeros a ≡ left_of standing.name new a.nodes
+  amalgamated_is = ap numbered (standing.stands a.nodes) ∙ left_is standing.name new a.nodes
 
   abbrev number : ℕ → ℕ
-  number s = new_number new (m.name s)
+  number s = new_number new (standing.name s)
 
   abbrev ys : List Super
   ys = map (reparented number) (filter is_left new)
@@ -53,11 +56,11 @@ module _ (zeros : ℕ) (a : AssemblyTree) (is : IsAssembly a) (new : List Super)
   rises s p lt is_p left = omega (arith, number-left new p is_p left, number-le new s (p - 1) (omega (arith, lt)))
 
   -- where a supernode stands
-  stand : (s : ℕ) → IsSuper a.supers s → IsSuper new (m.name s) × (s ≤ m.name s) × (1 ≤ (super_at new (m.name s)).columns)
-  stand s is_s = stands_in new m.name m.names s (is_s.0, omega (arith, is_s.1, m.len))
+  stand : (s : ℕ) → IsSuper a.supers s → IsSuper new (standing.name s) × (s ≤ standing.name s) × (1 ≤ (super_at new (standing.name s)).columns)
+  stand s is_s = stands_in new standing.name standing.names s (is_s.0, omega (arith, is_s.1, m.len))
 
   inside : (s : ℕ) → IsSuper a.supers s → IsSuper ys (number s)
-  inside s is_s = (let there = stand s is_s in (omega (arith, number-left new (m.name s) there.0 there.2), omega (arith, number-within new (m.name s) there.0.1, len)))
+  inside s is_s = (let there = stand s is_s in (omega (arith, number-left new (standing.name s) there.0 there.2), omega (arith, number-within new (standing.name s) there.0.1, len)))
 
   each_left : (s : ℕ) → IsSuper new s → 1 ≤ (super_at new s).columns → IsSuperWithin ys (new_number new s)
   each_left s is_s left =
@@ -70,33 +73,33 @@ module _ (zeros : ℕ) (a : AssemblyTree) (is : IsAssembly a) (new : List Super)
       let some : 1 ≤ (super_at ys (new_number new s)).columns = omega (arith, ap columns_in here, left) in
       elim (cases_eq p 0) [
         | inl root ↦ (
-            let nil : (super_at ys (new_number new s)).parent ≡ 0 = up ∙ ap number root ∙ ap (new_number new) m.names.none in
+            let nil : (super_at ys (new_number new s)).parent ≡ 0 = up ∙ ap number root ∙ ap (new_number new) standing.names.none in
             record { some = some; parent = λ pos. absurd (omega (arith, pos, nil)); rest = λ pos. absurd (omega (arith, pos, nil)); root = λ _. rest ∙ own.root root }
             )
         | inr child ↦ (
             let above = own.parent (omega (arith, child)) in
             let is_p : IsSuper a.supers p = (omega (arith, child), above.1) in
             let there = stand p is_p in
-            let later = rises s (m.name p) (omega (arith, above.0, there.1)) there.0 there.2 in
-            let front : front_of (super_at ys ((super_at ys (new_number new s)).parent)) ≡ front_of (super_at new (m.name p)) = ap (λ (k : ℕ). front_of (super_at ys k)) up ∙ ap front_of (at (m.name p) there.0 there.2) in
+            let later = rises s (standing.name p) (omega (arith, above.0, there.1)) there.0 there.2 in
+            let front : front_of (super_at ys ((super_at ys (new_number new s)).parent)) ≡ front_of (super_at new (standing.name p)) = ap (λ (k : ℕ). front_of (super_at ys k)) up ∙ ap front_of (at (standing.name p) there.0 there.2) in
             record {
               some = some;
               parent = λ _. (omega (arith, up, later), omega (arith, up, (inside p is_p).1));
-              rest = λ _. omega (arith, front, rest, m.fits s old (omega (arith, child)));
+              rest = λ _. omega (arith, front, rest, standing.fits s old (omega (arith, child)));
               root = λ nil. absurd (omega (arith, nil, up, (inside p is_p).0));
             }
             )
       ]
 
   -- numbers tell apart those that are left
-  same_test : (s x : ℕ) → IsSuper new s → 1 ≤ (super_at new s).columns → IsSuper a.supers x → eqb (number x) (new_number new s) ≡ eqb (m.name x) s
+  same_test : (s x : ℕ) → IsSuper new s → 1 ≤ (super_at new s).columns → IsSuper a.supers x → eqb (number x) (new_number new s) ≡ eqb (standing.name x) s
   same_test s x is_s left is_x =
       let there = stand x is_x in
-      elim (cases_order (m.name x) s) [
-        | inl e ↦ eq-eqb (number x) (new_number new s) (ap (new_number new) e) ∙ sym (eq-eqb (m.name x) s e)
+      elim (cases_order (standing.name x) s) [
+        | inl e ↦ eq-eqb (number x) (new_number new s) (ap (new_number new) e) ∙ sym (eq-eqb (standing.name x) s e)
         | inr apart ↦ elim apart [
-          | inl lt ↦ ne_eqb (number x) (new_number new s) (omega (arith, rises (m.name x) s lt is_s left)) ∙ sym (ne_eqb (m.name x) s (omega (arith, lt)))
-          | inr gt ↦ ne_eqb (number x) (new_number new s) (omega (arith, rises s (m.name x) gt there.0 there.2)) ∙ sym (ne_eqb (m.name x) s (omega (arith, gt)))
+          | inl lt ↦ ne_eqb (number x) (new_number new s) (omega (arith, rises (standing.name x) s lt is_s left)) ∙ sym (ne_eqb (standing.name x) s (omega (arith, lt)))
+          | inr gt ↦ ne_eqb (number x) (new_number new s) (omega (arith, rises s (standing.name x) gt there.0 there.2)) ∙ sym (ne_eqb (standing.name x) s (omega (arith, gt)))
         ]
       ]
 
@@ -106,10 +109,10 @@ module _ (zeros : ℕ) (a : AssemblyTree) (is : IsAssembly a) (new : List Super)
   held_left : (s : ℕ) → IsSuper new s → 1 ≤ (super_at new s).columns → count_by (λ k. eqb k (new_number new s)) (map number a.nodes) ≡ (super_at new s).columns
   held_left s is_s left =
       sum_by-map (λ k. cond (eqb k (new_number new s)) 1 0) number a.nodes
-      ∙ sum_by_agree (λ x. cond (eqb (number x) (new_number new s)) 1 0) (λ x. cond (eqb (m.name x) s) 1 0) 0 a.nodes (λ i lt. ap (λ (b : Bool). cond b 1 0) (same_test s (get_or a.nodes i 0) is_s left (is_node i lt)))
-      ∙ sym (sum_by-map (λ k. cond (eqb k s) 1 0) m.name a.nodes) ∙ m.held a.nodes is.held s is_s
+      ∙ sum_by_agree (λ x. cond (eqb (number x) (new_number new s)) 1 0) (λ x. cond (eqb (standing.name x) s) 1 0) 0 a.nodes (λ i lt. ap (λ (b : Bool). cond b 1 0) (same_test s (get_or a.nodes i 0) is_s left (is_node i lt)))
+      ∙ sym (sum_by-map (λ k. cond (eqb k s) 1 0) standing.name a.nodes) ∙ standing.held a.nodes is.held s is_s
 
-  pub left_assembly : IsAssembly (left_of m.name new a.nodes)
+  pub left_assembly : IsAssembly (left_of standing.name new a.nodes)
   left_assembly =
       let pick = λ (t : ℕ) (is_t : IsSuper ys t). left-pick new t is_t.0 (omega (arith, is_t.1, len)) in
       let each : (t : ℕ) → IsSuper ys t → IsSuperWithin ys t = λ t is_t. (let there = pick t is_t in subst (IsSuperWithin ys) there.3 (each_left there.0 there.1 there.2)) in
@@ -151,11 +154,11 @@ module _ (zeros : ℕ) (a : AssemblyTree) (is : IsAssembly a) (new : List Super)
   merged_nodes k d lt = omega (arith, get_or_default a.nodes k d 0 lt, (is_node k lt).1, m.len)
 
   pub merged_assembly : (name : ℕ → ℕ) × AreNames new name × IsAssembly (left_of name new a.nodes)
-  merged_assembly = (m.name, m.names, left_assembly)
+  merged_assembly = (standing.name, standing.names, left_assembly)
 
 pub amalgamated_assembly : (zeros : ℕ) (a : AssemblyTree) → IsAssembly a → IsAssembly (amalgamated zeros a)
 amalgamated_assembly zeros a is =
-    let m = merging zeros a.supers is.each (length a.supers) (omega arith) in
+    let m = (merging zeros a.supers is.each (length a.supers) (omega arith)).0 in
     subst IsAssembly (sym (amalgamated_is zeros a is (gathered zeros a.supers (length a.supers)) m)) (left_assembly zeros a is (gathered zeros a.supers (length a.supers)) m)
 
 -- the tables of the code make those that are left

@@ -3,6 +3,7 @@ use Rattle.std.proofs.Common.{◌≡◌, ◌≢◌, ℕ, zero, suc, ◌+◌, ◌
 use Rattle.std.specs.List.{sum_by, count_by}
 use Rattle.std.proofs.lemmas.List.{length-set, map-set, get_or-set_same, get_or-set_other}
 use Rattle.std.proofs.lemmas.List.Sums.{sum_by-set, sum_by-cons}
+use Rattle.std.proofs.lemmas.Bool.Decides.{nat_tests}
 use Rattle.std.proofs.lemmas.Simd.{map-map}
 use Rattle.std.proofs.lemmas.Bool.{cases_eq, eq-eqb, ne_eqb, lt-ltb, le-ltb}
 use Rattle.assembly_tree.specs.declared.assembly.Super.{Super}
@@ -29,17 +30,7 @@ cond_none false n e = refl
 
 -- a column counts for p where it counted for s
 one_moved : (s p t x : ℕ) → s ≢ p → cond (eqb (merged_number s p x) t) 1 0 + cond (eqb t s) (cond (eqb x s) 1 0) 0 ≡ cond (eqb x t) 1 0 + cond (eqb t p) (cond (eqb x s) 1 0) 0
-one_moved s p t x apart =
-    elim (cases_eq x s) [
-      | inl e ↦ rw (merged_number-same s p x e, eq-eqb x s e) (elim (cases_eq t s) [
-        | inl is_s ↦ rw (eq-eqb t s is_s, ne_eqb p t (omega arith), eq-eqb x t (omega arith), ne_eqb t p (omega arith)) refl
-        | inr not_s ↦ rw (ne_eqb t s not_s, ne_eqb x t (omega arith)) (elim (cases_eq t p) [
-          | inl is_p ↦ rw (eq-eqb t p is_p, eq-eqb p t (omega arith)) refl
-          | inr not_p ↦ rw (ne_eqb t p not_p, ne_eqb p t (omega arith)) refl
-        ])
-      ])
-      | inr ne ↦ rw (merged_number-other s p x ne, ne_eqb x s ne) (omega (arith, cond_none (eqb t s) 0 refl, cond_none (eqb t p) 0 refl))
-    ]
+one_moved s p t x apart = grind (arith, nat_tests)
 
 all_moved : (s p t : ℕ) → s ≢ p → (nodes : List ℕ) → count_by (λ x. eqb x t) (map (merged_number s p) nodes) + cond (eqb t s) (count_by (λ x. eqb x s) nodes) 0 ≡ count_by (λ x. eqb x t) nodes + cond (eqb t p) (count_by (λ x. eqb x s) nodes) 0
 all_moved s p t apart [] = omega (arith, cond_none (eqb t s) 0 refl, cond_none (eqb t p) 0 refl)

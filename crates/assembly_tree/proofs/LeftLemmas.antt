@@ -1,5 +1,5 @@
 -- The supernodes that are left, and their numbers.
-use Rattle.std.proofs.Common.{◌≡◌, ℕ, zero, suc, ◌+◌, ◌-◌, ◌<◌, ◌≤◌, Bool, true, false, not, cond, List, [], ◌∷◌, length, get_or, take, map, filter, refl, sym, ap, ◌∙◌, inl, inr, arith}
+use Rattle.std.proofs.Common.{◌≡◌, ℕ, zero, suc, ◌+◌, ◌-◌, ◌<◌, ◌≤◌, Bool, true, false, not, cond, List, [], ◌∷◌, length, get_or, take, map, filter, sym, ap, ◌∙◌, inl, inr, arith}
 use Rattle.std.specs.List.{sum_by, count_by}
 use Rattle.std.proofs.lemmas.List.{take_all, take-take}
 use Rattle.std.proofs.lemmas.List.Sums.{sum_by-cons, length-filter, sum_by-take-le, count_by_more_yes}
@@ -7,7 +7,7 @@ use Rattle.std.proofs.lemmas.Bool.{cases_Bool, cases_eq, eq-eqb, ne_eqb, false�
 use Rattle.assembly_tree.specs.declared.assembly.Super.{Super}
 use Rattle.assembly_tree.specs.Assembly.{IsSuper, no_super, super_at, columns_in, reparented}
 use Rattle.assembly_tree.specs.Amalgamation.{is_left, new_number}
-use Rattle.assembly_tree.proofs.ListLemmas.{sum_by-take-map}
+use Rattle.assembly_tree.proofs.ListLemmas.{sum_by-take-map, sum_by-filter, sum_by_agree}
 
 abbrev bit : Bool → ℕ
 bit b = cond b 1 0
@@ -109,16 +109,14 @@ left-pick supers t low high =
     (i + 1, is, some, omega (arith, number-left supers (i + 1) is some, ap (new_number supers) back, there.3, low))
 
 -- merged supernodes have no columns
-pub sum-left : (supers : List Super) → sum_by columns_in (filter is_left supers) ≡ sum_by columns_in supers
-sum-left [] = refl
-sum-left (x ∷ xs) =
-    elim (cases_Bool (is_left x)) [
-      | inl here ↦ ap (sum_by columns_in) (filter-yes is_left x xs here) ∙ (let one = sum_by-cons columns_in x (filter is_left xs) in let two = sum_by-cons columns_in x xs in let rest = sum-left xs in let e : sum_by columns_in (x ∷ filter is_left xs) ≡ sum_by columns_in (x ∷ xs) = omega (arith, one, two, rest) in e)
-      | inr other ↦ (
-          let none : x.columns ≡ 0 = elim (cases_eq x.columns 0) [ inl none ↦ none | inr some ↦ absurd (false≢true (sym other ∙ left-some x (omega (arith, some)))) ] in
-          ap (sum_by columns_in) (filter-no is_left x xs other) ∙ (let two = sum_by-cons columns_in x xs in let rest = sum-left xs in let e : sum_by columns_in (filter is_left xs) ≡ sum_by columns_in (x ∷ xs) = omega (arith, two, rest, none) in e)
-          )
-    ]
+pub sum-left : (xs : List Super) → sum_by columns_in (filter is_left xs) ≡ sum_by columns_in xs
+sum-left xs =
+    sum_by-filter columns_in is_left xs ∙ sum_by_agree (λ x. cond (is_left x) x.columns 0) columns_in no_super xs (λ i lt.
+    let x = get_or xs i no_super in
+    elim (cases_eq x.columns 0) [
+      | inl none ↦ ap (λ (b : Bool). cond b x.columns 0) (left-none x none) ∙ sym none
+      | inr some ↦ ap (λ (b : Bool). cond b x.columns 0) (left-some x (omega (arith, some)))
+    ])
 
 -- with other parents
 

@@ -8,13 +8,13 @@ use Rattle.assembly_tree.specs.declared.assembly.Super.{Super}
 use Rattle.assembly_tree.specs.Assembly.{AssemblyTree, IsSuper, IsAssembly, super_at, columns_in, reparented}
 use Rattle.assembly_tree.specs.Amalgamation.{zeros_of, merged_supers, is_left, new_number, amalgamated}
 use Rattle.assembly_tree.specs.Relaxation.{enlarged, number_among, IsRelaxed}
-use Rattle.assembly_tree.specs.MergeTables.{IsMerging, stays, gathered_at, gathered}
+use Rattle.assembly_tree.specs.MergeTables.{IsMerging, AreStanding, stays, gathered_at, gathered}
 use Rattle.assembly_tree.proofs.ListLemmas.{sum_by-map, filter-map, map_agree, fold_next, sum_of_picked_more, pick_agree, count_agree}
 use Rattle.assembly_tree.proofs.SupernodeLemmas.{same_super, supers-range}
 use Rattle.assembly_tree.proofs.JoinLemmas.{stands_in, stays-root, stays-dear, stays-cheap, merged_each, merged_supers-child, merged_supers-parent, merged_supers-other}
 use Rattle.assembly_tree.proofs.LeftLemmas.{left-some, left-none}
 use Rattle.assembly_tree.proofs.MergeLemmas.{merging, merging_above}
-use Rattle.assembly_tree.proofs.AmalgamationLemmas.{amalgamated_is, is_node}
+use Rattle.assembly_tree.proofs.AmalgamationLemmas.{standing, amalgamated_is, is_node}
 
 module _ (zeros : ℕ) (a : AssemblyTree) (is : IsAssembly a) where
   abbrev old : List Super
@@ -33,7 +33,7 @@ module _ (zeros : ℕ) (a : AssemblyTree) (is : IsAssembly a) where
   grown i s = enlarged goes width old i s
 
   m : (i : ℕ) → i ≤ length old → IsMerging zeros old (gathered zeros old i) i
-  m i le = merging zeros old is.each i le
+  m i le = (merging zeros old is.each i le).0
 
   -- ---- the columns after each visit
 
@@ -144,6 +144,9 @@ module _ (zeros : ℕ) (a : AssemblyTree) (is : IsAssembly a) where
   end : IsMerging zeros old (gathered zeros old n) n
   end = m n (omega arith)
 
+  abbrev st : AreStanding zeros old (gathered zeros old n) n
+  st = standing zeros a is (gathered zeros old n) end
+
   left : (s : ℕ) → IsSuper old s → goes s ≡ false → (at n s).columns ≡ (grown n s).columns
   left s h stay = (grown_at n (omega arith)).kept s h (λ le. stay)
 
@@ -154,13 +157,13 @@ module _ (zeros : ℕ) (a : AssemblyTree) (is : IsAssembly a) where
         | inr stay ↦ left-some (at n s) (omega (arith, left s (low, high) stay, (is.each s (low, high)).some)) ∙ sym (ap not stay)
       ]
 
-  homes : (s : ℕ) → IsSuper old s → end.name s ≡ cond (goes s) (end.name (super_at old s).parent) s
+  homes : (s : ℕ) → IsSuper old s → st.name s ≡ cond (goes s) (st.name (super_at old s).parent) s
   homes s h =
       let there : IsSuper (gathered zeros old n) s = (h.0, omega (arith, h.1, end.len)) in
-      let P = λ (b : Bool). end.name s ≡ cond b (end.name (super_at old s).parent) s in
+      let P = λ (b : Bool). st.name s ≡ cond b (st.name (super_at old s).parent) s in
       elim (cases_Bool (goes s)) [
-        | inl go ↦ subst P (sym go) ((end.names.gone s there ((grown_at n (omega arith)).gone s h h.1 go)).2 ∙ ap end.name (end.parent s h.0))
-        | inr stay ↦ subst P (sym stay) (end.names.left s there (omega (arith, left s h stay, (is.each s h).some)))
+        | inl go ↦ subst P (sym go) ((st.names.gone s there ((grown_at n (omega arith)).gone s h h.1 go)).2 ∙ ap st.name (end.parent s h.0))
+        | inr stay ↦ subst P (sym stay) (st.names.left s there (omega (arith, left s h stay, (is.each s h).some)))
       ]
 
   listed : map (at n) (range_with_len 1 n) ≡ gathered zeros old n
@@ -171,11 +174,11 @@ module _ (zeros : ℕ) (a : AssemblyTree) (is : IsAssembly a) where
       ap (λ (xs : List Super). count_by is_left (take t xs)) (sym listed) ∙ ap (count_by is_left) (take-map-range_with_len (at n) 1 n t le) ∙ sum_by-map (λ x. cond (is_left x) 1 0) (at n) (range_with_len 1 t)
       ∙ count_agree (λ s. is_left (at n s)) (λ s. not (goes s)) t (λ s low high. left_test s low (omega (arith, high, le)))
 
-  number_home : (s : ℕ) → s ≤ n → new_number (gathered zeros old n) (end.name s) ≡ number_among goes (end.name s)
+  number_home : (s : ℕ) → s ≤ n → new_number (gathered zeros old n) (st.name s) ≡ number_among goes (st.name s)
   number_home s le =
       elim (cases_eq s 0) [
-        | inl nil ↦ (let none : end.name s ≡ 0 = ap end.name nil ∙ end.names.none in number_is (end.name s) (omega (arith, none)))
-        | inr some ↦ number_is (end.name s) (omega (arith, (stands_in (gathered zeros old n) end.name end.names s (omega (arith, some), omega (arith, le, end.len))).0.1, end.len))
+        | inl nil ↦ (let none : st.name s ≡ 0 = ap st.name nil ∙ st.names.none in number_is (st.name s) (omega (arith, none)))
+        | inr some ↦ number_is (st.name s) (omega (arith, (stands_in (gathered zeros old n) st.name st.names s (omega (arith, some), omega (arith, le, end.len))).0.1, end.len))
       ]
 
   inside : (s : ℕ) → IsSuper old s → (super_at old s).parent ≤ n
@@ -183,21 +186,21 @@ module _ (zeros : ℕ) (a : AssemblyTree) (is : IsAssembly a) where
 
   pub relaxed : IsRelaxed zeros a (amalgamated zeros a)
   relaxed =
-      let f : ℕ → ℕ = λ s. new_number (gathered zeros old n) (end.name s) in
+      let f : ℕ → ℕ = λ s. new_number (gathered zeros old n) (st.name s) in
       let made = amalgamated_is zeros a is (gathered zeros old n) end in
-      let kept : ℕ → Super = λ s. record (grown n s) { parent = number_among goes (end.name (super_at old s).parent) } in
+      let kept : ℕ → Super = λ s. record (grown n s) { parent = number_among goes (st.name (super_at old s).parent) } in
       record {
         goes = goes;
         width = width;
         widths = λ s h. ap columns_in (later_is s h s (omega arith) h.1);
         rule = rule;
-        home = end.name;
-        none = end.names.none;
+        home = st.name;
+        none = st.names.none;
         homes = homes;
         supers = ap (λ (b : AssemblyTree). b.supers) made ∙ ap (λ (xs : List Super). map (reparented f) (filter is_left xs)) (sym listed) ∙ ap (map (reparented f)) (filter-map is_left (at n) (range_with_len 1 n))
             ∙ map-map (reparented f) (at n) (filter (λ s. is_left (at n s)) (range_with_len 1 n))
             ∙ pick_agree (λ s. is_left (at n s)) (λ s. not (goes s)) (λ s. reparented f (at n s)) kept n left_test (λ s low high stay.
             same_super (reparented f (at n s)) (kept s) (left s (low, high) (elim (cases_Bool (goes s)) [ inl go ↦ absurd (false≢true (sym (ap not go) ∙ stay)) | inr stays ↦ stays ])) (end.rest s low)
             (ap f (end.parent s low) ∙ number_home (super_at old s).parent (inside s (low, high))));
-        nodes = ap (λ (b : AssemblyTree). b.nodes) made ∙ map_agree f (λ s. number_among goes (end.name s)) 0 a.nodes (λ i lt. number_home (get_or a.nodes i 0) (is_node zeros a is (gathered zeros old n) end i lt).1);
+        nodes = ap (λ (b : AssemblyTree). b.nodes) made ∙ map_agree f (λ s. number_among goes (st.name s)) 0 a.nodes (λ i lt. number_home (get_or a.nodes i 0) (is_node zeros a is (gathered zeros old n) end i lt).1);
       }

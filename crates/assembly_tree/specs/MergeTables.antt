@@ -36,19 +36,21 @@ left_of name supers nodes = record {
   nodes = map (λ s. new_number supers (name s)) nodes;
 }
 
--- the first `done` of the supernodes were visited
+-- the first `done` of the supernodes were visited: only columns change, and those that were not visited have all of theirs
 pub record IsMerging (zeros : ℕ) (old new : List Super) (done : ℕ) : Type 0 where
   pub is : new ≡ gathered zeros old done
-  pub name : ℕ → ℕ
-  pub names : AreNames new name
-  pub stands : (nodes : List ℕ) →
-      fold (visited zeros) (record { supers = old; nodes = nodes }) (range_with_len 1 done) ≡ named name new nodes
-  -- only columns change, and those that were not visited have all of theirs
   pub len : length new ≡ length old
   pub rest : (s : ℕ) → 1 ≤ s → (super_at new s).rest ≡ (super_at old s).rest
   pub parent : (s : ℕ) → 1 ≤ s → (super_at new s).parent ≡ (super_at old s).parent
   pub grown : (s : ℕ) → done < s → (super_at old s).columns ≤ (super_at new s).columns
   pub total : sum_by columns_in new ≡ sum_by columns_in old
+
+-- and each stands in the one that `name` names
+pub record AreStanding (zeros : ℕ) (old new : List Super) (done : ℕ) : Type 0 where
+  pub name : ℕ → ℕ
+  pub names : AreNames new name
+  pub stands : (nodes : List ℕ) →
+      fold (visited zeros) (record { supers = old; nodes = nodes }) (range_with_len 1 done) ≡ named name new nodes
   pub held : (nodes : List ℕ) → HaveColumns old nodes → HaveColumns new (map name nodes)
   -- where its parent stands, the front holds the further rows of a supernode
   pub fits : (s : ℕ) → IsSuper old s → 0 < (super_at old s).parent →

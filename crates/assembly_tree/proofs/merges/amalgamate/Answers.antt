@@ -2,7 +2,7 @@ use Rattle.std.proofs.Common.{◌≡◌, Result, Ok, Err, IfOk, sym, ap, ◌∙�
 use Rattle.assembly_tree.specs.Amalgamation.{amalgamated}
 use Rattle.assembly_tree.specs.MergeTables.{AreNames, left_of}
 use Rattle.assembly_tree.specs.Assembly.{AssemblyTree}
-use Rattle.assembly_tree.proofs.AmalgamationLemmas.{merged_few, merged_parents, merged_nodes, merged_assembly, amalgamated_is}
+use Rattle.assembly_tree.proofs.AmalgamationLemmas.{merged_few, merged_parents, merged_nodes, merged_assembly, standing, amalgamated_is}
 use Rattle.assembly_tree.proofs.merges.amalgamate.Goals as goal
 
 pub renumber-requires-clause-few : goal.renumber-requires-clause-few
@@ -29,6 +29,7 @@ pub returns : goal.returns
 returns c =
     let nodes = c.deref-2.ensures.value ∙ ap (λ (a : AssemblyTree). a.nodes) c.assembly.view_is in
     let m = rw c.supers.ensures.value at c.in_ok-supers.ensures in
-    let names : AreNames c.deref.result.now m.name = rw c.deref.ensures.value m.names in
-    let end : left_of m.name c.deref.result.now c.deref-2.result.now ≡ amalgamated c.args.zeros c.args.assembly.now = rw (c.deref.ensures.value, nodes) (sym (amalgamated_is c.args.zeros c.args.assembly.now c.supers.ensures.assembly c.in_ok-supers.supers.items m)) in
-    weaken c.renumber.result _ _ (λ made all. all m.name names ∙ end) c.renumber.ensures
+    let st = standing c.args.zeros c.args.assembly.now c.supers.ensures.assembly c.in_ok-supers.supers.items m in
+    let names : AreNames c.deref.result.now st.name = rw c.deref.ensures.value st.names in
+    let end : left_of st.name c.deref.result.now c.deref-2.result.now ≡ amalgamated c.args.zeros c.args.assembly.now = rw (c.deref.ensures.value, nodes) (sym (amalgamated_is c.args.zeros c.args.assembly.now c.supers.ensures.assembly c.in_ok-supers.supers.items m)) in
+    weaken c.renumber.result _ _ (λ made all. all st.name names ∙ end) c.renumber.ensures
