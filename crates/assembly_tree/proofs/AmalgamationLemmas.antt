@@ -1,321 +1,173 @@
--- An amalgamated assembly tree is one.
-use Rattle.std.proofs.Common.{◌≡◌, ◌≢◌, ℕ, zero, suc, ◌+◌, ◌-◌, ◌<◌, ◌≤◌, Bool, true, false, cond, ltb, ◌||◌, List, [], ◌∷◌, length, get_or, map, filter, fold, refl, sym, ap, ◌∙◌, subst, inl, inr, arith, All, slice_index}
-use Rattle.std.specs.List.{sum_by, range_with_len}
+-- An amalgamated assembly tree is one, and what the code makes.
+use mathlib.Core.Path.{fun_ext}
+use Rattle.std.proofs.Common.{◌≡◌, ℕ, zero, suc, ◌+◌, ◌-◌, ◌<◌, ◌≤◌, Bool, cond, eqb, List, length, get_or, map, filter, sym, ap, ◌∙◌, subst, inl, inr, arith, All, slice_index}
+use Rattle.std.specs.List.{sum_by, count_by}
 use Rattle.std.proofs.lemmas.List.{length-map, get_or-map, get_or_default}
+use Rattle.std.proofs.lemmas.List.Elements.{All-filter}
 use Rattle.std.proofs.lemmas.Simd.{map-map}
-use Rattle.std.proofs.lemmas.Bool.{cases_eq, eq-eqb, ne_eqb}
+use Rattle.std.proofs.lemmas.Bool.{cases_eq, cases_order, eq-eqb, ne_eqb}
+use Rattle.limits.specs.Limits.{most_order}
 use Rattle.ordering.specs.Perm.{IsVertex}
 use Rattle.assembly_tree.specs.declared.assembly.Super.{Super}
-use Rattle.assembly_tree.specs.Assembly.{AssemblyTree, IsSuper, IsSuperWithin, IsAssembly, no_super, super_at, node_of, columns_in, front_of, reparented}
-use Rattle.assembly_tree.specs.Amalgamation.{zeros_of, renamed, joined, merged, visited, is_left, number_of, numbered, amalgamated}
-use Rattle.assembly_tree.specs.MergeTables.{AreNames, IsMerging, named}
-use Rattle.assembly_tree.proofs.ListLemmas.{sum_by-map}
+use Rattle.assembly_tree.specs.Assembly.{AssemblyTree, IsSuper, IsSuperWithin, IsAssembly, no_super, super_at, super_of, columns_in, front_of, reparented}
+use Rattle.assembly_tree.specs.Amalgamation.{is_left, new_number, numbered, amalgamated}
+use Rattle.assembly_tree.specs.MergeTables.{AreNames, IsMerging, AreStanding, named, left_of, gathered}
+use Rattle.assembly_tree.proofs.ListLemmas.{sum_by-map, filter-map, map_agree, sum_by_agree}
 use Rattle.assembly_tree.proofs.AssemblyLemmas.{front_fits}
-use Rattle.assembly_tree.proofs.SupernodeLemmas.{at-reparented}
-use Rattle.assembly_tree.proofs.JoinLemmas.{renamed-same, renamed-other, length-joined, joined-rest, joined-up, joined-grows, joined-none, joined-other, joined-parent, joined-total}
-use Rattle.assembly_tree.proofs.LeftLemmas.{left-at, left-pick, left-reparented, number-left, number-le, number-within, number-reparented, sum-left, All-filter}
-use Rattle.assembly_tree.proofs.MergeLemmas.{visited_more}
+use Rattle.assembly_tree.proofs.JoinLemmas.{stands_in}
+use Rattle.assembly_tree.proofs.LeftLemmas.{left-at, left-pick, number-left, number-le, number-within, number-reparented, sum-left}
+use Rattle.assembly_tree.proofs.MergeLemmas.{merging}
 use Rattle.assembly_tree.proofs.RunLemmas.{supers-le, last-all}
 
-node-map : (f : ℕ → ℕ) (nodes : List ℕ) (j : ℕ) → IsVertex (length nodes) j → node_of (map f nodes) j ≡ f (node_of nodes j)
-node-map f nodes zero is = absurd (omega (arith, is.0))
-node-map f nodes (suc i) is = get_or-map f nodes i 0 0 (omega (arith, is.1))
+super_of-map : (f : ℕ → ℕ) (nodes : List ℕ) (j : ℕ) → IsVertex (length nodes) j → super_of (map f nodes) j ≡ f (super_of nodes j)
+super_of-map f nodes zero is = absurd (omega (arith, is.0))
+super_of-map f nodes (suc i) is = get_or-map f nodes i 0 0 (omega (arith, is.1))
 
--- ---- while supernodes are merged
+-- those that are left of the supernodes that the code's stand for
+left_is : (name : ℕ → ℕ) (supers : List Super) (nodes : List ℕ) → numbered (named name supers nodes) ≡ left_of name supers nodes
+left_is name supers nodes =
+    let by = new_number supers in
+    let with : (ℕ → ℕ) → AssemblyTree = λ f. record { supers = map (reparented f) (filter is_left (map (reparented name) supers)); nodes = map f (map name nodes) } in
+    ap with (fun_ext (number-reparented name supers))
+    ∙ ap (λ (ys : List Super). record { supers = ys; nodes = map by (map name nodes) }) (ap (map (reparented by)) (filter-map is_left (reparented name) supers) ∙ map-map (reparented by) (reparented name) (filter is_left supers))
+    ∙ ap (λ (ns : List ℕ). record { supers = map (reparented (λ s. by (name s))) (filter is_left supers); nodes = ns }) (map-map by name nodes)
 
--- a supernode that is left
-record StandsAt (supers : List Super) (s : ℕ) : Type 0 where
-  later : 0 < (super_at supers s).parent → s < (super_at supers s).parent
-  inside : (super_at supers s).parent ≤ length supers
-  left : 0 < (super_at supers s).parent → 1 ≤ (super_at supers ((super_at supers s).parent)).columns
-  rest : 0 < (super_at supers s).parent → (super_at supers s).rest ≤ front_of (super_at supers ((super_at supers s).parent))
-  root : (super_at supers s).parent ≡ 0 → (super_at supers s).rest ≡ 0
+module _ (zeros : ℕ) (a : AssemblyTree) (is : IsAssembly a) (new : List Super) (m : IsMerging zeros a.supers new (length a.supers)) where
+  pub standing : AreStanding zeros a.supers new (length a.supers)
+  standing = subst (λ (xs : List Super). AreStanding zeros a.supers xs (length a.supers)) (sym m.is) (merging zeros a.supers is.each (length a.supers) (omega arith)).1
 
-record Stands (n done : ℕ) (a : AssemblyTree) : Type 0 where
-  len : length a.nodes ≡ n
-  total : sum_by columns_in a.supers ≡ n
-  later : (s : ℕ) → done < s → s ≤ length a.supers → 1 ≤ (super_at a.supers s).columns
-  each : (s : ℕ) → IsSuper a.supers s → 1 ≤ (super_at a.supers s).columns → StandsAt a.supers s
-  nodes : (j : ℕ) → IsVertex (length a.nodes) j → IsSuper a.supers (node_of a.nodes j) × (1 ≤ (super_at a.supers (node_of a.nodes j)).columns)
+  pub amalgamated_is : amalgamated zeros a ≡ left_of standing.name new a.nodes
+  amalgamated_is = ap numbered (standing.stands a.nodes) ∙ left_is standing.name new a.nodes
 
-stands_first : (a : AssemblyTree) → IsAssembly a → Stands (length a.nodes) 0 a
-stands_first a is = record {
-  len = refl;
-  total = is.total;
-  later = λ s low high. (is.each s (omega (arith, low), high)).some;
-  each = λ s h some. record {
-    later = λ child. ((is.each s h).parent child).0;
-    inside = elim (cases_eq (super_at a.supers s).parent 0) [ inl none ↦ omega (arith, none) | inr child ↦ ((is.each s h).parent (omega (arith, child))).1 ];
-    left = λ child. (let up = (is.each s h).parent child in (is.each (super_at a.supers s).parent (omega (arith, up.0), up.1)).some);
-    rest = (is.each s h).rest;
-    root = (is.each s h).root;
-  };
-  nodes = λ j h. (let there = is.nodes j h in (there, (is.each (node_of a.nodes j) there).some));
-}
+  abbrev number : ℕ → ℕ
+  number s = new_number new (standing.name s)
 
-module _ (n i : ℕ) (a : AssemblyTree) (st : Stands n i a) (lt : i < length a.supers) where
-  stands_kept : Stands n (i + 1) a
-  stands_kept = record {
-    len = st.len;
-    total = st.total;
-    later = λ s low high. st.later s (omega (arith, low)) high;
-    each = st.each;
-    nodes = st.nodes;
-  }
+  abbrev ys : List Super
+  ys = map (reparented number) (filter is_left new)
 
-  module _ (s p : ℕ) (is_next : s ≡ i + 1) (up : (super_at a.supers s).parent ≡ p) (child : p ≢ 0) where
-    is_s : IsSuper a.supers s
-    is_s = (omega (arith, is_next), omega (arith, is_next, lt))
+  len : length ys ≡ length (filter is_left new)
+  len = length-map (filter is_left new) (reparented number)
 
-    own : StandsAt a.supers s
-    own = st.each s is_s (st.later s (omega (arith, is_next)) (omega (arith, is_next, lt)))
+  at : (s : ℕ) → IsSuper new s → 1 ≤ (super_at new s).columns → super_at ys (new_number new s) ≡ reparented number (super_at new s)
+  at s is_s left =
+      get_or-map (reparented number) (filter is_left new) (new_number new s - 1) no_super no_super (omega (arith, number-left new s is_s left, number-within new s is_s.1)) ∙ ap (reparented number) (left-at new s is_s left)
 
-    lower : s < p
-    lower = omega (arith, own.later (omega (arith, up, child)), up)
+  rises : (s p : ℕ) → s < p → IsSuper new p → 1 ≤ (super_at new p).columns → new_number new s < new_number new p
+  rises s p lt is_p left = omega (arith, number-left new p is_p left, number-le new s (p - 1) (omega (arith, lt)))
 
-    is_p : IsSuper a.supers p
-    is_p = (omega (arith, lower), omega (arith, own.inside, up))
+  -- where a supernode stands
+  stand : (s : ℕ) → IsSuper a.supers s → IsSuper new (standing.name s) × (s ≤ standing.name s) × (1 ≤ (super_at new (standing.name s)).columns)
+  stand s is_s = stands_in new standing.name standing.names s (is_s.0, omega (arith, is_s.1, m.len))
 
-    some_p : 1 ≤ (super_at a.supers p).columns
-    some_p = omega (arith, own.left (omega (arith, up, child)), ap (λ (k : ℕ). (super_at a.supers k).columns) up)
+  inside : (s : ℕ) → IsSuper a.supers s → IsSuper ys (number s)
+  inside s is_s = (let there = stand s is_s in (omega (arith, number-left new (standing.name s) there.0 there.2), omega (arith, number-within new (standing.name s) there.0.1, len)))
 
-    rest_s : (super_at a.supers s).rest ≤ front_of (super_at a.supers p)
-    rest_s = omega (arith, own.rest (omega (arith, up, child)), ap (λ (k : ℕ). front_of (super_at a.supers k)) up)
-
-    len_b : length (merged a s p).supers ≡ length a.supers
-    len_b = length-map (joined a.supers s p) (reparented (renamed s p)) ∙ length-joined a.supers s p is_s is_p lower
-
-    at_b : (t : ℕ) → IsSuper a.supers t → super_at (merged a s p).supers t ≡ reparented (renamed s p) (super_at (joined a.supers s p) t)
-    at_b t h = at-reparented (renamed s p) (joined a.supers s p) t (h.0, omega (arith, h.1, length-joined a.supers s p is_s is_p lower))
-
-    rest_b : (t : ℕ) → IsSuper a.supers t → (super_at (merged a s p).supers t).rest ≡ (super_at a.supers t).rest
-    rest_b t h = ap (λ (x : Super). x.rest) (at_b t h) ∙ joined-rest a.supers s p is_s is_p lower t h.0
-
-    parent_b : (t : ℕ) → IsSuper a.supers t → (super_at (merged a s p).supers t).parent ≡ renamed s p (super_at a.supers t).parent
-    parent_b t h = ap (λ (x : Super). x.parent) (at_b t h) ∙ ap (renamed s p) (joined-up a.supers s p is_s is_p lower t h.0)
-
-    grows_b : (t : ℕ) → IsSuper a.supers t → t ≢ s → (super_at a.supers t).columns ≤ (super_at (merged a s p).supers t).columns
-    grows_b t h other = omega (arith, joined-grows a.supers s p is_s is_p lower t h.0 other, ap columns_in (at_b t h))
-
-    none_b : (super_at (merged a s p).supers s).columns ≡ 0
-    none_b = ap columns_in (at_b s is_s) ∙ joined-none a.supers s p is_s is_p lower
-
-    front_p : front_of (super_at (merged a s p).supers p) ≡ (super_at a.supers p).columns + (super_at a.supers s).columns + (super_at a.supers p).rest
-    front_p = ap front_of (at_b p is_p) ∙ ap front_of (joined-parent a.supers s p is_s is_p lower)
-
-    front_b : (t : ℕ) → IsSuper a.supers t → t ≢ s → front_of (super_at a.supers t) ≤ front_of (super_at (merged a s p).supers t)
-    front_b t h other = omega (arith, grows_b t h other, rest_b t h)
-
-    old : (t : ℕ) → IsSuper (merged a s p).supers t → IsSuper a.supers t
-    old t h = (h.0, omega (arith, h.1, len_b))
-
-    not_s : (t : ℕ) → 1 ≤ (super_at (merged a s p).supers t).columns → t ≢ s
-    not_s t some e = omega (arith, some, ap (λ (k : ℕ). (super_at (merged a s p).supers k).columns) e, none_b)
-
-    was_left : (t : ℕ) → IsSuper a.supers t → 1 ≤ (super_at (merged a s p).supers t).columns → 1 ≤ (super_at a.supers t).columns
-    was_left t h some =
-        elim (cases_eq t p) [
-          | inl e ↦ omega (arith, some_p, ap (λ (k : ℕ). (super_at a.supers k).columns) e)
-          | inr other ↦ omega (arith, some, ap columns_in (at_b t h), ap columns_in (joined-other a.supers s p is_s is_p lower t h.0 (not_s t some) other))
-        ]
-
-    each_b : (t : ℕ) → IsSuper (merged a s p).supers t → 1 ≤ (super_at (merged a s p).supers t).columns → StandsAt (merged a s p).supers t
-    each_b t hb some =
-        let h = old t hb in
-        let q = (super_at a.supers t).parent in
-        let before = st.each t h (was_left t h some) in
-        let here = parent_b t h in
-        elim (cases_eq q s) [
-          | inl e ↦ (
-              let to : (super_at (merged a s p).supers t).parent ≡ p = here ∙ renamed-same s p q e in
-              let there = ap (λ (k : ℕ). front_of (super_at (merged a s p).supers k)) to in
-              let sits = ap (λ (k : ℕ). front_of (super_at a.supers k)) e in
-              let pos : 0 < q = omega (arith, e, is_s.0) in
-              let fits : (super_at (merged a s p).supers t).rest ≤ front_of (super_at (merged a s p).supers ((super_at (merged a s p).supers t).parent)) = omega (arith, there, front_p, rest_b t h, before.rest pos, sits, rest_s) in
-              let stays : 1 ≤ (super_at (merged a s p).supers ((super_at (merged a s p).supers t).parent)).columns = omega (arith, ap (λ (k : ℕ). (super_at (merged a s p).supers k).columns) to, grows_b p is_p (omega (arith, lower)), some_p) in
-              record {
-                later = λ pos'. omega (arith, to, before.later pos, e, lower);
-                inside = omega (arith, to, is_p.1, len_b);
-                left = λ pos'. stays;
-                rest = λ pos'. fits;
-                root = λ nil. absurd (omega (arith, nil, to, child));
-              }
-              )
-          | inr other ↦ (
-              let to : (super_at (merged a s p).supers t).parent ≡ q = here ∙ renamed-other s p q other in
-              let columns = ap (λ (k : ℕ). (super_at (merged a s p).supers k).columns) to in
-              let there = ap (λ (k : ℕ). front_of (super_at (merged a s p).supers k)) to in
-              record {
-                later = λ pos. omega (arith, to, before.later (omega (arith, pos, to)));
-                inside = omega (arith, to, before.inside, len_b);
-                left = λ pos. (let up_t : IsSuper a.supers q = (omega (arith, pos, to), before.inside) in omega (arith, columns, before.left up_t.0, grows_b q up_t other));
-                rest = λ pos. (let up_t : IsSuper a.supers q = (omega (arith, pos, to), before.inside) in omega (arith, there, rest_b t h, before.rest up_t.0, front_b q up_t other));
-                root = λ nil. omega (arith, rest_b t h, before.root (omega (arith, nil, to)));
-              }
-              )
-        ]
-
-    stands_merged : Stands n (i + 1) (merged a s p)
-    stands_merged = record {
-      len = length-map a.nodes (renamed s p) ∙ st.len;
-      total = sum_by-map columns_in (reparented (renamed s p)) (joined a.supers s p) ∙ joined-total a.supers s p is_s is_p lower ∙ st.total;
-      later = λ t low high. (
-          let h : IsSuper a.supers t = (omega (arith, low), omega (arith, high, len_b)) in
-          omega (arith, grows_b t h (omega (arith, low, is_next)), st.later t (omega (arith, low)) h.1)
-          );
-      each = each_b;
-      nodes = λ j h. (
-          let vertex : IsVertex (length a.nodes) j = (h.0, omega (arith, h.1, length-map a.nodes (renamed s p))) in
-          let there = st.nodes j vertex in
-          let here = node-map (renamed s p) a.nodes j vertex in
-          let P = λ (k : ℕ). IsSuper (merged a s p).supers k × (1 ≤ (super_at (merged a s p).supers k).columns) in
-          elim (cases_eq (node_of a.nodes j) s) [
-            | inl e ↦ subst P (sym (here ∙ renamed-same s p (node_of a.nodes j) e)) ((is_p.0, omega (arith, is_p.1, len_b)), omega (arith, grows_b p is_p (omega (arith, lower)), some_p))
-            | inr other ↦ subst P (sym (here ∙ renamed-other s p (node_of a.nodes j) other)) ((there.0.0, omega (arith, there.0.1, len_b)), omega (arith, grows_b (node_of a.nodes j) there.0 other, there.1))
-          ]
-          );
-    }
-
-  stands_visited : (most : ℕ) → Stands n (i + 1) (visited most a (i + 1)) × (length (visited most a (i + 1)).supers ≡ length a.supers)
-  stands_visited most =
-      let s = i + 1 in
+  each_left : (s : ℕ) → IsSuper new s → 1 ≤ (super_at new s).columns → IsSuperWithin ys (new_number new s)
+  each_left s is_s left =
+      let old : IsSuper a.supers s = (is_s.0, omega (arith, is_s.1, m.len)) in
+      let own = is.each s old in
       let p = (super_at a.supers s).parent in
-      let costs = zeros_of (super_at a.supers s) (super_at a.supers p) in
-      let P = λ (b : AssemblyTree). Stands n (i + 1) b × (length b.supers ≡ length a.supers) in
+      let here = at s is_s left in
+      let up : (super_at ys (new_number new s)).parent ≡ number p = ap (λ (x : Super). x.parent) here ∙ ap number (m.parent s is_s.0) in
+      let rest : (super_at ys (new_number new s)).rest ≡ (super_at a.supers s).rest = ap (λ (x : Super). x.rest) here ∙ m.rest s is_s.0 in
+      let some : 1 ≤ (super_at ys (new_number new s)).columns = omega (arith, ap columns_in here, left) in
       elim (cases_eq p 0) [
-        | inl root ↦ subst (λ (b : Bool). P (cond (b || ltb most costs) a (merged a s p))) (sym (eq-eqb p 0 root)) (stands_kept, refl)
-        | inr child ↦ subst (λ (b : Bool). P (cond (b || ltb most costs) a (merged a s p))) (sym (ne_eqb p 0 child)) (
-            elim (ltb most costs) as (λ b. P (cond b a (merged a s p))) [
-              | true ↦ (stands_kept, refl)
-              | false ↦ (stands_merged s p refl refl child, len_b s p refl refl child)
-            ]
+        | inl root ↦ (
+            let nil : (super_at ys (new_number new s)).parent ≡ 0 = up ∙ ap number root ∙ ap (new_number new) standing.names.none in
+            record { some = some; parent = λ pos. absurd (omega (arith, pos, nil)); rest = λ pos. absurd (omega (arith, pos, nil)); root = λ _. rest ∙ own.root root }
+            )
+        | inr child ↦ (
+            let above = own.parent (omega (arith, child)) in
+            let is_p : IsSuper a.supers p = (omega (arith, child), above.1) in
+            let there = stand p is_p in
+            let later = rises s (standing.name p) (omega (arith, above.0, there.1)) there.0 there.2 in
+            let front : front_of (super_at ys ((super_at ys (new_number new s)).parent)) ≡ front_of (super_at new (standing.name p)) = ap (λ (k : ℕ). front_of (super_at ys k)) up ∙ ap front_of (at (standing.name p) there.0 there.2) in
+            record {
+              some = some;
+              parent = λ _. (omega (arith, up, later), omega (arith, up, (inside p is_p).1));
+              rest = λ _. omega (arith, front, rest, standing.fits s old (omega (arith, child)));
+              root = λ nil. absurd (omega (arith, nil, up, (inside p is_p).0));
+            }
             )
       ]
 
-stands_after : (most n : ℕ) (a : AssemblyTree) → Stands n 0 a → (i : ℕ) → i ≤ length a.supers → Stands n i (fold (visited most) a (range_with_len 1 i)) × (length (fold (visited most) a (range_with_len 1 i)).supers ≡ length a.supers)
-stands_after most n a st zero le = (st, refl)
-stands_after most n a st (suc i) le =
-    let before = stands_after most n a st i (omega (arith, le)) in
-    let b = fold (visited most) a (range_with_len 1 i) in
-    let next = stands_visited n i b before.0 (omega (arith, before.1, le)) most in
-    let P = λ (k : ℕ) (c : AssemblyTree). Stands n k c × (length c.supers ≡ length a.supers) in
-    let succ : i + 1 ≡ suc i = omega arith in
-    subst (λ (k : ℕ). P k (fold (visited most) a (range_with_len 1 k))) succ (subst (P (i + 1)) (sym (visited_more most a i)) (next.0, next.1 ∙ before.1))
+  -- numbers tell apart those that are left
+  same_test : (s x : ℕ) → IsSuper new s → 1 ≤ (super_at new s).columns → IsSuper a.supers x → eqb (number x) (new_number new s) ≡ eqb (standing.name x) s
+  same_test s x is_s left is_x =
+      let there = stand x is_x in
+      elim (cases_order (standing.name x) s) [
+        | inl e ↦ eq-eqb (number x) (new_number new s) (ap (new_number new) e) ∙ sym (eq-eqb (standing.name x) s e)
+        | inr apart ↦ elim apart [
+          | inl lt ↦ ne_eqb (number x) (new_number new s) (omega (arith, rises (standing.name x) s lt is_s left)) ∙ sym (ne_eqb (standing.name x) s (omega (arith, lt)))
+          | inr gt ↦ ne_eqb (number x) (new_number new s) (omega (arith, rises s (standing.name x) gt there.0 there.2)) ∙ sym (ne_eqb (standing.name x) s (omega (arith, gt)))
+        ]
+      ]
 
--- ---- once they are numbered
+  pub is_node : (i : ℕ) → i < length a.nodes → IsSuper a.supers (get_or a.nodes i 0)
+  is_node i lt = is.nodes (suc i) (omega arith, omega (arith, lt))
 
-module _ (n done : ℕ) (a : AssemblyTree) (st : Stands n done a) (some : 1 ≤ n) (few : n ≤ 1000000) where
-  numbered_assembly : IsAssembly (numbered a)
-  numbered_assembly =
-      let xs = a.supers in
-      let name = number_of xs in
-      let ys = map (reparented name) (filter is_left xs) in
-      let ns = map name a.nodes in
-      let len = length-map (filter is_left xs) (reparented name) in
-      let len_n = length-map a.nodes name in
-      let at : (s : ℕ) → IsSuper xs s → 1 ≤ (super_at xs s).columns → super_at ys (name s) ≡ reparented name (super_at xs s) = λ s is left. (
-      let next = number-left xs s is left in
-      let high = number-within xs s is.1 in
-      get_or-map (reparented name) (filter is_left xs) (name s - 1) no_super no_super (omega (arith, next, high)) ∙ ap (reparented name) (left-at xs s is left)
-      ) in
-      let grows : (s p : ℕ) → s < p → IsSuper xs p → 1 ≤ (super_at xs p).columns → name s < name p = λ s p lt is left. omega (arith, number-left xs p is left, number-le xs s (p - 1) (omega (arith, lt))) in
-      let each : (t : ℕ) → IsSuper ys t → IsSuperWithin ys t = λ t is. (
-      let there = left-pick xs t is.0 (omega (arith, is.1, len)) in
-      let s = there.0 in
-      let own = st.each s there.1 there.2 in
-      let p = (super_at xs s).parent in
-      subst (IsSuperWithin ys) there.3 (
-      let here = at s there.1 there.2 in
-      let up : (super_at ys (name s)).parent ≡ name p = ap (λ (x : Super). x.parent) here in
-      let rest : (super_at ys (name s)).rest ≡ (super_at xs s).rest = ap (λ (x : Super). x.rest) here in
+  held_left : (s : ℕ) → IsSuper new s → 1 ≤ (super_at new s).columns → count_by (λ k. eqb k (new_number new s)) (map number a.nodes) ≡ (super_at new s).columns
+  held_left s is_s left =
+      sum_by-map (λ k. cond (eqb k (new_number new s)) 1 0) number a.nodes
+      ∙ sum_by_agree (λ x. cond (eqb (number x) (new_number new s)) 1 0) (λ x. cond (eqb (standing.name x) s) 1 0) 0 a.nodes (λ i lt. ap (λ (b : Bool). cond b 1 0) (same_test s (get_or a.nodes i 0) is_s left (is_node i lt)))
+      ∙ sym (sum_by-map (λ k. cond (eqb k s) 1 0) standing.name a.nodes) ∙ standing.held a.nodes is.held s is_s
+
+  pub left_assembly : IsAssembly (left_of standing.name new a.nodes)
+  left_assembly =
+      let pick = λ (t : ℕ) (is_t : IsSuper ys t). left-pick new t is_t.0 (omega (arith, is_t.1, len)) in
+      let each : (t : ℕ) → IsSuper ys t → IsSuperWithin ys t = λ t is_t. (let there = pick t is_t in subst (IsSuperWithin ys) there.3 (each_left there.0 there.1 there.2)) in
+      let len_n = length-map a.nodes number in
+      let total : sum_by columns_in ys ≡ length (map number a.nodes) = omega (arith, sum_by-map columns_in (reparented number) (filter is_left new), sum-left new, m.total, is.total, len_n) in
       record {
-        some = omega (arith, ap columns_in here, there.2);
-        parent = λ pos. elim (cases_eq p 0) [
-          | inl root ↦ absurd (omega (arith, pos, up, ap name root))
-          | inr child ↦ (
-              let is_p : IsSuper xs p = (omega (arith, child), own.inside) in
-              let left_p = own.left is_p.0 in
-              (omega (arith, up, grows s p (own.later is_p.0) is_p left_p), omega (arith, up, number-within xs p is_p.1, len))
-              )
-        ];
-        rest = λ pos. elim (cases_eq p 0) [
-          | inl root ↦ absurd (omega (arith, pos, up, ap name root))
-          | inr child ↦ (
-              let is_p : IsSuper xs p = (omega (arith, child), own.inside) in
-              let front : front_of (super_at ys ((super_at ys (name s)).parent)) ≡ front_of (super_at xs p) = ap (λ (k : ℕ). front_of (super_at ys k)) up ∙ ap front_of (at p is_p (own.left is_p.0)) in
-              omega (arith, front, rest, own.rest is_p.0)
-              )
-        ];
-        root = λ nil. elim (cases_eq p 0) [
-          | inl root ↦ omega (arith, rest, own.root root)
-          | inr child ↦ (
-              let is_p : IsSuper xs p = (omega (arith, child), own.inside) in
-              absurd (omega (arith, nil, up, number-left xs p is_p (own.left is_p.0)))
-              )
-        ];
-      })
-      ) in
-      let total : sum_by columns_in ys ≡ length ns = omega (arith, sum_by-map columns_in (reparented name) (filter is_left xs), sum-left xs, st.total, len_n, st.len) in
-      record {
-        some = omega (arith, len_n, st.len, some);
-        few = omega (arith, len_n, st.len, few);
+        some = omega (arith, len_n, is.some);
+        few = omega (arith, len_n, is.few);
         each = each;
         total = total;
-        fits = λ s is. omega (arith, front_fits ys each s is, total);
-        nodes = λ j is. (
-            let vertex : IsVertex (length a.nodes) j = (is.0, omega (arith, is.1, len_n)) in
-            let there = st.nodes j vertex in
-            subst (IsSuper ys) (sym (node-map name a.nodes j vertex)) (omega (arith, number-left xs (node_of a.nodes j) there.0 there.1), omega (arith, number-within xs (node_of a.nodes j) there.0.1, len))
+        held = λ t is_t. (
+            let there = pick t is_t in
+            let P = λ (k : ℕ). count_by (λ x. eqb x k) (map number a.nodes) ≡ (super_at ys k).columns in
+            subst P there.3 (held_left there.0 there.1 there.2 ∙ sym (ap columns_in (at there.0 there.1 there.2)))
+            );
+        fits = λ s is_s. omega (arith, front_fits ys each s is_s, total);
+        nodes = λ j is_j. (
+            let vertex : IsVertex (length a.nodes) j = (is_j.0, omega (arith, is_j.1, len_n)) in
+            subst (IsSuper ys) (sym (super_of-map number a.nodes j vertex)) (inside (super_of a.nodes j) (is.nodes j vertex))
             );
       }
 
-pub amalgamated_assembly : (most : ℕ) (a : AssemblyTree) → IsAssembly a → IsAssembly (amalgamated most a)
-amalgamated_assembly most a is =
-    let end = stands_after most (length a.nodes) a (stands_first a is) (length a.supers) (omega arith) in
-    numbered_assembly (length a.nodes) (length a.supers) (fold (visited most) a (range_with_len 1 (length a.supers))) end.0 is.some is.few
+  -- ---- what the code asks of its tables
 
--- ---- by the tables of the code
-
-map_same : {X Y : Type 0} (f g : X → Y) (d : X) (xs : List X) → ((i : ℕ) → i < length xs → f (get_or xs i d) ≡ g (get_or xs i d)) → map f xs ≡ map g xs
-map_same {X} {Y} f g d [] same = refl
-map_same {X} {Y} f g d (x ∷ xs) same = ap (λ (y : Y). y ∷ map f xs) (same zero (omega arith)) ∙ ap (λ (ys : List Y). g x ∷ ys) (map_same f g d xs (λ i lt. same (suc i) (omega arith)))
-
-pub numbered_by : (supers : List Super) (nodes numbers : List ℕ) (name : ℕ → ℕ) → ((s : ℕ) → s ≤ length supers → slice_index numbers s ≡ number_of supers (name s)) → All (λ (x : Super). x.parent ≤ length supers) supers → All (λ (s : ℕ). s ≤ length supers) nodes
-    → (map (reparented (slice_index numbers)) (filter is_left supers) ≡ (numbered (named name supers nodes)).supers) × (map (slice_index numbers) nodes ≡ (numbered (named name supers nodes)).nodes)
-numbered_by supers nodes numbers name are parents inside =
-    let xs = map (reparented name) supers in
-    let by = number_of xs in
-    let f = λ (x : ℕ). by (name x) in
-    let same : (s : ℕ) → s ≤ length supers → slice_index numbers s ≡ f s = λ s le. are s le ∙ sym (number-reparented name supers (name s)) in
-    let left = filter is_left supers in
-    let fits = All-filter is_left (λ (x : Super). x.parent ≤ length supers) no_super supers (λ i lt. parents i no_super lt) in (
-      map_same (reparented (slice_index numbers)) (reparented f) no_super left (λ i lt. ap (λ (up : ℕ). record (get_or left i no_super) { parent = up }) (same (get_or left i no_super).parent (fits i lt)))
-          ∙ sym (map-map (reparented by) (reparented name) left) ∙ sym (ap (map (reparented by)) (left-reparented name supers)),
-      map_same (slice_index numbers) f 0 nodes (λ i lt. same (get_or nodes i 0) (inside i 0 lt)) ∙ sym (map-map by name nodes),
-    )
-
--- ---- what the merging leaves
-
-module _ (most : ℕ) (a : AssemblyTree) (is : IsAssembly a) (new : List Super) (m : IsMerging most a.supers new (length a.supers)) where
-  pub merged_few : length new ≤ 1000000
+  pub merged_few : length new ≤ most_order
   merged_few = omega (arith, supers-le a.supers (length a.supers) (λ k h. (is.each k h).some) (omega arith), last-all a.supers, is.total, is.few, m.len)
 
   pub merged_parents : All (λ (x : Super). x.parent ≤ length new) new
   merged_parents k d lt =
       let s = k + 1 in
-      let h : IsSuper a.supers s = (omega arith, omega (arith, lt, m.len)) in
       let back : k + 1 - 1 ≡ k = omega arith in
       let here : (get_or new k d).parent ≡ (super_at a.supers s).parent = ap (λ (x : Super). x.parent) (get_or_default new k d no_super lt) ∙ ap (λ (i : ℕ). (get_or new i no_super).parent) (sym back) ∙ m.parent s (omega arith) in
       elim (cases_eq (super_at a.supers s).parent 0) [
         | inl root ↦ omega (arith, here, root)
-        | inr child ↦ omega (arith, here, ((is.each s h).parent (omega (arith, child))).1, m.len)
+        | inr child ↦ omega (arith, here, ((is.each s (omega arith, omega (arith, lt, m.len))).parent (omega (arith, child))).1, m.len)
       ]
 
   pub merged_nodes : All (λ (s : ℕ). s ≤ length new) a.nodes
-  merged_nodes k d lt = omega (arith, get_or_default a.nodes k d 0 lt, (is.nodes (suc k) (omega arith, omega (arith, lt))).1, m.len)
+  merged_nodes k d lt = omega (arith, get_or_default a.nodes k d 0 lt, (is_node k lt).1, m.len)
 
-  pub merged_is : numbered (named m.merged.0 new a.nodes) ≡ amalgamated most a
-  merged_is = ap numbered (sym (m.merged.1.is a.nodes))
+  pub merged_assembly : (name : ℕ → ℕ) × AreNames new name × IsAssembly (left_of name new a.nodes)
+  merged_assembly = (standing.name, standing.names, left_assembly)
 
-  pub merged_assembly : (name : ℕ → ℕ) × AreNames new name × IsAssembly (numbered (named name new a.nodes))
-  merged_assembly = (m.merged.0, m.merged.1.names, subst IsAssembly (sym merged_is) (amalgamated_assembly most a is))
+pub amalgamated_assembly : (zeros : ℕ) (a : AssemblyTree) → IsAssembly a → IsAssembly (amalgamated zeros a)
+amalgamated_assembly zeros a is =
+    let m = (merging zeros a.supers is.each (length a.supers) (omega arith)).0 in
+    subst IsAssembly (sym (amalgamated_is zeros a is (gathered zeros a.supers (length a.supers)) m)) (left_assembly zeros a is (gathered zeros a.supers (length a.supers)) m)
+
+-- the tables of the code make those that are left
+pub left_by : (supers : List Super) (nodes numbers : List ℕ) (name : ℕ → ℕ) → ((s : ℕ) → s ≤ length supers → slice_index numbers s ≡ new_number supers (name s)) → All (λ (x : Super). x.parent ≤ length supers) supers → All (λ (s : ℕ). s ≤ length supers) nodes
+    → (map (reparented (slice_index numbers)) (filter is_left supers) ≡ (left_of name supers nodes).supers) × (map (slice_index numbers) nodes ≡ (left_of name supers nodes).nodes)
+left_by supers nodes numbers name are parents inside =
+    let left = filter is_left supers in
+    let f : ℕ → ℕ = λ s. new_number supers (name s) in
+    let fits = All-filter is_left (λ (x : Super). x.parent ≤ length supers) supers parents in (
+      map_agree (reparented (slice_index numbers)) (reparented f) no_super left (λ i lt. ap (λ (up : ℕ). record (get_or left i no_super) { parent = up }) (are (get_or left i no_super).parent (fits i no_super lt))),
+      map_agree (slice_index numbers) f 0 nodes (λ i lt. are (get_or nodes i 0) (inside i 0 lt)),
+    )

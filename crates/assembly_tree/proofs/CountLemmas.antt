@@ -1,7 +1,7 @@
 -- The counts of the fill: all that stands in a column but the column itself stands in its parent.
 use Rattle.std.proofs.Common.{◌≡◌, ◌⊎◌, ◌↔◌, ℕ, zero, suc, ◌+◌, ◌-◌, ◌<◌, ◌≤◌, Bool, true, false, cond, IsTrue, length, get_or, refl, sym, ap, ◌∙◌, inl, inr, arith}
 use Rattle.std.specs.List.{count_by, range_with_len}
-use Rattle.std.proofs.lemmas.List.Sums.{sum_by_push, get_or-le-sum_by}
+use Rattle.std.proofs.lemmas.List.Sums.{get_or-le-sum_by}
 use Rattle.std.proofs.lemmas.List.FromFn.{length-range_with_len, length-map-range_with_len, get_or-range_with_len, get_or-map-range_with_len}
 use Rattle.std.proofs.lemmas.Bool.{cases_eq, cases_Bool, eq-eqb}
 use Rattle.ordering.specs.Perm.{IsVertex}
@@ -9,15 +9,12 @@ use Rattle.ordering.specs.Fill.{IsPattern, IsParent, structure_of, parent_of, co
 use Rattle.elim_tree.specs.Trees.{parent_at}
 use Rattle.elim_tree.specs.Paths.{IsWithin, IsInherited}
 use Rattle.assembly_tree.specs.Supernodes.{count_at, AreColumnCounts}
-use Rattle.assembly_tree.proofs.MergeLemmas.{range_more}
+use Rattle.assembly_tree.proofs.ListLemmas.{count_next}
 
 abbrev bit : Bool → ℕ
 bit b = cond b 1 0
 
 -- ---- counts over 1 to n
-
-count_next : (p : ℕ → Bool) (n : ℕ) → count_by p (range_with_len 1 (n + 1)) ≡ count_by p (range_with_len 1 n) + bit (p (n + 1))
-count_next p n = ap (count_by p) (range_more n) ∙ sum_by_push (λ i. bit (p i)) (range_with_len 1 n) (n + 1)
 
 -- what passes p passes q, but for v
 count_but : (p q : ℕ → Bool) (v m : ℕ) → ((i : ℕ) → i ≤ m → p i ≡ true → (i ≡ v) ⊎ (q i ≡ true)) → (n : ℕ) → n ≤ m → (n < v → count_by p (range_with_len 1 n) ≤ count_by q (range_with_len 1 n)) × (count_by p (range_with_len 1 n) ≤ count_by q (range_with_len 1 n) + 1)

@@ -1,30 +1,31 @@
 -- The fronts of an assembly tree are a tree within the limits.
-use Rattle.std.proofs.Common.{◌≡◌, ℕ, zero, suc, ◌+◌, ◌-◌, ◌<◌, ◌≤◌, Bool, true, false, cond, eqb, max, List, [], ◌∷◌, ◌++◌, length, get_or, set, take, map, filter, fold, refl, sym, ap, ◌∙◌, subst, inl, inr, arith, All}
+use Rattle.std.proofs.Common.{◌≡◌, ℕ, zero, suc, ◌+◌, ◌-◌, ◌<◌, ◌≤◌, Bool, true, false, cond, eqb, max, List, [], ◌∷◌, length, get_or, map, filter, fold, refl, sym, ap, ◌∙◌, subst, inl, inr, arith, All}
 use Rattle.std.specs.List.{sum_by, range_with_len}
-use Rattle.std.proofs.lemmas.List.{get_or_default, get_or-set_same, get_or-set_other, append-nil, map_push, same_lists}
-use Rattle.std.proofs.lemmas.List.Elements.{filter_more}
-use Rattle.std.proofs.lemmas.List.Sums.{sum_by-cons, sum_by-le, fold_push}
+use Rattle.std.proofs.lemmas.List.{get_or_default, same_lists}
+use Rattle.std.proofs.lemmas.List.Elements.{All-filter, All-map, filter_passes}
+use Rattle.std.proofs.lemmas.List.Sums.{sum_by-cons, sum_by-le, sum-map}
 use Rattle.std.proofs.lemmas.List.FromFn.{length-map-range_with_len, get_or-map-range_with_len}
 use Rattle.std.proofs.lemmas.Nat.{mul-le}
 use Rattle.std.proofs.Math.Nat.{max-le}
-use Rattle.std.proofs.lemmas.Bool.{cases_eq, cases_Bool, eq-eqb, ne_eqb, eqb-true}
+use Rattle.std.proofs.lemmas.Bool.{cases_eq, eqb-true}
 use Rattle.tree_input.specs.declared.node.Node.{Node}
 use Rattle.tree_input.specs.Tree.{IsNode, IsTree, IsNodeWithin, node_at, node_size, ancestor, out_below, children_out}
 use Rattle.assembly_tree.specs.declared.assembly.Super.{Super}
 use Rattle.assembly_tree.specs.declared.front.Shape.{Shape}
 use Rattle.assembly_tree.specs.declared.front.Shape.TheVariants.{Triangle, Square}
 use Rattle.assembly_tree.specs.Assembly.{AssemblyTree, IsSuper, IsAssembly, no_super, super_at, front_of}
-use Rattle.assembly_tree.specs.Fronts.{size_of, block_of, share_of, front_node, front_at, fronts_of}
-use Rattle.assembly_tree.proofs.ListLemmas.{sum_by-map}
+use Rattle.assembly_tree.specs.Fronts.{kept_entries, block_of, share_of, front_node, front_at, fronts_of}
+use Rattle.assembly_tree.proofs.ListLemmas.{sum_by-map, sum_by-filter}
 use Rattle.assembly_tree.proofs.RunLemmas.{supers-le, last-all}
+use Rattle.assembly_tree.proofs.SupernodeLemmas.{supers-range}
 
 -- ---- sizes
 
-pub size-le : (shape : Shape) (r t : ℕ) → r ≤ t → size_of shape r ≤ size_of shape t
+pub size-le : (shape : Shape) (r t : ℕ) → r ≤ t → kept_entries shape r ≤ kept_entries shape t
 size-le Triangle r t le = omega (arith, mul-le r (r + 1) t (t + 1) le (omega arith))
 size-le Square r t le = mul-le r r t t le le
 
-pub size-small : (shape : Shape) (r : ℕ) → r ≤ 1000000 → size_of shape r ≤ 1000000000000
+pub size-small : (shape : Shape) (r : ℕ) → r ≤ 1000000 → kept_entries shape r ≤ 1000000000000
 size-small Triangle r le = omega (arith, mul-le r (r + 1) 1000000 1000001 le (omega arith))
 size-small Square r le = mul-le r r 1000000 1000000 le le
 
@@ -39,44 +40,24 @@ map-range_same {X} f g n same =
     let at : 1 + k ≡ suc k = omega arith in
     get_or-map-range_with_len f 1 n k (suc k) d in_range at ∙ same (suc k) (omega arith) (omega arith) ∙ sym (get_or-map-range_with_len g 1 n k (suc k) d in_range at))
 
-supers-range : (supers : List Super) → map (super_at supers) (range_with_len 1 (length supers)) ≡ supers
-supers-range supers =
-    let len = length-map-range_with_len (super_at supers) 1 (length supers) in
-    same_lists (map (super_at supers) (range_with_len 1 (length supers))) supers len (λ k d lt.
-    let in_range : k < length supers = omega (arith, lt, len) in
-    get_or-map-range_with_len (super_at supers) 1 (length supers) k (1 + k) d in_range refl ∙ (let back : 1 + k - 1 ≡ k = omega arith in ap (λ (i : ℕ). get_or supers i no_super) back) ∙ get_or_default supers k no_super d in_range)
-
 -- ---- shares
 
 -- the greatest of the blocks is at most their sum, and at most what bounds each
-share-sum : (shape : Shape) (p : Super → Bool) (xs : List Super) (a : ℕ) → fold max a (map (block_of shape) (filter p xs)) ≤ a + sum_by (λ x. cond (p x) (block_of shape x) 0) xs
-share-sum shape p [] a = omega arith
-share-sum shape p (x ∷ xs) a =
-    let f = λ (y : Super). cond (p y) (block_of shape y) 0 in
-    let cons = sum_by-cons f x xs in
-    let kept = λ (b : Bool). fold max a (map (block_of shape) (cond b (x ∷ filter p xs) (filter p xs))) ≤ a + sum_by f (x ∷ xs) in
-    elim (cases_Bool (p x)) [
-      | inl passes ↦ (
-          let rest = share-sum shape p xs (max a (block_of shape x)) in
-          let one : f x ≡ block_of shape x = rw passes refl in
-          let fact : fold max (max a (block_of shape x)) (map (block_of shape) (filter p xs)) ≤ a + sum_by f (x ∷ xs) = omega (arith, rest, cons, one) in
-          subst kept (sym passes) fact
-          )
-      | inr other ↦ (
-          let rest = share-sum shape p xs a in
-          let fact : fold max a (map (block_of shape) (filter p xs)) ≤ a + sum_by f (x ∷ xs) = omega (arith, rest, cons) in
-          subst kept (sym other) fact
-          )
-    ]
+max-le-sum : (xs : List ℕ) (a : ℕ) → fold max a xs ≤ a + sum_by (λ x. x) xs
+max-le-sum [] a = omega arith
+max-le-sum (x ∷ xs) a = omega (arith, max-le-sum xs (max a x), sum_by-cons (λ x. x) x xs)
 
-share-bound : (shape : Shape) (p : Super → Bool) (m : ℕ) (xs : List Super) (a : ℕ) → a ≤ m → ((k : ℕ) → k < length xs → p (get_or xs k no_super) ≡ true → block_of shape (get_or xs k no_super) ≤ m) → fold max a (map (block_of shape) (filter p xs)) ≤ m
-share-bound shape p m [] a le each = le
-share-bound shape p m (x ∷ xs) a le each =
-    let later = λ (k : ℕ) (lt : k < length xs) (passes : p (get_or xs k no_super) ≡ true). each (suc k) (omega arith) passes in
-    elim (cases_Bool (p x)) [
-      | inl passes ↦ rw passes (share-bound shape p m xs (max a (block_of shape x)) (max-le le (each zero (omega arith) passes)) later)
-      | inr other ↦ rw other (share-bound shape p m xs a le later)
-    ]
+max-le-each : (m : ℕ) (xs : List ℕ) (a : ℕ) → a ≤ m → All (λ x. x ≤ m) xs → fold max a xs ≤ m
+max-le-each m [] a le each = le
+max-le-each m (x ∷ xs) a le each = max-le-each m xs (max a x) (max-le le (each zero 0 (omega arith))) (λ k d lt. each (suc k) d (omega arith))
+
+share-sum : (shape : Shape) (p : Super → Bool) (xs : List Super) → fold max 0 (map (block_of shape) (filter p xs)) ≤ sum_by (λ x. cond (p x) (block_of shape x) 0) xs
+share-sum shape p xs = omega (arith, max-le-sum (map (block_of shape) (filter p xs)) 0, sum-map (block_of shape) (filter p xs), sum_by-filter (block_of shape) p xs)
+
+share-bound : (shape : Shape) (p : Super → Bool) (m : ℕ) (xs : List Super) → All (λ x. p x ≡ true → block_of shape x ≤ m) xs → fold max 0 (map (block_of shape) (filter p xs)) ≤ m
+share-bound shape p m xs each =
+    let passing = All-filter p (λ (x : Super). p x ≡ true → block_of shape x ≤ m) xs each in
+    max-le-each m (map (block_of shape) (filter p xs)) 0 (omega arith) (All-map (λ (k : ℕ). k ≤ m) (block_of shape) (filter p xs) (λ k d lt. passing k d lt (filter_passes p xs k d lt)))
 
 -- ---- ways up
 
@@ -119,10 +100,10 @@ module _ (shape : Shape) (inplace : Bool) (assembly : AssemblyTree) (is : IsAsse
   inside : (s : ℕ) → IsSuper assembly.supers s → (super_at assembly.supers s).parent ≤ length assembly.supers
   inside s h = elim (cases_eq (super_at assembly.supers s).parent 0) [ inl root ↦ omega (arith, root) | inr child ↦ ((is.each s h).parent (omega (arith, child))).1 ]
 
-  small : (s : ℕ) → IsSuper assembly.supers s → size_of shape (front_of (super_at assembly.supers s)) ≤ 1000000000000
+  small : (s : ℕ) → IsSuper assembly.supers s → kept_entries shape (front_of (super_at assembly.supers s)) ≤ 1000000000000
   small s h = size-small shape (front_of (super_at assembly.supers s)) (omega (arith, is.fits s h, is.few))
 
-  below : (s : ℕ) → block_of shape (super_at assembly.supers s) ≤ size_of shape (front_of (super_at assembly.supers s))
+  below : (s : ℕ) → block_of shape (super_at assembly.supers s) ≤ kept_entries shape (front_of (super_at assembly.supers s))
   below s = size-le shape (super_at assembly.supers s).rest (front_of (super_at assembly.supers s)) (omega arith)
 
   sizes : (s : ℕ) → IsSuper assembly.supers s → node_size (front_at shape inplace assembly.supers s) ≤ 1000000000000
@@ -136,20 +117,20 @@ module _ (shape : Shape) (inplace : Bool) (assembly : AssemblyTree) (is : IsAsse
       let g = λ (x : Super). cond (eqb x.parent s) (block_of shape x) 0 in
       sum_by-map (out_below s) (front_at shape inplace assembly.supers) (range_with_len 1 (length assembly.supers)) ∙ sym (sum_by-map g (super_at assembly.supers) (range_with_len 1 (length assembly.supers))) ∙ ap (sum_by g) (supers-range assembly.supers)
 
-  share : (s : ℕ) → IsSuper assembly.supers s → (cond inplace (share_of shape assembly.supers s) 0 ≤ children_out (fronts_of shape inplace assembly.supers) s) × (cond inplace (share_of shape assembly.supers s) 0 ≤ size_of shape (front_of (super_at assembly.supers s)))
+  share : (s : ℕ) → IsSuper assembly.supers s → (cond inplace (share_of shape assembly.supers s) 0 ≤ children_out (fronts_of shape inplace assembly.supers) s) × (cond inplace (share_of shape assembly.supers s) 0 ≤ kept_entries shape (front_of (super_at assembly.supers s)))
   share s h =
-      let sum = share-sum shape (λ x. eqb x.parent s) assembly.supers 0 in
-      let bound = share-bound shape (λ x. eqb x.parent s) (size_of shape (front_of (super_at assembly.supers s))) assembly.supers 0 (omega arith) (λ k lt passes.
+      let sum = share-sum shape (λ x. eqb x.parent s) assembly.supers in
+      let bound = share-bound shape (λ x. eqb x.parent s) (kept_entries shape (front_of (super_at assembly.supers s))) assembly.supers (λ k d lt passes.
       let c = number k lt in
       let back : 1 + k - 1 ≡ k = omega arith in
-      let here : super_at assembly.supers (1 + k) ≡ get_or assembly.supers k no_super = ap (λ (i : ℕ). get_or assembly.supers i no_super) back in
-      let up : (super_at assembly.supers (1 + k)).parent ≡ s = ap (λ (x : Super). x.parent) here ∙ eqb-true (get_or assembly.supers k no_super).parent s passes in
+      let here : super_at assembly.supers (1 + k) ≡ get_or assembly.supers k d = ap (λ (i : ℕ). get_or assembly.supers i no_super) back ∙ get_or_default assembly.supers k no_super d lt in
+      let up : (super_at assembly.supers (1 + k)).parent ≡ s = ap (λ (x : Super). x.parent) here ∙ eqb-true (get_or assembly.supers k d).parent s passes in
       let rest = (is.each (1 + k) c).rest (omega (arith, up, h.0)) in
       let parent = ap (λ (i : ℕ). front_of (super_at assembly.supers i)) up in
       let child = ap (λ (x : Super). x.rest) here in
-      size-le shape (get_or assembly.supers k no_super).rest (front_of (super_at assembly.supers s)) (omega (arith, rest, parent, child))) in
+      size-le shape (get_or assembly.supers k d).rest (front_of (super_at assembly.supers s)) (omega (arith, rest, parent, child))) in
       let whole = outs s in
-      elim inplace as (λ b. (cond b (share_of shape assembly.supers s) 0 ≤ children_out (fronts_of shape inplace assembly.supers) s) × (cond b (share_of shape assembly.supers s) 0 ≤ size_of shape (front_of (super_at assembly.supers s)))) [
+      elim inplace as (λ b. (cond b (share_of shape assembly.supers s) 0 ≤ children_out (fronts_of shape inplace assembly.supers) s) × (cond b (share_of shape assembly.supers s) 0 ≤ kept_entries shape (front_of (super_at assembly.supers s)))) [
         | true ↦ (omega (arith, sum, whole), bound)
         | false ↦ (omega arith, omega arith)
       ]

@@ -1,13 +1,13 @@
 -- The supernodes that are left, and their numbers.
-use Rattle.std.proofs.Common.{◌≡◌, ℕ, zero, suc, ◌+◌, ◌-◌, ◌<◌, ◌≤◌, Bool, true, false, not, cond, List, [], ◌∷◌, length, get_or, take, map, filter, refl, sym, ap, ◌∙◌, subst, inl, inr, arith}
+use Rattle.std.proofs.Common.{◌≡◌, ℕ, zero, suc, ◌+◌, ◌-◌, ◌<◌, ◌≤◌, Bool, true, false, not, cond, List, [], ◌∷◌, length, get_or, take, map, filter, sym, ap, ◌∙◌, inl, inr, arith}
 use Rattle.std.specs.List.{sum_by, count_by}
 use Rattle.std.proofs.lemmas.List.{take_all, take-take}
 use Rattle.std.proofs.lemmas.List.Sums.{sum_by-cons, length-filter, sum_by-take-le, count_by_more_yes}
 use Rattle.std.proofs.lemmas.Bool.{cases_Bool, cases_eq, eq-eqb, ne_eqb, false≢true}
 use Rattle.assembly_tree.specs.declared.assembly.Super.{Super}
 use Rattle.assembly_tree.specs.Assembly.{IsSuper, no_super, super_at, columns_in, reparented}
-use Rattle.assembly_tree.specs.Amalgamation.{is_left, number_of}
-use Rattle.assembly_tree.proofs.ListLemmas.{sum_by-take-map}
+use Rattle.assembly_tree.specs.Amalgamation.{is_left, new_number}
+use Rattle.assembly_tree.proofs.ListLemmas.{sum_by-take-map, sum_by-filter, sum_by_agree}
 
 abbrev bit : Bool → ℕ
 bit b = cond b 1 0
@@ -75,66 +75,50 @@ module _ {X : Type 0} (p : X → Bool) where
             )
       ]
 
-  pub All-filter : (P : X → Type 0) (d : X) (xs : List X) → ((i : ℕ) → i < length xs → P (get_or xs i d)) → (t : ℕ) → t < length (filter p xs) → P (get_or (filter p xs) t d)
-  All-filter P d xs each t lt =
-      let there = filter-pick xs t d lt in
-      let place : get_or (filter p xs) t d ≡ get_or xs there.0 d = ap (λ (k : ℕ). get_or (filter p xs) k d) (sym there.3) ∙ filter-place xs there.0 d there.1 there.2 in
-      subst P (sym place) (each there.0 there.1)
-
 -- ---- numbers
 
-pub number-le : (supers : List Super) (s t : ℕ) → s ≤ t → number_of supers s ≤ number_of supers t
+pub number-le : (supers : List Super) (s t : ℕ) → s ≤ t → new_number supers s ≤ new_number supers t
 number-le supers s t le = omega (arith, sum_by-take-le (λ x. cond (is_left x) 1 0) (take t supers) s, ap (count_by is_left) (take-take s t supers le))
 
-pub number-left : (supers : List Super) (s : ℕ) → IsSuper supers s → 1 ≤ (super_at supers s).columns → number_of supers s ≡ number_of supers (s - 1) + 1
+pub number-left : (supers : List Super) (s : ℕ) → IsSuper supers s → 1 ≤ (super_at supers s).columns → new_number supers s ≡ new_number supers (s - 1) + 1
 number-left supers s is some =
     let back : s ≡ s - 1 + 1 = omega (arith, is.0) in
-    ap (number_of supers) back ∙ count_by_more_yes is_left supers (s - 1) no_super (omega (arith, is.0, is.1)) (left-some (super_at supers s) some)
+    ap (new_number supers) back ∙ count_by_more_yes is_left supers (s - 1) no_super (omega (arith, is.0, is.1)) (left-some (super_at supers s) some)
 
-pub number-all : (supers : List Super) → number_of supers (length supers) ≡ length (filter is_left supers)
+pub number-all : (supers : List Super) → new_number supers (length supers) ≡ length (filter is_left supers)
 number-all supers = ap (count_by is_left) (take_all (length supers) supers (omega arith)) ∙ sym (length-filter is_left supers)
 
-pub number-within : (supers : List Super) (s : ℕ) → s ≤ length supers → number_of supers s ≤ length (filter is_left supers)
+pub number-within : (supers : List Super) (s : ℕ) → s ≤ length supers → new_number supers s ≤ length (filter is_left supers)
 number-within supers s le = omega (arith, number-le supers s (length supers) le, number-all supers)
 
 -- a supernode that is left, by its number
-pub left-at : (supers : List Super) (s : ℕ) → IsSuper supers s → 1 ≤ (super_at supers s).columns → get_or (filter is_left supers) (number_of supers s - 1) no_super ≡ super_at supers s
+pub left-at : (supers : List Super) (s : ℕ) → IsSuper supers s → 1 ≤ (super_at supers s).columns → get_or (filter is_left supers) (new_number supers s - 1) no_super ≡ super_at supers s
 left-at supers s is some =
     let place = filter-place is_left supers (s - 1) no_super (omega (arith, is.0, is.1)) (left-some (super_at supers s) some) in
-    let back : number_of supers s - 1 ≡ number_of supers (s - 1) = omega (arith, number-left supers s is some) in
+    let back : new_number supers s - 1 ≡ new_number supers (s - 1) = omega (arith, number-left supers s is some) in
     ap (λ (k : ℕ). get_or (filter is_left supers) k no_super) back ∙ place
 
 -- each number is that of one that is left
-pub left-pick : (supers : List Super) (t : ℕ) → 1 ≤ t → t ≤ length (filter is_left supers) → (s : ℕ) × IsSuper supers s × (1 ≤ (super_at supers s).columns) × (number_of supers s ≡ t)
+pub left-pick : (supers : List Super) (t : ℕ) → 1 ≤ t → t ≤ length (filter is_left supers) → (s : ℕ) × IsSuper supers s × (1 ≤ (super_at supers s).columns) × (new_number supers s ≡ t)
 left-pick supers t low high =
     let there = filter-pick is_left supers (t - 1) no_super (omega (arith, low, high)) in
     let i = there.0 in
     let back : i + 1 - 1 ≡ i = omega arith in
     let is : IsSuper supers (i + 1) = (omega arith, omega (arith, there.1)) in
     let some : 1 ≤ (super_at supers (i + 1)).columns = omega (arith, ap (λ (k : ℕ). (get_or supers k no_super).columns) back, some-left (get_or supers i no_super) there.2) in
-    (i + 1, is, some, omega (arith, number-left supers (i + 1) is some, ap (number_of supers) back, there.3, low))
+    (i + 1, is, some, omega (arith, number-left supers (i + 1) is some, ap (new_number supers) back, there.3, low))
 
 -- merged supernodes have no columns
-pub sum-left : (supers : List Super) → sum_by columns_in (filter is_left supers) ≡ sum_by columns_in supers
-sum-left [] = refl
-sum-left (x ∷ xs) =
-    elim (cases_Bool (is_left x)) [
-      | inl here ↦ ap (sum_by columns_in) (filter-yes is_left x xs here) ∙ (let one = sum_by-cons columns_in x (filter is_left xs) in let two = sum_by-cons columns_in x xs in let rest = sum-left xs in let e : sum_by columns_in (x ∷ filter is_left xs) ≡ sum_by columns_in (x ∷ xs) = omega (arith, one, two, rest) in e)
-      | inr other ↦ (
-          let none : x.columns ≡ 0 = elim (cases_eq x.columns 0) [ inl none ↦ none | inr some ↦ absurd (false≢true (sym other ∙ left-some x (omega (arith, some)))) ] in
-          ap (sum_by columns_in) (filter-no is_left x xs other) ∙ (let two = sum_by-cons columns_in x xs in let rest = sum-left xs in let e : sum_by columns_in (filter is_left xs) ≡ sum_by columns_in (x ∷ xs) = omega (arith, two, rest, none) in e)
-          )
-    ]
+pub sum-left : (xs : List Super) → sum_by columns_in (filter is_left xs) ≡ sum_by columns_in xs
+sum-left xs =
+    sum_by-filter columns_in is_left xs ∙ sum_by_agree (λ x. cond (is_left x) x.columns 0) columns_in no_super xs (λ i lt.
+    let x = get_or xs i no_super in
+    elim (cases_eq x.columns 0) [
+      | inl none ↦ ap (λ (b : Bool). cond b x.columns 0) (left-none x none) ∙ sym none
+      | inr some ↦ ap (λ (b : Bool). cond b x.columns 0) (left-some x (omega (arith, some)))
+    ])
 
 -- with other parents
 
-pub number-reparented : (name : ℕ → ℕ) (supers : List Super) (s : ℕ) → number_of (map (reparented name) supers) s ≡ number_of supers s
+pub number-reparented : (name : ℕ → ℕ) (supers : List Super) (s : ℕ) → new_number (map (reparented name) supers) s ≡ new_number supers s
 number-reparented name supers s = sum_by-take-map (λ x. cond (is_left x) 1 0) (reparented name) s supers
-
-pub left-reparented : (name : ℕ → ℕ) (supers : List Super) → filter is_left (map (reparented name) supers) ≡ map (reparented name) (filter is_left supers)
-left-reparented name [] = refl
-left-reparented name (x ∷ xs) =
-    elim (is_left x) as (λ b. cond b (reparented name x ∷ filter is_left (map (reparented name) xs)) (filter is_left (map (reparented name) xs)) ≡ map (reparented name) (cond b (x ∷ filter is_left xs) (filter is_left xs))) [
-      | true ↦ ap (λ (ys : List Super). reparented name x ∷ ys) (left-reparented name xs)
-      | false ↦ left-reparented name xs
-    ]

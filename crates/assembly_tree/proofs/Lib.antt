@@ -1,12 +1,13 @@
-pub mod AssemblyLemmas
 pub mod ListLemmas
 pub mod RunLemmas
+pub mod AssemblyLemmas
 pub mod SupernodeLemmas
 pub mod FrontLemmas
 pub mod JoinLemmas
 pub mod LeftLemmas
 pub mod MergeLemmas
 pub mod AmalgamationLemmas
+pub mod RelaxationLemmas
 pub mod NumberLemmas
 pub mod CountLemmas
 pub mod UniqueLemmas

@@ -1,14 +1,14 @@
 -- Cutting columns into runs, one column more at a time.
-use Rattle.std.proofs.Common.{◌≡◌, ℕ, zero, suc, Bool, false, IsTrue, eqb, ◌+◌, ◌-◌, ◌<◌, ◌≤◌, List, [], ◌∷◌, ◌++◌, length, get_or, set, take, refl, sym, ap, ◌∙◌, subst, inl, inr, arith}
-use Rattle.std.specs.List.{sum_by}
-use Rattle.std.proofs.lemmas.List.{take-append-le, take_all, take-take, get_or_append_left, get_or_push, length_push, get_or-set_same, get_or-set_other, length-set}
+use Rattle.std.proofs.Common.{◌≡◌, ◌↔◌, ℕ, zero, suc, Bool, false, cond, IsTrue, eqb, ◌+◌, ◌-◌, ◌<◌, ◌≤◌, List, [], ◌∷◌, ◌++◌, length, get_or, take, refl, sym, ap, ◌∙◌, subst, inl, inr, arith}
+use Rattle.std.specs.List.{sum_by, count_by}
+use Rattle.std.proofs.lemmas.List.{take-append-le, take_all, take-take, get_or_append_left, get_or_push, length_push}
 use Rattle.std.proofs.lemmas.List.Sums.{sum_by_more, sum_by_push, sum_by-take-le}
-use Rattle.std.proofs.lemmas.Bool.{cases_eq, cases_lt, eq-eqb, eqb-true, false≢true}
+use Rattle.std.proofs.lemmas.Bool.{cases_eq, cases_lt, eq-eqb, ne_eqb, false≢true}
 use Rattle.ordering.specs.Perm.{IsVertex}
 use Rattle.elim_tree.specs.Trees.{parent_at, IsForest}
 use Rattle.assembly_tree.specs.declared.assembly.Super.{Super}
-use Rattle.assembly_tree.specs.Assembly.{IsSuper, no_super, super_at, node_of, columns_in, front_of}
-use Rattle.assembly_tree.specs.Supernodes.{count_at, AreColumnCounts, Continues, first_of, last_of}
+use Rattle.assembly_tree.specs.Assembly.{IsSuper, no_super, super_at, super_of, columns_in, front_of}
+use Rattle.assembly_tree.specs.Supernodes.{count_at, Continues, first_of, last_of}
 use Rattle.assembly_tree.specs.RunTables.{AreFirstChildren, AreRuns}
 
 -- ---- whether a run goes on
@@ -68,11 +68,11 @@ at-push_old supers x s low high = get_or_append_left supers (x ∷ []) no_super 
 at-push_new : (supers : List Super) (x : Super) → super_at (supers ++ x ∷ []) (length supers + 1) ≡ x
 at-push_new supers x = get_or_push supers x no_super (length supers + 1 - 1) (omega arith)
 
-node-push_old : (nodes : List ℕ) (v j : ℕ) → j ≤ length nodes → node_of (nodes ++ v ∷ []) j ≡ node_of nodes j
+node-push_old : (nodes : List ℕ) (v j : ℕ) → j ≤ length nodes → super_of (nodes ++ v ∷ []) j ≡ super_of nodes j
 node-push_old nodes v zero le = refl
 node-push_old nodes v (suc i) le = get_or_append_left nodes (v ∷ []) 0 i (omega arith)
 
-node-push_new : (nodes : List ℕ) (v j : ℕ) → j ≡ length nodes + 1 → node_of (nodes ++ v ∷ []) j ≡ v
+node-push_new : (nodes : List ℕ) (v j : ℕ) → j ≡ length nodes + 1 → super_of (nodes ++ v ∷ []) j ≡ v
 node-push_new nodes v zero e = absurd (omega arith)
 node-push_new nodes v (suc i) e = get_or_push nodes v 0 i (omega arith)
 
@@ -86,15 +86,21 @@ push_each P n old new s low high =
     ]
 
 module _ (parents counts : List ℕ) (supers : List Super) (nodes : List ℕ) (running done : ℕ) (r : AreRuns parents counts supers nodes running done) where
-  closed_more : (s j : ℕ) → IsSuper supers s → first_of supers s ≤ j → j ≤ last_of supers s → node_of (nodes ++ (length supers + 1) ∷ []) j ≡ s
+  closed_more : (s j : ℕ) → IsSuper supers s → first_of supers s ≤ j → j ≤ last_of supers s → super_of (nodes ++ (length supers + 1) ∷ []) j ≡ s
   closed_more s j is low high = node-push_old nodes (length supers + 1) j (omega (arith, last-within supers s, r.total, r.len)) ∙ r.nodes_closed s j is low high
 
-  open_more : (j : ℕ) → last_of supers (length supers) < j → j ≤ done + 1 → node_of (nodes ++ (length supers + 1) ∷ []) j ≡ length supers + 1
+  open_more : (j : ℕ) → last_of supers (length supers) < j → j ≤ done + 1 → super_of (nodes ++ (length supers + 1) ∷ []) j ≡ length supers + 1
   open_more j low high =
       elim (cases_lt done j) [
         | inl above ↦ node-push_new nodes (length supers + 1) j (omega (arith, r.len))
         | inr within ↦ node-push_old nodes (length supers + 1) j (omega (arith, r.len)) ∙ r.nodes_open j low within
       ]
+
+  held_same : (s : ℕ) → length supers + 1 ≡ s → count_by (λ t. eqb t s) (nodes ++ (length supers + 1) ∷ []) ≡ count_by (λ t. eqb t s) nodes + 1
+  held_same s e = sum_by_push (λ t. cond (eqb t s) 1 0) nodes (length supers + 1) ∙ ap (λ (b : Bool). count_by (λ t. eqb t s) nodes + cond b 1 0) (eq-eqb (length supers + 1) s e)
+
+  held_other : (s : ℕ) → (length supers + 1 ≡ s → ⊥) → count_by (λ t. eqb t s) (nodes ++ (length supers + 1) ∷ []) ≡ count_by (λ t. eqb t s) nodes
+  held_other s e = omega (arith, sum_by_push (λ t. cond (eqb t s) 1 0) nodes (length supers + 1) ∙ ap (λ (b : Bool). count_by (λ t. eqb t s) nodes + cond b 1 0) (ne_eqb (length supers + 1) s e))
 
   falls_more : count_at counts (done + 1) + (running + 1) ≡ count_at counts (last_of supers (length supers) + 1) + 1
   falls_more =
@@ -117,6 +123,9 @@ module _ (parents counts : List ℕ) (supers : List Super) (nodes : List ℕ) (r
     len = omega (arith, length_push nodes (length supers + 1), r.len);
     nodes_closed = closed_more;
     nodes_open = open_more;
+    held_closed = λ s is. held_other s (omega (arith, is.1)) ∙ r.held_closed s is;
+    held_open = omega (arith, held_same (length supers + 1) refl, r.held_open);
+    held_later = λ s later. held_other s (omega (arith, later)) ∙ r.held_later s later;
     runs_closed = r.runs_closed;
     runs_open = λ j low high. elim (cases_lt done j) [
       | inl above ↦ (let here : done + 1 ≡ j = omega arith in subst (Continues parents counts) here goes)
@@ -144,10 +153,15 @@ module _ (parents counts : List ℕ) (supers : List Super) (nodes : List ℕ) (r
             (λ k low high. omega (arith, ap columns_in (at-push_old supers x k low high), r.some k (low, high)))
             (omega (arith, ap columns_in new, columns)) s is.0 (omega (arith, is.1, len));
         len = omega (arith, length_push nodes (m + 1), r.len);
-        nodes_closed = λ s j is. push_each (λ (k : ℕ). first_of more k ≤ j → j ≤ last_of more k → node_of (nodes ++ (m + 1) ∷ []) j ≡ k) m
+        nodes_closed = λ s j is. push_each (λ (k : ℕ). first_of more k ≤ j → j ≤ last_of more k → super_of (nodes ++ (m + 1) ∷ []) j ≡ k) m
             (λ k low high from to. closed_more k j (low, high) (omega (arith, from, last-push_old supers x (k - 1) (omega arith))) (omega (arith, to, last-push_old supers x k high)))
             (λ from to. open_more j (omega (arith, from, begin)) (omega (arith, to, end))) s is.0 (omega (arith, is.1, len));
         nodes_open = λ j low high. absurd (omega (arith, low, high, whole));
+        held_closed = λ s is. push_each (λ (k : ℕ). count_by (λ t. eqb t k) (nodes ++ (m + 1) ∷ []) ≡ (super_at more k).columns) m
+            (λ k low high. held_other k (omega (arith, high)) ∙ r.held_closed k (low, high) ∙ sym (ap columns_in (at-push_old supers x k low high)))
+            (omega (arith, held_same (m + 1) refl, r.held_open, ap columns_in new, columns)) s is.0 (omega (arith, is.1, len));
+        held_open = held_other (length more + 1) (omega (arith, len)) ∙ r.held_later (length more + 1) (omega (arith, len));
+        held_later = λ s later. held_other s (omega (arith, later, len)) ∙ r.held_later s (omega (arith, later, len));
         runs_closed = λ s j is. push_each (λ (k : ℕ). first_of more k ≤ j → j < last_of more k → Continues parents counts j) m
             (λ k low high from to. r.runs_closed k j (low, high) (omega (arith, from, last-push_old supers x (k - 1) (omega arith))) (omega (arith, to, last-push_old supers x k high)))
             (λ from to. r.runs_open j (omega (arith, from, begin)) (omega (arith, to, end))) s is.0 (omega (arith, is.1, len));
@@ -185,15 +199,12 @@ supers-le supers (suc s) some high =
     omega (arith, before, last-more supers (suc s) (omega arith) high, some (suc s) (omega arith, high), ap (last_of supers) back)
 
 -- the test of counts decides
-pub goes_by_counts : (parents counts children : List ℕ) (j next : ℕ) → IsForest parents → AreColumnCounts parents counts → AreFirstChildren parents children 0 → IsVertex (length parents) j → next ≡ parent_at parents j → next ≡ j + 1 → get_or children next 0 ≡ j
-    → (IsTrue (eqb (get_or counts (j - 1) 0 - 1) (get_or counts j 0)) → Continues parents counts j) × (Continues parents counts j → IsTrue (eqb (get_or counts (j - 1) 0 - 1) (get_or counts j 0)))
-goes_by_counts parents counts children j next forest are first is up next_is least =
-    let back : j + 1 - 1 ≡ j = omega arith in
-    let later = ap (λ (k : ℕ). get_or counts k 0) back in
-    let there = ap (λ (k : ℕ). get_or children k 0) next_is in
-    let some = (are.each j is).some in (
-      λ test. (let same = eqb-true (get_or counts (j - 1) 0 - 1) (get_or counts j 0) test in goes_on parents counts children j forest first is (omega (arith, up, next_is)) (omega (arith, there, least)) (omega (arith, same, later, some))),
-      λ goes. eq-eqb (get_or counts (j - 1) 0 - 1) (get_or counts j 0) (omega (arith, goes.count, later)),
+pub goes_by_counts : (parents counts children : List ℕ) (j next : ℕ) (result : Bool) → IsForest parents → AreFirstChildren parents children 0 → IsVertex (length parents) j → next ≡ parent_at parents j → next ≡ j + 1 → get_or children next 0 ≡ j
+    → IsTrue result ↔ (count_at counts j ≡ count_at counts (j + 1) + 1) → IsTrue result ↔ Continues parents counts j
+goes_by_counts parents counts children j next result forest first is next_is up least rows =
+    let there = ap (λ (k : ℕ). get_or children k 0) up in (
+      λ test. goes_on parents counts children j forest first is (omega (arith, up, next_is)) (omega (arith, there, least)) (rows.0 test),
+      λ goes. rows.1 goes.count,
     )
 
 pub ends_here : (parents counts : List ℕ) (j : ℕ) (result : Bool) → result ≡ false → (Continues parents counts j → IsTrue result) → ¬ (Continues parents counts j)

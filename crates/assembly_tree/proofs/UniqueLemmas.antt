@@ -4,17 +4,10 @@ use Rattle.std.proofs.lemmas.List.{ext_get_or}
 use Rattle.std.proofs.lemmas.Bool.{cases_lt}
 use Rattle.elim_tree.specs.Trees.{parent_at}
 use Rattle.assembly_tree.specs.declared.assembly.Super.{Super}
-use Rattle.assembly_tree.specs.Assembly.{AssemblyTree, IsSuper, no_super, super_at, node_of}
+use Rattle.assembly_tree.specs.Assembly.{AssemblyTree, IsSuper, no_super, super_at, super_of}
 use Rattle.assembly_tree.specs.Supernodes.{count_at, AreSupernodes, first_of, last_of}
 use Rattle.assembly_tree.proofs.RunLemmas.{last-more, last-within}
-use Rattle.assembly_tree.proofs.SupernodeLemmas.{covered}
-
-same_super : (x y : Super) → x.columns ≡ y.columns → x.rest ≡ y.rest → x.parent ≡ y.parent → x ≡ y
-same_super x y columns rest parent =
-    let by_columns : ℕ → Super = λ k. record { columns = k; rest = x.rest; parent = x.parent } in
-    let by_rest : ℕ → Super = λ k. record { columns = y.columns; rest = k; parent = x.parent } in
-    let by_parent : ℕ → Super = λ k. record { columns = y.columns; rest = y.rest; parent = k } in
-    ap by_columns columns ∙ ap by_rest rest ∙ ap by_parent parent
+use Rattle.assembly_tree.proofs.SupernodeLemmas.{same_super, covered}
 
 first-next : (supers : List Super) (s : ℕ) → first_of supers (s + 1) ≡ last_of supers s + 1
 first-next supers s = (let back : s + 1 - 1 ≡ s = omega arith in ap (λ (k : ℕ). last_of supers k + 1) back)
@@ -77,20 +70,20 @@ module _ (parents counts : List ℕ) (a b : AssemblyTree) (as_a : AreSupernodes 
   one_nodes : a.nodes ≡ b.nodes
   one_nodes = ext_get_or 0 a.nodes b.nodes (as_a.len ∙ sym as_b.len) nodes_at
 
-  super_of : (s : ℕ) → IsSuper a.supers s → super_at a.supers s ≡ super_at b.supers s
-  super_of s is =
+  same_at : (s : ℕ) → IsSuper a.supers s → super_at a.supers s ≡ super_at b.supers s
+  same_at s is =
       let is_b : IsSuper b.supers s = (is.0, omega (arith, is.1, lengths)) in
       let last = lasts s is.1 in
       let first = lasts (s - 1) (omega (arith, is.1)) in
       let columns : (super_at a.supers s).columns ≡ (super_at b.supers s).columns = omega (arith, last, first, last-more a.supers s is.0 is.1, last-more b.supers s is_b.0 is_b.1) in
       let front = as_a.front s is ∙ ap (λ (k : ℕ). count_at counts (k + 1)) first ∙ sym (as_b.front s is_b) in
-      let parent = as_a.parent s is ∙ ap (λ (k : ℕ). node_of a.nodes (parent_at parents k)) last ∙ ap (λ (ns : List ℕ). node_of ns (parent_at parents (last_of b.supers s))) one_nodes ∙ sym (as_b.parent s is_b) in
+      let parent = as_a.parent s is ∙ ap (λ (k : ℕ). super_of a.nodes (parent_at parents k)) last ∙ ap (λ (ns : List ℕ). super_of ns (parent_at parents (last_of b.supers s))) one_nodes ∙ sym (as_b.parent s is_b) in
       same_super (super_at a.supers s) (super_at b.supers s) columns (omega (arith, front, columns)) parent
 
   one_supers : a.supers ≡ b.supers
   one_supers = ext_get_or no_super a.supers b.supers lengths (λ i lt.
       let back : i ≡ i + 1 - 1 = omega arith in
-      ap (λ (k : ℕ). get_or a.supers k no_super) back ∙ super_of (i + 1) (omega arith, omega (arith, lt)) ∙ ap (λ (k : ℕ). get_or b.supers k no_super) (sym back))
+      ap (λ (k : ℕ). get_or a.supers k no_super) back ∙ same_at (i + 1) (omega arith, omega (arith, lt)) ∙ ap (λ (k : ℕ). get_or b.supers k no_super) (sym back))
 
   pub one_assembly : a ≡ b
   one_assembly =

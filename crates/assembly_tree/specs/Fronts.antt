@@ -10,25 +10,31 @@ use Rattle.assembly_tree.specs.declared.front.Shape.TheVariants.{Triangle, Squar
 use Rattle.assembly_tree.specs.Assembly.{super_at, front_of}
 
 -- the entries of a matrix of order r that are kept
-abbrev pub size_of : Shape → ℕ → ℕ
-size_of Triangle r = r * (r + 1) / 2
-size_of Square r = r * r
+abbrev pub kept_entries : Shape → ℕ → ℕ
+kept_entries Triangle r = r * (r + 1) / 2
+kept_entries Square r = r * r
 
 -- the contribution block
 abbrev pub block_of : Shape → Super → ℕ
-block_of shape x = size_of shape x.rest
+block_of shape x = kept_entries shape x.rest
 
 -- the supernodes whose parent is s
-abbrev pub children_of : List Super → ℕ → List Super
-children_of supers s = filter (λ x. x.parent == s) supers
+abbrev pub child_supers : List Super → ℕ → List Super
+child_supers supers s = filter (λ x. x.parent == s) supers
 
 -- the greatest block of the children of s, 0 where it has none
 abbrev pub share_of : Shape → List Super → ℕ → ℕ
-share_of shape supers s = fold max 0 (map (block_of shape) (children_of supers s))
+share_of shape supers s = fold max 0 (map (block_of shape) (child_supers supers s))
 
 -- the front of a supernode, as a task: its block is left, the rest of it is needed while its columns are eliminated
 abbrev pub front_node : Shape → ℕ → Super → Node
-front_node shape share x = record { parent = x.parent; out = block_of shape x; extra = size_of shape (front_of x) - block_of shape x; share = share; time = x.columns }
+front_node shape share x = record {
+  parent = x.parent;
+  out = block_of shape x;
+  extra = kept_entries shape (front_of x) - block_of shape x;
+  share = share;
+  time = x.columns;
+}
 
 -- that of supernode s. With in-place assembly it takes over the greatest block of its children; without, nothing
 abbrev pub front_at : Shape → Bool → List Super → ℕ → Node

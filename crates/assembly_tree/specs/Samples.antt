@@ -1,3 +1,4 @@
+-- No public clause names this.
 -- Worked examples: the arrow, whose vertex 1 is joined to 2, 3 and 4, in two orders, and the grid of 2 by 2.
 use Rattle.std.specs.Prelude.{◌≡◌, ℕ, true, false, [], ◌∷◌, refl, map}
 use Rattle.std.specs.List.{range_with_len}
@@ -36,7 +37,8 @@ pub turned_arrow_squares : fronts_of Square false turned_arrow.supers ≡ node 3
 turned_arrow_squares = refl
 
 -- the first leaf is merged for one zero; the second would then take two
-pub turned_arrow_amalgamated : amalgamated 1 turned_arrow ≡ record { supers = supernode 1 1 2 ∷ supernode 3 0 0 ∷ []; nodes = 2 ∷ 1 ∷ 2 ∷ 2 ∷ [] }
+pub turned_arrow_amalgamated : amalgamated 1 turned_arrow
+    ≡ record { supers = supernode 1 1 2 ∷ supernode 3 0 0 ∷ []; nodes = 2 ∷ 1 ∷ 2 ∷ 2 ∷ [] }
 turned_arrow_amalgamated = refl
 
 pub turned_arrow_merged : amalgamated 2 turned_arrow ≡ record { supers = supernode 4 0 0 ∷ []; nodes = 1 ∷ 1 ∷ 1 ∷ 1 ∷ [] }

@@ -6,7 +6,7 @@ use Rattle.std.specs.List.{sum_by}
 use Rattle.ordering.specs.Perm.{IsVertex}
 use Rattle.elim_tree.specs.Trees.{parent_at}
 use Rattle.assembly_tree.specs.declared.assembly.Super.{Super}
-use Rattle.assembly_tree.specs.Assembly.{AssemblyTree, IsSuper, super_at, node_of, columns_in, front_of}
+use Rattle.assembly_tree.specs.Assembly.{AssemblyTree, IsSuper, super_at, super_of, columns_in, front_of}
 
 -- the count of a column
 abbrev pub count_at : List ℕ → ℕ → ℕ
@@ -42,10 +42,13 @@ pub record AreSupernodes (parents counts : List ℕ) (assembly : AssemblyTree) :
   pub total : last_of assembly.supers (length assembly.supers) ≡ length parents
   pub some : (s : ℕ) → IsSuper assembly.supers s → first_of assembly.supers s ≤ last_of assembly.supers s
   pub len : length assembly.nodes ≡ length parents
-  pub nodes : (s j : ℕ) → IsSuper assembly.supers s → first_of assembly.supers s ≤ j → j ≤ last_of assembly.supers s → node_of assembly.nodes j ≡ s
+  pub nodes : (s j : ℕ) → IsSuper assembly.supers s → first_of assembly.supers s ≤ j → j ≤ last_of assembly.supers s →
+      super_of assembly.nodes j ≡ s
   -- they are runs, and none is longer
-  pub runs : (s j : ℕ) → IsSuper assembly.supers s → first_of assembly.supers s ≤ j → j < last_of assembly.supers s → Continues parents counts j
+  pub runs : (s j : ℕ) → IsSuper assembly.supers s → first_of assembly.supers s ≤ j → j < last_of assembly.supers s →
+      Continues parents counts j
   pub longest : (s : ℕ) → IsSuper assembly.supers s → ¬ (Continues parents counts (last_of assembly.supers s))
   -- the front of a supernode has the rows of its first column, and its parent has the parent of its last column
   pub front : (s : ℕ) → IsSuper assembly.supers s → front_of (super_at assembly.supers s) ≡ count_at counts (first_of assembly.supers s)
-  pub parent : (s : ℕ) → IsSuper assembly.supers s → (super_at assembly.supers s).parent ≡ node_of assembly.nodes (parent_at parents (last_of assembly.supers s))
+  pub parent : (s : ℕ) → IsSuper assembly.supers s →
+      (super_at assembly.supers s).parent ≡ super_of assembly.nodes (parent_at parents (last_of assembly.supers s))

@@ -1,11 +1,7 @@
 ghost use Rattle.std.specs.Prelude.{◌≡◌, ◌≤◌, length};
-ghost use Rattle.assembly_tree.specs.Assembly.{IsAssembly, node_of};
+ghost use Rattle.assembly_tree.specs.Assembly.{IsAssembly, super_of};
 
-use std::alloc::AllocError;
 use std::marker::Model;
-
-/// Want of memory: an allocation was refused.
-pub type NoMemory = AllocError;
 
 /// A supernode: columns of the factor that are kept and eliminated together, in one front.
 #[derive(Clone, Copy, Debug, PartialEq, Eq)]
@@ -21,7 +17,7 @@ pub struct Super {
 /// An assembly tree: its supernodes, each numbered before its parent, and the supernode of each of the 1 to 10^6 columns.
 #[derive(Drop)]
 pub struct Assembly {
-    pub(crate) supers: Vec<Super>,
+    supers: Vec<Super>,
     // by column, of which the first stands at 0
     pub(crate) nodes: Vec<u32>,
 }
@@ -37,9 +33,9 @@ impl Model for Assembly {
 }
 
 // The supernode of a column, from 1; 0 for column 0.
-pub(crate) fn node_in(nodes: &[u32], column: u32) -> u32
+pub(crate) fn super_in(nodes: &[u32], column: u32) -> u32
     requires { column ≤ length nodes.now }
-    ensures { result ≡ node_of nodes.now column }
+    ensures { result ≡ super_of nodes.now column }
 {
     if column == 0 {
         0
@@ -49,6 +45,13 @@ pub(crate) fn node_in(nodes: &[u32], column: u32) -> u32
 }
 
 impl Assembly {
+    pub(crate) fn of(supers: Vec<Super>, nodes: Vec<u32>) -> Assembly
+        requires { IsAssembly (record { supers = supers.items; nodes = nodes.items }) }
+        ensures { result ≡ record { supers = supers.items; nodes = nodes.items } }
+    {
+        Assembly { supers, nodes }
+    }
+
     /// How many columns there are, 1 to 10^6.
     pub fn columns(&self) -> u32
         ensures { result ≡ length self.now.nodes }
@@ -65,11 +68,11 @@ impl Assembly {
     }
 
     /// The number of the supernode that has a column, from 1; 0 for column 0.
-    pub fn node_of(&self, column: u32) -> u32
+    pub fn super_of(&self, column: u32) -> u32
         requires { column ≤ length self.now.nodes }
-        ensures value { result ≡ node_of self.now.nodes column }
-        ensures node { result ≤ length self.now.supers }
+        ensures value { result ≡ super_of self.now.nodes column }
+        ensures within { result ≤ length self.now.supers }
     {
-        node_in(&self.nodes, column)
+        super_in(&self.nodes, column)
     }
 }

@@ -2,10 +2,12 @@
 
 ghost use Rattle.std.specs.Prelude.{◌≡◌, ◌≤◌, ◌+◌, ◌*◌, ℕ, All, length, map, slice_index, if◌then◌else◌, IfOk};
 ghost use Rattle.std.specs.List.{range_with_len};
+ghost use Rattle.limits.specs.Limits.{most_order};
 ghost use Rattle.assembly_tree.specs.Assembly.{super_at, front_of};
-ghost use Rattle.assembly_tree.specs.Fronts.{size_of, share_of, front_node, fronts_of};
+ghost use Rattle.assembly_tree.specs.Fronts.{kept_entries, share_of, front_node, fronts_of};
 
-use crate::assembly::{Assembly, NoMemory, Super};
+use crate::NoMemory;
+use crate::assembly::{Assembly, Super};
 use std::alloc::Global;
 use tree_input::{Node, Tree};
 
@@ -20,9 +22,9 @@ pub enum Shape {
 
 // How many entries a matrix of an order has.
 fn size(shape: Shape, order: u32) -> u64
-    requires { order ≤ 1000000 }
-    ensures value { result ≡ size_of shape order }
-    ensures small { result ≤ 1000000 * order }
+    requires { order ≤ most_order }
+    ensures value { result ≡ kept_entries shape order }
+    ensures small { result ≤ most_order * order }
 {
     let order = u64::from(order);
     match shape {
@@ -36,7 +38,7 @@ fn raise_shares(shares: &mut [u64], supers: &[Super], shape: Shape)
     requires len { length shares.old ≡ length supers.now + 1 }
     requires none { (s : ℕ) → slice_index shares.old s ≡ 0 }
     requires parents { All (λ x. x.parent ≤ length supers.now) supers.now }
-    requires fits { All (λ x. front_of x ≤ 1000000) supers.now }
+    requires fits { All (λ x. front_of x ≤ most_order) supers.now }
     ensures { (s : ℕ) → s ≤ length supers.now → slice_index shares.new s ≡ share_of shape supers.now s }
 {
     for supernode in supers {
@@ -52,11 +54,12 @@ fn shares_of(
     shape: Shape,
     inplace: bool,
 ) -> Result<Vec<u64>, NoMemory>
-    requires few { length supers.now ≤ 1000000 }
+    requires few { length supers.now ≤ most_order }
     requires parents { All (λ x. x.parent ≤ length supers.now) supers.now }
-    requires fits { All (λ x. front_of x ≤ 1000000) supers.now }
+    requires fits { All (λ x. front_of x ≤ most_order) supers.now }
     ensures len { IfOk result (λ shares. length shares.items ≡ length supers.now + 1) }
-    ensures shares { IfOk result (λ shares. (s : ℕ) → s ≤ length supers.now → slice_index shares.items s ≡ (if inplace then share_of shape supers.now s else 0)) }
+    ensures shares { IfOk result (λ shares. (s : ℕ) → s ≤ length supers.now →
+        slice_index shares.items s ≡ (if inplace then share_of shape supers.now s else 0)) }
 {
     let mut shares: Vec<u64> = vec![in alloc; 0; supers.len() + 1]?;
     if inplace {
@@ -67,7 +70,7 @@ fn shares_of(
 
 // The front of a supernode, and its contribution block.
 fn node(supernode: Super, shape: Shape, share: u64) -> Node
-    requires { front_of supernode ≤ 1000000 }
+    requires { front_of supernode ≤ most_order }
     ensures { result ≡ front_node shape share supernode }
 {
     let out = size(shape, supernode.rest);
@@ -87,7 +90,7 @@ fn nodes_of(
     shares: &[u64],
 ) -> Result<Vec<Node>, NoMemory>
     requires len { length shares.now ≡ length supers.now + 1 }
-    requires fits { All (λ x. front_of x ≤ 1000000) supers.now }
+    requires fits { All (λ x. front_of x ≤ most_order) supers.now }
     ensures { IfOk result (λ nodes. nodes.items ≡
         map (λ s. front_node shape (slice_index shares.now s) (super_at supers.now s)) (range_with_len 1 (length supers.now))) }
 {

@@ -8,6 +8,7 @@ ghost use Rattle.assembly_tree.specs.declared.front.Shape.{Shape};
 ghost use Rattle.assembly_tree.specs.Assembly.{AssemblyTree, IsAssembly};
 ghost use Rattle.assembly_tree.specs.Supernodes.{AreColumnCounts, AreSupernodes};
 ghost use Rattle.assembly_tree.specs.Amalgamation.{amalgamated};
+ghost use Rattle.assembly_tree.specs.Relaxation.{IsRelaxed};
 ghost use Rattle.assembly_tree.specs.Fronts.{fronts_of};
 
 use elim_tree::laws as tree_laws;
@@ -15,7 +16,8 @@ use ordering::laws as fill_laws;
 
 /// The counts of the fill meet what supernodes ask of counts.
 pub fn counts_of_fill()
-    ensures { (joined : ℕ → ℕ → Bool) (n : ℕ) → IsPattern joined → IsWithin n joined → AreColumnCounts (parents_of joined n) (counts_of joined n) }
+    ensures { (joined : ℕ → ℕ → Bool) (n : ℕ) → IsPattern joined → IsWithin n joined →
+        AreColumnCounts (parents_of joined n) (counts_of joined n) }
 {
     fill_laws::parent_is_first();
     tree_laws::structure_by_children();
@@ -24,7 +26,8 @@ pub fn counts_of_fill()
 
 /// There is one list of fundamental supernodes.
 pub fn one_list_of_supernodes()
-    ensures { (parents counts : List ℕ) (one two : AssemblyTree) → AreSupernodes parents counts one → AreSupernodes parents counts two → one ≡ two }
+    ensures { (parents counts : List ℕ) (one two : AssemblyTree) → AreSupernodes parents counts one →
+        AreSupernodes parents counts two → one ≡ two }
 {}
 
 /// An amalgamated assembly tree is one.
@@ -32,7 +35,14 @@ pub fn amalgamation_is_assembly()
     ensures { (zeros : ℕ) (assembly : AssemblyTree) → IsAssembly assembly → IsAssembly (amalgamated zeros assembly) }
 {}
 
+/// What amalgamation yields, without its visits: each supernode goes into its parent or stays, by what both have with those that went into
+/// them before; those that stay are numbered in their old order, and each column is in the one in which its supernode stands in the end.
+pub fn amalgamation_is_relaxed()
+    ensures { (zeros : ℕ) (assembly : AssemblyTree) → IsAssembly assembly → IsRelaxed zeros assembly (amalgamated zeros assembly) }
+{}
+
 /// The fronts of an assembly tree are a tree within the limits, with shares that fit.
 pub fn fronts_are_tree()
-    ensures { (shape : Shape) (inplace : Bool) (assembly : AssemblyTree) → IsAssembly assembly → IsTree (fronts_of shape inplace assembly.supers) }
+    ensures { (shape : Shape) (inplace : Bool) (assembly : AssemblyTree) → IsAssembly assembly →
+        IsTree (fronts_of shape inplace assembly.supers) }
 {}

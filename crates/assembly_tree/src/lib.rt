@@ -5,6 +5,7 @@
 #![tactic(auto)]
 
 mod assembly;
+mod counts;
 mod front;
 pub mod laws;
 mod merges;
@@ -12,7 +13,12 @@ mod runs;
 #[cfg(test)]
 mod tests;
 
-pub use assembly::{Assembly, NoMemory, Super};
+pub use assembly::{Assembly, Super};
+pub use counts::{are_counts, is_count};
 pub use front::{Shape, fronts};
 pub use merges::amalgamate;
 pub use runs::supernodes;
+use std::alloc::AllocError;
+
+/// Want of memory: an allocation was refused.
+pub type NoMemory = AllocError;

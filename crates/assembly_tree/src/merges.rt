@@ -1,18 +1,20 @@
 //! The amalgamation of supernodes with their parents.
 
-ghost use Rattle.std.specs.Prelude.{◌≡◌, ◌<◌, ◌≤◌, ◌+◌, ◌^◌, ◌↔◌, ℕ, length, map, filter, All, slice_index, IfOk, IsTrue};
-ghost use Rattle.std.specs.List.{sum_by};
+ghost use Rattle.std.specs.Prelude.{◌≡◌, ◌<◌, ◌≤◌, ◌+◌, ◌*◌, ◌^◌, ◌↔◌, ℕ, length, map, filter, All, slice_index, IfOk, IsTrue};
+ghost use Rattle.std.specs.List.{range_with_len, sum_by};
+ghost use Rattle.limits.specs.Limits.{most_order};
 ghost use Rattle.assembly_tree.specs.declared.assembly.Super.{Super as SuperValue};
 ghost use Rattle.assembly_tree.specs.Assembly.{IsSuper, IsSuperWithin, IsAssembly, super_at, front_of, columns_in, reparented};
-ghost use Rattle.assembly_tree.specs.Amalgamation.{zeros_of, joined, is_left, number_of, numbered, amalgamated};
-ghost use Rattle.assembly_tree.specs.MergeTables.{AreNames, IsMerging, named};
+ghost use Rattle.assembly_tree.specs.Amalgamation.{zeros_of, merged_supers, is_left, new_number, amalgamated};
+ghost use Rattle.assembly_tree.specs.MergeTables.{AreNames, AreNewNumbers, IsMerging, left_of};
 
-use crate::assembly::{Assembly, NoMemory, Super};
+use crate::NoMemory;
+use crate::assembly::{Assembly, Super};
 use std::alloc::Global;
 
 // Whether merging a child into its parent puts at most so many zeros into the factor.
 fn is_cheap(child: Super, parent: Super, zeros: u64) -> bool
-    requires order { front_of parent ≤ 2000000 }
+    requires order { front_of parent ≤ 2 * most_order }
     requires rest { child.rest ≤ front_of parent }
     ensures { IsTrue result ↔ (zeros_of child parent ≤ zeros) }
 {
@@ -26,7 +28,7 @@ fn join(supers: &mut [Super], s: usize, p: usize)
     requires parent { IsSuper supers.old p }
     requires later { s < p }
     requires room { (super_at supers.old p).columns + (super_at supers.old s).columns < 2 ^ 32 }
-    ensures { supers.new ≡ joined supers.old s p }
+    ensures { supers.new ≡ merged_supers supers.old s p }
 {
     supers[p - 1].columns += supers[s - 1].columns;
     supers[s - 1].columns = 0;
@@ -35,8 +37,8 @@ fn join(supers: &mut [Super], s: usize, p: usize)
 // Merges supernodes into their parents. Each keeps the parent that it has, since that comes later and still stands when it is read.
 fn merge(supers: &mut [Super], zeros: u64)
     requires each { (s : ℕ) → IsSuper supers.old s → IsSuperWithin supers.old s }
-    requires few { sum_by columns_in supers.old ≤ 1000000 }
-    requires fits { (s : ℕ) → IsSuper supers.old s → front_of (super_at supers.old s) ≤ 1000000 }
+    requires few { sum_by columns_in supers.old ≤ most_order }
+    requires fits { (s : ℕ) → IsSuper supers.old s → front_of (super_at supers.old s) ≤ most_order }
     ensures { IsMerging zeros supers.old supers.new (length supers.old) }
 {
     for i in 0..supers.len() {
@@ -52,8 +54,8 @@ fn merge(supers: &mut [Super], zeros: u64)
 // The supernodes after all merges.
 fn merged(alloc: Global, supers: &[Super], zeros: u64) -> Result<Vec<Super>, NoMemory>
     requires each { (s : ℕ) → IsSuper supers.now s → IsSuperWithin supers.now s }
-    requires few { sum_by columns_in supers.now ≤ 1000000 }
-    requires fits { (s : ℕ) → IsSuper supers.now s → front_of (super_at supers.now s) ≤ 1000000 }
+    requires few { sum_by columns_in supers.now ≤ most_order }
+    requires fits { (s : ℕ) → IsSuper supers.now s → front_of (super_at supers.now s) ≤ most_order }
     ensures { IfOk result (λ new. IsMerging zeros supers.now new.items (length supers.now)) }
 {
     let mut new: Vec<Super> = Vec::new(alloc);
@@ -64,9 +66,9 @@ fn merged(alloc: Global, supers: &[Super], zeros: u64) -> Result<Vec<Super>, NoM
 
 // How many of the supernodes up to each are left, from none on.
 fn count_left(alloc: Global, supers: &[Super]) -> Result<Vec<u32>, NoMemory>
-    requires { length supers.now ≤ 1000000 }
+    requires { length supers.now ≤ most_order }
     ensures len { IfOk result (λ numbers. length numbers.items ≡ length supers.now + 1) }
-    ensures left { IfOk result (λ numbers. (s : ℕ) → s ≤ length supers.now → slice_index numbers.items s ≡ number_of supers.now s) }
+    ensures left { IfOk result (λ numbers. numbers.items ≡ map (new_number supers.now) (range_with_len 0 (length supers.now + 1))) }
 {
     let mut numbers: Vec<u32> = Vec::with_capacity(alloc, supers.len() + 1)?;
     let mut left = 0;
@@ -83,9 +85,9 @@ fn count_left(alloc: Global, supers: &[Super]) -> Result<Vec<u32>, NoMemory>
 // Gives each merged supernode the number of its parent, the later ones first.
 fn follow(numbers: &mut [u32], supers: &[Super])
     requires len { length numbers.old ≡ length supers.now + 1 }
-    requires left { (s : ℕ) → s ≤ length supers.now → slice_index numbers.old s ≡ number_of supers.now s }
+    requires left { numbers.old ≡ map (new_number supers.now) (range_with_len 0 (length supers.now + 1)) }
     requires names { (name : ℕ → ℕ) × AreNames supers.now name }
-    ensures { (name : ℕ → ℕ) → AreNames supers.now name → (s : ℕ) → s ≤ length supers.now → slice_index numbers.new s ≡ number_of supers.now (name s) }
+    ensures { AreNewNumbers supers.now numbers.new }
 {
     for i in 0..supers.len() {
         let s = supers.len() - i;
@@ -116,19 +118,19 @@ fn rename(alloc: Global, nodes: &[u32], numbers: &[u32]) -> Result<Vec<u32>, NoM
     requires { All (λ s. s + 1 ≤ length numbers.now) nodes.now }
     ensures { IfOk result (λ new. new.items ≡ map (slice_index numbers.now) nodes.now) }
 {
-    let mut renamed: Vec<u32> = Vec::with_capacity(alloc, nodes.len())?;
+    let mut new: Vec<u32> = Vec::with_capacity(alloc, nodes.len())?;
     for node in nodes {
-        renamed.push(numbers[*node as usize])?;
+        new.push(numbers[*node as usize])?;
     }
-    Ok(renamed)
+    Ok(new)
 }
 
 // The number of each supernode among those that are left, or of the one in which it stands.
 fn numbers_of(alloc: Global, supers: &[Super]) -> Result<Vec<u32>, NoMemory>
-    requires few { length supers.now ≤ 1000000 }
+    requires few { length supers.now ≤ most_order }
     requires names { (name : ℕ → ℕ) × AreNames supers.now name }
     ensures len { IfOk result (λ numbers. length numbers.items ≡ length supers.now + 1) }
-    ensures numbers { IfOk result (λ numbers. (name : ℕ → ℕ) → AreNames supers.now name → (s : ℕ) → s ≤ length supers.now → slice_index numbers.items s ≡ number_of supers.now (name s)) }
+    ensures numbers { IfOk result (λ numbers. AreNewNumbers supers.now numbers.items) }
 {
     let mut numbers = count_left(alloc, supers)?;
     follow(&mut numbers, supers);
@@ -137,19 +139,16 @@ fn numbers_of(alloc: Global, supers: &[Super]) -> Result<Vec<u32>, NoMemory>
 
 // The assembly tree of the supernodes that are left.
 fn renumber(alloc: Global, supers: &[Super], nodes: &[u32]) -> Result<Assembly, NoMemory>
-    requires few { length supers.now ≤ 1000000 }
+    requires few { length supers.now ≤ most_order }
     requires parents { All (λ x. x.parent ≤ length supers.now) supers.now }
     requires nodes { All (λ s. s ≤ length supers.now) nodes.now }
-    requires assembly { (name : ℕ → ℕ) × AreNames supers.now name × IsAssembly (numbered (named name supers.now nodes.now)) }
-    ensures { IfOk result (λ assembly. (name : ℕ → ℕ) → AreNames supers.now name → assembly ≡ numbered (named name supers.now nodes.now)) }
+    requires assembly { (name : ℕ → ℕ) × AreNames supers.now name × IsAssembly (left_of name supers.now nodes.now) }
+    ensures { IfOk result (λ assembly. (name : ℕ → ℕ) → AreNames supers.now name → assembly ≡ left_of name supers.now nodes.now) }
 {
     let numbers = numbers_of(alloc, supers)?;
     let kept = keep(alloc, supers, &numbers)?;
     let nodes = rename(alloc, nodes, &numbers)?;
-    Ok(Assembly {
-        supers: kept,
-        nodes,
-    })
+    Ok(Assembly::of(kept, nodes))
 }
 
 /// The assembly tree with relaxed supernodes: by rising number, each supernode is merged into its parent where that puts at most

@@ -4,11 +4,12 @@ ghost use Rattle.std.specs.Prelude.{◌≡◌, ◌≤◌, ◌<◌, ◌+◌, ◌�
 ghost use Rattle.ordering.specs.Perm.{IsVertex};
 ghost use Rattle.elim_tree.specs.Trees.{IsForest};
 ghost use Rattle.assembly_tree.specs.declared.assembly.Super.{Super as SuperValue};
-ghost use Rattle.assembly_tree.specs.Assembly.{node_of, reparented};
-ghost use Rattle.assembly_tree.specs.Supernodes.{AreColumnCounts, AreSupernodes, Continues};
+ghost use Rattle.assembly_tree.specs.Assembly.{super_of, reparented};
+ghost use Rattle.assembly_tree.specs.Supernodes.{count_at, AreColumnCounts, AreSupernodes, Continues};
 ghost use Rattle.assembly_tree.specs.RunTables.{AreFirstChildren, AreRuns};
 
-use crate::assembly::{Assembly, NoMemory, Super, node_in};
+use crate::NoMemory;
+use crate::assembly::{Assembly, Super, super_in};
 use elim_tree::Parents;
 use std::alloc::Global;
 
@@ -26,6 +27,14 @@ fn first_children(alloc: Global, parents: &Parents) -> Result<Vec<u32>, NoMemory
     Ok(children)
 }
 
+// Whether column j has one row more than the column after it.
+fn has_one_row_more(counts: &[u32], j: u32) -> bool
+    requires { (1 ≤ j) × (j < length counts.now) }
+    ensures { IsTrue result ↔ (count_at counts.now j ≡ count_at counts.now (j + 1) + 1) }
+{
+    u64::from(counts[j as usize - 1]) == u64::from(counts[j as usize]) + 1
+}
+
 // Whether the column after j goes on with the supernode of j.
 fn goes_on(parents: &Parents, counts: &[u32], children: &[u32], j: u32) -> bool
     requires forest { IsForest parents.now }
@@ -35,9 +44,7 @@ fn goes_on(parents: &Parents, counts: &[u32], children: &[u32], j: u32) -> bool
     ensures { IsTrue result ↔ Continues parents.now counts.now j }
 {
     let next = parents.at(j);
-    next == j + 1
-        && children[next as usize] == j
-        && counts[j as usize - 1] - 1 == counts[j as usize]
+    next == j + 1 && children[next as usize] == j && has_one_row_more(counts, j)
 }
 
 // The supernodes with the columns of their parents, and the supernode of each column.
@@ -75,17 +82,18 @@ fn cut(alloc: Global, parents: &Parents, counts: &[u32], children: &[u32]) -> Re
 // Puts the number of each parent in place of its column.
 fn name_parents(supers: &mut [Super], nodes: &[u32])
     requires { All (λ x. x.parent ≤ length nodes.now) supers.old }
-    ensures { supers.new ≡ map (reparented (node_of nodes.now)) supers.old }
+    ensures { supers.new ≡ map (reparented (super_of nodes.now)) supers.old }
 {
     for supernode in supers.iter_mut() {
-        supernode.parent = node_in(nodes, supernode.parent);
+        supernode.parent = super_in(nodes, supernode.parent);
     }
 }
 
 /// The fundamental supernodes of a factor, by its elimination tree and the counts of its columns: the longest runs of columns in which
 /// each column but the first has the one before it as its only child, and one row less. Linear in the columns.
 ///
-/// Meant for columns that are numbered in postorder, where no supernode can be longer. Liu, Ng and Peyton 1993.
+/// A caller tests by `are_counts` what this asks of counts; those of a fill meet it (`laws::counts_of_fill`). Meant for columns that are
+/// numbered in postorder, where no supernode can be longer. Liu, Ng and Peyton 1993.
 pub fn supernodes(alloc: Global, parents: &Parents, counts: &[u32]) -> Result<Assembly, NoMemory>
     requires { AreColumnCounts parents.now counts.now }
     ensures { IfOk result (λ assembly. AreSupernodes parents.now counts.now assembly) }
@@ -93,5 +101,5 @@ pub fn supernodes(alloc: Global, parents: &Parents, counts: &[u32]) -> Result<As
     let children = first_children(alloc, parents)?;
     let Runs { mut supers, nodes } = cut(alloc, parents, counts, &children)?;
     name_parents(&mut supers, &nodes);
-    Ok(Assembly { supers, nodes })
+    Ok(Assembly::of(supers, nodes))
 }

@@ -1,9 +1,9 @@
 //! Assembly trees worked by hand.
 
-ghost use Rattle.std.specs.Prelude.{◌≡◌, ◌<◌, ◌≤◌, ◌+◌, ℕ, IsTrue, length};
-ghost use Rattle.assembly_tree.specs.Supernodes.{AreColumnCounts, IsColumnCount};
+ghost use Rattle.std.specs.Prelude.{◌≤◌, length};
+ghost use Rattle.limits.specs.Limits.{most_order};
 
-use crate::{Assembly, Shape, Super, amalgamate, fronts, laws, supernodes};
+use crate::{Assembly, Shape, Super, amalgamate, are_counts, fronts, is_count, supernodes};
 use elim_tree::{Parents, etree};
 use matrix_market::read_pattern;
 use ordering::read_perm;
@@ -34,38 +34,6 @@ fn node(parent: u32, out: u64, extra: u64, share: u64, time: u64) -> Node {
     }
 }
 
-// Whether a count is at least 1, that of a root 1, and any other at most one more than that of its parent.
-fn is_count(parents: &Parents, counts: &[u32], j: u32) -> bool
-    requires { (1 ≤ j) × (j ≤ length parents.now) × (length counts.now ≡ length parents.now) }
-    ensures { IsTrue result → IsColumnCount parents.now counts.now j }
-{
-    let count = counts[j as usize - 1];
-    let p = parents.at(j);
-    if count == 0 {
-        return false;
-    }
-    if p == 0 {
-        count == 1
-    } else {
-        count - 1 <= counts[p as usize - 1]
-    }
-}
-
-fn are_counts(parents: &Parents, counts: &[u32]) -> bool
-    ensures { IsTrue result → AreColumnCounts parents.now counts.now }
-{
-    let n = parents.len();
-    if counts.len() != n as usize {
-        return false;
-    }
-    for i in 0..n {
-        if !is_count(parents, counts, i + 1) {
-            return false;
-        }
-    }
-    true
-}
-
 fn tree_of(
     rt: &impl Abort,
     alloc: Global,
@@ -73,7 +41,7 @@ fn tree_of(
     order: &str,
     n: u32,
 ) -> Result<Parents, Fail>
-    requires { n ≤ 1000000 }
+    requires { n ≤ most_order }
 {
     let matrix = format!(in alloc;
         "%%MatrixMarket matrix coordinate pattern symmetric\n{entries}"
@@ -91,7 +59,7 @@ fn supernodes_of(
     order: &str,
     counts: &[u32],
 ) -> Result<Assembly, Fail>
-    requires { length counts.now ≤ 1000000 }
+    requires { length counts.now ≤ most_order }
 {
     let parents = tree_of(rt, alloc, entries, order, counts.len() as u32)?;
     assert!(rt; are_counts(&parents, counts));
@@ -101,9 +69,9 @@ fn supernodes_of(
 fn check_assembly(rt: &impl Abort, assembly: &Assembly, supers: &[Super], nodes: [u32; 4]) {
     assert!(rt; assembly.supers() == supers);
     assert_eq!(rt; assembly.columns(), 4);
-    assert_eq!(rt; assembly.node_of(0), 0);
+    assert_eq!(rt; assembly.super_of(0), 0);
     for j in 1..=4u32 {
-        assert_eq!(rt; assembly.node_of(j), nodes[j as usize - 1]);
+        assert_eq!(rt; assembly.super_of(j), nodes[j as usize - 1]);
     }
 }
 
@@ -124,10 +92,6 @@ fn check_fronts(
 #[test]
 fn the_arrow(rt: HostRuntime) -> Result<(), Fail> {
     let alloc = rt.alloc();
-    laws::counts_of_fill();
-    laws::one_list_of_supernodes();
-    laws::amalgamation_is_assembly();
-    laws::fronts_are_tree();
     let assembly = supernodes_of(&rt, alloc, ARROW, "1 2 3 4", &[4, 3, 2, 1])?;
     check_assembly(&rt, &assembly, &[supernode(4, 0, 0)], [1, 1, 1, 1]);
     for inplace in [false, true] {
@@ -262,4 +226,27 @@ fn the_grid_and_no_entries(rt: HostRuntime) -> Result<(), Fail> {
         true,
         &[node(0, 0, 1, 0, 1); 4],
     )
+}
+
+// Of the arrow in its natural order, a path from 1 up to 4: a count is 0, a root's is 2, a count falls by two, one is missing.
+#[test]
+fn counts_that_no_column_has(rt: HostRuntime) -> Result<(), Fail> {
+    let alloc = rt.alloc();
+    let parents = tree_of(&rt, alloc, ARROW, "1 2 3 4", 4)?;
+    assert_eq!(rt; parents.len(), 4);
+    for (counts, each) in [
+        ([4, 3, 2, 1], [true, true, true, true]),
+        ([1, 1, 1, 1], [true, true, true, true]),
+        ([1, 1, 0, 1], [true, true, false, true]),
+        ([2, 3, 2, 2], [true, true, true, false]),
+        ([4, 2, 2, 1], [false, true, true, true]),
+    ] {
+        let all = each[0] && each[1] && each[2] && each[3];
+        assert_eq!(rt; are_counts(&parents, &counts), all);
+        for j in 1..=4u32 {
+            assert_eq!(rt; is_count(&parents, &counts, j), each[j as usize - 1]);
+        }
+    }
+    assert!(rt; !are_counts(&parents, &[3, 2, 1]));
+    Ok(())
 }

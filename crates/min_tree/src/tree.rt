@@ -1,11 +1,9 @@
 ghost use Rattle.std.specs.Prelude.{◌≡◌, ◌<◌, ◌≤◌, ◌^◌, length, slice_index, slice_set, replicate, IfOk};
 ghost use Rattle.min_tree.specs.Least.{IsFirstLeast, greatest};
 
-use std::alloc::{AllocError, Global};
+use crate::NoMemory;
+use std::alloc::Global;
 use std::marker::Model;
-
-/// No memory was found for the numbers.
-pub type NoMemory = AllocError;
 
 /// A list of numbers of fixed length. A change takes time logarithmic in the length, and so does a look at the first least.
 #[derive(Drop)]

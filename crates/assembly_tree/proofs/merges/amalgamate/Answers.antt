@@ -1,8 +1,8 @@
-use Rattle.std.proofs.Common.{◌≡◌, Result, Ok, Err, IfOk, ap, ◌∙◌}
-use Rattle.assembly_tree.specs.Amalgamation.{numbered, amalgamated}
-use Rattle.assembly_tree.specs.MergeTables.{AreNames, named}
+use Rattle.std.proofs.Common.{◌≡◌, Result, Ok, Err, IfOk, sym, ap, ◌∙◌}
+use Rattle.assembly_tree.specs.Amalgamation.{amalgamated}
+use Rattle.assembly_tree.specs.MergeTables.{AreNames, left_of}
 use Rattle.assembly_tree.specs.Assembly.{AssemblyTree}
-use Rattle.assembly_tree.proofs.AmalgamationLemmas.{merged_few, merged_parents, merged_nodes, merged_assembly, merged_is}
+use Rattle.assembly_tree.proofs.AmalgamationLemmas.{merged_few, merged_parents, merged_nodes, merged_assembly, standing, amalgamated_is}
 use Rattle.assembly_tree.proofs.merges.amalgamate.Goals as goal
 
 pub renumber-requires-clause-few : goal.renumber-requires-clause-few
@@ -29,6 +29,7 @@ pub returns : goal.returns
 returns c =
     let nodes = c.deref-2.ensures.value ∙ ap (λ (a : AssemblyTree). a.nodes) c.assembly.view_is in
     let m = rw c.supers.ensures.value at c.in_ok-supers.ensures in
-    let names : AreNames c.deref.result.now m.merged.0 = rw c.deref.ensures.value m.merged.1.names in
-    let end : numbered (named m.merged.0 c.deref.result.now c.deref-2.result.now) ≡ amalgamated c.args.zeros c.args.assembly.now = rw (c.deref.ensures.value, nodes) (merged_is c.args.zeros c.args.assembly.now c.supers.ensures.assembly c.in_ok-supers.supers.items m) in
-    weaken c.renumber.result _ _ (λ made all. all m.merged.0 names ∙ end) c.renumber.ensures
+    let st = standing c.args.zeros c.args.assembly.now c.supers.ensures.assembly c.in_ok-supers.supers.items m in
+    let names : AreNames c.deref.result.now st.name = rw c.deref.ensures.value st.names in
+    let end : left_of st.name c.deref.result.now c.deref-2.result.now ≡ amalgamated c.args.zeros c.args.assembly.now = rw (c.deref.ensures.value, nodes) (sym (amalgamated_is c.args.zeros c.args.assembly.now c.supers.ensures.assembly c.in_ok-supers.supers.items m)) in
+    weaken c.renumber.result _ _ (λ made all. all st.name names ∙ end) c.renumber.ensures

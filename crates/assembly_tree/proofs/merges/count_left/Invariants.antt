@@ -1,11 +1,11 @@
-use Rattle.std.proofs.Common.{◌≡◌, ◌<◌, ◌≤◌, ◌+◌, ℕ, length, slice_index}
-use Rattle.assembly_tree.specs.Amalgamation.{number_of}
+use Rattle.std.proofs.Common.{◌≡◌, ◌≤◌, ◌+◌, map}
+use Rattle.std.specs.List.{range_with_len}
+use Rattle.assembly_tree.specs.Amalgamation.{new_number}
 use Rattle.assembly_tree.proofs.merges.count_left.Given as goal
 
 abbrev pub invariant-loop-supernode : goal.invariant-loop-supernode
 invariant-loop-supernode l = record {
-  len : length l.numbers.items ≡ l.supernode-index + 1;
   small : l.left ≤ l.supernode-index;
-  left : l.left ≡ number_of l.supers l.supernode-index;
-  each : (s : ℕ) → s < l.supernode-index + 1 → slice_index l.numbers.items s ≡ number_of l.supers s;
+  left : l.left ≡ new_number l.supers l.supernode-index;
+  numbers : l.numbers.items ≡ map (new_number l.supers) (range_with_len 0 (l.supernode-index + 1));
 }

@@ -1,8 +1,13 @@
 use Rattle.std.proofs.Common.{◌≡◌, ◌-◌, ◌+◌, length, subst, arith}
 use Rattle.assembly_tree.specs.MergeTables.{AreNumbers}
-use Rattle.assembly_tree.proofs.NumberLemmas.{numbers_all, follow_left, follow_gone}
+use Rattle.assembly_tree.proofs.NumberLemmas.{counted, numbers_all, follow_left, follow_gone}
 use Rattle.assembly_tree.proofs.merges.follow.Goals as goal
 use Rattle.assembly_tree.proofs.merges.follow.Goals.{then-supers-s-eq0, else-supers-s-eq0}
+
+pub loop-i-init : goal.loop-i-init
+loop-i-init c = λ name names.
+    let all : length c.args.supers.now ≡ length c.args.supers.now - 0 = omega arith in
+    subst (AreNumbers c.args.supers.now c.args.numbers.now name) all (counted c.args.supers.now c.args.numbers.now name c.requires.left)
 
 pub loop-i-preserved : goal.loop-i-preserved
 loop-i-preserved c = λ name names.
