@@ -1,0 +1,14 @@
+//! Rows of numbers, one after the other in one table: the children of each node, or the items that each task consumes.
+#![tactic(auto)]
+
+mod grouping;
+pub mod laws;
+mod table;
+#[cfg(test)]
+mod tests;
+
+use std::alloc::AllocError;
+pub use table::RowTable;
+
+/// Want of memory: an allocation was refused.
+pub type NoMemory = AllocError;

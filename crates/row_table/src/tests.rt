@@ -1,0 +1,37 @@
+use crate::RowTable;
+use std::test::Fail;
+
+// The keys of 5, 6, .. and the rows of these numbers.
+const ROWS: [(&[u32], [&[u32]; 4]); 4] = [
+    (&[], [&[], &[], &[], &[]]),
+    (&[3, 3, 3], [&[], &[], &[], &[5, 6, 7]]),
+    (&[2, 0, 3, 0, 2, 2], [&[6, 8], &[], &[5, 9, 10], &[7]]),
+    (&[3, 2, 1, 0], [&[8], &[7], &[6], &[5]]),
+];
+
+#[test]
+fn rows_by_keys(rt: HostRuntime) -> Result<(), Fail> {
+    for (keys, rows) in ROWS {
+        assert!(rt; keys.iter().all(|key| *key < 4));
+        assert!(rt; keys.len() < 10);
+        let table = RowTable::group(rt.alloc(), keys, 4, 5)?;
+        assert_eq!(rt; table.len(), 4);
+        for (k, row) in rows.iter().enumerate() {
+            assert!(rt; k < 4);
+            assert_eq!(rt; table.row(k as u32), *row);
+        }
+    }
+    Ok(())
+}
+
+#[test]
+fn a_row_is_sorted_alone(rt: HostRuntime) -> Result<(), Fail> {
+    let mut table = RowTable::group(rt.alloc(), &[1, 0, 1, 2, 1, 0], 3, 0)?;
+    table.sort_row_by_key(1, |number| 10 - number % 10);
+    let rows: [&[u32]; 3] = [&[1, 5], &[4, 2, 0], &[3]];
+    for (k, row) in rows.iter().enumerate() {
+        assert!(rt; k < table.len());
+        assert_eq!(rt; table.row(k as u32), *row);
+    }
+    Ok(())
+}
