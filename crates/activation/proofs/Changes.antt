@@ -15,7 +15,7 @@ use Rattle.activation.specs.Machine.{Setting, IsSetting, State, phase_in, with_p
 use Rattle.activation.specs.Safe.{IsSafe}
 use Rattle.activation.specs.Changes.{IsChange, BooksNeed, UsesNeed, FreesNeed}
 use Rattle.activation.proofs.Totals.{sum_changed_once, sum_same, counted_in}
-use Rattle.activation.proofs.Phases.{with_phase_same, with_phase_other}
+use Rattle.activation.proofs.Phases.{with_phase_same, with_phase_other, busy}
 use Rattle.activation.proofs.Premises.{StateSame, StateStep}
 use Rattle.activation.proofs.Orders.{each, task_in_order, counted_in_order, counted_once, in_front}
 
@@ -24,10 +24,6 @@ pub idle_or_not : (p : Phase) → (p ≡ Idle) ⊎ (p ≢ Idle)
 idle_or_not Idle = inl refl
 idle_or_not Running = inr (λ z. cc)
 idle_or_not Done = inr (λ z. cc)
-
--- a running task is not idle
-pub busy : {p : Phase} → p ≡ Running → p ≢ Idle
-busy e z = let k : Running ≡ Idle = sym e ∙ z in cc
 
 module _ (c : Setting) (set : IsSetting c) (st : State) (so : IsSafe c st) (t : ℕ) where
   -- the next task of the order has not begun

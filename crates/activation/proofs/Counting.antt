@@ -15,16 +15,11 @@ use Rattle.activation.specs.Runs.{AreLegal, state_after_all, is_kind, times_of, 
 use Rattle.activation.specs.Safe.{IsSafe}
 use Rattle.activation.specs.Run.{steps_of, event_count}
 use Rattle.activation.proofs.Totals.{counted_in}
-use Rattle.activation.proofs.Phases.{with_phase_other}
+use Rattle.activation.proofs.Phases.{with_phase_other, done_from, busy}
 use Rattle.activation.proofs.Premises.{Long, StartSafe, Kept}
 use Rattle.activation.proofs.Orders.{each, counted_once}
 use Rattle.activation.proofs.Changes.{order_sum, is_changed, finishes_front}
 use Rattle.activation.proofs.Safety.{run_safe, sum_zero, phase_replicate}
-
-pub done_from : (p : Phase) → is_done_phase p ≡ true → p ≡ Done
-done_from Idle h = cc
-done_from Running h = cc
-done_from Done h = refl
 
 steps_of_le : (p : Phase) → steps_of p ≤ 2
 unfolding steps_of
@@ -44,7 +39,7 @@ pub count_step : (c : Setting) → IsSetting c → (st : State) → IsSafe c st 
 unfolding event_count steps_of
 count_step c set st so Activate t h = omega arith
 count_step c set st so Start t h = omega (arith, count_up c set st so t Idle Running h.idle refl h.activated)
-count_step c set st so Finish t h = omega (arith, count_up c set st so t Running Done h.running refl (so.activated t (λ z. let k : Running ≡ Idle = sym h.running ∙ z in cc)))
+count_step c set st so Finish t h = omega (arith, count_up c set st so t Running Done h.running refl (so.activated t (busy h.running)))
 
 count_run : Kept → (c : Setting) → IsSetting c → (st : State) → IsSafe c st → (events : List Event) → AreLegal c st events → event_count c (state_after_all st events) ≡ event_count c st + length events
 count_run kept c set st so [] h = omega arith

@@ -4,7 +4,7 @@ pub mod Numbers
 pub mod Sizes
 pub mod Spots
 pub mod Awaiting
-pub mod Linking
+pub mod Producing
 pub mod Premises
 pub mod Orders
 pub mod Lengths
@@ -19,3 +19,4 @@ pub mod OneSchedule
 pub mod Clocks
 pub mod Advancing
 pub mod Looping
+pub mod Priorities

@@ -15,7 +15,7 @@ use Rattle.activation.proofs.Totals.{in_at}
 use Rattle.activation.proofs.Premises.{StartSafe, Kept}
 use Rattle.activation.proofs.Orders.{each, task_in_order, in_front, stands_once}
 use Rattle.activation.proofs.Changes.{next_idle}
-use Rattle.activation.proofs.Counting.{done_from}
+use Rattle.activation.proofs.Phases.{done_from, busy}
 
 pub record IsSame (k l : EventKind) (x y t u : ℕ) : Type 0 where
   pub kind : k ≡ l
@@ -65,7 +65,7 @@ none_comes c set priority m so done Start x t a =
     let is = task_in_order c.system c.order (each set) t (in_front c.system c.order (each set) m.state.activated t a.legal.activated) in
     let e : Idle ≡ Done = sym a.legal.idle ∙ done_from (phase_in m.state.phases t) (done t is) in cc
 none_comes c set priority m so done Finish x t a =
-    let front = so.activated t (λ z. let k : Running ≡ Idle = sym a.legal.running ∙ z in cc) in
+    let front = so.activated t (busy a.legal.running) in
     let is = task_in_order c.system c.order (each set) t (in_front c.system c.order (each set) m.state.activated t front) in
     let e : Running ≡ Done = sym a.legal.running ∙ done_from (phase_in m.state.phases t) (done t is) in cc
 

@@ -1,11 +1,11 @@
 -- What a change of one task's phase leaves.
-use Rattle.std.proofs.Common.{◌≡◌, ◌≢◌, ℕ, zero, suc, ◌-◌, ◌<◌, ◌≤◌, List, length, get_or, refl, arith, get_or-set_same, get_or-set_other, set, ⊎_elim}
+use Rattle.std.proofs.Common.{◌≡◌, ◌≢◌, ℕ, zero, suc, ◌-◌, ◌<◌, ◌≤◌, true, List, length, get_or, refl, sym, ◌∙◌, arith, get_or-set_same, get_or-set_other, set, ⊎_elim}
 use Rattle.std.proofs.lemmas.List.{length-set, get_or_read, get_or_past}
 use Rattle.std.proofs.lemmas.Bool.{cases_lt}
 use Rattle.activation.specs.declared.events.Phase.{Phase}
-use Rattle.activation.specs.declared.events.Phase.TheVariants.{Idle}
+use Rattle.activation.specs.declared.events.Phase.TheVariants.{Idle, Running, Done}
 use Rattle.activation.specs.Numbers.{IsNumber}
-use Rattle.activation.specs.Machine.{phase_in, with_phase}
+use Rattle.activation.specs.Machine.{phase_in, with_phase, is_idle_phase, is_running_phase, is_done_phase}
 
 pub with_phase_same : (ps : List Phase) (t : ℕ) (p : Phase) → 0 < t → t ≤ length ps → phase_in (with_phase ps t p) t ≡ p
 unfolding phase_in with_phase
@@ -40,3 +40,23 @@ pub phase_past : (ps : List Phase) (t : ℕ) → (IsNumber t (length ps) → ⊥
 unfolding phase_in
 phase_past ps zero n = refl
 phase_past ps (suc i) n = ⊎_elim (λ (w : i < length ps). absurd (n (omega arith, omega arith))) (λ (w : length ps ≤ i). get_or_past ps i Idle w) (cases_lt i (length ps))
+
+-- the phase that a test tells
+pub idle_from : (p : Phase) → is_idle_phase p ≡ true → p ≡ Idle
+idle_from Idle h = refl
+idle_from Running h = cc
+idle_from Done h = cc
+
+pub running_from : (p : Phase) → is_running_phase p ≡ true → p ≡ Running
+running_from Idle h = cc
+running_from Running h = refl
+running_from Done h = cc
+
+pub done_from : (p : Phase) → is_done_phase p ≡ true → p ≡ Done
+done_from Idle h = cc
+done_from Running h = cc
+done_from Done h = refl
+
+-- a running task is not idle
+pub busy : {p : Phase} → p ≡ Running → p ≢ Idle
+busy e z = let k : Running ≡ Idle = sym e ∙ z in cc

@@ -1,5 +1,5 @@
 -- Some event may happen next, until every task is done.
-use Rattle.std.proofs.Common.{◌≡◌, ℕ, suc, ◌+◌, ◌<◌, Bool, true, false, cond, not, List, [], ◌∷◌, inr, length, take, drop, get_or, refl, sym, ◌∙◌, ap, arith, ⊎_elim}
+use Rattle.std.proofs.Common.{◌≡◌, ℕ, suc, ◌+◌, ◌<◌, Bool, true, false, cond, not, List, [], ◌∷◌, inl, inr, length, take, drop, get_or, refl, sym, ◌∙◌, ap, arith, ⊎_elim}
 use Rattle.std.specs.Prelude.{◌==◌}
 use Rattle.std.proofs.lemmas.List.{length-take, get_or-take, take-take, take_all}
 use Rattle.std.proofs.lemmas.Bool.{not-true, not-false, cases_Bool, cases_lt, eqb-true, or_cases, true≢false, false_from_ne_true}
@@ -9,12 +9,13 @@ use Rattle.activation.specs.declared.events.EventKind.{EventKind}
 use Rattle.activation.specs.declared.events.EventKind.TheVariants.{Activate, Start, Finish}
 use Rattle.mp_system.specs.System.{need_of}
 use Rattle.mp_system.specs.Memory.{state_memory, stands_in, is_ready}
-use Rattle.activation.specs.Machine.{Setting, IsSetting, State, phase_in, is_running_phase, is_done_phase, is_running, is_done, activated_tasks, MayHappen, AllDone}
-use Rattle.activation.specs.Runs.{HasNext}
+use Rattle.activation.specs.Machine.{Setting, IsSetting, State, phase_in, is_running_phase, is_done_phase, is_running, is_done, activated_tasks, MayActivate, MayStart, AllDone}
+use Rattle.activation.specs.Runs.{HasNext, NoneRuns, CanBegin}
 use Rattle.activation.specs.Safe.{IsSafe}
 use Rattle.activation.proofs.Totals.{in_at}
 use Rattle.activation.proofs.Premises.{StateSame, ReadyMore, PeakBound}
 use Rattle.activation.proofs.Orders.{each, task_has_place, ready_at, split_at}
+use Rattle.activation.proofs.Phases.{running_from}
 use Rattle.activation.proofs.Safety.{count_zero, sum_zero}
 
 -- the first element that does not pass, where there is one
@@ -34,20 +35,15 @@ first_not test [] = none (λ x h. cc)
 first_not test (x ∷ xs) =
     ⊎_elim (λ t. first_not_cons test x xs t (first_not test xs)) (λ f. at 0 (omega arith) f (λ y h. cc)) (cases_Bool (test x))
 
-idle_from : (p : Phase) → is_running_phase p ≡ false → is_done_phase p ≡ false → p ≡ Idle
-idle_from Idle r d = refl
-idle_from Running r d = cc
-idle_from Done r d = cc
-
-pub running_from : (p : Phase) → is_running_phase p ≡ true → p ≡ Running
-running_from Idle r = cc
-running_from Running r = refl
-running_from Done r = cc
+idle_rest : (p : Phase) → is_running_phase p ≡ false → is_done_phase p ≡ false → p ≡ Idle
+idle_rest Idle r d = refl
+idle_rest Running r d = cc
+idle_rest Done r d = cc
 
 module _ (state_same : StateSame) (more : ReadyMore) (peak_bound : PeakBound) (c : Setting) (set : IsSetting c) (st : State) (so : IsSafe c st) (quiet : (x : ℕ) → stands_in c.order x ≡ true → is_running st x ≡ false) where
   -- an activated task that is not done may start
   starts : (j : ℕ) → j < length (activated_tasks c st) → is_done st (get_or (activated_tasks c st) j 0) ≡ false → ((x : ℕ) → stands_in (take j (activated_tasks c st)) x ≡ true → is_done st x ≡ true) →
-      (kind : EventKind) × ((t : ℕ) × MayHappen c st kind t)
+      (t : ℕ) × MayStart c st t
   starts j h f all =
       let len = length-take st.activated c.order in
       let j-front : j < st.activated = omega (arith, len) in
@@ -58,20 +54,17 @@ module _ (state_same : StateSame) (more : ReadyMore) (peak_bound : PeakBound) (c
       let here : stands_in c.order t ≡ true = rw is (in_at c.order j j-order) in
       let fed : is_ready c.system (is_done st) (get_or c.order j 0) ≡ true =
       more c.system (stands_in (take j c.order)) (is_done st) (get_or c.order j 0) (λ x y. all x (rw front y)) (ready_at c.system c.order set.traversal j j-order) in (
-        Start,
-        (
-          t,
-          record {
-            activated = in_at (activated_tasks c st) j h;
-            idle = idle_from (phase_in st.phases t) (quiet t here) f;
-            ready = rw is fed;
-            free = omega (arith, count_zero (is_running st) c.order quiet, set.workers);
-          },
-        ),
+        t,
+        record {
+          activated = in_at (activated_tasks c st) j h;
+          idle = idle_rest (phase_in st.phases t) (quiet t here) f;
+          ready = rw is fed;
+          free = omega (arith, count_zero (is_running st) c.order quiet, set.workers);
+        },
       )
 
   -- where all of them are done, the next one fits
-  activates : ((x : ℕ) → stands_in (activated_tasks c st) x ≡ true → is_done st x ≡ true) → st.activated < length c.order → (kind : EventKind) × ((t : ℕ) × MayHappen c st kind t)
+  activates : ((x : ℕ) → stands_in (activated_tasks c st) x ≡ true → is_done st x ≡ true) → st.activated < length c.order → (t : ℕ) × MayActivate c st t
   activates all h =
       let front = activated_tasks c st in
       let none = sum_zero (λ x. cond (is_done st x) 0 (need_of c.system x)) front (λ x y. ap (λ (b : Bool). cond b 0 (need_of c.system x)) (all x y)) in
@@ -82,24 +75,26 @@ module _ (state_same : StateSame) (more : ReadyMore) (peak_bound : PeakBound) (c
       (cases_Bool (is_done st x)) in
       let here = state_same c.system (is_done st) (stands_in front) same in
       let most = peak_bound c.system c.order (state_memory c.system (stands_in front) + need_of c.system (get_or c.order st.activated 0)) (inr (front, drop (st.activated + 1) c.order, get_or c.order st.activated 0, split_at c.order st.activated h, refl)) in (
-        Activate,
-        (
-          get_or c.order st.activated 0,
-          record {
-            left = h;
-            next = refl;
-            fits = omega (arith, none, here, most, set.bound);
-          },
-        ),
+        get_or c.order st.activated 0,
+        record {
+          left = h;
+          next = refl;
+          fits = omega (arith, none, here, most, set.bound);
+        },
       )
 
-  goes_on : FirstNot (is_done st) (activated_tasks c st) → (AllDone c st → ⊥) → HasNext c st
-  goes_on (at j h f all) open' = starts j h f all
-  goes_on (none all) open' = ⊎_elim (λ h. activates all h) (λ h. absurd (open' (λ t is. all t (rw (take_all st.activated c.order h) (task_has_place c.system c.order (each set) t is))))) (cases_lt st.activated (length c.order))
+  begins : FirstNot (is_done st) (activated_tasks c st) → (AllDone c st → ⊥) → CanBegin c st
+  begins (at j h f all) open' = inr (starts j h f all)
+  begins (none all) open' = ⊎_elim (λ h. inl (activates all h)) (λ h. absurd (open' (λ t is. all t (rw (take_all st.activated c.order h) (task_has_place c.system c.order (each set) t is))))) (cases_lt st.activated (length c.order))
 
-goes_on_running : StateSame → ReadyMore → PeakBound → (c : Setting) (set : IsSetting c) (st : State) (so : IsSafe c st) → FirstNot (λ x. not (is_running st x)) c.order → (AllDone c st → ⊥) → HasNext c st
-goes_on_running same more peak c set st so (at j h f all) open' = (Finish, (get_or c.order j 0, record { running = running_from (phase_in st.phases (get_or c.order j 0)) (not-false (is_running st (get_or c.order j 0)) f) }))
-goes_on_running same more peak c set st so (none all) open' = goes_on same more peak c set st so (λ x h. not-true (is_running st x) (all x h)) (first_not (is_done st) (activated_tasks c st)) open'
+pub safe_begins : StateSame → ReadyMore → PeakBound → (c : Setting) → IsSetting c → (st : State) → IsSafe c st → NoneRuns st → (AllDone c st → ⊥) → CanBegin c st
+safe_begins same more peak c set st so quiet = begins same more peak c set st so (λ x h. quiet x) (first_not (is_done st) (activated_tasks c st))
 
-pub safe_goes_on : StateSame → ReadyMore → PeakBound → (c : Setting) (set : IsSetting c) (st : State) (so : IsSafe c st) → (AllDone c st → ⊥) → HasNext c st
-safe_goes_on same more peak c set st so = goes_on_running same more peak c set st so (first_not (λ x. not (is_running st x)) c.order)
+goes_on : StateSame → ReadyMore → PeakBound → (c : Setting) → IsSetting c → (st : State) → IsSafe c st → FirstNot (λ x. not (is_running st x)) c.order → (AllDone c st → ⊥) → HasNext c st
+goes_on same more peak c set st so (at j h f all) open' = (Finish, (get_or c.order j 0, record { running = running_from (phase_in st.phases (get_or c.order j 0)) (not-false (is_running st (get_or c.order j 0)) f) }))
+goes_on same more peak c set st so (none all) open' =
+    ⊎_elim (λ a. (Activate, a)) (λ a. (Start, a))
+    (begins same more peak c set st so (λ x h. not-true (is_running st x) (all x h)) (first_not (is_done st) (activated_tasks c st)) open')
+
+pub safe_goes_on : StateSame → ReadyMore → PeakBound → (c : Setting) → IsSetting c → (st : State) → IsSafe c st → (AllDone c st → ⊥) → HasNext c st
+safe_goes_on same more peak c set st so = goes_on same more peak c set st so (first_not (λ x. not (is_running st x)) c.order)

@@ -17,10 +17,10 @@ use Rattle.activation.specs.Runs.{AreLegal, state_after_all}
 use Rattle.activation.specs.Safe.{IsSafe}
 use Rattle.activation.specs.Changes.{IsChange}
 use Rattle.activation.proofs.Totals.{counted_in, in_more}
-use Rattle.activation.proofs.Phases.{with_phase_other, length-with_phase}
+use Rattle.activation.proofs.Phases.{with_phase_other, length-with_phase, busy}
 use Rattle.activation.proofs.Premises.{StateSame, ReadyMore, StateStep, PeakBound, Kept}
 use Rattle.activation.proofs.Orders.{each, task_in_order, counted_in_order, in_front}
-use Rattle.activation.proofs.Changes.{busy, same_done, finish_adds, finishes_front, event_change}
+use Rattle.activation.proofs.Changes.{same_done, finish_adds, finishes_front, event_change}
 
 -- the outputs of a task are covered by its need and its inputs
 pub outputs_covered : (s : TaskSystem) (t : ℕ) → HasShare s t → outputs_of s t ≤ need_of s t + inputs_of s t

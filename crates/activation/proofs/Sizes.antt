@@ -9,7 +9,7 @@ use Rattle.std.proofs.lemmas.List.{get_or_default}
 use Rattle.std.proofs.lemmas.List.Elements.{All-get_or}
 use Rattle.mp_system.specs.declared.system.Task.{Task}
 use Rattle.mp_system.specs.System.{TaskSystem, IsSystem, IsTask, IsItemWithin, IsTaskWithin, HasShare, is_named, task_at, is_input, is_output, inputs_of, outputs_of, size_if, size_where, item_size}
-use Rattle.activation.specs.Schedule.{number_of}
+use Rattle.activation.specs.Schedule.{task_entry}
 use Rattle.activation.proofs.Numbers.{number_at}
 
 size_if-le : (test : Item → Bool) (item : Item) → size_if test item ≤ item_size item
@@ -56,7 +56,7 @@ task_facts s sys tasks same k d w =
     }
 
 -- a table of places is one of tasks
-pub of_task : (P : ℕ → ℕ → Type 0) (xs : List ℕ) (n : ℕ) → ((k : ℕ) → k < n → P (get_or xs k 0) (k + 1)) → (t : ℕ) → 1 ≤ t → t ≤ n → P (number_of xs t) t
+pub of_task : (P : ℕ → ℕ → Type 0) (xs : List ℕ) (n : ℕ) → ((k : ℕ) → k < n → P (get_or xs k 0) (k + 1)) → (t : ℕ) → 1 ≤ t → t ≤ n → P (task_entry xs t) t
 of_task P xs n all t low high =
     let e : t - 1 + 1 ≡ t = omega arith in
     let h = all (t - 1) (omega arith) in
@@ -66,8 +66,13 @@ pub named_some : (o : Option ℕ) (t : ℕ) → is_named o t ≡ true → o ≡ 
 named_some None t h = cc
 named_some (Some u) t h = ap Some (eqb-true u t h)
 
--- the consumer of an item is a task
-pub consumer_is_task : (s : TaskSystem) → IsSystem s → (items : List Item) → items ≡ s.items → (i : ℕ) (d : Item) → i < length items → (t : ℕ) → is_named (get_or items i d).to t ≡ true → IsTask s t
-consumer_is_task s sys items same i d w t h =
-    let kept = All-get_or (IsItemWithin s) items i d w (subst (All (IsItemWithin s)) (sym same) sys.items) in
-    kept.consumer t (named_some (get_or items i d).to t h)
+-- the tasks that an item names
+module _ (s : TaskSystem) (sys : IsSystem s) (items : List Item) (same : items ≡ s.items) (i : ℕ) (d : Item) (w : i < length items) where
+  kept : IsItemWithin s (get_or items i d)
+  kept = All-get_or (IsItemWithin s) items i d w (subst (All (IsItemWithin s)) (sym same) sys.items)
+
+  pub consumer_is_task : (t : ℕ) → is_input t (get_or items i d) ≡ true → IsTask s t
+  consumer_is_task t h = kept.consumer t (named_some (get_or items i d).to t h)
+
+  pub producer_is_task : (t : ℕ) → is_output t (get_or items i d) ≡ true → IsTask s t
+  producer_is_task t h = kept.producer t (named_some (get_or items i d).from t h)

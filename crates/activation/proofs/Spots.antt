@@ -1,12 +1,15 @@
 -- Lists of running tasks with the place of each.
 use Rattle.std.proofs.Common.{◌≡◌, ◌≢◌, ℕ, ◌+◌, ◌-◌, ◌<◌, Bool, true, false, not, ◌&&◌, List, length, take, get_or, set, get_or-set_same, get_or-set_other, refl, sym, subst, ◌∙◌, ap, arith, ⊎_elim}
-use Rattle.std.specs.Prelude.{◌==◌}
-use Rattle.std.proofs.lemmas.List.{length-take, length-set, get_or-take}
+use Rattle.std.specs.Prelude.{◌==◌, nat_eq}
+use Rattle.std.specs.List.{IsDistinct}
+use Rattle.std.proofs.lemmas.List.{length-take, length-set, get_or-take, get_or_default}
 use Rattle.std.proofs.lemmas.Bool.{cases_eq, eq-eqb, ne_eqb, true≢false, and_parts, and_from}
+use Rattle.std.proofs.lemmas.Bool.Decides.{Decides-eqb}
+use Rattle.std.proofs.lemmas.Map.Made.{IsDistinct-from_AllPairs}
 use Rattle.mp_system.specs.Memory.{stands_in}
 use Rattle.activation.specs.Numbers.{IsNumber}
-use Rattle.activation.specs.Running.{AreSpots, IsDistinct}
-use Rattle.activation.specs.Schedule.{number_of}
+use Rattle.activation.specs.Running.{AreSpots}
+use Rattle.activation.specs.Schedule.{task_entry}
 use Rattle.activation.proofs.Totals.{place_in, in_at}
 use Rattle.activation.proofs.Numbers.{number_set_same, number_set_other}
 
@@ -28,22 +31,21 @@ module _ (many : ℕ) (slots spots : List ℕ) (a : AreSpots many slots spots) w
       ap (λ t. stands_in (take many slots) t) (sym (get_or-take many slots k 0 w)) ∙ in_at (take many slots) k (omega (arith, length-take many slots, a.within))
 
   -- where a listed task stands
-  pub spot_of : (t : ℕ) → stands_in (take many slots) t ≡ true → (number_of spots t < many) × (get_or slots (number_of spots t) 0 ≡ t)
+  pub spot_of : (t : ℕ) → stands_in (take many slots) t ≡ true → (task_entry spots t < many) × (get_or slots (task_entry spots t) 0 ≡ t)
   spot_of t h =
       let p = place_listed t h in
-      let is : number_of spots t ≡ p.0 = ap (number_of spots) (sym p.2) ∙ a.places p.0 p.1 in
+      let is : task_entry spots t ≡ p.0 = ap (task_entry spots) (sym p.2) ∙ a.places p.0 p.1 in
       (omega (arith, is, p.1), ap (λ k. get_or slots k 0) is ∙ p.2)
 
   pub number_listed : (t : ℕ) → stands_in (take many slots) t ≡ true → IsNumber t (length spots)
   number_listed t h = let p = place_listed t h in subst (λ u. IsNumber u (length spots)) p.2 (a.numbers p.0 p.1)
 
-  pub distinct_listed : IsDistinct (take many slots)
-  distinct_listed i j wi wj e =
+  pub distinct_listed : IsDistinct nat_eq (take many slots)
+  distinct_listed = IsDistinct-from_AllPairs Decides-eqb (take many slots) (λ i j d lt w e.
       let len = length-take many slots in
-      let li : i < many = omega (arith, len) in
-      let lj : j < many = omega (arith, len) in
-      let same : get_or slots i 0 ≡ get_or slots j 0 = sym (get_or-take many slots i 0 li) ∙ e ∙ get_or-take many slots j 0 lj in
-      sym (a.places i li) ∙ ap (number_of spots) same ∙ a.places j lj
+      let at : (k : ℕ) → k < many → get_or (take many slots) k d ≡ get_or slots k 0 = λ k l. get_or-take many slots k d l ∙ get_or_default slots k d 0 (omega (arith, a.within)) in
+      let same : get_or slots i 0 ≡ get_or slots j 0 = sym (at i (omega (arith, len))) ∙ e ∙ at j (omega (arith, len)) in
+      omega (arith, a.places i (omega (arith, len)), ap (task_entry spots) same, a.places j (omega (arith, len)), lt))
 
   -- one more
   pub spots_added : (task : ℕ) → IsNumber task (length spots) → many < length slots → stands_in (take many slots) task ≡ false →
@@ -63,14 +65,14 @@ module _ (many : ℕ) (slots spots : List ℕ) (a : AreSpots many slots spots) w
             (cases_eq k many);
         places = λ k w.
             ⊎_elim
-            (λ e. subst (λ j. number_of (set spots (task - 1) many) (get_or (set slots many task) j 0) ≡ j) (sym e) (ap (number_of (set spots (task - 1) many)) here ∙ number_set_same spots task many n.0 n.1))
+            (λ e. subst (λ j. task_entry (set spots (task - 1) many) (get_or (set slots many task) j 0) ≡ j) (sym e) (ap (task_entry (set spots (task - 1) many)) here ∙ number_set_same spots task many n.0 n.1))
             (λ d. let w' : k < many = omega arith in
-            ap (number_of (set spots (task - 1) many)) (there k d) ∙ number_set_other spots task (get_or slots k 0) many n.0 (other k w') ∙ a.places k w')
+            ap (task_entry (set spots (task - 1) many)) (there k d) ∙ number_set_other spots task (get_or slots k 0) many n.0 (other k w') ∙ a.places k w')
             (cases_eq k many);
       }
 
   -- one less
-  module _ (task spot last : ℕ) (listed : stands_in (take many slots) task ≡ true) (spot_is : spot ≡ number_of spots task) (last_is : last ≡ get_or slots (many - 1) 0) where
+  module _ (task spot last : ℕ) (listed : stands_in (take many slots) task ≡ true) (spot_is : spot ≡ task_entry spots task) (last_is : last ≡ get_or slots (many - 1) 0) where
     pub spot_within : spot < many
     spot_within = omega (arith, spot_is, (spot_of task listed).0)
 
@@ -89,7 +91,7 @@ module _ (many : ℕ) (slots spots : List ℕ) (a : AreSpots many slots spots) w
     not_last : (k : ℕ) → k < many - 1 → get_or slots k 0 ≢ last
     not_last k w e =
         let same : get_or slots k 0 ≡ get_or slots (many - 1) 0 = e ∙ last_is in
-        let p : k ≡ many - 1 = sym (a.places k (omega arith)) ∙ ap (number_of spots) same ∙ a.places (many - 1) (omega arith) in
+        let p : k ≡ many - 1 = sym (a.places k (omega arith)) ∙ ap (task_entry spots) same ∙ a.places (many - 1) (omega arith) in
         omega arith
 
     pub spots_removed : AreSpots (many - 1) (set slots spot last) (set spots (last - 1) spot)
@@ -105,8 +107,8 @@ module _ (many : ℕ) (slots spots : List ℕ) (a : AreSpots many slots spots) w
               (cases_eq k spot);
           places = λ k w.
               ⊎_elim
-              (λ e. subst (λ j. number_of (set spots (last - 1) spot) (get_or (set slots spot last) j 0) ≡ j) (sym e) (ap (number_of (set spots (last - 1) spot)) here ∙ number_set_same spots last spot last_number.0 last_number.1))
-              (λ d. ap (number_of (set spots (last - 1) spot)) (there k d) ∙ number_set_other spots last (get_or slots k 0) spot last_number.0 (not_last k w) ∙ a.places k (omega arith))
+              (λ e. subst (λ j. task_entry (set spots (last - 1) spot) (get_or (set slots spot last) j 0) ≡ j) (sym e) (ap (task_entry (set spots (last - 1) spot)) here ∙ number_set_same spots last spot last_number.0 last_number.1))
+              (λ d. ap (task_entry (set spots (last - 1) spot)) (there k d) ∙ number_set_other spots last (get_or slots k 0) spot last_number.0 (not_last k w) ∙ a.places k (omega arith))
               (cases_eq k spot);
         }
 
@@ -144,5 +146,5 @@ module _ (many : ℕ) (slots spots : List ℕ) (a : AreSpots many slots spots) w
         kept t k w is d =
             let other : t ≢ task = λ e.
             let same : get_or slots k 0 ≡ get_or slots spot 0 = is ∙ e ∙ sym spot_has in
-            d (sym (a.places k w) ∙ ap (number_of spots) same ∙ a.places spot spot_within) in
+            d (sym (a.places k w) ∙ ap (task_entry spots) same ∙ a.places spot spot_within) in
             and_from (stands_in (take many slots) t) (not (t == task)) (subst (λ u. stands_in (take many slots) u ≡ true) is (stands_at k w)) (ap not (ne_eqb t task other))

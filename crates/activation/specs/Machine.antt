@@ -41,6 +41,11 @@ unfoldable pub with_phase : List Phase → ℕ → Phase → List Phase
 with_phase phases zero phase = phases
 with_phase phases (suc i) phase = slice_set phases i phase
 
+abbrev pub is_idle_phase : Phase → Bool
+is_idle_phase Idle = true
+is_idle_phase Running = false
+is_idle_phase Done = false
+
 abbrev pub is_running_phase : Phase → Bool
 is_running_phase Idle = false
 is_running_phase Running = true
@@ -112,3 +117,9 @@ state_after st Finish t = record { activated = st.activated; phases = with_phase
 -- every task is done
 abbrev pub AllDone : Setting → State → Type 0
 AllDone c st = (t : ℕ) → IsTask c.system t → is_done st t ≡ true
+
+-- what contracts see of a core: what it was given, its state, and whether it still has the room of a simulated run
+pub record CoreValue : Type 0 where
+  pub setting : Setting
+  pub state : State
+  pub has_room : Bool

@@ -1,3 +1,4 @@
+-- No public clause names this.
 -- Numbers of tasks.
 use Rattle.std.specs.Prelude.{ℕ, ◌≤◌}
 

@@ -1,6 +1,8 @@
+-- No public clause names this.
 -- A list of running tasks with the place of each at hand.
 use Rattle.std.specs.Prelude.{◌≡◌, ℕ, ◌<◌, ◌≤◌, List, length, slice_index}
-use Rattle.activation.specs.Schedule.{number_of}
+use Rattle.limits.specs.Limits.{most_workers}
+use Rattle.activation.specs.Schedule.{task_entry}
 use Rattle.activation.specs.Numbers.{IsNumber}
 
 -- what contracts see: the tasks that are listed, how many there may be, and of how many numbers they are
@@ -9,13 +11,9 @@ pub record RunningValue : Type 0 where
   pub room : ℕ
   pub count : ℕ
 
--- no number stands at two places of the list
-abbrev pub IsDistinct : List ℕ → Type 0
-IsDistinct xs = (i j : ℕ) → i < length xs → j < length xs → slice_index xs i ≡ slice_index xs j → i ≡ j
-
 -- the first slots have the tasks, and to each task its slot is written down
 pub record AreSpots (many : ℕ) (slots spots : List ℕ) : Type 0 where
-  pub few : length slots ≤ 4096
+  pub few : length slots ≤ most_workers
   pub within : many ≤ length slots
   pub numbers : (k : ℕ) → k < many → IsNumber (slice_index slots k) (length spots)
-  pub places : (k : ℕ) → k < many → number_of spots (slice_index slots k) ≡ k
+  pub places : (k : ℕ) → k < many → task_entry spots (slice_index slots k) ≡ k

@@ -1,3 +1,4 @@
+-- No public clause names this.
 -- Worked examples: a tree of five nodes on two workers, with as little memory as its order allows and with twice that.
 use Rattle.std.specs.Prelude.{◌≡◌, ℕ, Option, Some, None, List, [], ◌∷◌, map, refl}
 use Rattle.mp_system.specs.declared.system.Task.{Task}

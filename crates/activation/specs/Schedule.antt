@@ -8,14 +8,14 @@ use Rattle.activation.specs.declared.events.Event.{Event}
 use Rattle.activation.specs.Machine.{Setting, State, phase_in, MayActivate, MayStart, MayFinish, state_after, start_state, AllDone, booked_memory, used_memory}
 
 -- the number of a task in a list that has one for each task, the first task's first; 0 for a number that is no task's
-unfoldable pub number_of : List ℕ → ℕ → ℕ
-number_of numbers zero = 0
-number_of numbers (suc i) = slice_index numbers i
+unfoldable pub task_entry : List ℕ → ℕ → ℕ
+task_entry numbers zero = 0
+task_entry numbers (suc i) = slice_index numbers i
 
 -- the list with the number of one task changed
-unfoldable pub with_number : List ℕ → ℕ → ℕ → List ℕ
-with_number numbers zero number = numbers
-with_number numbers (suc i) number = slice_set numbers i number
+unfoldable pub with_task_entry : List ℕ → ℕ → ℕ → List ℕ
+with_task_entry numbers zero number = numbers
+with_task_entry numbers (suc i) number = slice_set numbers i number
 
 -- a state in time: the machine's state, the time, and the moment at which each started task is due
 pub record Moment : Type 0 where
@@ -26,7 +26,7 @@ pub record Moment : Type 0 where
 -- a task that starts is due its duration later
 abbrev pub dues_after : Setting → List ℕ → EventKind → ℕ → ℕ → List ℕ
 dues_after c dues Activate time t = dues
-dues_after c dues Start time t = with_number dues t (time + (task_at c.system t).time)
+dues_after c dues Start time t = with_task_entry dues t (time + (task_at c.system t).time)
 dues_after c dues Finish time t = dues
 
 -- the moment after an event
@@ -53,7 +53,7 @@ pub record HoldsEach (system : TaskSystem) (tasks : List ℕ) : Type 0 where
 
 -- no running task is due now, no task may be activated, and none may start
 abbrev pub NoneDue : Moment → Type 0
-NoneDue m = (u : ℕ) → phase_in m.state.phases u ≡ Running → m.time < number_of m.dues u
+NoneDue m = (u : ℕ) → phase_in m.state.phases u ≡ Running → m.time < task_entry m.dues u
 
 abbrev pub NoneActivates : Setting → Moment → Type 0
 NoneActivates c m = (u : ℕ) → MayActivate c m.state u → ⊥
@@ -65,9 +65,9 @@ NoneStarts c m = (u : ℕ) → MayStart c m.state u → ⊥
 -- be activated or start, and then time moves to the moment at which it is due
 pub record FinishesNext (c : Setting) (m : Moment) (time t : ℕ) : Type 0 where
   pub legal : MayFinish c m.state t
-  pub due : number_of m.dues t ≡ time
-  pub least : (u : ℕ) → phase_in m.state.phases u ≡ Running → time ≤ number_of m.dues u
-  pub first : (u : ℕ) → phase_in m.state.phases u ≡ Running → number_of m.dues u ≡ time → u ≢ t → StandsBefore c.order t u
+  pub due : task_entry m.dues t ≡ time
+  pub least : (u : ℕ) → phase_in m.state.phases u ≡ Running → time ≤ task_entry m.dues u
+  pub first : (u : ℕ) → phase_in m.state.phases u ≡ Running → task_entry m.dues u ≡ time → u ≢ t → StandsBefore c.order t u
   pub now_or_idle : (time ≡ m.time) ⊎ (NoneDue m × NoneActivates c m × NoneStarts c m)
 
 -- an activation comes next: no finish is due

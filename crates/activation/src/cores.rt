@@ -1,39 +1,92 @@
-ghost use Rattle.std.specs.Prelude.{◌≡◌, ◌≤◌, ℕ, IfOk, IfErr, IfSome, IfNone, IsTrue, ◌↔◌};
+ghost use Rattle.std.specs.Prelude.{◌≡◌, nat_eq, ◌*◌, ◌<◌, ◌≤◌, ℕ, true, false, if◌then◌else◌, [], length, slice_index, count_by, vec_capacity, IfOk, IfErr, IsTrue, IfSome, IfNone, ◌↔◌};
 ghost use Rattle.std.specs.Bool.{OnTrue, OnFalse};
-ghost use Rattle.mp_system.specs.Memory.{stands_in};
-ghost use Rattle.activation.specs.Running.{IsDistinct};
+ghost use Rattle.std.specs.List.{IsDistinct};
+ghost use Rattle.limits.specs.Limits.{most_time, most_workers};
+ghost use Rattle.mp_system.specs.System.{IsTask, is_named, task_at};
+ghost use Rattle.mp_system.specs.Memory.{peak_of, stands_in};
+ghost use Rattle.mp_system.specs.Traversal.{IsTraversal};
 ghost use Rattle.activation.specs.Machine.{IsSetting, MayActivate, MayStart, MayFinish, state_after, start_state, is_running, is_done, booked_memory, used_memory};
 ghost use Rattle.activation.specs.Safe.{IsSafe};
 ghost use Rattle.activation.specs.Refusal.{IsCoreRefusal};
+ghost use Rattle.activation.specs.Tables.{is_startable, is_edge};
+ghost use Rattle.activation.specs.Schedule.{task_entry};
+ghost use Rattle.activation.specs.Run.{AreRanks, IsRoom, run_tables, mark};
 
-use crate::events::{Event, EventKind};
-use crate::machine::Machine;
-use crate::refusal::{CoreRefusal, of_replay};
+use crate::NoMemory;
+use crate::events::{Event, EventKind, Phase};
+use crate::laws::{event_law, start_law};
+use crate::outputs::output_rows;
+use crate::places::{fill_places, is_number};
+use crate::refusal::CoreRefusal;
 use crate::room::Room;
+use crate::running::RunningTasks;
+use crate::start::{copy_system, start_memory};
+use crate::sums::needs_of;
+use crate::waiting::{count_waiting, release};
+use min_tree::MinTree;
+use mp_system::laws::traversal_law;
 use mp_system::{System, replay};
+use row_table::RowTable;
+use row_table::laws::numbers_law;
 use std::alloc::Global;
 use std::marker::Model;
 
-/// The activation core of a system, an order, a bound on memory and so many workers. Whoever runs the tasks embeds it: it says which
-/// task may be activated, started and finished next. All its calls but `new` take no memory. Agullo et al. 2016.
+/// The activation core of a system, an order, a bound on memory and so many workers. Whoever runs the tasks embeds it: it activates the next
+/// task where its need fits, and starts and finishes the tasks that it is told, where they may. All its calls but `new` take no memory.
+/// Agullo et al. 2016.
 #[derive(Drop)]
 pub struct Core {
-    pub(crate) machine: Machine,
-    pub(crate) room: Room,
-    pub(crate) events: Vec<Event>,
+    system: System,
+    order: Vec<u32>,
+    bound: u64,
+    workers: u32,
+    needs: Vec<u64>,
+    frees: Vec<u64>,
+    places: Vec<u32>,
+    outputs: RowTable,
+    waiting: Vec<u32>,
+    phases: Vec<Phase>,
+    activated: usize,
+    running: RunningTasks,
+    booked: u64,
+    used: u64,
+    // What a simulated run takes: its trees and tables, and its events.
+    room: Option<(Room, Vec<Event>)>,
 }
 
 impl Model for Core {
-    ghost use Rattle.std.specs.Prelude.{◌≡◌, ◌≤◌, ◌*◌, [], length, vec_capacity};
-    ghost use Rattle.activation.specs.Tables.{CoreValue};
-    ghost use Rattle.activation.specs.Run.{IsRoom};
+    ghost use Rattle.std.specs.Prelude.{◌≡◌, ◌≤◌, ◌*◌, [], length, vec_capacity, is_some};
+    ghost use Rattle.std.specs.Option.{ForSome};
+    ghost use Rattle.activation.specs.Machine.{CoreValue};
+    ghost use Rattle.activation.specs.Tables.{AreCoreTables};
+    ghost use Rattle.activation.specs.Run.{IsRoom, run_tables};
 
     ghost Value = { CoreValue };
 
-    ghost view = { λ c. c.machine };
+    ghost view = { λ m. record {
+      setting = record { system = m.system; order = m.order.items; bound = m.bound; workers = m.workers };
+      state = record { activated = m.activated; phases = m.phases.items };
+      has_room = is_some m.room;
+    } };
 
-    ghost invariant = { λ c. IsRoom (length c.machine.setting.system.tasks) c.room.dues.items c.room.clock c.room.ready c.room.ranks.items c.room.priority.items
-        × (c.events.items ≡ []) × (3 * length c.machine.setting.system.tasks ≤ vec_capacity c.events) };
+    ghost invariant = { λ m. AreCoreTables
+        (record { system = m.system; order = m.order.items; bound = m.bound; workers = m.workers })
+        (record { activated = m.activated; phases = m.phases.items })
+        (record {
+          fixed = record { needs = m.needs.items; frees = m.frees.items; places = m.places.items; outputs = m.outputs };
+          waiting = m.waiting.items;
+          running = m.running;
+          booked = m.booked;
+          used = m.used;
+        })
+        × ForSome m.room (λ room. IsRoom (length m.system.tasks) (run_tables room.0) × (room.1.items ≡ []) × (3 * length m.system.tasks ≤ vec_capacity room.1)) };
+}
+
+// The mark of a task that is startable, or is not.
+fn mark(startable: bool) -> u64
+    ensures { result ≡ mark startable }
+{
+    if startable { 0 } else { u64::MAX }
 }
 
 impl Core {
@@ -46,27 +99,66 @@ impl Core {
         bound: u64,
         workers: u32,
     ) -> Result<Core, CoreRefusal>
-        requires { (1 ≤ workers) × (workers ≤ 4096) }
+        requires { (1 ≤ workers) × (workers ≤ most_workers) }
         ensures setting { IfOk result (λ core. core.setting ≡ record { system = system.now; order = order.now; bound = bound; workers = workers }) }
         ensures start { IfOk result (λ core. core.state ≡ start_state core.setting) }
+        ensures room { IfOk result (λ core. core.has_room ≡ true) }
         ensures within { IfOk result (λ core. IsSetting core.setting) }
         ensures refused { IfErr result (IsCoreRefusal system.now order.now bound) }
     {
-        let count = system.tasks().len();
-        let peak = match replay(alloc, system, order) {
-            Ok(peak) => peak,
-            Err(refusal) => return Err(of_replay(refusal)),
-        };
+        let peak = replay(alloc, system, order)?;
         if bound < peak {
             return Err(CoreRefusal::BoundBelow { bound, peak });
         }
-        let machine = Machine::new(alloc, system, order, bound, workers)?;
+        Ok(Core::at_start(alloc, system, order, bound, workers)?)
+    }
+
+    // The core of a setting at its start.
+    fn at_start(
+        alloc: Global,
+        system: &System,
+        order: &[u32],
+        bound: u64,
+        workers: u32,
+    ) -> Result<Core, NoMemory>
+        requires traversal { IsTraversal system.now order.now }
+        requires bound { peak_of system.now order.now ≤ bound }
+        requires workers { (1 ≤ workers) × (workers ≤ most_workers) }
+        ensures setting { IfOk result (λ m. m.setting ≡ record { system = system.now; order = order.now; bound = bound; workers = workers }) }
+        ensures start { IfOk result (λ m. m.state ≡ start_state m.setting) }
+        ensures room { IfOk result (λ m. m.has_room ≡ true) }
+    {
+        start_law();
+        traversal_law();
+        let count = system.tasks().len();
+        let needs = needs_of(alloc, system)?;
+        let outputs = output_rows(alloc, system)?;
+        let waiting = count_waiting(alloc, system)?;
+        let mut places = vec![in alloc; 0u32; count]?;
+        fill_places(order, &mut places);
+        let running = RunningTasks::new(alloc, workers as usize, count)?;
+        let phases = vec![in alloc; Phase::Idle; count]?;
+        let memory = start_memory(alloc, system)?;
         let room = Room::new(alloc, count)?;
         let events = Vec::with_capacity(alloc, 3 * count)?;
+        let order = Vec::from_slice(alloc, order)?;
+        let system = copy_system(alloc, system)?;
         Ok(Core {
-            machine,
-            room,
-            events,
+            system,
+            order,
+            bound,
+            workers,
+            needs: needs.needs,
+            frees: needs.frees,
+            places,
+            outputs,
+            waiting,
+            phases,
+            activated: 0,
+            running,
+            booked: memory,
+            used: memory,
+            room: Some((room, events)),
         })
     }
 
@@ -78,7 +170,34 @@ impl Core {
         ensures none { IfNone result ((t : ℕ) → MayActivate self.old.setting self.old.state t → ⊥) }
         ensures unchanged { IfNone result (self.new ≡ self.old) }
     {
-        self.machine.activate()
+        event_law();
+        if self.activated == self.order.len() {
+            return None;
+        }
+        let task = self.order[self.activated];
+        let need = self.needs[task as usize - 1];
+        if self.bound - self.booked < need {
+            return None;
+        }
+        self.activated += 1;
+        self.booked += need;
+        Some(task)
+    }
+
+    /// Whether a task may start as soon as a worker is free.
+    pub(crate) fn is_startable(&self, task: u32) -> bool
+        requires { IsTask self.now.setting.system task }
+        ensures { result ≡ is_startable self.now.setting self.now.state task }
+    {
+        let at = task as usize - 1;
+        (self.places[at] as usize) < self.activated && self.phases[at].is_idle() && self.waiting[at] == 0
+    }
+
+    // Whether the task may start now.
+    fn may_start(&self, task: u32) -> bool
+        ensures { IsTrue result ↔ MayStart self.now.setting self.now.state task }
+    {
+        is_number(task, self.system.tasks().len()) && self.running.has_room() && self.is_startable(task)
     }
 
     /// Starts an activated task whose suppliers are done, where a worker is free.
@@ -88,7 +207,23 @@ impl Core {
         ensures next { OnTrue result (self.new.state ≡ state_after self.old.state EventKind.Start task) }
         ensures unchanged { OnFalse result (self.new ≡ self.old) }
     {
-        self.machine.start(task)
+        event_law();
+        if !self.may_start(task) {
+            return false;
+        }
+        let at = task as usize - 1;
+        let need = self.needs[at];
+        self.phases[at] = Phase::Running;
+        self.running.add(task);
+        self.used += need;
+        true
+    }
+
+    // Whether the task runs now.
+    fn may_finish(&self, task: u32) -> bool
+        ensures { IsTrue result ↔ MayFinish self.now.setting self.now.state task }
+    {
+        is_number(task, self.system.tasks().len()) && self.phases[task as usize - 1].is_running()
     }
 
     /// Ends a running task.
@@ -98,53 +233,140 @@ impl Core {
         ensures next { OnTrue result (self.new.state ≡ state_after self.old.state EventKind.Finish task) }
         ensures unchanged { OnFalse result (self.new ≡ self.old) }
     {
-        self.machine.finish(task)
+        event_law();
+        numbers_law();
+        if !self.may_finish(task) {
+            return false;
+        }
+        let at = task as usize - 1;
+        let frees = self.frees[at];
+        self.phases[at] = Phase::Done;
+        self.running.remove(task);
+        self.booked -= frees;
+        self.used -= frees;
+        release(&self.system, self.outputs.row(task), &mut self.waiting);
+        true
     }
 
     /// Used memory: the items that are present, and the needs of the running tasks.
     pub fn used(&self) -> u64
         ensures { result ≡ used_memory self.now.setting self.now.state }
     {
-        self.machine.used()
+        self.used
     }
 
     /// Booked memory: the items that are present, and the needs of the activated tasks that are not done.
     pub fn booked(&self) -> u64
         ensures { result ≡ booked_memory self.now.setting self.now.state }
     {
-        self.machine.booked()
+        self.booked
     }
 
     /// How many tasks are activated.
     pub fn activated(&self) -> u32
         ensures { result ≡ self.now.state.activated }
     {
-        self.machine.activated()
+        traversal_law();
+        self.activated as u32
     }
 
     /// The running tasks, each once, in any order.
     pub fn running(&self) -> &[u32]
-        ensures once { IsDistinct result.now }
+        ensures once { IsDistinct nat_eq result.now }
         ensures each { (t : ℕ) → stands_in result.now t ≡ is_running self.now.state t }
     {
-        self.machine.running()
+        self.running.as_slice()
     }
 
     /// Whether a task is done; a number that is no task's is not.
     pub fn is_done(&self, task: u32) -> bool
         ensures { result ≡ is_done self.now.state task }
     {
-        self.machine.is_done(task)
+        is_number(task, self.phases.len()) && self.phases[task as usize - 1].is_done()
     }
 
-    /// What every core keeps.
+    /// What every core keeps; a proof that needs it calls it. It does nothing.
     pub fn keeps(&self)
         // the order is a traversal whose peak is within the bound, and there is a worker
         ensures setting { IsSetting self.now.setting }
-        ensures few_workers { self.now.setting.workers ≤ 4096 }
+        ensures few_workers { self.now.setting.workers ≤ most_workers }
         // running and done tasks are activated and ready, no more tasks run than there are workers, and memory is within the bound
         ensures safe { IsSafe self.now.setting self.now.state }
     {
-        self.machine.keeps();
+        let _ = &self.system;
+    }
+
+    /// The task that stands at this place of the order, counted from 0.
+    pub(crate) fn task_at(&self, place: usize) -> u32
+        requires { place < length self.now.setting.order }
+        ensures { result ≡ slice_index self.now.setting.order place }
+    {
+        self.order[place]
+    }
+
+    /// Where a task stands in the order, counted from 0.
+    pub(crate) fn place_of(&self, task: u32) -> usize
+        requires { IsTask self.now.setting.system task }
+        ensures within { result < length self.now.setting.order }
+        ensures there { slice_index self.now.setting.order result ≡ task }
+    {
+        self.places[task as usize - 1] as usize
+    }
+
+    /// How long a task takes.
+    pub(crate) fn time_of(&self, task: u32) -> u64
+        requires { IsTask self.now.setting.system task }
+        ensures time { result ≡ (task_at self.now.setting.system task).time }
+        ensures long { result ≤ most_time }
+    {
+        self.system.tasks()[task as usize - 1].time
+    }
+
+    /// Gives away the room of a run.
+    pub(crate) fn take_room(&mut self) -> (Room, Vec<Event>)
+        requires { self.old.has_room ≡ true }
+        ensures setting { self.new.setting ≡ self.old.setting }
+        ensures state { self.new.state ≡ self.old.state }
+        ensures room { IsRoom (length self.old.setting.system.tasks) (run_tables result.0) }
+        ensures events { result.1.items ≡ [] }
+        ensures capacity { 3 * length self.old.setting.system.tasks ≤ vec_capacity result.1 }
+    {
+        let Some(room) = self.room.take() else {
+            unreachable!()
+        };
+        room
+    }
+
+    /// Writes down at the rank of the task that is named, if one is, whether it is startable.
+    pub(crate) fn refresh(&self, task: Option<u32>, ranks: &[u32], ready: &mut MinTree)
+        requires tasks { (t : ℕ) → is_named task t ≡ true → IsTask self.now.setting.system t }
+        requires ranks { AreRanks (length self.now.setting.system.tasks) ranks.now }
+        requires long { length ready.old ≡ length self.now.setting.system.tasks }
+        ensures long { length ready.new ≡ length ready.old }
+        ensures marks { (t : ℕ) → IsTask self.now.setting.system t → slice_index ready.new (task_entry ranks.now t)
+            ≡ (if is_named task t then mark (is_startable self.now.setting self.now.state t) else slice_index ready.old (task_entry ranks.now t)) }
+    {
+        if let Some(named) = task {
+            let rank = ranks[named as usize - 1] as usize;
+            ready.put(rank, mark(self.is_startable(named)));
+        }
+    }
+
+    /// Does so for each task that consumes an output of this one.
+    pub(crate) fn refresh_consumers(&self, task: u32, ranks: &[u32], ready: &mut MinTree)
+        requires task { IsTask self.now.setting.system task }
+        requires ranks { AreRanks (length self.now.setting.system.tasks) ranks.now }
+        requires long { length ready.old ≡ length self.now.setting.system.tasks }
+        ensures long { length ready.new ≡ length ready.old }
+        ensures consumers { (t : ℕ) → IsTask self.now.setting.system t → 0 < count_by (is_edge task t) self.now.setting.system.items →
+            slice_index ready.new (task_entry ranks.now t) ≡ mark (is_startable self.now.setting self.now.state t) }
+        ensures others { (t : ℕ) → IsTask self.now.setting.system t → count_by (is_edge task t) self.now.setting.system.items ≡ 0 →
+            slice_index ready.new (task_entry ranks.now t) ≡ slice_index ready.old (task_entry ranks.now t) }
+    {
+        numbers_law();
+        let items = self.system.items();
+        for place in self.outputs.row(task) {
+            self.refresh(items[*place as usize].to, ranks, ready);
+        }
     }
 }

@@ -1,3 +1,6 @@
+ghost use Rattle.std.specs.Prelude.{◌≡◌};
+ghost use Rattle.activation.specs.Machine.{is_idle_phase, is_running_phase, is_done_phase};
+
 /// What a task is doing. The machine's states name it.
 #[derive(Clone, Copy)]
 pub enum Phase {
@@ -7,6 +10,29 @@ pub enum Phase {
     Running,
     /// It is done.
     Done,
+}
+
+impl Phase {
+    /// Whether the task has not started.
+    pub fn is_idle(self) -> bool
+        ensures { result ≡ is_idle_phase self }
+    {
+        matches!(self, Phase::Idle)
+    }
+
+    /// Whether the task runs.
+    pub fn is_running(self) -> bool
+        ensures { result ≡ is_running_phase self }
+    {
+        matches!(self, Phase::Running)
+    }
+
+    /// Whether the task is done.
+    pub fn is_done(self) -> bool
+        ensures { result ≡ is_done_phase self }
+    {
+        matches!(self, Phase::Done)
+    }
 }
 
 /// What can happen to a task.

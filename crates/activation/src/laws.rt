@@ -6,7 +6,7 @@ ghost use Rattle.activation.specs.declared.events.Event.{Event};
 ghost use Rattle.activation.specs.Machine.{Setting, IsSetting, State, MayHappen, state_after, start_state, AllDone, booked_memory, used_memory};
 ghost use Rattle.activation.specs.Safe.{IsSafe};
 ghost use Rattle.activation.specs.Changes.{IsChange};
-ghost use Rattle.activation.specs.Runs.{AreLegal, state_after_all, IsWithin, HasNext, AtMostOnce, EachOnce};
+ghost use Rattle.activation.specs.Runs.{AreLegal, state_after_all, IsWithinBound, HasNext, NoneRuns, CanBegin, AtMostOnce, EachOnce};
 ghost use Rattle.activation.specs.Schedule.{HoldsEach, IsSchedule, first_moment};
 
 use mp_system::laws::{congruence, peak_law, ready_law, state_step_law, traversal_law};
@@ -36,17 +36,22 @@ pub fn event_law()
 /// Used memory is at most booked memory, and booked memory at most the bound, after every list of events that the machine has.
 pub fn within_law()
     ensures { (c : Setting) → IsSetting c → (events : List Event) → AreLegal c (start_state c) events →
-        IsWithin c (state_after_all (start_state c) events) }
+        IsWithinBound c (state_after_all (start_state c) events) }
 {
     start_law();
     event_law();
 }
 
-/// A state in which not every task is done has an event: each safe one, and so each to which events lead from the start.
+/// A state in which not every task is done has an event: each safe one, and so each to which events lead from the start. Where no task runs,
+/// that is an activation or a start; so who ends the tasks that run, and else activates and starts, comes to the end.
 pub fn progress_law()
     ensures safe { (c : Setting) → IsSetting c → (st : State) → IsSafe c st → (AllDone c st → ⊥) → HasNext c st }
     ensures run { (c : Setting) → IsSetting c → (events : List Event) → AreLegal c (start_state c) events →
         (AllDone c (state_after_all (start_state c) events) → ⊥) → HasNext c (state_after_all (start_state c) events) }
+    ensures idle_safe { (c : Setting) → IsSetting c → (st : State) → IsSafe c st → NoneRuns st → (AllDone c st → ⊥) → CanBegin c st }
+    ensures idle_run { (c : Setting) → IsSetting c → (events : List Event) → AreLegal c (start_state c) events →
+        NoneRuns (state_after_all (start_state c) events) → (AllDone c (state_after_all (start_state c) events) → ⊥) →
+        CanBegin c (state_after_all (start_state c) events) }
 {
     start_law();
     event_law();
@@ -76,7 +81,7 @@ pub fn schedule_law()
     ensures each_once { (c : Setting) → IsSetting c → (priority : List ℕ) (events : List Event) →
         IsSchedule c priority (first_moment c) events → EachOnce c events }
     ensures within { (c : Setting) → IsSetting c → (priority : List ℕ) (before rest : List Event) →
-        IsSchedule c priority (first_moment c) (before ++ rest) → IsWithin c (state_after_all (start_state c) before) }
+        IsSchedule c priority (first_moment c) (before ++ rest) → IsWithinBound c (state_after_all (start_state c) before) }
 {
     start_law();
     event_law();

@@ -2,16 +2,16 @@
 //! along a traversal, which books their memory, and started by free workers once their suppliers are done. So no run gets stuck, and
 //! memory stays within every bound that the traversal keeps alone.
 //!
-//! [`Core`] is the machine, for whoever runs the tasks; [`simulate`] is its run in simulated time. The definitions stand in specs/: `Machine`,
-//! `Runs`, `Safe`, `Schedule`; the laws over every list of events in [`laws`].
+//! [`Core`] is the machine, for whoever runs the tasks; [`simulate`] is its run in simulated time, for a priority that passes [`holds_each`].
+//! The definitions stand in specs/: `Machine`, `Runs`, `Safe`, `Schedule`; the laws over every list of events in [`laws`].
 #![tactic(auto)]
 
-mod chains;
 mod cores;
 mod events;
 pub mod laws;
-mod machine;
+mod outputs;
 mod places;
+mod priority;
 mod refusal;
 mod room;
 mod run;
@@ -25,5 +25,10 @@ mod waiting;
 
 pub use cores::Core;
 pub use events::{Event, EventKind};
+pub use priority::holds_each;
 pub use refusal::CoreRefusal;
 pub use simulation::{Trace, simulate};
+use std::alloc::AllocError;
+
+/// Want of memory: an allocation was refused.
+pub type NoMemory = AllocError;

@@ -1,13 +1,20 @@
-ghost use Rattle.std.specs.Prelude.{◌≡◌, ℕ, ◌<◌, ◌≤◌, ◌^◌, length, slice_index};
+ghost use Rattle.std.specs.Prelude.{◌≡◌, ℕ, ◌<◌, ◌≤◌, ◌^◌, length, slice_index, IsTrue, ◌↔◌};
 ghost use Rattle.activation.specs.Numbers.{IsNumber};
-ghost use Rattle.activation.specs.Tables.{ArePlaces};
+ghost use Rattle.activation.specs.Tables.{AreTaskPlaces};
+
+/// Whether this is the number of one of so many tasks.
+pub fn is_number(task: u32, count: usize) -> bool
+    ensures { IsTrue result ↔ IsNumber task count }
+{
+    task > 0 && task as usize <= count
+}
 
 /// Writes down at which place each task of a list stands, counted from 0.
 pub fn fill_places(tasks: &[u32], places: &mut [u32])
     requires few { length tasks.now < 2 ^ 32 }
     requires numbers { (k : ℕ) → k < length tasks.now → IsNumber (slice_index tasks.now k) (length places.old) }
     requires once { (i j : ℕ) → i < length tasks.now → j < length tasks.now → slice_index tasks.now i ≡ slice_index tasks.now j → i ≡ j }
-    ensures { ArePlaces tasks.now places.new }
+    ensures { AreTaskPlaces tasks.now places.new }
 {
     for i in 0..tasks.len() {
         places[tasks[i] as usize - 1] = i as u32;

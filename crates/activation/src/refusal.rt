@@ -1,9 +1,5 @@
-ghost use Rattle.std.specs.Prelude.{ℕ, List};
-ghost use Rattle.mp_system.specs.System.{TaskSystem};
-ghost use Rattle.mp_system.specs.Refusal.{IsRefusal};
-ghost use Rattle.activation.specs.Refusal.{IsCoreRefusal};
-
-use mp_system::{NoMemory, OrderFault, ReplayRefusal};
+use crate::NoMemory;
+use mp_system::{OrderFault, ReplayRefusal};
 
 /// Why there is no core.
 #[derive(Clone, Copy, Debug, PartialEq, Eq)]
@@ -27,12 +23,18 @@ impl From<NoMemory> for CoreRefusal {
     }
 }
 
-/// The same refusal as that of a replay.
-pub fn of_replay(refusal: ReplayRefusal) -> CoreRefusal
-    ensures { (system : TaskSystem) (order : List ℕ) (bound : ℕ) → IsRefusal system order refusal → IsCoreRefusal system order bound result }
-{
-    match refusal {
-        ReplayRefusal::Order(fault) => CoreRefusal::Order(fault),
-        ReplayRefusal::NoMemory => CoreRefusal::NoMemory,
+impl From<ReplayRefusal> for CoreRefusal {
+    ghost use Rattle.std.specs.Prelude.{ℕ, List};
+    ghost use Rattle.mp_system.specs.System.{TaskSystem};
+    ghost use Rattle.mp_system.specs.Refusal.{IsRefusal};
+    ghost use Rattle.activation.specs.Refusal.{IsCoreRefusal};
+
+    ghost from_gives = { λ r e. (system : TaskSystem) (order : List ℕ) (bound : ℕ) → IsRefusal system order r → IsCoreRefusal system order bound e };
+
+    fn from(refusal: ReplayRefusal) -> CoreRefusal {
+        match refusal {
+            ReplayRefusal::Order(fault) => CoreRefusal::Order(fault),
+            ReplayRefusal::NoMemory => CoreRefusal::NoMemory,
+        }
     }
 }

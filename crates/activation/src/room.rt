@@ -1,8 +1,8 @@
 ghost use Rattle.std.specs.Prelude.{◌≤◌, IfOk};
-ghost use Rattle.activation.specs.Run.{IsRoom};
+ghost use Rattle.limits.specs.Limits.{most_tasks};
 
+use crate::NoMemory;
 use min_tree::MinTree;
-use mp_system::NoMemory;
 use std::alloc::Global;
 
 /// The trees and tables of a run: the clock, the tree of the startable tasks, the due moments, the ranks, and the priority.
@@ -16,10 +16,12 @@ pub struct Room {
 }
 
 impl Room {
+    ghost use Rattle.activation.specs.Run.{IsRoom, run_tables};
+
     /// The room of a run of so many tasks.
     pub fn new(alloc: Global, count: usize) -> Result<Room, NoMemory>
-        requires { count ≤ 1000000 }
-        ensures { IfOk result (λ r. IsRoom count r.dues.items r.clock r.ready r.ranks.items r.priority.items) }
+        requires { count ≤ most_tasks }
+        ensures { IfOk result (λ room. IsRoom count (run_tables room)) }
     {
         let clock = MinTree::new(alloc, count)?;
         let ready = MinTree::new(alloc, count)?;

@@ -4,66 +4,69 @@ ghost use Rattle.activation.specs.declared.events.Phase.TheVariants.{Running as 
 ghost use Rattle.activation.specs.Machine.{IsSetting, phase_in, start_state, used_memory, booked_memory, AllDone};
 ghost use Rattle.activation.specs.Safe.{IsSafe};
 ghost use Rattle.activation.specs.Tables.{is_startable};
-ghost use Rattle.activation.specs.Schedule.{HoldsEach, number_of, moment_after, first_moment, ComesNext, NoneDue, NoneActivates, NoneStarts};
-ghost use Rattle.activation.specs.Run.{event_count, IsRoom, IsNextDue, IsFirstStartable};
+ghost use Rattle.activation.specs.Schedule.{HoldsEach, task_entry, moment_after, first_moment, ComesNext, NoneDue, NoneActivates, NoneStarts};
+ghost use Rattle.activation.specs.Run.{event_count, IsRoom, IsNextDue, IsFirstStartable, run_tables};
 
 use crate::events::{Event, EventKind};
 use crate::laws::progress_law;
-use crate::machine::Machine;
+use crate::cores::Core;
 use crate::places::fill_places;
 use crate::room::Room;
+use mp_system::laws::traversal_law;
 use std::marker::Model;
 
 /// A run in simulated time, between two events.
 #[derive(Drop)]
 pub struct Run {
-    machine: Machine,
+    core: Core,
     room: Room,
     time: u64,
 }
 
 impl Model for Run {
-    ghost use Rattle.activation.specs.Run.{RunValue, IsRun};
+    ghost use Rattle.activation.specs.Run.{RunValue, IsRun, run_tables};
 
     ghost Value = { RunValue };
 
     ghost view = { λ r. record {
-      setting = r.machine.setting;
+      setting = r.core.setting;
       priority = r.room.priority.items;
-      moment = record { state = r.machine.state; time = r.time; dues = r.room.dues.items };
+      moment = record { state = r.core.state; time = r.time; dues = r.room.dues.items };
     } };
 
-    ghost invariant = { λ r. IsRun r.machine r.time r.room.dues.items r.room.clock r.room.ready r.room.ranks.items r.room.priority.items };
+    ghost invariant = { λ r. IsRun r.core.setting r.core.state r.time (run_tables r.room) };
 }
 
 impl Run {
     /// The run at moment 0, before any event.
-    pub fn new(machine: Machine, room: Room, priority: &[u32]) -> Run
-        requires start { machine.state ≡ start_state machine.setting }
-        requires room { IsRoom (length machine.setting.system.tasks) room.dues.items room.clock room.ready room.ranks.items room.priority.items }
-        requires priority { HoldsEach machine.setting.system priority.now }
-        ensures setting { result.setting ≡ machine.setting }
+    pub fn new(core: Core, room: Room, priority: &[u32]) -> Run
+        requires start { core.state ≡ start_state core.setting }
+        requires room { IsRoom (length core.setting.system.tasks) (run_tables room) }
+        requires priority { HoldsEach core.setting.system priority.now }
+        ensures setting { result.setting ≡ core.setting }
         ensures priority { result.priority ≡ priority.now }
-        ensures moment { result.moment ≡ first_moment machine.setting }
+        ensures moment { result.moment ≡ first_moment core.setting }
     {
-        machine.keeps();
+        core.keeps();
+        traversal_law();
         let mut room = room;
         room.priority.copy_from_slice(priority);
         fill_places(priority, &mut room.ranks);
         Run {
-            machine,
+            core,
             room,
             time: 0,
         }
     }
 
-    /// What every run keeps.
+    /// What every run keeps; a proof that needs it calls it. It does nothing.
     pub fn keeps(&self)
         ensures setting { IsSetting self.now.setting }
         ensures safe { IsSafe self.now.setting self.now.moment.state }
         ensures few_events { event_count self.now.setting self.now.moment.state ≤ 3 * length self.now.setting.system.tasks }
     {
-        self.machine.keeps();
+        self.core.keeps();
+        traversal_law();
     }
 
     /// The time.
@@ -77,14 +80,14 @@ impl Run {
     pub fn used(&self) -> u64
         ensures { result ≡ used_memory self.now.setting self.now.moment.state }
     {
-        self.machine.used()
+        self.core.used()
     }
 
     /// Booked memory.
     pub fn booked(&self) -> u64
         ensures { result ≡ booked_memory self.now.setting self.now.moment.state }
     {
-        self.machine.booked()
+        self.core.booked()
     }
 
     // The running task that is due first, a tie to the one that stands first in the order.
@@ -92,15 +95,16 @@ impl Run {
         ensures some { IfSome result (λ t. IsNextDue self.now.setting self.now.moment t) }
         ensures none { IfNone result ((u : ℕ) → phase_in self.now.moment.state.phases u ≡ IsRunning → ⊥) }
     {
-        self.machine.keeps();
-        if self.machine.task_count() == 0 {
+        self.core.keeps();
+        traversal_law();
+        if self.room.clock.len() == 0 {
             return None;
         }
         let place = self.room.clock.first_least();
         if self.room.clock.at(place) == u64::MAX {
             return None;
         }
-        Some(self.machine.task_at(place))
+        Some(self.core.task_at(place))
     }
 
     // The task that may start as soon as a worker is free, and stands first in the priority.
@@ -108,8 +112,9 @@ impl Run {
         ensures some { IfSome result (λ t. IsFirstStartable self.now.setting self.now.priority self.now.moment.state t) }
         ensures none { IfNone result ((u : ℕ) → IsTask self.now.setting.system u → is_startable self.now.setting self.now.moment.state u ≡ false) }
     {
-        self.machine.keeps();
-        if self.machine.task_count() == 0 {
+        self.core.keeps();
+        traversal_law();
+        if self.room.ready.len() == 0 {
             return None;
         }
         let rank = self.room.ready.first_least();
@@ -122,7 +127,7 @@ impl Run {
     // The moment at which a started task is due.
     fn due_of(&self, task: u32) -> u64
         requires { IsTask self.now.setting.system task }
-        ensures { result ≡ number_of self.now.moment.dues task }
+        ensures { result ≡ task_entry self.now.moment.dues task }
     {
         self.room.dues[task as usize - 1]
     }
@@ -132,16 +137,17 @@ impl Run {
         requires { IsNextDue self.old.setting self.old.moment task }
         ensures setting { self.new.setting ≡ self.old.setting }
         ensures priority { self.new.priority ≡ self.old.priority }
-        ensures event { result ≡ record { time = number_of self.old.moment.dues task; kind = EventKind.Finish; task = task } }
+        ensures event { result ≡ record { time = task_entry self.old.moment.dues task; kind = EventKind.Finish; task = task } }
         ensures next { self.new.moment ≡ moment_after self.old.setting self.old.moment result }
     {
-        self.machine.keeps();
-        let place = self.machine.place_of(task);
+        self.core.keeps();
+        traversal_law();
+        let place = self.core.place_of(task);
         let due = self.due_of(task);
-        self.machine.finish(task);
+        self.core.finish(task);
         self.time = due;
         self.room.clock.put(place, u64::MAX);
-        self.machine
+        self.core
             .refresh_consumers(task, &self.room.ranks, &mut self.room.ready);
         Event {
             time: due,
@@ -177,9 +183,9 @@ impl Run {
         ensures none { IfNone result (NoneActivates self.old.setting self.old.moment) }
         ensures unchanged { IfNone result (self.new ≡ self.old) }
     {
-        self.machine.keeps();
-        let task = self.machine.activate()?;
-        self.machine
+        self.core.keeps();
+        let task = self.core.activate()?;
+        self.core
             .refresh(Some(task), &self.room.ranks, &mut self.room.ready);
         Some(Event {
             time: self.time,
@@ -199,18 +205,19 @@ impl Run {
         ensures none { IfNone result (NoneStarts self.old.setting self.old.moment) }
         ensures unchanged { IfNone result (self.new ≡ self.old) }
     {
-        self.machine.keeps();
+        self.core.keeps();
+        traversal_law();
         let Some(task) = self.first_startable() else {
             return None;
         };
-        let place = self.machine.place_of(task);
-        let due = self.time + self.machine.time_of(task);
-        if !self.machine.start(task) {
+        let place = self.core.place_of(task);
+        let due = self.time + self.core.time_of(task);
+        if !self.core.start(task) {
             return None;
         }
         self.room.dues[task as usize - 1] = due;
         self.room.clock.put(place, due);
-        self.machine
+        self.core
             .refresh(Some(task), &self.room.ranks, &mut self.room.ready);
         Some(Event {
             time: self.time,

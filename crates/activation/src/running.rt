@@ -1,9 +1,10 @@
-ghost use Rattle.std.specs.Prelude.{◌≡◌, ◌==◌, ℕ, ◌+◌, ◌<◌, ◌≤◌, ◌^◌, true, false, not, ◌&&◌, [], ◌∷◌, ◌++◌, length, IfOk, IsTrue, ◌↔◌};
+ghost use Rattle.std.specs.Prelude.{◌≡◌, ◌==◌, nat_eq, ℕ, ◌+◌, ◌<◌, ◌≤◌, ◌^◌, true, false, not, ◌&&◌, [], ◌∷◌, ◌++◌, length, IfOk, IsTrue, ◌↔◌};
+ghost use Rattle.std.specs.List.{IsDistinct};
+ghost use Rattle.limits.specs.Limits.{most_workers};
 ghost use Rattle.mp_system.specs.Memory.{stands_in};
 ghost use Rattle.activation.specs.Numbers.{IsNumber};
-ghost use Rattle.activation.specs.Running.{IsDistinct};
 
-use mp_system::NoMemory;
+use crate::NoMemory;
 use std::alloc::Global;
 use std::marker::Model;
 
@@ -29,7 +30,7 @@ impl Model for RunningTasks {
 impl RunningTasks {
     /// No task; room for so many, at most 4,096, of so many numbers.
     pub fn new(alloc: Global, room: usize, count: usize) -> Result<RunningTasks, NoMemory>
-        requires { room ≤ 4096 }
+        requires { room ≤ most_workers }
         ensures { IfOk result (λ r. r ≡ record { listed = []; room = room; count = count }) }
     {
         let slots = vec![in alloc; 0u32; room]?;
@@ -44,7 +45,7 @@ impl RunningTasks {
     /// The tasks.
     pub fn as_slice(&self) -> &[u32]
         ensures value { result.now ≡ self.now.listed }
-        ensures once { IsDistinct self.now.listed }
+        ensures once { IsDistinct nat_eq self.now.listed }
     {
         &self.slots[..self.many]
     }

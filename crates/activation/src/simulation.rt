@@ -1,6 +1,6 @@
-ghost use Rattle.std.specs.Prelude.{◌≡◌, ◌*◌, ◌≤◌, [], length, vec_capacity};
+ghost use Rattle.std.specs.Prelude.{◌≡◌, true, ◌*◌, ◌≤◌, [], length, vec_capacity};
 ghost use Rattle.activation.specs.Machine.{start_state, AllDone};
-ghost use Rattle.activation.specs.Runs.{EachOnce, state_after_all};
+ghost use Rattle.activation.specs.Runs.{AreLegal, EachOnce, StaysWithinBound, state_after_all};
 ghost use Rattle.activation.specs.Schedule.{HoldsEach, IsSchedule, first_moment, last_time, most_used, most_booked};
 
 use crate::cores::Core;
@@ -51,12 +51,16 @@ fn run_all(run: Run, events: Vec<Event>) -> Trace
 /// places; then tasks are activated while one may be; then, while one may start, the one that stands first in the priority is started; then
 /// time moves to the least due finish. A started task is due its duration later. The run ends when every task is done.
 ///
-/// It takes no memory: `Core::new` took it. The time is logarithmic in the tasks for each event.
+/// [`holds_each`](crate::holds_each) tests whether a priority holds each task once. The run takes no memory: [`Core::new`] took it. The time is
+/// logarithmic in the tasks for each event.
 pub fn simulate(core: Core, priority: &[u32]) -> Trace
+    // no event has happened: the core is as `Core::new` made it
     requires start { core.state ≡ start_state core.setting }
+    requires room { core.has_room ≡ true }
     requires priority { HoldsEach core.setting.system priority.now }
-    // the events are the schedule of the setting and the priority
+    // the events are the schedule of the setting and the priority, and so events of the machine
     ensures schedule { IsSchedule core.setting priority.now (first_moment core.setting) result.events.items }
+    ensures legal { AreLegal core.setting (start_state core.setting) result.events.items }
     // the last moment, and the greatest memories
     ensures makespan { result.makespan ≡ last_time 0 result.events.items }
     ensures used { result.used ≡ most_used core.setting (start_state core.setting) result.events.items }
@@ -64,16 +68,14 @@ pub fn simulate(core: Core, priority: &[u32]) -> Trace
     // each task is activated, started and finished once, and in the end all are done
     ensures each_once { EachOnce core.setting result.events.items }
     ensures all_done { AllDone core.setting (state_after_all (start_state core.setting) result.events.items) }
-    // memory stays within the bound
+    // booked memory stays within the bound; in each state used memory is at most booked memory, and that at most the bound
     ensures within { result.booked ≤ core.setting.bound }
+    ensures stays_within { StaysWithinBound core.setting (start_state core.setting) result.events.items }
 {
     schedule_law();
     core.keeps();
-    let Core {
-        machine,
-        room,
-        events,
-    } = core;
-    let run = Run::new(machine, room, priority);
+    let mut core = core;
+    let (room, events) = core.take_room();
+    let run = Run::new(core, room, priority);
     run_all(run, events)
 }

@@ -1,8 +1,9 @@
 ghost use Rattle.std.specs.Prelude.{◌≡◌, ℕ, false, IfOk};
 ghost use Rattle.mp_system.specs.Memory.{state_memory};
 
+use crate::NoMemory;
 use mp_system::laws::congruence;
-use mp_system::{NoMemory, Replay, System};
+use mp_system::{Replay, System};
 use std::alloc::Global;
 
 /// The memory before any task has run.

