@@ -1,7 +1,9 @@
 -- A side as the list of its segments, in rising order of `up`.
 -- Source: J. W. H. Liu, An application of generalized tree pebbling to sparse matrix factorization, 1987 (hill-valley segments).
-use Rattle.std.specs.Prelude.{ℕ, ℤ, pos, negsuc, ◌+◌, ◌≤◌, ◌^◌, Bool, false, if◌then◌else◌, nat_lt, List, [], ◌∷◌, ◌++◌, ⊤}
+use Rattle.std.specs.Prelude.{ℕ, ℤ, pos, negsuc, ◌+◌, ◌≤◌, Bool, false, if◌then◌else◌, nat_lt, List, [], ◌∷◌, ◌++◌, map}
+use Rattle.std.specs.List.{AllByRecursion, flat_map}
 use Rattle.std.specs.Ordering.{nat_cmp, match_ordering}
+use Rattle.limits.specs.Limits.{most_total}
 use Rattle.side_laws.specs.Segments.{Segment, net_sum, IsRising}
 use Rattle.hill_valley.specs.declared.side.Seg.{Seg}
 use Rattle.hill_valley.specs.Ropes.{list_of, IsRope}
@@ -11,10 +13,6 @@ abbrev pub limit_of : ℤ → ℕ
 limit_of (pos bound) = bound + 1
 limit_of (negsuc bound) = 0
 
--- no memory is greater, so that the sum of two stays far below 2 ^ 64
-abbrev pub greatest_memory : ℕ
-greatest_memory = 2 ^ 60
-
 -- ---- the numbers of a side
 
 abbrev pub numbers : Seg → Segment
@@ -22,16 +20,14 @@ numbers s = record { up = s.up; net = s.net }
 
 -- the numbers of all segments, without their tasks
 abbrev pub profile : List Seg → List Segment
-profile [] = []
-profile (s ∷ ss) = numbers s ∷ profile ss
+profile ss = map numbers ss
 
 abbrev pub AllUpsWithin : List Segment → Type 0
-AllUpsWithin [] = ⊤
-AllUpsWithin (s ∷ ss) = (s.up ≤ greatest_memory) × AllUpsWithin ss
+AllUpsWithin ss = AllByRecursion (λ s. s.up ≤ most_total) ss
 
 -- what holds of the numbers of every side
 abbrev pub IsSide : List Segment → Type 0
-IsSide ss = (net_sum ss ≤ greatest_memory) × AllUpsWithin ss × IsRising ss
+IsSide ss = (net_sum ss ≤ most_total) × AllUpsWithin ss × IsRising ss
 
 -- the greatest `up`, and 0 where there is no segment
 abbrev pub last_up : List Segment → ℕ
@@ -43,8 +39,7 @@ last_up (s ∷ t ∷ ss) = last_up (t ∷ ss)
 
 -- the rope of each segment is one of these
 abbrev pub HaveRopes : List (List ℕ) → List Seg → Type 0
-HaveRopes lists [] = ⊤
-HaveRopes lists (s ∷ ss) = IsRope lists s.tasks × HaveRopes lists ss
+HaveRopes lists ss = AllByRecursion (λ s. IsRope lists s.tasks) ss
 
 -- a segment with the list of its tasks, in the order in which they run
 pub record Run : Type 0 where
@@ -57,20 +52,17 @@ run_of lists s = record { up = s.up; net = s.net; tasks = list_of lists s.tasks 
 
 -- the segments with the lists that their ropes stand for
 abbrev pub runs_of : List (List ℕ) → List Seg → List Run
-runs_of lists [] = []
-runs_of lists (s ∷ ss) = run_of lists s ∷ runs_of lists ss
+runs_of lists ss = map (run_of lists) ss
 
 abbrev pub run_numbers : Run → Segment
 run_numbers r = record { up = r.up; net = r.net }
 
 abbrev pub run_profile : List Run → List Segment
-run_profile [] = []
-run_profile (r ∷ rs) = run_numbers r ∷ run_profile rs
+run_profile rs = map run_numbers rs
 
 -- the tasks of all runs, in order
 abbrev pub tasks_of : List Run → List ℕ
-tasks_of [] = []
-tasks_of (r ∷ rs) = r.tasks ++ tasks_of rs
+tasks_of rs = flat_map (λ r. r.tasks) rs
 
 -- ---- one more segment
 

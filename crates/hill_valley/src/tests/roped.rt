@@ -3,39 +3,40 @@
 ghost use Rattle.std.specs.Prelude.{◌≤◌, ◌+◌};
 ghost use Rattle.std.specs.Bool.{OnTrue};
 ghost use Rattle.side_laws.specs.Segments.{net_sum};
-ghost use Rattle.hill_valley.specs.Sides.{greatest_memory, profile};
+ghost use Rattle.limits.specs.Limits.{most_total};
+ghost use Rattle.hill_valley.specs.Side.{profile};
 
-use crate::plain::PlainSeg;
+use crate::tests::plain::PlainSeg;
 use crate::{NoMemory, Ropes, Seg, Side, Step};
+use limits::MOST_TOTAL;
 use std::alloc::Global;
 use std::marker::Model;
 
-const MOST: u64 = 1 << 60;
-
 #[derive(Drop)]
-pub struct Bench {
+pub struct RopedSide {
     ropes: Ropes,
     side: Side,
     net: u64,
 }
 
-impl Model for Bench {
+impl Model for RopedSide {
     ghost use Rattle.std.specs.Prelude.{List, ◌≡◌, ◌≤◌};
     ghost use Rattle.side_laws.specs.Segments.{net_sum};
     ghost use Rattle.hill_valley.specs.declared.side.Seg.{Seg};
-    ghost use Rattle.hill_valley.specs.Sides.{greatest_memory, profile, HaveRopes};
+    ghost use Rattle.limits.specs.Limits.{most_total};
+    ghost use Rattle.hill_valley.specs.Side.{profile, HaveRopes};
 
     ghost Value = { List Seg };
 
     ghost view = { λ b. b.side };
 
-    ghost invariant = { λ b. HaveRopes b.ropes b.side × (net_sum (profile b.side) ≡ b.net) × (b.net ≤ greatest_memory) };
+    ghost invariant = { λ b. HaveRopes b.ropes b.side × (net_sum (profile b.side) ≡ b.net) × (b.net ≤ most_total) };
 }
 
 // Each level is as much above the sum of the `net` values as `more` says.
-impl Bench {
-    pub fn new(alloc: Global) -> Bench {
-        Bench {
+impl RopedSide {
+    pub fn new(alloc: Global) -> RopedSide {
+        RopedSide {
             ropes: Ropes::new(alloc),
             side: Side::new(alloc),
             net: 0,
@@ -83,9 +84,9 @@ impl Bench {
     // A level from which the side can be run.
     pub fn level(&self, more: u64) -> u64
         ensures room { net_sum (profile self.now) ≤ result }
-        ensures within { result ≤ greatest_memory }
+        ensures within { result ≤ most_total }
     {
-        self.net.saturating_add(more).min(MOST)
+        self.net.saturating_add(more).min(MOST_TOTAL)
     }
 
     pub fn lowest(&self, more: u64, bound: i64) -> u64 {
@@ -96,6 +97,12 @@ impl Bench {
         self.side.top(self.level(more))
     }
 
+    // The tasks of all segments.
+    pub fn tasks(&mut self, alloc: Global) -> Result<Vec<u32>, NoMemory> {
+        let tasks = self.side.tasks(&mut self.ropes)?;
+        self.ropes.list(alloc, tasks)
+    }
+
     pub fn steps(&self, alloc: Global, more: u64) -> Result<Vec<Step>, NoMemory> {
         self.side.steps(alloc, self.level(more))
     }
@@ -103,7 +110,7 @@ impl Bench {
 
 // A side of this sum can take in such a segment. One that is too large is left out, which the comparison shows.
 fn fits(sum: u64, up: u64, net: u64) -> bool
-    ensures { OnTrue result ((up ≤ greatest_memory) × (sum + net ≤ greatest_memory)) }
+    ensures { OnTrue result ((up ≤ most_total) × (sum + net ≤ most_total)) }
 {
-    up <= MOST && sum <= MOST && net <= MOST - sum
+    up <= MOST_TOTAL && sum <= MOST_TOTAL && net <= MOST_TOTAL - sum
 }
