@@ -3,9 +3,9 @@ use Rattle.std.proofs.Common.{◌≡◌, ℕ, ◌+◌, ◌≤◌, ◌^◌, List,
 use Rattle.side_laws.specs.Segments.{net_sum}
 use Rattle.hill_valley.specs.declared.side.Seg.{Seg}
 use Rattle.hill_valley.specs.Ropes.{IsRope, Extends}
-use Rattle.hill_valley.specs.Sides.{profile, HaveRopes, Run, run_of, runs_of, insert_run}
+use Rattle.hill_valley.specs.Side.{profile, HaveRopes, Run, run_of, runs_of, insert_run}
 use Rattle.segment_merge.specs.Merging.{move_runs}
-use Rattle.segment_merge.specs.Below.{LawsBelow}
+use Rattle.hill_valley.specs.Laws.{RunLaws}
 
 -- `from` is left of from0, and `into` has the others
 pub record Moving (before : Bool) (ropes0 ropes : List (List ℕ)) (from0 into0 from into : List Seg) : Type 0 where
@@ -16,7 +16,7 @@ pub record Moving (before : Bool) (ropes0 ropes : List (List ℕ)) (from0 into0 
   pub net : net_sum (profile from) + net_sum (profile into) ≡ net_sum (profile from0) + net_sum (profile into0)
   pub within : net_sum (profile from) + net_sum (profile into) ≤ 2 ^ 60
 
-module _ (laws : LawsBelow) (before : Bool) where
+module _ (laws : RunLaws) (before : Bool) where
   pub moving_starts : (ropes : List (List ℕ)) (from into : List Seg) → HaveRopes ropes from → HaveRopes ropes into → net_sum (profile from) + net_sum (profile into) ≤ 2 ^ 60 → Moving before ropes ropes from into from into
   moving_starts ropes from into f i n = record { told = refl; from_ropes = f; into_ropes = i; kept = laws.itself ropes; net = refl; within = n }
 

@@ -1,6 +1,6 @@
 use Rattle.std.proofs.Common.{◌≡◌, ◌≤◌, ◌+◌, length}
-use Rattle.segment_merge.proofs.Moving.{Moving}
-use Rattle.segment_merge.proofs.merging.move_all.Given as goal
+use Rattle.segment_merge.proofs.Moved.{Moving}
+use Rattle.segment_merge.proofs.moving.move_all.Given as goal
 
 abbrev pub invariant-loop-seg : goal.invariant-loop-seg
 invariant-loop-seg g l = record {

@@ -1,6 +1,6 @@
 use Rattle.std.proofs.Common.{length}
-use Rattle.hill_valley.specs.Sides.{HaveRopes}
-use Rattle.segment_merge.proofs.bench.rows_of.Given as goal
+use Rattle.hill_valley.specs.Side.{HaveRopes}
+use Rattle.segment_merge.proofs.tests.rows_of.Given as goal
 
 abbrev pub invariant-loop-seg : goal.invariant-loop-seg
 invariant-loop-seg l = HaveRopes l.ropes l.side

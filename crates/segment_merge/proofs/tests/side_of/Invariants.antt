@@ -1,8 +1,8 @@
 use Rattle.std.proofs.Common.{◌≡◌, ◌≤◌}
 use Rattle.side_laws.specs.Segments.{net_sum}
 use Rattle.hill_valley.specs.Ropes.{Extends}
-use Rattle.hill_valley.specs.Sides.{profile, HaveRopes}
-use Rattle.segment_merge.proofs.bench.side_of.Given as goal
+use Rattle.hill_valley.specs.Side.{profile, HaveRopes}
+use Rattle.segment_merge.proofs.tests.side_of.Given as goal
 
 abbrev pub invariant-loop-one : goal.invariant-loop-one
 invariant-loop-one l = record {

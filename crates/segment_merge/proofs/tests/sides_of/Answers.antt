@@ -2,7 +2,7 @@ use Rattle.std.proofs.Common.{length, arith, ap, List, length-append, ◌∷◌,
 use Rattle.hill_valley.specs.declared.side.Seg.{Seg}
 use Rattle.segment_merge.specs.Merging.{net_sum_all}
 use Rattle.segment_merge.proofs.Kept.{all_kept, ropes_append, net_append}
-use Rattle.segment_merge.proofs.bench.sides_of.Goals as goal
+use Rattle.segment_merge.proofs.tests.sides_of.Goals as goal
 
 pub loop-list-preserved : goal.loop-list-preserved
 loop-list-preserved c =
@@ -15,7 +15,7 @@ loop-list-preserved c =
     let s = c.in_ok-side.ensures.net in
     let f = c.loop-list.invariant.few in
     record {
-      ropes = rw e (ropes_append _ c.loop-list.sides.items (c.in_ok-side.side ∷ []) (all_kept c.below.ensures _ _ _ c.loop-list.invariant.ropes c.side_of.ensures.kept) (c.in_ok-side.ensures.ropes, tt));
+      ropes = rw e (ropes_append _ c.loop-list.sides.items (c.in_ok-side.side ∷ []) (all_kept c.runs.ensures _ _ _ c.loop-list.invariant.ropes c.side_of.ensures.kept) (c.in_ok-side.ensures.ropes, tt));
       net = omega arith;
       few = omega arith;
     }

@@ -1,6 +1,6 @@
 use Rattle.std.proofs.Common.{◌≡◌, ◌≤◌, ◌*◌, length}
 use Rattle.segment_merge.specs.Merging.{AllHaveRopes, net_sum_all}
-use Rattle.segment_merge.proofs.bench.sides_of.Given as goal
+use Rattle.segment_merge.proofs.tests.sides_of.Given as goal
 
 abbrev pub invariant-loop-list : goal.invariant-loop-list
 invariant-loop-list l = record {
