@@ -1,14 +1,14 @@
 -- The claims that the sides of a cut show, and the claims on the parts that a claim on the whole needs. They name no segment: a claim
 -- on a series needs the peaks of the parts' sides, and one on parts side by side needs the levels at which the parts are stuck.
 use Rattle.std.specs.Prelude.{◌≡◌, ℕ, ℤ, pos, ◌-ℤ◌, ◌+◌, ◌-◌, ◌≤◌, max, if◌then◌else◌, nat_le, List, [], ◌∷◌, Option, Some, None}
-use Rattle.side_laws.specs.Levels.{EachStuck, AreLevels}
-use Rattle.side_laws.specs.Segments.{Segment, net_sum}
-use Rattle.hill_valley.specs.Sides.{limit_of, run_profile}
+use Rattle.side_laws.specs.Levels.{AreLevels}
+use Rattle.side_laws.specs.Segments.{net_sum}
+use Rattle.hill_valley.specs.Side.{limit_of, run_profile}
 use Rattle.sp_terms.specs.Term.{Term, Parts, no_parts, part, Direction, forward, backward, first_memory, least_of}
 use Rattle.sp_term_laws.specs.Moves.{other}
 use Rattle.claim_rules.specs.Claims.{Claim}
 use Rattle.claim_rules.specs.Rules.{first_of}
-use Rattle.cut_laws.specs.Cuts.{Cut, side_of, start_of, top_of, lowest_of}
+use Rattle.cut_laws.specs.Cuts.{Cut, top_of, lowest_of, starts, sides}
 
 -- the claim with the greatest bound below this limit
 abbrev pub claim_below : Direction → ℕ → ℕ → Claim
@@ -62,27 +62,9 @@ second_claim k a b hill =
 
 -- ---- parts side by side
 
-abbrev pub starts : Direction → List Cut → List ℕ
-starts d [] = []
-starts d (c ∷ cs) = start_of d c ∷ starts d cs
-
-abbrev pub sides : Direction → List Cut → List (List Segment)
-sides d [] = []
-sides d (c ∷ cs) = run_profile (side_of d c) ∷ sides d cs
-
 -- the levels of the parts at which all sides together are stuck within the bound
 abbrev pub AreStuckWithin : Direction → ℤ → List Cut → List ℕ → Type 0
 AreStuckWithin d bound cs levels = AreLevels (limit_of bound) 0 (starts d cs) (sides d cs) levels
-
--- each of the first levels is at most the one at its place in the second
-abbrev pub AllAtMost : List ℕ → List ℕ → Type 0
-AllAtMost [] [] = Unit {0}
-AllAtMost (x ∷ xs) (y ∷ ys) = (x ≤ y) × AllAtMost xs ys
-AllAtMost _ _ = ⊥
-
--- no levels at which each side alone is stuck are above these
-pub record AreAboveStuck (limit : ℕ) (begins : List ℕ) (lists : List (List Segment)) (levels : List ℕ) : Type 0 where
-  pub above : (stuck : List ℕ) → EachStuck limit 0 begins lists stuck → AllAtMost stuck levels
 
 -- the claim on a part that is stuck at a level: within a bound of its own that its side does not pass, or none
 abbrev pub part_claim : Direction → ℤ → Cut → ℕ → Option Claim
