@@ -5,7 +5,7 @@ use Rattle.mp_system.specs.Memory.{peak_from, peak_of}
 use Rattle.mp_system.specs.Renaming.{name_in}
 use Rattle.mp_system.specs.Traversal.{IsTraversal}
 use Rattle.side_laws.specs.Segments.{net_sum}
-use Rattle.hill_valley.specs.Sides.{Run, run_profile, tasks_of, limit_of}
+use Rattle.hill_valley.specs.Side.{Run, run_profile, tasks_of, limit_of}
 use Rattle.sp_terms.specs.SystemOfTerm.{system_of_term}
 use Rattle.sp_terms.specs.Term.{Term, Direction, forward, backward, first_memory, IsAllowed}
 use Rattle.sp_term_laws.specs.Along.{memory_after}
@@ -18,7 +18,7 @@ use Rattle.cut_laws.proofs.Leading.{LeadsDown, IsCutOf}
 use Rattle.cut_laws.specs.Names.{Names, names_of}
 use Rattle.cut_laws.proofs.NamedWays.{NamedWay}
 use Rattle.cut_laws.specs.Standing.{in_order, HasLevel, HasHigh, StandsFor}
-use Rattle.cut_laws.specs.Wanted.{Wants}
+use Rattle.cut_laws.proofs.Wanted.{Wants}
 use Rattle.cut_laws.proofs.Limits.{within-below, above-beyond}
 use Rattle.cut_laws.proofs.Numbers.{shape, named_way, names_from, by_numbers}
 use Rattle.cut_laws.proofs.Peaks.{memory_at, peak_along}

@@ -5,14 +5,14 @@ use Rattle.std.proofs.lemmas.Bool.Decides.{nat_tests}
 use Rattle.mp_system.specs.declared.system.Task.{Task}
 use Rattle.side_laws.specs.Appending.{cross_hill}
 use Rattle.side_laws.specs.Segments.{Segment, net_sum, lowest, top}
-use Rattle.hill_valley.specs.Sides.{limit_of, run_profile}
+use Rattle.hill_valley.specs.Side.{limit_of, run_profile}
 use Rattle.sp_terms.specs.Term.{Term, Direction, forward, backward, hill_of, first_memory}
 use Rattle.sp_term_laws.specs.Moves.{other}
 use Rattle.claim_rules.specs.Claims.{Claim}
 use Rattle.claim_rules.specs.Rules.{MeetsSeries, first_is_stuck, first_is_closed, hill_is_above, last_is_stuck}
-use Rattle.cut_laws.specs.Below.{SideLaws}
+use Rattle.segment_merge.specs.Laws.{SideLaws}
 use Rattle.cut_laws.specs.Cuts.{Cut, cut_first, cut_second, over_task, front_peak, back_peak}
-use Rattle.cut_laws.specs.Wanted.{Wants, WantsIf, near_claim, far_claim, Fits, first_claim, second_claim}
+use Rattle.cut_laws.proofs.Wanted.{Wants, WantsIf, near_claim, far_claim, Fits, first_claim, second_claim}
 use Rattle.cut_laws.proofs.Levels.{lt_or_le, lowest_end}
 use Rattle.cut_laws.proofs.Limits.{above-beyond}
 

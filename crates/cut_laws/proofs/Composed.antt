@@ -1,10 +1,12 @@
 -- Cuts of a data item, of a series and of parts side by side, made of cuts of the parts.
 use Rattle.std.proofs.Common.{◌≡◌, ℕ, ◌+◌, ◌<◌, ◌≤◌, ◌⊎◌, inl, inr, true, false, nat_le, max, refl, sym, subst, ap, arith, ◌∙◌, List, [], ◌∷◌, Option, Some, None}
+use Rattle.std.specs.List.{sum_by}
 use Rattle.std.proofs.lemmas.Bool.Decides.{nat_tests}
+use Rattle.std.proofs.lemmas.List.Sums.{sum_by-cons}
 use Rattle.mp_system.specs.declared.system.Task.{Task}
 use Rattle.side_laws.specs.Segments.{net_sum, IsRising}
 use Rattle.side_laws.specs.Levels.{level_sum}
-use Rattle.hill_valley.specs.Sides.{Run, run_profile}
+use Rattle.hill_valley.specs.Side.{Run, run_profile}
 use Rattle.segment_merge.specs.Crossing.{cross_hill_runs}
 use Rattle.segment_merge.specs.Merging.{insert_runs, merge_runs}
 use Rattle.sp_terms.specs.Places.{list_of_parts}
@@ -12,12 +14,13 @@ use Rattle.sp_terms.specs.Term.{Term, hold, series, par, Parts, no_parts, part, 
 use Rattle.sp_term_laws.specs.Moves.{States, memory_of, first_state}
 use Rattle.claim_rules.specs.Claims.{Claim, IsSound, IsSoundIf, AreSound}
 use Rattle.claim_rules.specs.Rules.{MeetsData}
-use Rattle.cut_laws.specs.Below.{LawsBelow, SideLaws}
-use Rattle.cut_laws.specs.Cuts.{Cut, hold_cut, cut_first, cut_second, series_cut, par_cut, fronts, backs, sum_initial, sum_fin, sum_least, over_task, front_peak, back_peak}
+use Rattle.segment_merge.specs.Laws.{SideLaws}
+use Rattle.cut_laws.specs.Below.{LawsBelow}
+use Rattle.cut_laws.specs.Cuts.{Cut, hold_cut, cut_first, cut_second, series_cut, par_cut, fronts, backs, over_task, front_peak, back_peak}
 use Rattle.cut_laws.proofs.Leading.{IsCutOf, AreCutsOf}
 use Rattle.cut_laws.specs.Names.{Names, NamesOfParts}
 use Rattle.cut_laws.specs.TermCuts.{cut_of_term, cuts_of_parts}
-use Rattle.cut_laws.specs.Wanted.{Wants, WantsIf, AllWant, AllFit, first_claim, second_claim, par_claims}
+use Rattle.cut_laws.proofs.Wanted.{Wants, WantsIf, AllWant, AllFit, first_claim, second_claim, par_claims}
 use Rattle.cut_laws.proofs.Choice.{SeriesChoice, choice_first, choice_second}
 use Rattle.cut_laws.proofs.Down.{down_net, first_here, second_here, first_over, second_over}
 use Rattle.cut_laws.proofs.Limits.{above-beyond}
@@ -171,11 +174,11 @@ all_back (part t ts) ns [] h = absurd h
 all_back (part t ts) (n, ns) (c ∷ cs) h = ((h.0.back, h.0.back_rises), all_back ts ns cs h.1)
 
 record Sums (ts : Parts) (cs : List Cut) : Type 0 where
-  initial : sum_initial cs ≡ first_memory_of_parts forward ts
-  fin : sum_fin cs ≡ first_memory_of_parts backward ts
-  low : sum_least cs ≡ least_of_parts ts
-  front : net_sum (run_profile (merge_runs (fronts cs))) + sum_least cs ≡ sum_initial cs
-  back : net_sum (run_profile (merge_runs (backs cs))) + sum_least cs ≡ sum_fin cs
+  initial : sum_by (λ c. c.initial) cs ≡ first_memory_of_parts forward ts
+  fin : sum_by (λ c. c.fin) cs ≡ first_memory_of_parts backward ts
+  low : sum_by (λ c. c.least) cs ≡ least_of_parts ts
+  front : net_sum (run_profile (merge_runs (fronts cs))) + sum_by (λ c. c.least) cs ≡ sum_by (λ c. c.initial) cs
+  back : net_sum (run_profile (merge_runs (backs cs))) + sum_by (λ c. c.least) cs ≡ sum_by (λ c. c.fin) cs
 
 pub inserted_net : SideLaws → (ss es : List Run) → net_sum (run_profile (insert_runs ss es)) ≡ net_sum (run_profile ss) + net_sum (run_profile es)
 inserted_net laws ss es = ap net_sum (laws.profile_inserts ss es) ∙ laws.inserts_net (run_profile ss) (run_profile es)
@@ -187,6 +190,9 @@ sums laws (part t ts) [] h = absurd h
 sums laws (part t ts) (c ∷ cs) h =
     let r = sums laws ts cs h.1 in
     let f = h.0 in
+    let start = sum_by-cons (λ (x : Cut). x.initial) c cs in
+    let end = sum_by-cons (λ (x : Cut). x.fin) c cs in
+    let low = sum_by-cons (λ (x : Cut). x.least) c cs in
     record {
       initial = omega (arith, r.initial, f.initial);
       fin = omega (arith, r.fin, f.final);

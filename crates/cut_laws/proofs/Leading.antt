@@ -1,14 +1,14 @@
 -- What makes a cut one of a term, part by part: both sides lead down through the term's states to the same one.
 use Rattle.std.specs.Prelude.{◌≡◌, ◌+◌, List, [], ◌∷◌}
 use Rattle.side_laws.specs.Segments.{IsRising}
-use Rattle.hill_valley.specs.Sides.{Run, run_profile}
+use Rattle.hill_valley.specs.Side.{Run, run_profile}
 use Rattle.sp_terms.specs.Term.{Term, Parts, no_parts, part, forward, backward, Direction}
 use Rattle.sp_term_laws.specs.Moves.{State, memory_of, first_state}
 use Rattle.claim_rules.specs.Claims.{Claim, IsSound}
 use Rattle.cut_laws.specs.Cuts.{Cut}
 use Rattle.cut_laws.specs.Names.{Names, NamesOfParts}
 use Rattle.cut_laws.proofs.NamedWays.{NamedWay}
-use Rattle.cut_laws.specs.Wanted.{Wants, Fits}
+use Rattle.cut_laws.proofs.Wanted.{Wants, Fits}
 
 -- the runs lead from a state to another, one after the other: each goes at most its `up` above the memory at which it starts, and it
 -- reaches that, and ends lower by its `net`

@@ -2,7 +2,7 @@
 use Rattle.std.proofs.Common.{◌≡◌, ℕ, ◌-◌, ◌<◌, ◌≤◌, ◌⊎◌, refl, arith, List, [], ◌∷◌}
 use Rattle.std.proofs.lemmas.Bool.Decides.{nat_tests}
 use Rattle.side_laws.specs.Segments.{Segment, net_sum, lowest, top, Passes}
-use Rattle.cut_laws.specs.Below.{SideLaws}
+use Rattle.segment_merge.specs.Laws.{SideLaws}
 
 pub lt_or_le : (m n : ℕ) → (m < n) ⊎ (n ≤ m)
 lt_or_le m n = grind arith

@@ -2,6 +2,7 @@ pub mod NamedWays
 pub mod Leading
 pub mod Levels
 pub mod Limits
+pub mod Wanted
 pub mod Ways
 pub mod Choice
 pub mod ParChoice
@@ -16,8 +17,4 @@ pub mod Stands
 pub mod Back
 pub mod Tops
 pub mod Composing
-pub mod Chosen
-pub mod Positions
 pub mod Plans
-pub mod Shown
-pub mod Greatest

@@ -2,7 +2,7 @@
 use Rattle.std.proofs.Common.{◌≡◌, ℕ, ◌-◌, ◌<◌, ◌≤◌, refl, arith}
 use Rattle.std.specs.Prelude.{ℤ, pos, negsuc, ◌≤ℤ◌, ◌<ℤ◌, ◌-ℤ◌}
 use Rattle.std.proofs.lemmas.Int.{ints}
-use Rattle.hill_valley.specs.Sides.{limit_of}
+use Rattle.hill_valley.specs.Side.{limit_of}
 
 pub within-below : (m : ℕ) (b : ℤ) → pos m ≤ℤ b → m < limit_of b
 within-below m (pos n) h = omega (arith, ints)

@@ -2,11 +2,11 @@
 use Rattle.std.proofs.Common.{◌≡◌, ℕ, ◌+◌, ◌<◌, ◌⊎◌, inl, inr, refl, sym, subst, ap, arith, ◌∙◌, true, List, [], ◌∷◌, ◌++◌}
 use Rattle.std.proofs.lemmas.Bool.Decides.{nat_tests}
 use Rattle.side_laws.specs.Segments.{IsRising, StartsAbove}
-use Rattle.hill_valley.specs.Sides.{Run, run_profile, insert_run}
+use Rattle.hill_valley.specs.Side.{Run, run_profile, insert_run}
 use Rattle.segment_merge.specs.Merging.{insert_runs, merge_runs, run_profiles}
 use Rattle.sp_terms.specs.Term.{Term, par, Parts, no_parts, part, Direction}
 use Rattle.sp_term_laws.specs.Moves.{State, States, memory_of, memory_of_parts, first_state, first_states}
-use Rattle.cut_laws.specs.Below.{SideLaws}
+use Rattle.segment_merge.specs.Laws.{SideLaws}
 use Rattle.cut_laws.proofs.Leading.{LeadsDown}
 use Rattle.cut_laws.specs.Names.{Names, NamesOfParts}
 use Rattle.cut_laws.proofs.NamedWays.{NamedWay, NamedWays}

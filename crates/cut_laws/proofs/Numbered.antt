@@ -2,7 +2,7 @@
 use Rattle.std.proofs.Common.{◌≡◌, ℕ, ◌+◌, ◌-◌, max, refl, sym, subst, ap, arith, ◌∙◌, List, [], ◌∷◌, ◌++◌, append_assoc, map}
 use Rattle.std.proofs.lemmas.List.{map-append}
 use Rattle.side_laws.specs.Segments.{net_sum, top}
-use Rattle.hill_valley.specs.Sides.{Run, run_profile, tasks_of}
+use Rattle.hill_valley.specs.Side.{Run, run_profile, tasks_of}
 use Rattle.sp_terms.specs.Term.{Term, Direction}
 use Rattle.sp_term_laws.specs.Moves.{State, memory_of}
 use Rattle.sp_term_laws.specs.Ways.{Way, still}

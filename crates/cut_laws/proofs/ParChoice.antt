@@ -1,19 +1,21 @@
 -- Which claims on parts side by side a claim on the whole needs.
 use Rattle.std.proofs.Common.{◌≡◌, ℕ, ◌+◌, ◌-◌, ◌<◌, ◌≤◌, ◌⊎◌, inl, inr, refl, sym, subst, ap, arith, ◌∙◌, List, [], ◌∷◌, Option, Some, None}
 use Rattle.std.specs.Prelude.{ℤ, pos, ◌-ℤ◌}
+use Rattle.std.specs.List.{sum_by}
 use Rattle.std.proofs.lemmas.Bool.Decides.{nat_tests}
+use Rattle.std.proofs.lemmas.List.Sums.{sum_by-cons}
 use Rattle.side_laws.specs.Segments.{Segment, net_sum, lowest, top, Passes, IsRising}
 use Rattle.side_laws.specs.Merging.{merge_segments, AllRising}
 use Rattle.side_laws.specs.Levels.{level_sum, AllStart, EachStuck, EachPasses}
-use Rattle.hill_valley.specs.Sides.{limit_of, run_profile}
+use Rattle.hill_valley.specs.Side.{limit_of, run_profile}
 use Rattle.segment_merge.specs.Merging.{run_profiles}
 use Rattle.sp_terms.specs.Places.{list_of_parts}
 use Rattle.sp_terms.specs.Term.{Term, Parts, no_parts, part, Direction, forward, backward, least_of, count}
 use Rattle.claim_rules.specs.Claims.{Claim}
 use Rattle.claim_rules.specs.Rules.{MeetsPar, value_in, values_in, HasRoom, HaveRoom, SomeClaim}
-use Rattle.cut_laws.specs.Below.{SideLaws}
-use Rattle.cut_laws.specs.Cuts.{Cut, side_of, start_of, top_of, par_cut, fronts, backs, sum_initial, sum_fin}
-use Rattle.cut_laws.specs.Wanted.{Wants, WantsIf, AllWant, Fits, AllFit, starts, sides, part_claim, par_claims, AreStuckWithin}
+use Rattle.segment_merge.specs.Laws.{SideLaws}
+use Rattle.cut_laws.specs.Cuts.{Cut, side_of, start_of, top_of, par_cut, fronts, backs, starts, sides}
+use Rattle.cut_laws.proofs.Wanted.{Wants, WantsIf, AllWant, Fits, AllFit, part_claim, par_claims, AreStuckWithin}
 use Rattle.cut_laws.proofs.Levels.{lt_or_le, lowest_stuck, lowest_end, passes_from_top, top_from_passes}
 use Rattle.cut_laws.proofs.Limits.{limit-less, same-bound}
 
@@ -123,13 +125,13 @@ sides_backward : (cs : List Cut) → run_profiles (backs cs) ≡ sides backward 
 sides_backward [] = refl
 sides_backward (c ∷ cs) = ap (λ (l : List (List Segment)). run_profile c.back ∷ l) (sides_backward cs)
 
-start_initial : (cs : List Cut) → sum_initial cs ≡ level_sum (starts forward cs)
+start_initial : (cs : List Cut) → sum_by (λ c. c.initial) cs ≡ level_sum (starts forward cs)
 start_initial [] = refl
-start_initial (c ∷ cs) = omega (arith, start_initial cs)
+start_initial (c ∷ cs) = omega (arith, start_initial cs, sum_by-cons (λ (x : Cut). x.initial) c cs)
 
-start_fin : (cs : List Cut) → sum_fin cs ≡ level_sum (starts backward cs)
+start_fin : (cs : List Cut) → sum_by (λ c. c.fin) cs ≡ level_sum (starts backward cs)
 start_fin [] = refl
-start_fin (c ∷ cs) = omega (arith, start_fin cs)
+start_fin (c ∷ cs) = omega (arith, start_fin cs, sum_by-cons (λ (x : Cut). x.fin) c cs)
 
 pub start_par : (d : Direction) (cs : List Cut) → start_of d (par_cut cs) ≡ level_sum (starts d cs)
 start_par forward cs = start_initial cs

@@ -6,7 +6,7 @@ use Rattle.mp_system.specs.Memory.{peak_from, peak_of}
 use Rattle.mp_system.specs.Renaming.{name_in}
 use Rattle.mp_system.specs.Traversal.{IsTraversal}
 use Rattle.side_laws.specs.Segments.{Segment, net_sum, lowest, top}
-use Rattle.hill_valley.specs.Sides.{Run, run_profile, tasks_of}
+use Rattle.hill_valley.specs.Side.{Run, run_profile, tasks_of}
 use Rattle.sp_terms.specs.SystemOfTerm.{system_of_term}
 use Rattle.sp_terms.specs.Term.{Term, Direction, forward, backward, first_memory, IsAllowed}
 use Rattle.sp_term_laws.specs.Along.{memory_after}
@@ -18,7 +18,7 @@ use Rattle.cut_laws.specs.Cuts.{Cut, side_of, start_of, top_of, lowest_of, front
 use Rattle.cut_laws.proofs.Leading.{LeadsDown, IsCutOf}
 use Rattle.cut_laws.specs.Names.{Names, names_of}
 use Rattle.cut_laws.specs.Standing.{HasLevel, HasHigh, StandsFor}
-use Rattle.cut_laws.specs.Wanted.{claim_below}
+use Rattle.cut_laws.proofs.Wanted.{claim_below}
 use Rattle.cut_laws.proofs.Levels.{lt_or_le, lowest_end, top_from_passes}
 use Rattle.cut_laws.proofs.Limits.{below-within, beyond-above, limit-below}
 use Rattle.cut_laws.proofs.Numbered.{NumbersLeadDown, numbered_down, down_names, down_net, down_split, down_way}

@@ -1,17 +1,17 @@
 -- The sides and the peaks of a cut that is made of others.
-use Rattle.std.proofs.Common.{◌≡◌, ℕ, suc, ◌+◌, ◌-◌, ◌<◌, ◌≤◌, ◌⊎◌, inl, inr, max, refl, sym, subst, ap, arith, ◌∙◌, List, [], ◌∷◌, All}
-use Rattle.std.proofs.lemmas.List.Elements.{All-head, All-tail}
+use Rattle.std.proofs.Common.{◌≡◌, ℕ, suc, ◌+◌, ◌-◌, ◌<◌, ◌≤◌, ◌⊎◌, inl, inr, max, refl, sym, subst, ap, arith, ◌∙◌, List, [], ◌∷◌}
+use Rattle.std.specs.List.{AllByRecursion}
+use Rattle.std.proofs.lemmas.List.Sums.{sum_by-cons}
 use Rattle.side_laws.specs.Appending.{cross_hill}
 use Rattle.side_laws.specs.Levels.{level_sum, AllStart, EachStuck, EachPasses, AreLevels}
 use Rattle.side_laws.specs.Merging.{merge_segments, AllRising}
 use Rattle.side_laws.specs.Segments.{Segment, net_sum, top, Passes}
-use Rattle.hill_valley.specs.Sides.{run_profile}
+use Rattle.hill_valley.specs.Side.{run_profile}
 use Rattle.segment_merge.specs.Merging.{merge_runs}
 use Rattle.sp_terms.specs.Term.{Direction}
-use Rattle.cut_laws.specs.Below.{SideLaws}
-use Rattle.cut_laws.specs.Cuts.{Cut, side_of, start_of, top_of, front_peak, back_peak, over_task, cut_first, cut_second, series_cut, par_cut, fronts, backs}
+use Rattle.segment_merge.specs.Laws.{SideLaws}
+use Rattle.cut_laws.specs.Cuts.{Cut, side_of, start_of, top_of, front_peak, back_peak, over_task, cut_first, cut_second, series_cut, par_cut, fronts, backs, starts, sides}
 use Rattle.cut_laws.specs.Tops.{MeetsAtLeast, BothRise, LiesInFirst, LiesInSecond, SomeReaches, tops}
-use Rattle.cut_laws.specs.Wanted.{starts, sides}
 use Rattle.cut_laws.proofs.Composed.{le_or_lt, is_first, is_second, crossed_net, crossed_rises, inserted_net}
 use Rattle.cut_laws.proofs.Merging.{rising_merged}
 use Rattle.cut_laws.proofs.Levels.{lt_or_le, passes_from_top, top_from_passes}
@@ -148,11 +148,14 @@ module _ (laws : SideLaws) where
         (record { front = crossed_rises laws a.least (max (back_peak a) hill) b.initial (over_task a.back task) b.front a.front ra.front; back = rb.back })
   ]
 
-  pub par_meets : (cs : List Cut) → All MeetsAtLeast cs → MeetsAtLeast (par_cut cs)
+  pub par_meets : (cs : List Cut) → AllByRecursion MeetsAtLeast cs → MeetsAtLeast (par_cut cs)
   par_meets [] h = record { front = omega arith; back = omega arith }
   par_meets (c ∷ cs) h =
-      let here : MeetsAtLeast c = All-head MeetsAtLeast c cs h in
-      let rest : MeetsAtLeast (par_cut cs) = par_meets cs (All-tail MeetsAtLeast c cs h) in
+      let here : MeetsAtLeast c = h.0 in
+      let rest : MeetsAtLeast (par_cut cs) = par_meets cs h.1 in
+      let start = sum_by-cons (λ (x : Cut). x.initial) c cs in
+      let end = sum_by-cons (λ (x : Cut). x.fin) c cs in
+      let low = sum_by-cons (λ (x : Cut). x.least) c cs in
       record {
         front = omega (arith, here.front, rest.front, inserted_net laws c.front (merge_runs (fronts cs)));
         back = omega (arith, here.back, rest.back, inserted_net laws c.back (merge_runs (backs cs)));

@@ -1,40 +1,17 @@
+-- No public clause names this.
 -- The laws of the layers below that the proofs of this crate stand on.
-use Rattle.std.specs.Prelude.{◌≡◌, ℕ, ◌-◌, ◌≤◌, max, List, ◌++◌, reverse, length, map, slice_index_or, Option}
+use Rattle.std.specs.Prelude.{◌≡◌, ℕ, ◌≤◌, max, List, ◌++◌, reverse, Option}
 use Rattle.mp_system.specs.Memory.{peak_from, peak_of}
 use Rattle.mp_system.specs.Traversal.{IsTraversal}
-use Rattle.side_laws.specs.Laws.{LowestBetween, LowestMonotone, LowestAfterAll, LowestIsStuck, TopAboveLevel, TopPasses, NetOfCrossing, CrossingRises, LowestOfCrossing, TopOfCrossing, NetOfInserts, MergeRises, LowestOfMerge, LevelsOfMerge}
-use Rattle.segment_merge.specs.Laws.{ProfileOfInserts, ProfileOfMerge, ProfileOfCrossing}
-use Rattle.sp_terms.specs.declared.position.Position.{Position}
-use Rattle.sp_terms.specs.Places.{parts_of, part_positions, term_of_position, IsTermAt}
-use Rattle.sp_terms.specs.Postfix.{Denotes, postfix}
+use Rattle.segment_merge.specs.Laws.{SideLaws}
+use Rattle.sp_terms.specs.Places.{parts_of}
 use Rattle.sp_terms.specs.SystemOfTerm.{system_of_term}
 use Rattle.sp_terms.specs.Term.{Term, Direction, forward, backward, first_memory, least_of, IsAllowed}
-use Rattle.sp_terms.specs.Values.{IsTerms, term_of}
 use Rattle.sp_term_laws.specs.Along.{memory_after}
 use Rattle.sp_term_laws.specs.Moves.{State, other, memory_of, first_state}
 use Rattle.sp_term_laws.specs.Ways.{Way}
 use Rattle.claim_rules.specs.Claims.{Claim, IsSound, AreSound}
 use Rattle.claim_rules.specs.Rules.{MeetsRule}
-
--- sides: their levels and tops, crossing a hill, merging
-pub record SideLaws : Type 0 where
-  pub between : LowestBetween
-  pub monotone : LowestMonotone
-  pub after_all : LowestAfterAll
-  pub stuck : LowestIsStuck
-  pub above : TopAboveLevel
-  pub passes : TopPasses
-  pub crossing_net : NetOfCrossing
-  pub crossing_rises : CrossingRises
-  pub crossing_lowest : LowestOfCrossing
-  pub crossing_top : TopOfCrossing
-  pub inserts_net : NetOfInserts
-  pub merge_rises : MergeRises
-  pub merge_lowest : LowestOfMerge
-  pub levels : LevelsOfMerge
-  pub profile_inserts : ProfileOfInserts
-  pub profile_merge : ProfileOfMerge
-  pub profile_crossing : ProfileOfCrossing
 
 -- states and ways of a term, and its traversals
 pub record TermLaws : Type 0 where
@@ -65,15 +42,3 @@ pub record LawsBelow : Type 0 where
   pub sides : SideLaws
   pub terms : TermLaws
   pub rules : RulesAreSound
-
--- the positions of terms, and what they denote
-pub record PositionLaws : Type 0 where
-  pub parts : (ps : List Position) (k : ℕ) → IsTerms ps → 1 ≤ k → k ≤ length ps → map (term_of_position ps) (part_positions k (term_of_position ps k)) ≡ parts_of (term_of_position ps k)
-  pub allowed : (ps : List Position) (k : ℕ) → IsTerms ps → 1 ≤ k → k ≤ length ps → IsAllowed (term_of_position ps k)
-
-pub record PlaceLaws : Type 0 where
-  pub positions : PositionLaws
-  pub own : (ps : List Position) (k : ℕ) (d : Position) → IsTerms ps → 1 ≤ k → k ≤ length ps → IsTermAt (slice_index_or ps (k - 1) d) (term_of_position ps k)
-  pub last : (ps : List Position) → IsTerms ps → term_of_position ps (length ps) ≡ term_of ps
-  pub denotes : (ps : List Position) → IsTerms ps → Denotes ps (term_of ps)
-  pub only : (ps : List Position) (t : Term) → Denotes ps t → ps ≡ postfix t

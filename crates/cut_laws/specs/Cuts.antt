@@ -1,9 +1,9 @@
 -- Cuts of a term: two sides that lead down to one state of least memory, the front from the first state and the back, read backwards,
 -- from the last. What the planner makes of a data item, of a series and of parts side by side.
 -- Source: J. W. H. Liu, An application of generalized tree pebbling to sparse matrix factorization, 1987, for trees.
-use Rattle.std.specs.Prelude.{ℕ, ◌+◌, max, if◌then◌else◌, nat_le, List, [], ◌∷◌, ◌++◌, reverse}
-use Rattle.side_laws.specs.Segments.{lowest, top}
-use Rattle.hill_valley.specs.Sides.{Run, run_profile, tasks_of}
+use Rattle.std.specs.Prelude.{ℕ, max, if◌then◌else◌, nat_le, List, [], ◌∷◌, ◌++◌, reverse, map, sum_by}
+use Rattle.side_laws.specs.Segments.{Segment, lowest, top}
+use Rattle.hill_valley.specs.Side.{Run, run_profile, tasks_of}
 use Rattle.segment_merge.specs.Crossing.{cross_hill_runs}
 use Rattle.segment_merge.specs.Merging.{merge_runs}
 use Rattle.sp_terms.specs.Term.{Direction, forward, backward}
@@ -63,32 +63,18 @@ series_cut a task hill b = if nat_le a.least b.least then cut_first a task hill 
 -- ---- parts side by side, each cut where it is
 
 abbrev pub fronts : List Cut → List (List Run)
-fronts [] = []
-fronts (c ∷ cs) = c.front ∷ fronts cs
+fronts cs = map (λ c. c.front) cs
 
 abbrev pub backs : List Cut → List (List Run)
-backs [] = []
-backs (c ∷ cs) = c.back ∷ backs cs
-
-abbrev pub sum_initial : List Cut → ℕ
-sum_initial [] = 0
-sum_initial (c ∷ cs) = c.initial + sum_initial cs
-
-abbrev pub sum_fin : List Cut → ℕ
-sum_fin [] = 0
-sum_fin (c ∷ cs) = c.fin + sum_fin cs
-
-abbrev pub sum_least : List Cut → ℕ
-sum_least [] = 0
-sum_least (c ∷ cs) = c.least + sum_least cs
+backs cs = map (λ c. c.back) cs
 
 abbrev pub par_cut : List Cut → Cut
 par_cut cs = record {
   front = merge_runs (fronts cs);
   back = merge_runs (backs cs);
-  initial = sum_initial cs;
-  fin = sum_fin cs;
-  least = sum_least cs;
+  initial = sum_by (λ c. c.initial) cs;
+  fin = sum_by (λ c. c.fin) cs;
+  least = sum_by (λ c. c.least) cs;
 }
 
 -- ---- in a direction
@@ -106,3 +92,10 @@ top_of d c = top (start_of d c) (run_profile (side_of d c))
 
 abbrev pub lowest_of : Direction → ℕ → Cut → ℕ
 lowest_of d limit c = lowest limit (start_of d c) (run_profile (side_of d c))
+
+-- where the sides of several cuts start, and their numbers
+abbrev pub starts : Direction → List Cut → List ℕ
+starts d cs = map (start_of d) cs
+
+abbrev pub sides : Direction → List Cut → List (List Segment)
+sides d cs = map (λ c. run_profile (side_of d c)) cs

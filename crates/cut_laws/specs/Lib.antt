@@ -1,8 +1,6 @@
 pub mod Cuts
 pub mod Names
 pub mod TermCuts
-pub mod Wanted
-pub mod Chosen
 pub mod Standing
 pub mod Tops
 pub mod Below

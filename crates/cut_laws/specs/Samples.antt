@@ -1,17 +1,15 @@
--- Worked examples: the cuts of a tree of five nodes and of a chain that falls, and the claims that show their peaks.
-use Rattle.std.specs.Prelude.{◌≡◌, ℕ, pos, List, [], ◌∷◌, Some, None, refl}
+-- No public clause names this.
+-- Worked examples: the cuts of a tree of five nodes and of a chain that falls.
+use Rattle.std.specs.Prelude.{◌≡◌, ℕ, List, [], ◌∷◌, refl}
 use Rattle.mp_system.specs.declared.system.Task.{Task}
-use Rattle.hill_valley.specs.Sides.{Run}
+use Rattle.hill_valley.specs.Side.{Run}
 use Rattle.mp_system.specs.Memory.{peak_from}
 use Rattle.sp_terms.specs.SystemOfTerm.{system_of_term}
 use Rattle.sp_term_laws.specs.Along.{memory_after}
-use Rattle.sp_terms.specs.Term.{Term, hold, series, par, no_parts, part, forward, backward}
-use Rattle.claim_rules.specs.Claims.{Claim}
-use Rattle.cut_laws.specs.Chosen.{whole_claim}
+use Rattle.sp_terms.specs.Term.{Term, hold, series, par, no_parts, part, forward}
 use Rattle.cut_laws.specs.Cuts.{Cut, front_peak, back_peak, order_of, lowest_of}
 use Rattle.cut_laws.specs.Names.{names_of, numbered}
 use Rattle.cut_laws.specs.TermCuts.{cut_of_term}
-use Rattle.cut_laws.specs.Wanted.{first_claim, second_claim, par_claims}
 
 abbrev task : ℕ → Task
 task extra = record { extra = extra; share = 0; time = 1 }
@@ -52,27 +50,19 @@ tree_is_ordered = refl
 peaks_of_the_tree : front_peak cut_of_tree ∷ back_peak cut_of_tree ∷ [] ≡ 0 ∷ 11 ∷ []
 peaks_of_the_tree = refl
 
--- ---- the claims that show 11 to be least
+-- ---- parts side by side that are cut in both: each leads from 4 down to 1, and over 10 to 3
 
-abbrev ten : Claim
-ten = record { direction = backward; bound = pos 10; rest = 0 }
+abbrev valley : Term
+valley = series (series (hold 4) (task 0) (hold 1)) (task 6) (hold 3)
 
-claim_on_the_tree : whole_claim cut_of_tree ≡ ten
-claim_on_the_tree = refl
+abbrev valleys : Term
+valleys = par (part valley (part valley no_parts))
 
-abbrev cut_of_both : Cut
-cut_of_both = cut_of_term (par (part chain (part chain no_parts))) (numbered 1 (par (part chain (part chain no_parts))))
+valleys_are_cut : cut_of_term valleys (numbered 1 valleys) ≡ record { front = run 1 6 (1 ∷ 3 ∷ []) ∷ []; back = run 7 4 (2 ∷ 4 ∷ []) ∷ []; initial = 8; fin = 6; least = 2 }
+valleys_are_cut = refl
 
--- the root passes, so the two chains do not, together
-claims_below_the_root : first_claim ten cut_of_both (cut_of_term (hold 0) tt) 10 ∷ second_claim ten cut_of_both (cut_of_term (hold 0) tt) 10 ∷ [] ≡ Some ten ∷ None ∷ []
-claims_below_the_root = refl
-
--- they stand at 5 each, so each is left a bound of 5, within which it does not pass
-abbrev five : Claim
-five = record { direction = backward; bound = pos 5; rest = 5 }
-
-claims_of_the_chains : par_claims backward (pos 10) 10 (cut_of_chain ∷ cut_of_chain ∷ []) (5 ∷ 5 ∷ []) ≡ Some five ∷ Some five ∷ []
-claims_of_the_chains = refl
+valleys_are_ordered : order_of (cut_of_term valleys (numbered 1 valleys)) ≡ 1 ∷ 3 ∷ 4 ∷ 2 ∷ []
+valleys_are_ordered = refl
 
 -- ---- a chain that falls: from 5 over 7 to 2, and over 5 to nothing
 

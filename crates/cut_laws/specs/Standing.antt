@@ -7,7 +7,7 @@ use Rattle.mp_system.specs.Memory.{peak_from, peak_of}
 use Rattle.mp_system.specs.Renaming.{name_in}
 use Rattle.mp_system.specs.Traversal.{IsTraversal, IsLeast}
 use Rattle.side_laws.specs.Segments.{net_sum, IsRising}
-use Rattle.hill_valley.specs.Sides.{Run, run_profile, tasks_of}
+use Rattle.hill_valley.specs.Side.{Run, run_profile, tasks_of}
 use Rattle.sp_terms.specs.SystemOfTerm.{task_count, system_of_term}
 use Rattle.sp_terms.specs.Term.{Term, Parts, no_parts, part, Direction, forward, backward, initial_of, final_of, least_of}
 use Rattle.sp_term_laws.specs.Along.{memory_after}

@@ -1,7 +1,7 @@
 -- The sides and the peaks of a cut that is made of others.
 use Rattle.std.specs.Prelude.{◌≡◌, ℕ, ◌+◌, ◌-◌, ◌≤◌, max, ◌⊎◌, List, [], ◌∷◌}
 use Rattle.side_laws.specs.Segments.{net_sum, IsRising}
-use Rattle.hill_valley.specs.Sides.{run_profile}
+use Rattle.hill_valley.specs.Side.{run_profile}
 use Rattle.sp_terms.specs.Term.{Direction}
 use Rattle.cut_laws.specs.Cuts.{Cut, front_peak, back_peak, top_of}
 

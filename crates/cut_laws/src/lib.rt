@@ -1,9 +1,7 @@
 //! Laws of cuts: what two sides that lead down to one state of a term say of its traversals.
 //!
 //! The definitions stand in specs/: `Cuts`, `Names`, `TermCuts`; `Standing`, what a cut says; `Tops`, the peaks of cuts that are made of
-//! others; `Wanted` and `Chosen`, the claims that show its peak.
+//! others.
 #![tactic(auto)]
 
 pub mod laws;
-#[cfg(test)]
-mod tests;

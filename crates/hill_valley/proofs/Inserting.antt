@@ -18,7 +18,7 @@ use Rattle.side_laws.specs.Laws.{NetOfInsert, InsertRises, MergeOfOne, LowestOfM
 use Rattle.hill_valley.specs.declared.side.Descent.{Descent}
 use Rattle.hill_valley.specs.declared.side.Seg.{Seg}
 use Rattle.hill_valley.specs.Ropes.{IsRope, Extends}
-use Rattle.hill_valley.specs.Sides.{profile, IsSide, AllUpsWithin, HaveRopes, Run, runs_of, run_profile, insert_run}
+use Rattle.hill_valley.specs.Side.{profile, IsSide, AllUpsWithin, HaveRopes, Run, runs_of, run_profile, insert_run}
 use Rattle.hill_valley.specs.Descents.{segs_of, list_seen, list_joined}
 use Rattle.hill_valley.proofs.Kept.{list_kept, runs_kept, ropes_kept}
 use Rattle.hill_valley.proofs.Profiles.{profile_runs, profile_insert}

@@ -5,7 +5,7 @@ use Rattle.std.proofs.Common.{arith}
 use Rattle.hill_valley.specs.declared.ropes.Rope.{Rope}
 use Rattle.hill_valley.specs.declared.side.Seg.{Seg}
 use Rattle.hill_valley.specs.Ropes.{list_of, IsRope, Extends}
-use Rattle.hill_valley.specs.Sides.{HaveRopes, runs_of}
+use Rattle.hill_valley.specs.Side.{HaveRopes, runs_of}
 
 pub list_kept : (old new : List (List ℕ)) (r : Rope) → IsRope old r → Extends old new → list_of new r ≡ list_of old r
 list_kept old new r h (more, e) = rw e (grind (arith, common_steps))

@@ -6,3 +6,4 @@ pub mod Inserting
 pub mod Last
 pub mod Walk
 pub mod Staircases
+pub mod Tasks

@@ -6,7 +6,7 @@ use Rattle.side_laws.specs.Segments.{Segment}
 use Rattle.side_laws.specs.Appending.{append_segment}
 use Rattle.side_laws.specs.Merging.{insert_segment}
 use Rattle.hill_valley.specs.declared.side.Seg.{Seg}
-use Rattle.hill_valley.specs.Sides.{profile, Run, runs_of, run_numbers, run_profile, tasks_of, insert_run, append_run}
+use Rattle.hill_valley.specs.Side.{profile, Run, runs_of, run_numbers, run_profile, tasks_of, insert_run, append_run}
 
 pub profile_runs : (lists : List (List ℕ)) (ss : List Seg) → run_profile (runs_of lists ss) ≡ profile ss
 profile_runs lists [] = refl

@@ -4,7 +4,7 @@ use Rattle.std.proofs.lemmas.Bool.Decides.{nat_tests}
 use Rattle.side_laws.specs.Segments.{Segment, net_sum, lowest, top}
 use Rattle.hill_valley.specs.declared.side.Descent.{Descent}
 use Rattle.hill_valley.specs.declared.steps.Step.{Step}
-use Rattle.hill_valley.specs.Sides.{profile, AllUpsWithin, IsSide}
+use Rattle.hill_valley.specs.Side.{profile, AllUpsWithin, IsSide}
 use Rattle.hill_valley.specs.Descents.{segs_of}
 use Rattle.hill_valley.specs.Staircase.{add_step}
 use Rattle.hill_valley.proofs.Inserting.{Entry}

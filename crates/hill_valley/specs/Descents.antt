@@ -1,5 +1,6 @@
+-- No public clause names this.
 -- What the ordered map of a side has at each `up`.
-use Rattle.std.specs.Prelude.{ℕ, ◌+◌, Bool, if◌then◌else◌, List, [], ◌∷◌, ◌++◌, Option, Some, None}
+use Rattle.std.specs.Prelude.{ℕ, ◌+◌, Bool, if◌then◌else◌, List, ◌++◌, Option, Some, None, map}
 use Rattle.hill_valley.specs.declared.side.Seg.{Seg}
 use Rattle.hill_valley.specs.declared.side.Descent.{Descent}
 use Rattle.hill_valley.specs.Ropes.{list_of}
@@ -9,8 +10,7 @@ seg_of e = record { up = e.0; net = e.1.net; tasks = e.1.tasks }
 
 -- the segments of the map's entries
 abbrev pub segs_of : List (ℕ × Descent) → List Seg
-segs_of [] = []
-segs_of (e ∷ es) = seg_of e ∷ segs_of es
+segs_of es = map seg_of es
 
 -- with the list that the rope stands for
 abbrev pub list_seen : List (List ℕ) → Descent → ℕ × List ℕ

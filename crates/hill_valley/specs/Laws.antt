@@ -7,7 +7,7 @@ use Rattle.hill_valley.specs.declared.ropes.Rope.{Rope}
 use Rattle.hill_valley.specs.declared.side.Seg.{Seg}
 use Rattle.hill_valley.specs.declared.steps.Step.{Step}
 use Rattle.hill_valley.specs.Ropes.{list_of, IsRope, Extends}
-use Rattle.hill_valley.specs.Sides.{profile, last_up, HaveRopes, Run, runs_of, run_numbers, run_profile, tasks_of, insert_run, append_run}
+use Rattle.hill_valley.specs.Side.{profile, last_up, HaveRopes, Run, runs_of, run_numbers, run_profile, tasks_of, insert_run, append_run}
 use Rattle.hill_valley.specs.Staircase.{AreSteps}
 
 -- ---- ropes
@@ -34,6 +34,9 @@ ProfileOfRuns = (lists : List (List ℕ)) (side : List Seg) → run_profile (run
 abbrev pub ProfileOfInsert : Type 0
 ProfileOfInsert = (before : Bool) (r : Run) (rs : List Run) → run_profile (insert_run before r rs) ≡ insert_segment (run_numbers r) (run_profile rs)
 
+abbrev pub InsertedRises : Type 0
+InsertedRises = (before : Bool) (r : Run) (rs : List Run) → IsRising (run_profile rs) → IsRising (run_profile (insert_run before r rs))
+
 abbrev pub ProfileOfAppend : Type 0
 ProfileOfAppend = (r : Run) (rs : List Run) → run_profile (append_run r rs) ≡ append_segment r.up r.net (run_profile rs)
 
@@ -44,6 +47,19 @@ TasksOfAppend = (r : Run) (rs : List Run) → tasks_of (append_run r rs) ≡ tas
 abbrev pub AppendInserts : Type 0
 AppendInserts = (r : Run) (rs : List Run) → IsRising (run_profile rs)
     → append_run r rs ≡ insert_run false (record { up = max (last_up (run_profile rs)) r.up; net = r.net; tasks = r.tasks }) rs
+
+-- all of these
+pub record RunLaws : Type 0 where
+  pub rope : RopesStay
+  pub stay : SidesStay
+  pub itself : ExtendsItself
+  pub on : ExtendsOn
+  pub profile : ProfileOfRuns
+  pub insert : ProfileOfInsert
+  pub rises : InsertedRises
+  pub append : ProfileOfAppend
+  pub tasks : TasksOfAppend
+  pub appended : AppendInserts
 
 -- ---- staircases
 

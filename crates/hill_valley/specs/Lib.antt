@@ -1,6 +1,6 @@
 pub mod Ropes
 pub mod Listing
-pub mod Sides
+pub mod Side
 pub mod Descents
 pub mod Staircase
 pub mod Laws

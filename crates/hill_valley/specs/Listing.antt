@@ -1,3 +1,4 @@
+-- No public clause names this.
 -- One step of listing a rope: a node has a task of its own, or parts that are still to be listed.
 use Rattle.std.specs.Prelude.{ℕ, List, [], ◌∷◌, Bool, if◌then◌else◌, not}
 use Rattle.hill_valley.specs.declared.ropes.Node.{Node}

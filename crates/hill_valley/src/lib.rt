@@ -4,14 +4,10 @@
 //! Contracts see a [`Side`] as the list of its segments in rising order of `up`, and [`Ropes`] as the lists that its ropes
 //! stand for. A bound is met as the limit above it: the memory within a bound is the memory below `bound + 1`.
 //!
-//! A call of a law, such as `laws::one_side()`, does nothing: it hands the law to the proof of the function that calls it.
+//! A call of a law, such as `laws::runs()`, does nothing: it hands the law to the proof of the function that calls it.
 #![tactic(auto)]
 
-#[cfg(test)]
-mod bench;
 pub mod laws;
-#[cfg(test)]
-mod plain;
 mod ropes;
 mod side;
 mod steps;
@@ -20,7 +16,8 @@ mod tests;
 
 pub use ropes::{Rope, Ropes};
 pub use side::{Seg, Side};
+use std::alloc::AllocError;
 pub use steps::Step;
 
-/// No memory was found for what a call had to add.
-pub type NoMemory = std::alloc::AllocError;
+/// Want of memory: an allocation was refused.
+pub type NoMemory = AllocError;

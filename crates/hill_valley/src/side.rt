@@ -2,10 +2,11 @@
 
 ghost use Rattle.std.specs.Prelude.{◌≡◌, ℕ, ◌+◌, ◌-◌, ◌<◌, ◌≤◌, ◌^◌, max, if◌then◌else◌, nat_lt, [], ◌∷◌, ◌++◌, length, ◌↔◌, IfOk, IfSome, OnOk, OnErr, MatchOption};
 ghost use Rattle.std.specs.Option.{option_map};
-ghost use Rattle.side_laws.specs.Segments.{net_sum, lowest, top, Passes};
+ghost use Rattle.limits.specs.Limits.{most_total};
+ghost use Rattle.side_laws.specs.Segments.{net_sum, lowest, top, Passes, StartsAbove};
 ghost use Rattle.side_laws.specs.Merging.{AreStuckAt, IsLeastTogether};
 ghost use Rattle.hill_valley.specs.Ropes.{list_of, IsRope, Extends};
-ghost use Rattle.hill_valley.specs.Sides.{greatest_memory, limit_of, numbers, profile, IsSide, last_up, HaveRopes, run_of, runs_of, tasks_of, insert_run, append_run};
+ghost use Rattle.hill_valley.specs.Side.{limit_of, numbers, profile, IsSide, last_up, HaveRopes, run_of, runs_of, tasks_of, insert_run, append_run};
 ghost use Rattle.hill_valley.specs.Staircase.{AreSteps};
 ghost use Rattle.hill_valley.specs.Descents.{list_seen, list_joined};
 
@@ -45,7 +46,7 @@ pub struct Side {
 impl Model for Side {
     ghost use Rattle.std.specs.Prelude.{List};
     ghost use Rattle.hill_valley.specs.declared.side.Seg.{Seg};
-    ghost use Rattle.hill_valley.specs.Sides.{profile, IsSide};
+    ghost use Rattle.hill_valley.specs.Side.{profile, IsSide};
     ghost use Rattle.hill_valley.specs.Staircase.{AreSteps};
     ghost use Rattle.hill_valley.specs.Descents.{segs_of};
 
@@ -66,11 +67,16 @@ impl Side {
         }
     }
 
+    /// What every value of this type keeps; a proof that needs it calls it. It does nothing.
+    pub fn keeps(&self)
+        ensures { IsSide (profile self.now) }
+    {
+        let _ = &self.segments;
+    }
+
     /// How many segments the side has.
     pub fn len(&self) -> u64
         ensures len { result ≡ length self.now }
-        // what holds of every side
-        ensures side { IsSide (profile self.now) }
     {
         self.segments.len() as u64
     }
@@ -97,14 +103,26 @@ impl Side {
         }
     }
 
+    /// Takes the first segment out, if it goes up by at most `most`. Logarithmic time.
+    pub fn take_first_within(&mut self, most: u64) -> Option<Seg>
+        ensures first { MatchOption result
+            ((self.new ≡ self.old) × StartsAbove most (profile self.old))
+            (λ s. (self.old ≡ s ∷ self.new) × (s.up ≤ most)) }
+    {
+        match self.segments.first_key_value() {
+            Some((up, _)) if *up <= most => self.take_first(),
+            _ => None,
+        }
+    }
+
     /// Puts a segment at its place by `up`, and joins it with one of the same `up`: the new one's list comes first where
     /// `before` is true. Its rope and those of the side are of these ropes. Logarithmic time. Where memory is wanting the
     /// side stays as it is, while the ropes may hold more.
     pub fn insert(&mut self, ropes: &mut Ropes, seg: Seg, before: bool) -> Result<(), NoMemory>
         requires rope { IsRope ropes.old seg.tasks }
         requires ropes { HaveRopes ropes.old self.old }
-        requires up { seg.up ≤ greatest_memory }
-        requires net { net_sum (profile self.old) + seg.net ≤ greatest_memory }
+        requires up { seg.up ≤ most_total }
+        requires net { net_sum (profile self.old) + seg.net ≤ most_total }
         ensures segments { OnOk result (
             runs_of ropes.new self.new ≡ insert_run before (run_of ropes.old seg) (runs_of ropes.old self.old)) }
         ensures net { OnOk result (net_sum (profile self.new) ≡ net_sum (profile self.old) + seg.net) }
@@ -137,8 +155,8 @@ impl Side {
     ) -> Result<(), NoMemory>
         requires rope { IsRope ropes.old tasks }
         requires ropes { HaveRopes ropes.old self.old }
-        requires up { up ≤ greatest_memory }
-        requires net { net_sum (profile self.old) + down ≤ greatest_memory }
+        requires up { up ≤ most_total }
+        requires net { net_sum (profile self.old) + down ≤ most_total }
         ensures segments { OnOk result (
             runs_of ropes.new self.new
             ≡ append_run (record { up = up; net = down; tasks = list_of ropes.old tasks }) (runs_of ropes.old self.old)) }
@@ -157,6 +175,7 @@ impl Side {
         ensures kept { Extends ropes.old ropes.new }
     {
         laws::appending();
+        self.keeps();
         let seg = Seg {
             up: self.last_up().max(up),
             net: down,
@@ -165,10 +184,9 @@ impl Side {
         self.insert(ropes, seg, false)
     }
 
-    // The `up` of the last segment.
-    fn last_up(&self) -> u64
+    /// The `up` of the last segment, the greatest, and 0 where there is none. Logarithmic time.
+    pub fn last_up(&self) -> u64
         ensures value { result ≡ last_up (profile self.now) }
-        ensures side { IsSide (profile self.now) }
     {
         match self.segments.last_key_value() {
             Some((up, _)) => *up,
@@ -176,11 +194,25 @@ impl Side {
         }
     }
 
+    /// The tasks of all segments, in order, as one list. The ropes of the side are of these ropes. Linear time.
+    pub fn tasks(&self, ropes: &mut Ropes) -> Result<Rope, NoMemory>
+        requires ropes { HaveRopes ropes.old self.now }
+        ensures list { IfOk result (λ rope. list_of ropes.new rope ≡ tasks_of (runs_of ropes.old self.now)) }
+        ensures rope { IfOk result (λ rope. IsRope ropes.new rope) }
+        ensures kept { Extends ropes.old ropes.new }
+    {
+        let mut tasks = ropes.empty()?;
+        for (_up, descent) in self.segments.iter() {
+            tasks = ropes.join(tasks, descent.tasks)?;
+        }
+        Ok(tasks)
+    }
+
     /// The level at which the next segment would pass the bound, or the level after the last segment where none would.
     /// The segments are run from `level`, which is at least the sum of the `net` values and at most 2^60. Linear time.
     pub fn lowest(&self, level: u64, bound: i64) -> u64
         requires room { net_sum (profile self.now) ≤ level }
-        requires level { level ≤ greatest_memory }
+        requires level { level ≤ most_total }
         ensures lowest { result ≡ lowest (limit_of bound) level (profile self.now) }
     {
         self.lowest_below(level, limit_above(bound))
@@ -189,7 +221,7 @@ impl Side {
     // The same for the least memory that is too much.
     fn lowest_below(&self, level: u64, limit: u64) -> u64
         requires room { net_sum (profile self.now) ≤ level }
-        requires level { level ≤ greatest_memory }
+        requires level { level ≤ most_total }
         ensures { result ≡ lowest limit level (profile self.now) }
     {
         let mut at = level;
@@ -206,7 +238,7 @@ impl Side {
     /// [`Side::lowest`]. Linear time.
     pub fn top(&self, level: u64) -> u64
         requires room { net_sum (profile self.now) ≤ level }
-        requires level { level ≤ greatest_memory }
+        requires level { level ≤ most_total }
         ensures top { result ≡ top level (profile self.now) }
         // under a limit above the level all segments pass exactly where this number is below it
         ensures passes { (limit : ℕ) → (result < limit) ↔ ((level < limit) × Passes limit level (profile self.now)) }
@@ -224,7 +256,7 @@ impl Side {
     /// The steps of the side from a level, which is as for [`Side::lowest`]. Linear time.
     pub fn steps(&self, alloc: Global, level: u64) -> Result<Vec<Step>, NoMemory>
         requires room { net_sum (profile self.now) ≤ level }
-        requires level { level ≤ greatest_memory }
+        requires level { level ≤ most_total }
         ensures steps { IfOk result (λ steps. AreSteps level (profile self.now) steps.items) }
     {
         let mut steps = Vec::new(alloc);

@@ -1,10 +1,10 @@
 -- Behind a side that is lower throughout, putting in and putting behind are the same.
 use Rattle.std.proofs.Common.{◌≡◌, ℕ, ◌<◌, max, List, [], ◌∷◌, refl, ap, sym, ◌∙◌, arith, subst, false}
 use Rattle.side_laws.specs.Segments.{Segment, IsRising, StartsAbove}
-use Rattle.hill_valley.specs.Sides.{Run, run_numbers, run_profile, last_up, insert_run, append_run}
+use Rattle.hill_valley.specs.Side.{Run, run_numbers, run_profile, last_up, insert_run, append_run}
 use Rattle.segment_merge.specs.Merging.{insert_runs, move_runs}
 use Rattle.segment_merge.specs.Crossing.{append_runs}
-use Rattle.segment_merge.specs.Below.{LawsBelow}
+use Rattle.hill_valley.specs.Laws.{RunLaws}
 use Rattle.segment_merge.proofs.Order.{rising_put, moved_behind}
 use Rattle.std.proofs.lemmas.Bool.Decides.{nat_tests}
 
@@ -35,7 +35,7 @@ lift k r = record { up = k; net = r.net; tasks = r.tasks }
 lift_self : (k : ℕ) (r : Run) → k ≡ r.up → lift k r ≡ r
 lift_self k r h = rw h refl
 
-pub appends_moved : LawsBelow → (far near : List Run) → IsRising (run_profile near) → IsRising (run_profile far) → StartsAbove (last_up (run_profile near)) (run_profile far) → append_runs far near ≡ move_runs false far near
+pub appends_moved : RunLaws → (far near : List Run) → IsRising (run_profile near) → IsRising (run_profile far) → StartsAbove (last_up (run_profile near)) (run_profile far) → append_runs far near ≡ move_runs false far near
 appends_moved laws [] near rn rf h = refl
 appends_moved laws (s ∷ far) near rn rf h =
     let m : max (last_up (run_profile near)) s.up ≡ s.up = omega arith in
@@ -44,5 +44,5 @@ appends_moved laws (s ∷ far) near rn rf h =
     ∙ appends_moved laws far (insert_run false s near) (rising_put laws s near rn) rf.1 (subst (λ (k : ℕ). StartsAbove k (run_profile far)) (sym (last_behind s near rn h)) rf.0)
 
 -- so either side may be moved into the other
-pub appends_insert : LawsBelow → (far near : List Run) → IsRising (run_profile near) → IsRising (run_profile far) → StartsAbove (last_up (run_profile near)) (run_profile far) → append_runs far near ≡ insert_runs near far
+pub appends_insert : RunLaws → (far near : List Run) → IsRising (run_profile near) → IsRising (run_profile far) → StartsAbove (last_up (run_profile near)) (run_profile far) → append_runs far near ≡ insert_runs near far
 appends_insert laws far near rn rf h = appends_moved laws far near rn rf h ∙ moved_behind laws far near rf rn

@@ -3,9 +3,9 @@ use Rattle.std.proofs.Common.{◌≡◌, ℕ, ◌+◌, ◌-◌, max, leb, cond, 
 use Rattle.std.proofs.lemmas.Grind.{common_steps}
 use Rattle.side_laws.specs.Segments.{Segment}
 use Rattle.side_laws.specs.Appending.{append_segment, append_segments, cross_hill}
-use Rattle.hill_valley.specs.Sides.{Run, run_profile, tasks_of, append_run}
+use Rattle.hill_valley.specs.Side.{Run, run_profile, tasks_of, append_run}
 use Rattle.segment_merge.specs.Crossing.{append_runs, hill_run, cross_hill_runs}
-use Rattle.segment_merge.specs.Below.{LawsBelow}
+use Rattle.hill_valley.specs.Laws.{RunLaws}
 
 choice : (b : Bool) (x y : List Run) (x' y' : List Segment) → run_profile x ≡ x' → run_profile y ≡ y' → run_profile (cond b x y) ≡ cond b x' y'
 choice true x y x' y' p q = p
@@ -15,7 +15,7 @@ pick : (b : Bool) (x y : List Run) (z : List ℕ) → tasks_of x ≡ z → tasks
 pick true x y z p q = p
 pick false x y z p q = q
 
-module _ (laws : LawsBelow) where
+module _ (laws : RunLaws) where
   pub profile_appends : (far near : List Run) → run_profile (append_runs far near) ≡ append_segments (run_profile far) (run_profile near)
   profile_appends [] near = refl
   profile_appends (s ∷ far) near = profile_appends far (append_run s near) ∙ ap (append_segments (run_profile far)) (laws.append s near)

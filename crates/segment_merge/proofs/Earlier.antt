@@ -3,9 +3,9 @@ use Rattle.std.proofs.Common.{◌≡◌, ℕ, ◌+◌, ◌≤◌, ◌^◌, List,
 use Rattle.side_laws.specs.Segments.{net_sum, IsRising}
 use Rattle.hill_valley.specs.declared.side.Seg.{Seg}
 use Rattle.hill_valley.specs.Ropes.{Extends}
-use Rattle.hill_valley.specs.Sides.{profile, HaveRopes, Run, runs_of, run_profile}
+use Rattle.hill_valley.specs.Side.{profile, HaveRopes, Run, runs_of, run_profile}
 use Rattle.segment_merge.specs.Merging.{insert_runs, merge_runs, move_runs, all_runs_of, AllHaveRopes, net_sum_all}
-use Rattle.segment_merge.specs.Below.{LawsBelow}
+use Rattle.hill_valley.specs.Laws.{RunLaws}
 use Rattle.segment_merge.proofs.Order.{moved_before, merged_append, merged_one, put_assoc}
 use Rattle.segment_merge.proofs.Kept.{each_kept, all_kept, each_append, ropes_front, ropes_last, net_append}
 
@@ -18,7 +18,7 @@ pub record Taking (ropes0 ropes : List (List ℕ)) (sides0 : List (List Seg)) (i
   pub net : net_sum_all rest + net_sum (profile into) ≡ net_sum_all sides0 + net_sum (profile into0)
   pub within : net_sum_all rest + net_sum (profile into) ≤ 2 ^ 60
 
-module _ (laws : LawsBelow) where
+module _ (laws : RunLaws) where
   pub taking_starts : (ropes : List (List ℕ)) (sides : List (List Seg)) (into : List Seg) → AllHaveRopes ropes sides → HaveRopes ropes into → net_sum_all sides + net_sum (profile into) ≤ 2 ^ 60 → Taking ropes ropes sides into sides into
   taking_starts ropes sides into s i n = record { told = refl; rest_ropes = s; into_ropes = i; kept = laws.itself ropes; net = refl; within = n }
 

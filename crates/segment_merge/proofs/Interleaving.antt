@@ -1,11 +1,11 @@
 -- The tasks of the merged side are those of the sides, each in their order.
-use Rattle.std.proofs.Common.{◌≡◌, ℕ, ◌+◌, ◌<◌, List, [], ◌∷◌, ◌++◌, refl, ap, sym, ◌∙◌, arith, subst, true, ◌⊎◌, inl, inr, append_assoc}
+use Rattle.std.proofs.Common.{◌≡◌, ℕ, ◌<◌, List, [], ◌∷◌, ◌++◌, refl, ap, sym, ◌∙◌, arith, subst, true, ◌⊎◌, inl, inr, append_assoc}
 use Rattle.side_laws.specs.Segments.{IsRising, StartsAbove}
 use Rattle.side_laws.specs.Merging.{AllEmpty, AllRising, IsInterleaving}
-use Rattle.hill_valley.specs.Sides.{Run, run_numbers, run_profile, tasks_of, insert_run}
+use Rattle.hill_valley.specs.Side.{Run, run_profile, tasks_of, insert_run}
 use Rattle.segment_merge.specs.Merging.{insert_runs, merge_runs, run_profiles, all_tasks_of}
-use Rattle.segment_merge.specs.Below.{LawsBelow}
-use Rattle.segment_merge.proofs.Order.{order, in_front, further, put_nil}
+use Rattle.hill_valley.specs.Laws.{RunLaws}
+use Rattle.segment_merge.proofs.Order.{order, in_front, further, joined, put_nil}
 use Rattle.std.proofs.lemmas.Bool.Decides.{nat_tests}
 
 -- zs has the elements of xs and of ys, each in their order
@@ -38,11 +38,8 @@ put_cons : (ss : List Run) (e : Run) (es : List Run) → StartsAbove e.up (run_p
 put_cons [] e es a r = refl
 put_cons (s ∷ ss) e es a r = ap (insert_run true s) (put_cons ss e es (past e.up s ss a r) r.1) ∙ further true s e (insert_runs ss es) a
 
-at_place : (s e : Run) (es : List Run) → s.up ≡ e.up → insert_run true s (e ∷ es) ≡ record { up = e.up; net = e.net + s.net; tasks = s.tasks ++ e.tasks } ∷ es
-at_place s e es h = grind (arith, nat_tests)
-
 in_place_before : (s e : Run) (es : List Run) → s.up ≡ e.up → tasks_of (insert_run true s (e ∷ es)) ≡ s.tasks ++ (e.tasks ++ tasks_of es)
-in_place_before s e es h = ap tasks_of (at_place s e es h) ∙ append_assoc s.tasks e.tasks (tasks_of es)
+in_place_before s e es h = ap tasks_of (joined s e es h) ∙ append_assoc s.tasks e.tasks (tasks_of es)
 
 after_step : (u : ℕ) (s e : Run) (es : List Run) → u < s.up → u < e.up → StartsAbove u (run_profile (insert_run true s (e ∷ es)))
 after_step u s e es hs he = grind (arith, nat_tests)
@@ -99,12 +96,12 @@ woven (z ∷ zs) xs ys lists (inr (rest, e, h)) k =
     let (rests', takes', ends') = woven zs xs rest next h (rests, takes, ends) in
     (rests', (xs ∷ next, inr (refl, first), takes'), ends')
 
-module _ (laws : LawsBelow) where
+module _ (laws : RunLaws) where
   rising_inserts : (ss es : List Run) → IsRising (run_profile es) → IsRising (run_profile (insert_runs ss es))
   rising_inserts [] es r = r
-  rising_inserts (s ∷ ss) es r = rw (laws.insert true s (insert_runs ss es)) (laws.rises (run_numbers s) (run_profile (insert_runs ss es)) (rising_inserts ss es r))
+  rising_inserts (s ∷ ss) es r = laws.rises true s (insert_runs ss es) (rising_inserts ss es r)
 
-  rising_merge : (sides : List (List Run)) → IsRising (run_profile (merge_runs sides))
+  pub rising_merge : (sides : List (List Run)) → IsRising (run_profile (merge_runs sides))
   rising_merge [] = tt
   rising_merge (side ∷ sides) = rising_inserts side (merge_runs sides) (rising_merge sides)
 

@@ -1,12 +1,16 @@
 -- Lists of sides: older ropes, and sums.
-use Rattle.std.proofs.Common.{◌≡◌, ℕ, ◌+◌, List, [], ◌∷◌, ◌++◌, refl, ap, arith, length, reverse}
+use Rattle.std.proofs.Common.{◌≡◌, ℕ, ◌+◌, List, [], ◌∷◌, ◌++◌, refl, arith, length, reverse}
 use Rattle.std.proofs.lemmas.Grind.{common_steps}
+use Rattle.std.proofs.lemmas.List.Sums.{sum_by-append}
+use Rattle.std.proofs.lemmas.List.Sorted.{IsPermutation-reverse, sum_by-IsPermutation}
+use Rattle.side_laws.specs.Segments.{net_sum}
 use Rattle.hill_valley.specs.declared.side.Seg.{Seg}
 use Rattle.hill_valley.specs.Ropes.{Extends}
+use Rattle.hill_valley.specs.Side.{profile}
 use Rattle.segment_merge.specs.Merging.{all_runs_of, AllHaveRopes, net_sum_all, segment_count}
-use Rattle.segment_merge.specs.Below.{LawsBelow}
+use Rattle.hill_valley.specs.Laws.{RunLaws}
 
-module _ (laws : LawsBelow) where
+module _ (laws : RunLaws) where
   pub each_kept : (old new : List (List ℕ)) (sides : List (List Seg)) → AllHaveRopes old sides → Extends old new → all_runs_of new sides ≡ all_runs_of old sides
   each_kept old new [] h k = refl
   each_kept old new (side ∷ sides) h k = rw ((laws.stay old new side h.0 k).1, each_kept old new sides h.1 k) refl
@@ -32,12 +36,10 @@ ropes_append lists [] b ha hb = hb
 ropes_append lists (side ∷ a) b ha hb = (ha.0, ropes_append lists a b ha.1 hb)
 
 pub net_append : (a b : List (List Seg)) → net_sum_all (a ++ b) ≡ net_sum_all a + net_sum_all b
-net_append [] b = omega arith
-net_append (side ∷ a) b = omega (arith, net_append a b)
+net_append a b = sum_by-append (λ (side : List Seg). net_sum (profile side)) a b
 
 pub count_append : (a b : List (List Seg)) → segment_count (a ++ b) ≡ segment_count a + segment_count b
-count_append [] b = omega arith
-count_append (side ∷ a) b = omega (arith, count_append a b)
+count_append a b = sum_by-append (length {A = Seg}) a b
 
 pub reverse_first : (side : List Seg) (sides : List (List Seg)) → reverse (side ∷ sides) ≡ reverse sides ++ side ∷ []
 reverse_first side sides = grind (arith, common_steps)
@@ -53,13 +55,7 @@ ropes_reverse lists [] h = tt
 ropes_reverse lists (side ∷ a) h = rw (reverse_first side a) (ropes_append lists (reverse a) (side ∷ []) (ropes_reverse lists a h.1) (h.0, tt))
 
 pub net_reverse : (a : List (List Seg)) → net_sum_all (reverse a) ≡ net_sum_all a
-net_reverse [] = refl
-net_reverse (side ∷ a) = omega (arith, ap net_sum_all (reverse_first side a), net_append (reverse a) (side ∷ []), net_reverse a)
+net_reverse a = sum_by-IsPermutation (λ (side : List Seg). net_sum (profile side)) a (reverse a) (IsPermutation-reverse a)
 
 pub count_reverse : (a : List (List Seg)) → segment_count (reverse a) ≡ segment_count a
-count_reverse [] = refl
-count_reverse (side ∷ a) = omega (arith, ap segment_count (reverse_first side a), count_append (reverse a) (side ∷ []), count_reverse a)
-
-pub nil_from_length : {X : Type 0} (xs : List X) → length xs ≡ 0 → xs ≡ []
-nil_from_length [] h = refl
-nil_from_length (x ∷ xs) h = absurd (omega arith)
+count_reverse a = sum_by-IsPermutation (length {A = Seg}) a (reverse a) (IsPermutation-reverse a)

@@ -3,11 +3,12 @@ use Rattle.std.proofs.Common.{◌≡◌, ℕ, ◌+◌, ◌≤◌, ◌^◌, List,
 use Rattle.side_laws.specs.Segments.{net_sum, IsRising}
 use Rattle.hill_valley.specs.declared.side.Seg.{Seg}
 use Rattle.hill_valley.specs.Ropes.{Extends}
-use Rattle.hill_valley.specs.Sides.{profile, HaveRopes, Run, runs_of, run_profile}
+use Rattle.hill_valley.specs.Side.{profile, HaveRopes, Run, runs_of, run_profile}
 use Rattle.segment_merge.specs.Merging.{insert_runs, merge_runs, move_runs, all_runs_of, AllHaveRopes, net_sum_all}
-use Rattle.segment_merge.specs.Below.{LawsBelow}
+use Rattle.hill_valley.specs.Laws.{RunLaws}
 use Rattle.segment_merge.proofs.Order.{moved_behind, put_assoc, put_nil}
-use Rattle.segment_merge.proofs.Kept.{each_kept, all_kept, ropes_front, ropes_last, ropes_reverse, net_append, reverse_last, nil_from_length}
+use Rattle.segment_merge.proofs.Kept.{each_kept, all_kept, ropes_front, ropes_last, ropes_reverse, net_append, reverse_last}
+use Rattle.std.proofs.lemmas.List.{nil_from_length}
 
 -- `rest` is left of sides0, the nearest of them last
 pub record Following (ropes0 ropes : List (List ℕ)) (sides0 : List (List Seg)) (into0 : List Seg) (rest : List (List Seg)) (into : List Seg) : Type 0 where
@@ -17,7 +18,7 @@ pub record Following (ropes0 ropes : List (List ℕ)) (sides0 : List (List Seg))
   pub kept : Extends ropes0 ropes
   pub within : net_sum_all rest + net_sum (profile into) ≤ 2 ^ 60
 
-module _ (laws : LawsBelow) where
+module _ (laws : RunLaws) where
   pub following_starts : (ropes : List (List ℕ)) (sides : List (List Seg)) (into : List Seg) → AllHaveRopes ropes sides → HaveRopes ropes into → net_sum_all sides + net_sum (profile into) ≤ 2 ^ 60 → Following ropes ropes sides into sides into
   following_starts ropes sides into s i n = record { told = refl; rest_ropes = s; into_ropes = i; kept = laws.itself ropes; within = n }
 

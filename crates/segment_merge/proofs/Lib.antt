@@ -3,8 +3,9 @@ pub mod Order
 pub mod Behind
 pub mod Crossing
 pub mod Interleaving
+pub mod AtUp
 pub mod Kept
-pub mod Moving
+pub mod Moved
 pub mod Earlier
 pub mod Later
 pub mod Longest

@@ -1,8 +1,9 @@
 -- The longest of several sides.
 use Rattle.std.proofs.Common.{◌≡◌, ℕ, zero, suc, ◌+◌, ◌-◌, ◌<◌, ◌≤◌, max, min, List, [], ◌∷◌, ◌++◌, ap, ◌∙◌, arith, length, get_or, take}
 use Rattle.std.proofs.lemmas.Grind.{common_steps}
+use Rattle.std.proofs.lemmas.List.Sums.{sum_by-cons}
 use Rattle.hill_valley.specs.declared.side.Seg.{Seg}
-use Rattle.hill_valley.specs.Sides.{profile, IsSide}
+use Rattle.hill_valley.specs.Side.{profile, IsSide}
 use Rattle.segment_merge.specs.Merging.{AllSides, segment_count, longest}
 
 longest_append : (a b : List (List Seg)) → longest (a ++ b) ≡ max (longest a) (longest b)
@@ -18,7 +19,7 @@ all_of_them sides = grind (arith, common_steps)
 
 pub longest_le_count : (sides : List (List Seg)) → longest sides ≤ segment_count sides
 longest_le_count [] = omega arith
-longest_le_count (side ∷ sides) = omega (arith, longest_le_count sides)
+longest_le_count (side ∷ sides) = omega (arith, longest_le_count sides, sum_by-cons (length {A = Seg}) side sides)
 
 at_most_longest : (sides : List (List Seg)) (i : ℕ) → length (get_or sides i []) ≤ longest sides
 at_most_longest [] i = omega arith

@@ -5,9 +5,9 @@ use Rattle.side_laws.specs.Segments.{net_sum, lowest, top}
 use Rattle.side_laws.specs.Merging.{merge_segments, AllRising, AreStuckAt, IsLeastTogether, IsInterleaving}
 use Rattle.side_laws.specs.Laws.{NetOfInserts, LowestOfMerge, TopOfMerge}
 use Rattle.hill_valley.specs.declared.side.Seg.{Seg}
-use Rattle.hill_valley.specs.Sides.{profile, HaveRopes, runs_of, run_profile, tasks_of}
+use Rattle.hill_valley.specs.Side.{profile, HaveRopes, runs_of, run_profile, tasks_of}
 use Rattle.segment_merge.specs.Merging.{insert_runs, merge_runs, all_tasks_of, all_runs_of, profiles, AllHaveRopes, AllSides, net_sum_all, segment_count, longest}
-use Rattle.segment_merge.specs.Below.{LawsBelow}
+use Rattle.hill_valley.specs.Laws.{RunLaws}
 use Rattle.segment_merge.proofs.Order.{merged_append, put_assoc}
 use Rattle.segment_merge.proofs.Kept.{each_append, ropes_front, ropes_last, ropes_reverse, net_append, net_reverse, count_append, count_reverse, reverse_twice}
 use Rattle.segment_merge.proofs.Profiles.{profile_merge, profiles_runs, net_merge}
@@ -72,7 +72,7 @@ all_rising [] h = tt
 all_rising (side ∷ sides) h = (h.0.2, all_rising sides h.1)
 
 -- what the merged side is, from its runs
-module _ (laws : LawsBelow) (old new : List (List ℕ)) (sides : List (List Seg)) (side : List Seg) (all : AllSides sides) (is : runs_of new side ≡ merge_runs (all_runs_of old sides)) where
+module _ (laws : RunLaws) (old new : List (List ℕ)) (sides : List (List Seg)) (side : List Seg) (all : AllSides sides) (is : runs_of new side ≡ merge_runs (all_runs_of old sides)) where
   pub merged_profile : profile side ≡ merge_segments (profiles sides)
   merged_profile = sym (laws.profile new side) ∙ ap run_profile is ∙ profile_merge laws (all_runs_of old sides) ∙ ap merge_segments (profiles_runs laws old sides)
 

@@ -1,9 +1,9 @@
 -- Whichever side the others are move_runs into, the merge_segments side is the same.
 use Rattle.std.proofs.Common.{◌≡◌, ◌≢◌, ℕ, ◌+◌, ◌<◌, List, [], ◌∷◌, ◌++◌, refl, ap, sym, ◌∙◌, arith, subst, Bool, true, false, append_assoc, ◌⊎◌, inl, inr}
 use Rattle.side_laws.specs.Segments.{IsRising, StartsAbove}
-use Rattle.hill_valley.specs.Sides.{Run, run_numbers, run_profile, insert_run}
+use Rattle.hill_valley.specs.Side.{Run, run_profile, join_runs, insert_run}
 use Rattle.segment_merge.specs.Merging.{insert_runs, merge_runs, move_runs}
-use Rattle.segment_merge.specs.Below.{LawsBelow}
+use Rattle.hill_valley.specs.Laws.{RunLaws}
 use Rattle.std.proofs.lemmas.Bool.Decides.{nat_tests}
 
 abbrev run : ℕ → ℕ → List ℕ → Run
@@ -64,8 +64,8 @@ after_on u s (t ∷ ss) h r = let q = r.0 in omega arith
 pub order : (m n : ℕ) → (m < n) ⊎ ((m ≡ n) ⊎ (n < m))
 order m n = grind arith
 
-pub rising_put : LawsBelow → (s : Run) (es : List Run) → IsRising (run_profile es) → IsRising (run_profile (insert_run false s es))
-rising_put laws s es r = rw (laws.insert false s es) (laws.rises (run_numbers s) (run_profile es) r)
+pub rising_put : RunLaws → (s : Run) (es : List Run) → IsRising (run_profile es) → IsRising (run_profile (insert_run false s es))
+rising_put laws s es r = laws.rises false s es r
 
 none_after : (u : ℕ) (ss : List Run) → StartsAbove u (run_profile ss) → IsRising (run_profile ss) → NoneAt u ss
 none_after u [] h r = tt
@@ -94,6 +94,9 @@ put_assoc (s ∷ a) b c = put_inserted s (insert_runs a b) c ∙ ap (insert_run 
 
 pub in_front : (b : Bool) (s m : Run) (ms : List Run) → s.up < m.up → insert_run b s (m ∷ ms) ≡ s ∷ m ∷ ms
 in_front b s m ms h = grind (arith, nat_tests)
+
+pub joined : (s e : Run) (es : List Run) → s.up ≡ e.up → insert_run true s (e ∷ es) ≡ join_runs true s e ∷ es
+joined s e es h = grind (arith, nat_tests)
 
 pub in_place : (s m : Run) (ms : List Run) → s.up ≡ m.up → insert_run false s (m ∷ ms) ≡ both m s ∷ ms
 in_place s m ms h = grind (arith, nat_tests)
@@ -128,7 +131,7 @@ front_cons s [] r = refl
 front_cons s (t ∷ ss) r = in_front true s t ss r.0
 
 -- move_runs in behind, it is as if the side had been put in in front of it
-pub moved_behind : LawsBelow → (ss es : List Run) → IsRising (run_profile ss) → IsRising (run_profile es) → move_runs false ss es ≡ insert_runs es ss
+pub moved_behind : RunLaws → (ss es : List Run) → IsRising (run_profile ss) → IsRising (run_profile es) → move_runs false ss es ≡ insert_runs es ss
 moved_behind laws [] es r re = sym (put_nil es re)
 moved_behind laws (s ∷ ss) es r re =
     moved_behind laws ss (insert_run false s es) r.1 (rising_put laws s es re) ∙ behind s es ss re ∙ ap (insert_runs es) (front_cons s ss r)

@@ -1,11 +1,11 @@
 -- Runs put behind a side, and a side that goes on over a hill to another, with the tasks.
 use Rattle.std.specs.Prelude.{ℕ, ◌+◌, ◌-◌, max, if◌then◌else◌, nat_le, List, [], ◌∷◌, ◌++◌}
-use Rattle.hill_valley.specs.Sides.{Run, append_run}
+use Rattle.std.specs.List.{fold}
+use Rattle.hill_valley.specs.Side.{Run, append_run}
 
 -- with the runs of `far` at the end of `near`, one after another
 abbrev pub append_runs : List Run → List Run → List Run
-append_runs [] near = near
-append_runs (s ∷ far) near = append_runs far (append_run s near)
+append_runs far near = fold (λ rs s. append_run s rs) near far
 
 -- the run over a hill, from the level `end` up to `hill` and down to `level`
 abbrev pub hill_run : ℕ → ℕ → ℕ → List ℕ → Run

@@ -2,11 +2,14 @@
 use Rattle.std.specs.Prelude.{◌≡◌, ℕ, ◌++◌, true, false, List}
 use Rattle.side_laws.specs.Segments.{IsRising, StartsAbove}
 use Rattle.side_laws.specs.Appending.{append_segments, cross_hill}
+use Rattle.side_laws.specs.Laws.{LowestBetween, LowestMonotone, LowestAfterAll, LowestIsStuck, TopAboveLevel, TopPasses, NetOfAppend, NetOfCrossing, CrossingRises, LowestOfCrossing, TopOfCrossing}
+use Rattle.side_laws.specs.Laws.{NetOfInserts, MergeRises, LowestOfMerge, LevelsOfMerge, MovesOfSeries, MovesOfMoreTasks, MovesOfParallel, MovesBounded}
 use Rattle.side_laws.specs.Merging.{insert_segments, merge_segments, AllRising, IsInterleaving}
+use Rattle.hill_valley.specs.Laws.{RunLaws}
 use Rattle.hill_valley.specs.declared.side.Seg.{Seg}
 use Rattle.hill_valley.specs.Ropes.{Extends}
-use Rattle.hill_valley.specs.Sides.{last_up, Run, run_profile, tasks_of}
-use Rattle.segment_merge.specs.Merging.{insert_runs, merge_runs, move_runs, run_profiles, all_tasks_of, all_runs_of, AllHaveRopes}
+use Rattle.hill_valley.specs.Side.{last_up, Run, run_profile, tasks_of}
+use Rattle.segment_merge.specs.Merging.{insert_runs, merge_runs, move_runs, AreMerged, run_profiles, all_tasks_of, all_runs_of, AllHaveRopes}
 use Rattle.segment_merge.specs.Crossing.{append_runs, cross_hill_runs}
 
 -- ---- merging
@@ -20,6 +23,10 @@ ProfileOfInserts = (ss rs : List Run) → run_profile (insert_runs ss rs) ≡ in
 
 abbrev pub ProfileOfMerge : Type 0
 ProfileOfMerge = (sides : List (List Run)) → run_profile (merge_runs sides) ≡ merge_segments (run_profiles sides)
+
+-- what merging is, `up` by `up`
+abbrev pub MergedAtEachUp : Type 0
+MergedAtEachUp = (sides : List (List Run)) → AreMerged sides (merge_runs sides)
 
 -- the merged list of tasks interleaves those of the sides
 abbrev pub TasksOfMerge : Type 0
@@ -55,3 +62,38 @@ ProfileOfCrossing = (end hill level : ℕ) (tasks : List ℕ) (far near : List R
 abbrev pub TasksOfCrossing : Type 0
 TasksOfCrossing = (end hill level : ℕ) (tasks : List ℕ) (far near : List Run)
     → tasks_of (cross_hill_runs end hill level tasks far near) ≡ tasks_of near ++ (tasks ++ tasks_of far)
+
+-- ---- the laws of this layer and of those below, in one
+
+pub record SideLaws : Type 0 where
+  -- one side
+  pub between : LowestBetween
+  pub monotone : LowestMonotone
+  pub after_all : LowestAfterAll
+  pub stuck : LowestIsStuck
+  pub above : TopAboveLevel
+  pub passes : TopPasses
+  -- sides that are made of others
+  pub append_net : NetOfAppend
+  pub crossing_net : NetOfCrossing
+  pub crossing_rises : CrossingRises
+  pub crossing_lowest : LowestOfCrossing
+  pub crossing_top : TopOfCrossing
+  pub inserts_net : NetOfInserts
+  pub merge_rises : MergeRises
+  pub merge_lowest : LowestOfMerge
+  pub levels : LevelsOfMerge
+  -- moved segments
+  pub series : MovesOfSeries
+  pub more_tasks : MovesOfMoreTasks
+  pub parallel : MovesOfParallel
+  pub bounded : MovesBounded
+  -- the same with tasks
+  pub runs : RunLaws
+  pub all_stay : AllSidesStay
+  pub profile_inserts : ProfileOfInserts
+  pub profile_merge : ProfileOfMerge
+  pub profile_crossing : ProfileOfCrossing
+  pub before : MovedBefore
+  pub behind : MovedBehind
+  pub appends : AppendsInsert

@@ -1,4 +1,3 @@
 pub mod Merging
 pub mod Crossing
-pub mod Below
 pub mod Laws

@@ -1,20 +1,20 @@
 //! The laws, each as a clause of a function that does nothing.
 
-ghost use Rattle.segment_merge.specs.Below.{LawsBelow};
-ghost use Rattle.segment_merge.specs.Laws.{AllSidesStay, ProfileOfInserts, ProfileOfMerge, TasksOfMerge, InsertsAssociate, MovedBefore, MovedBehind};
-ghost use Rattle.segment_merge.specs.Laws.{AppendsInsert, ProfileOfAppends, TasksOfAppends, ProfileOfCrossing, TasksOfCrossing};
+ghost use Rattle.segment_merge.specs.Laws.{AllSidesStay, ProfileOfInserts, ProfileOfMerge, MergedAtEachUp, TasksOfMerge, InsertsAssociate, MovedBefore, MovedBehind};
+ghost use Rattle.segment_merge.specs.Laws.{AppendsInsert, ProfileOfAppends, TasksOfAppends, ProfileOfCrossing, TasksOfCrossing, SideLaws};
 
 /// Sides merged, with their tasks.
 pub fn merged_runs()
     ensures stay { AllSidesStay }
     ensures inserts { ProfileOfInserts }
     ensures profile { ProfileOfMerge }
+    ensures at_each_up { MergedAtEachUp }
     ensures tasks { TasksOfMerge }
     ensures associate { InsertsAssociate }
     ensures before { MovedBefore }
     ensures behind { MovedBehind }
 {
-    below();
+    hill_valley::laws::runs();
 }
 
 /// A side behind a side, also over a hill, with their tasks.
@@ -25,14 +25,19 @@ pub fn crossed_runs()
     ensures profile { ProfileOfCrossing }
     ensures tasks { TasksOfCrossing }
 {
-    below();
+    hill_valley::laws::runs();
 }
 
-// The laws of the layers below, in one.
-pub(crate) fn below()
-    ensures { LawsBelow }
+/// The laws of this layer and of those below, in one.
+pub fn all()
+    ensures { SideLaws }
 {
-    side_laws::laws::inserting();
-    hill_valley::laws::ropes_stay();
+    side_laws::laws::one_side();
+    side_laws::laws::appending();
+    side_laws::laws::crossing();
+    side_laws::laws::merging();
+    side_laws::laws::counting();
     hill_valley::laws::runs();
+    merged_runs();
+    crossed_runs();
 }

@@ -4,12 +4,15 @@
 //! have, and each move is counted.
 #![tactic(auto)]
 
-#[cfg(test)]
-mod bench;
 pub mod laws;
 mod merging;
+mod moving;
 #[cfg(test)]
 mod tests;
 
-pub use hill_valley::NoMemory;
 pub use merging::merge;
+pub use moving::move_all;
+use std::alloc::AllocError;
+
+/// Want of memory: an allocation was refused.
+pub type NoMemory = AllocError;

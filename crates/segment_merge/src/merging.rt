@@ -1,15 +1,16 @@
 //! The longest side takes in the sides before it, the nearest first, and then those after it.
 
 ghost use Rattle.std.specs.Prelude.{◌≡◌, ℕ, ◌+◌, ◌-◌, ◌≤◌, ◌<◌, [], ◌∷◌, ◌++◌, length, reverse, get_or, IfOk, OnOk, OnErr};
+ghost use Rattle.limits.specs.Limits.{most_total};
 ghost use Rattle.side_laws.specs.Segments.{net_sum, lowest, top};
 ghost use Rattle.side_laws.specs.Merging.{AreStuckAt, IsLeastTogether, IsInterleaving, merge_segments};
 ghost use Rattle.hill_valley.specs.Ropes.{Extends};
-ghost use Rattle.hill_valley.specs.Sides.{greatest_memory, profile, IsSide, HaveRopes, runs_of, tasks_of};
-ghost use Rattle.segment_merge.specs.Merging.{insert_runs, merge_runs, move_runs, all_tasks_of, all_runs_of, profiles, AllHaveRopes, AllSides, net_sum_all, segment_count, longest};
+ghost use Rattle.hill_valley.specs.Side.{profile, IsSide, HaveRopes, runs_of, tasks_of};
+ghost use Rattle.segment_merge.specs.Merging.{insert_runs, merge_runs, all_tasks_of, all_runs_of, profiles, AllHaveRopes, AllSides, net_sum_all, segment_count, longest};
 
 use crate::NoMemory;
-use crate::laws::below;
-use hill_valley::{Ropes, Side};
+use crate::moving::move_all;
+use hill_valley::{Ropes, Side, laws as run_laws};
 use side_laws::laws;
 use std::alloc::Global;
 use std::sync::ledger::Ledger;
@@ -26,7 +27,7 @@ pub fn merge<L: Ledger>(
     steps: &mut Steps<L>,
 ) -> Result<Side, NoMemory>
     requires ropes { AllHaveRopes ropes.old sides.items }
-    requires net { net_sum_all sides.items ≤ greatest_memory }
+    requires net { net_sum_all sides.items ≤ most_total }
     ensures segments { IfOk result (λ side. runs_of ropes.new side ≡ merge_runs (all_runs_of ropes.old sides.items)) }
     // the merged list has the tasks of all sides, those of each in their order
     ensures interleaved { IfOk result (λ side.
@@ -46,7 +47,7 @@ pub fn merge<L: Ledger>(
     ensures most_steps { steps.new + longest sides.items ≤ steps.old + segment_count sides.items }
     ensures ticks_stay { steps.old ≤ steps.new }
 {
-    below();
+    run_laws::runs();
     laws::merging();
     let mut before = sides;
     let end = longest_end(&before);
@@ -73,6 +74,7 @@ fn longest_end(sides: &[Side]) -> usize
     let mut end = sides.len().min(1);
     let mut most = 0;
     for (i, side) in sides.iter().enumerate() {
+        side.keeps();
         let len = side.len();
         if most < len {
             end = i + 1;
@@ -91,7 +93,7 @@ fn take_before<L: Ledger>(
 ) -> Result<(), NoMemory>
     requires sides { AllHaveRopes ropes.old sides.items }
     requires into { HaveRopes ropes.old into.old }
-    requires net { net_sum_all sides.items + net_sum (profile into.old) ≤ greatest_memory }
+    requires net { net_sum_all sides.items + net_sum (profile into.old) ≤ most_total }
     ensures segments { OnOk result (
         runs_of ropes.new into.new ≡ insert_runs (merge_runs (all_runs_of ropes.old sides.items)) (runs_of ropes.old into.old)) }
     ensures net { OnOk result (net_sum (profile into.new) ≡ net_sum_all sides.items + net_sum (profile into.old)) }
@@ -101,9 +103,10 @@ fn take_before<L: Ledger>(
     ensures most_steps { steps.new ≤ steps.old + segment_count sides.items }
     ensures ticks_stay { steps.old ≤ steps.new }
 {
-    below();
+    run_laws::runs();
     let mut sides = sides;
     while let Some(side) = sides.pop() {
+        side.keeps();
         move_all(side, into, true, ropes, steps)?;
     }
     Ok(())
@@ -118,7 +121,7 @@ fn take_after<L: Ledger>(
 ) -> Result<(), NoMemory>
     requires sides { AllHaveRopes ropes.old sides.items }
     requires into { HaveRopes ropes.old into.old }
-    requires net { net_sum_all sides.items + net_sum (profile into.old) ≤ greatest_memory }
+    requires net { net_sum_all sides.items + net_sum (profile into.old) ≤ most_total }
     ensures segments { OnOk result (
         runs_of ropes.new into.new ≡ insert_runs (runs_of ropes.old into.old) (merge_runs (all_runs_of ropes.old (reverse sides.items)))) }
     ensures ropes { HaveRopes ropes.new into.new }
@@ -127,42 +130,13 @@ fn take_after<L: Ledger>(
     ensures most_steps { steps.new ≤ steps.old + segment_count sides.items }
     ensures ticks_stay { steps.old ≤ steps.new }
 {
-    below();
+    run_laws::runs();
     let mut sides = sides;
     while let Some(side) = sides.pop() {
+        side.keeps();
+        into.keeps();
         move_all(side, into, false, ropes, steps)?;
     }
-    let _rising = into.len();
-    Ok(())
-}
-
-// Moves each segment of one side into another, a step for each.
-fn move_all<L: Ledger>(
-    from: Side,
-    into: &mut Side,
-    before: bool,
-    ropes: &mut Ropes,
-    steps: &mut Steps<L>,
-) -> Result<(), NoMemory>
-    requires from { HaveRopes ropes.old from }
-    requires into { HaveRopes ropes.old into.old }
-    requires net { net_sum (profile from) + net_sum (profile into.old) ≤ greatest_memory }
-    ensures from { IsSide (profile from) }
-    ensures into { IsSide (profile into.old) }
-    ensures segments { OnOk result (runs_of ropes.new into.new ≡ move_runs before (runs_of ropes.old from) (runs_of ropes.old into.old)) }
-    ensures net { OnOk result (net_sum (profile into.new) ≡ net_sum (profile from) + net_sum (profile into.old)) }
-    ensures ropes { HaveRopes ropes.new into.new }
-    ensures kept { Extends ropes.old ropes.new }
-    ensures steps { OnOk result (steps.new ≡ steps.old + length from) }
-    ensures most_steps { steps.new ≤ steps.old + length from }
-    ensures ticks_stay { steps.old ≤ steps.new }
-{
-    below();
-    let _sides = (from.len(), into.len());
-    let mut from = from;
-    while let Some(seg) = from.take_first() {
-        steps.tick();
-        into.insert(ropes, seg, before)?;
-    }
+    into.keeps();
     Ok(())
 }

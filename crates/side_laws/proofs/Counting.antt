@@ -1,5 +1,7 @@
 use Rattle.std.proofs.Common.{◌≡◌, ℕ, zero, suc, ◌+◌, ◌-◌, ◌*◌, ◌^◌, ◌<◌, ◌≤◌, min, List, [], ◌∷◌, ◌⊎◌, ap, sym, ◌∙◌, arith, subst, inl, inr}
-use Rattle.side_laws.specs.Counting.{Counted, sum_of, greatest_of, AllCounted}
+use Rattle.std.specs.List.{AllByRecursion, sum_by}
+use Rattle.std.proofs.lemmas.List.Sums.{sum_by-cons}
+use Rattle.side_laws.specs.Counting.{Counted, greatest_of, IsCounted}
 use Rattle.std.proofs.lemmas.Nat.{pow-add, mul-pow, pow_below}
 use Rattle.std.proofs.Math.Nat.{pow-le-pow_left, pow-le-pow_right, mul-le-mul, pow-suc, pow-zero}
 
@@ -33,7 +35,7 @@ grown x y a b m hx hy ha hb = elim (le_total b a) [
   | inr h ↦ at_base (x + y + m) (b + a) (a + b) (omega arith) (at_pow (y + x + m) (x + y + m) (b + a) (omega arith) (half y x b a m h hy hx ha))
 ]
 
-pub grown_together : (m n a b : ℕ) → 2 ^ m ≤ a ^ a → 2 ^ n ≤ b ^ b → 2 ^ (m + n) ≤ (a + b) ^ (a + b)
+grown_together : (m n a b : ℕ) → 2 ^ m ≤ a ^ a → 2 ^ n ≤ b ^ b → 2 ^ (m + n) ≤ (a + b) ^ (a + b)
 grown_together m n a b h k = at_pow (m + n + 0) (m + n) (a + b) (omega arith) (grown m n a b 0 h k (omega arith) (omega arith))
 
 -- no task moves nothing
@@ -48,33 +50,40 @@ none_moved (suc b) =
 pub grown_more : (m a b : ℕ) → 2 ^ m ≤ a ^ a → a ≤ b → 2 ^ m ≤ b ^ b
 grown_more m a b h le = at_base m (a + (b - a)) b (omega arith) (at_pow (m + 0) m (a + (b - a)) (omega arith) (grown_together m 0 a (b - a) h (none_moved (b - a))))
 
-greatest_le : (f : Counted → ℕ) (ps : List Counted) → greatest_of f ps ≤ sum_of f ps
+greatest_le : (f : Counted → ℕ) (ps : List Counted) → greatest_of f ps ≤ sum_by f ps
 greatest_le f [] = omega arith
-greatest_le f (p ∷ ps) = omega (arith, greatest_le f ps)
+greatest_le f (p ∷ ps) = omega (arith, greatest_le f ps, sum_by-cons f p ps)
 
-sides_le : (ps : List Counted) → AllCounted ps → sum_of (λ p. p.front) ps + sum_of (λ p. p.back) ps ≤ sum_of (λ p. p.tasks) ps
+sides_le : (ps : List Counted) → AllByRecursion IsCounted ps → sum_by (λ p. p.front) ps + sum_by (λ p. p.back) ps ≤ sum_by (λ p. p.tasks) ps
 sides_le [] h = omega arith
-sides_le (p ∷ ps) h = let ih = sides_le ps h.1 in let q = h.0.1 in omega arith
+sides_le (p ∷ ps) h =
+    let ih = sides_le ps h.1 in
+    let q = h.0.1 in
+    omega (arith, sum_by-cons (λ (c : Counted). c.front) p ps, sum_by-cons (λ (c : Counted). c.back) p ps, sum_by-cons (λ (c : Counted). c.tasks) p ps)
 
--- what merging all but the greatest_of fronts and backs costs keeps the law
-pub par_count : (ps : List Counted) → AllCounted ps → (m : ℕ)
-    → m ≤ sum_of (λ p. p.moves) ps + (sum_of (λ p. p.front) ps - greatest_of (λ p. p.front) ps) + (sum_of (λ p. p.back) ps - greatest_of (λ p. p.back) ps)
-    → 2 ^ m ≤ sum_of (λ p. p.tasks) ps ^ sum_of (λ p. p.tasks) ps
+-- what merging all but the greatest fronts and backs costs keeps the law
+pub par_count : (ps : List Counted) → AllByRecursion IsCounted ps → (m : ℕ)
+    → m ≤ sum_by (λ p. p.moves) ps + (sum_by (λ p. p.front) ps - greatest_of (λ p. p.front) ps) + (sum_by (λ p. p.back) ps - greatest_of (λ p. p.back) ps)
+    → 2 ^ m ≤ sum_by (λ p. p.tasks) ps ^ sum_by (λ p. p.tasks) ps
 par_count [] h m le = let z : m ≡ 0 = omega arith in subst (λ (k : ℕ). 2 ^ k ≤ 0 ^ 0) (sym z) (omega arith)
 par_count (p ∷ ps) h m le =
-    let fs = sum_of (λ p. p.front) ps in
-    let bs = sum_of (λ p. p.back) ps in
-    let ss = sum_of (λ p. p.tasks) ps in
+    let ms = sum_by (λ (c : Counted). c.moves) ps in
+    let fs = sum_by (λ (c : Counted). c.front) ps in
+    let bs = sum_by (λ (c : Counted). c.back) ps in
+    let ss = sum_by (λ (c : Counted). c.tasks) ps in
     let here = min p.front fs + min p.back bs in
-    let rest = sum_of (λ p. p.moves) ps + (fs - greatest_of (λ p. p.front) ps) + (bs - greatest_of (λ p. p.back) ps) in
-    let lf = greatest_le (λ p. p.front) ps in
-    let lb = greatest_le (λ p. p.back) ps in
+    let rest = ms + (fs - greatest_of (λ c. c.front) ps) + (bs - greatest_of (λ c. c.back) ps) in
+    let lf = greatest_le (λ c. c.front) ps in
+    let lb = greatest_le (λ c. c.back) ps in
     let sl = sides_le ps h.1 in
     let h1 = h.0.1 in
+    let em = sum_by-cons (λ (c : Counted). c.moves) p ps in
+    let ef = sum_by-cons (λ (c : Counted). c.front) p ps in
+    let eb = sum_by-cons (λ (c : Counted). c.back) p ps in
     let ih = par_count ps h.1 rest (omega arith) in
     let all : 2 ^ (p.moves + rest + here) ≤ (p.tasks + ss) ^ (p.tasks + ss) = grown p.moves rest p.tasks ss here h.0.0 ih (omega arith) (omega arith) in
     let more : 2 ^ m ≤ 2 ^ (p.moves + rest + here) = pow-le-pow_right {n = 2} (omega arith) (omega arith) in
-    omega arith
+    at_base m (p.tasks + ss) (sum_by (λ (c : Counted). c.tasks) (p ∷ ps)) (sym (sum_by-cons (λ (c : Counted). c.tasks) p ps)) (omega arith)
 
 pow_twice : (d s : ℕ) → (2 ^ d) ^ s ≡ 2 ^ (d * s)
 pow_twice d zero = pow-zero (2 ^ d) ∙ ap (λ (k : ℕ). 2 ^ k) (let e : 0 ≡ d * 0 = omega arith in e)

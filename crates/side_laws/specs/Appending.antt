@@ -1,5 +1,6 @@
 -- A segment put at the end of a side, and a side that goes on over a hill to another.
 use Rattle.std.specs.Prelude.{ℕ, ◌+◌, ◌-◌, max, if◌then◌else◌, nat_lt, nat_le, List, [], ◌∷◌}
+use Rattle.std.specs.List.{fold}
 use Rattle.side_laws.specs.Segments.{Segment}
 
 -- with a segment of this `up` and `net` at the end. One that goes no higher than the last is joined to it
@@ -10,8 +11,7 @@ append_segment up net (s ∷ t ∷ ss) = s ∷ append_segment up net (t ∷ ss)
 
 -- with the segments of `far` at the end of `near`, one after another
 abbrev pub append_segments : List Segment → List Segment → List Segment
-append_segments [] near = near
-append_segments (s ∷ far) near = append_segments far (append_segment s.up s.net near)
+append_segments far near = fold (λ ss s. append_segment s.up s.net ss) near far
 
 -- `near` ends at the level `end`. From there the memory goes over a hill up to `hill` and down to `level`, from where `far` leads on.
 -- As long as the level is above `end` the way is not lower than it was, so the next segment of `far` belongs to the hill

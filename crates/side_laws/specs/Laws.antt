@@ -1,10 +1,11 @@
 -- The laws, as statements.
 use Rattle.std.specs.Prelude.{◌≡◌, ℕ, ◌+◌, ◌-◌, ◌*◌, ◌^◌, ◌<◌, ◌≤◌, max, min, if◌then◌else◌, nat_lt, List, [], ◌∷◌, ◌++◌, ◌↔◌}
+use Rattle.std.specs.List.{AllByRecursion, sum_by}
 use Rattle.side_laws.specs.Segments.{Segment, net_sum, lowest, top, Passes, IsRising, IsStuck}
 use Rattle.side_laws.specs.Appending.{append_segment, cross_hill}
 use Rattle.side_laws.specs.Merging.{insert_segment, insert_segments, merge_segments, AllRising, AreStuckAt, IsLeastTogether}
 use Rattle.side_laws.specs.Levels.{AllStart, AreLevels}
-use Rattle.side_laws.specs.Counting.{Counted, sum_of, greatest_of, AllCounted}
+use Rattle.side_laws.specs.Counting.{Counted, greatest_of, IsCounted}
 
 -- ---- one side
 
@@ -117,15 +118,15 @@ LevelsOfMerge = (limit others : ℕ) (starts : List ℕ) (sides : List (List Seg
 
 -- ---- moved segments
 
+-- two parts one after another, where the smaller side is moved: no more segments than either has tasks
+abbrev pub MovesOfSeries : Type 0
+MovesOfSeries = (m n moved a b : ℕ) → 2 ^ m ≤ a ^ a → 2 ^ n ≤ b ^ b → moved ≤ a → moved ≤ b → 2 ^ (m + n + moved) ≤ (a + b) ^ (a + b)
+
 -- parts side by side, where all but the longest fronts and backs are moved
 abbrev pub MovesOfParallel : Type 0
-MovesOfParallel = (ps : List Counted) → AllCounted ps → (moves : ℕ)
-    → moves ≤ sum_of (λ p. p.moves) ps + (sum_of (λ p. p.front) ps - greatest_of (λ p. p.front) ps) + (sum_of (λ p. p.back) ps - greatest_of (λ p. p.back) ps)
-    → 2 ^ moves ≤ sum_of (λ p. p.tasks) ps ^ sum_of (λ p. p.tasks) ps
-
--- two parts one after another, where nothing is moved
-abbrev pub MovesTogether : Type 0
-MovesTogether = (m n a b : ℕ) → 2 ^ m ≤ a ^ a → 2 ^ n ≤ b ^ b → 2 ^ (m + n) ≤ (a + b) ^ (a + b)
+MovesOfParallel = (ps : List Counted) → AllByRecursion IsCounted ps → (moves : ℕ)
+    → moves ≤ sum_by (λ p. p.moves) ps + (sum_by (λ p. p.front) ps - greatest_of (λ p. p.front) ps) + (sum_by (λ p. p.back) ps - greatest_of (λ p. p.back) ps)
+    → 2 ^ moves ≤ sum_by (λ p. p.tasks) ps ^ sum_by (λ p. p.tasks) ps
 
 -- more tasks allow as many moves
 abbrev pub MovesOfMoreTasks : Type 0

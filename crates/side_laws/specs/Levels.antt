@@ -1,5 +1,6 @@
 -- Where several sides that go down together are stuck, as each of them alone sees it.
 use Rattle.std.specs.Prelude.{◌≡◌, ℕ, ◌+◌, ◌-◌, ◌≤◌, List, [], ◌∷◌, ⊤}
+use Rattle.std.specs.List.{AllZip}
 use Rattle.side_laws.specs.Segments.{Segment, net_sum, lowest, Passes}
 use Rattle.side_laws.specs.Merging.{merge_segments}
 
@@ -9,9 +10,7 @@ level_sum (level ∷ levels) = level + level_sum levels
 
 -- each side has a level to start from, of at least the sum of its `net` values
 abbrev pub AllStart : List ℕ → List (List Segment) → Type 0
-AllStart [] [] = ⊤
-AllStart (start ∷ starts) (side ∷ sides) = (net_sum side ≤ start) × AllStart starts sides
-AllStart _ _ = ⊥
+AllStart starts sides = AllZip (λ start side. net_sum side ≤ start) starts sides
 
 -- each side alone, under the limit less the levels of all others, is stuck at its level. `others` is the sum of the levels of sides that stand before these
 abbrev pub EachStuck : ℕ → ℕ → List ℕ → List (List Segment) → List ℕ → Type 0

@@ -1,6 +1,7 @@
 -- Several sides merged into one, and what merging is: going down all of them, always by the first segment that is left of one.
 -- Source: Liu 1987, where the segments of all subtrees are merged by what they need above the level.
-use Rattle.std.specs.Prelude.{◌≡◌, ℕ, ◌+◌, ◌-◌, ◌<◌, ◌≤◌, List, [], ◌∷◌, ◌⊎◌, ⊤}
+use Rattle.std.specs.Prelude.{◌≡◌, ℕ, ◌+◌, ◌-◌, ◌<◌, ◌≤◌, List, [], ◌∷◌, ◌⊎◌}
+use Rattle.std.specs.List.{AllByRecursion}
 use Rattle.std.specs.Ordering.{nat_cmp, match_ordering}
 use Rattle.side_laws.specs.Segments.{Segment, net_sum, Passes, IsStuck, IsRising}
 
@@ -30,21 +31,18 @@ TakesAll lists [] rests = lists ≡ rests
 TakesAll {X} lists (x ∷ run) rests = (next : List (List X)) × TakesFirst lists x next × TakesAll next run rests
 
 abbrev pub AllEmpty : {X : Type 0} → List (List X) → Type 0
-AllEmpty [] = ⊤
-AllEmpty (xs ∷ lists) = (xs ≡ []) × AllEmpty lists
+AllEmpty lists = AllByRecursion (λ xs. xs ≡ []) lists
 
 -- `run` has the elements of all lists, those of each in their order
 abbrev pub IsInterleaving : {X : Type 0} → List (List X) → List X → Type 0
 IsInterleaving {X} lists run = (rests : List (List X)) × TakesAll lists run rests × AllEmpty rests
 
 abbrev pub AllRising : List (List Segment) → Type 0
-AllRising [] = ⊤
-AllRising (side ∷ sides) = IsRising side × AllRising sides
+AllRising sides = AllByRecursion IsRising sides
 
 -- no side can go on
 abbrev pub AllStuck : ℕ → ℕ → List (List Segment) → Type 0
-AllStuck limit level [] = ⊤
-AllStuck limit level (side ∷ sides) = IsStuck limit level side × AllStuck limit level sides
+AllStuck limit level sides = AllByRecursion (IsStuck limit level) sides
 
 -- at the level `stuck` all sides together are stuck, whichever of them goes on
 pub record AreStuckAt (limit level : ℕ) (sides : List (List Segment)) (stuck : ℕ) : Type 0 where

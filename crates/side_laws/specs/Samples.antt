@@ -1,3 +1,4 @@
+-- No public clause names this.
 -- One example for each definition, computed.
 use Rattle.std.specs.Prelude.{◌≡◌, ℕ, List, [], ◌∷◌, refl}
 use Rattle.side_laws.specs.Segments.{Segment, net_sum, lowest, top}

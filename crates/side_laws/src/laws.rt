@@ -5,7 +5,7 @@ ghost use Rattle.side_laws.specs.Laws.{NetOfAppend, AppendRises, LowestOfAppend,
 ghost use Rattle.side_laws.specs.Laws.{NetOfCrossing, CrossingRises, LowestOfCrossing, TopOfCrossing};
 ghost use Rattle.side_laws.specs.Laws.{NetOfInsert, InsertRises, LowestOfInsert, InsertsCommute};
 ghost use Rattle.side_laws.specs.Laws.{NetOfInserts, MergeRises, MergeOfOne, LowestOfMerge, TopOfMerge, LevelsOfMerge};
-ghost use Rattle.side_laws.specs.Laws.{MovesTogether, MovesOfMoreTasks, MovesOfParallel, MovesBounded};
+ghost use Rattle.side_laws.specs.Laws.{MovesOfSeries, MovesOfMoreTasks, MovesOfParallel, MovesBounded};
 
 /// The lowest level and the top of one side, under every limit.
 pub fn one_side()
@@ -53,7 +53,7 @@ pub fn merging()
 
 /// Few segments are moved where the smaller side is moved into the larger each time.
 pub fn counting()
-    ensures together { MovesTogether }
+    ensures series { MovesOfSeries }
     ensures more_tasks { MovesOfMoreTasks }
     ensures parallel { MovesOfParallel }
     ensures bounded { MovesBounded }

@@ -9,8 +9,8 @@ loop-i-preserved c =
     let here = same_there c.args.sides.now c.loop-i.i side c.loop-i-test.true c.index-sides-i.is in
     let len = c.len-len.ensures.len in
     elim c.if-most-len.branch [
-      | then-most-len w ↦ rw (w.most-is, w.end-is, len) (seeking_longer c.args.sides.now c.loop-i.i c.loop-i.end c.loop-i.most side c.loop-i.invariant c.loop-i-test.true here c.len-len.ensures.side (let h = w.if-most-len.true in omega (arith, h, len)))
-      | else-most-len w ↦ rw (w.most-is, w.end-is) (seeking_on c.args.sides.now c.loop-i.i c.loop-i.end c.loop-i.most side c.loop-i.invariant c.loop-i-test.true here c.len-len.ensures.side (let h = w.if-most-len.false in omega (arith, h, len)))
+      | then-most-len w ↦ rw (w.most-is, w.end-is, len) (seeking_longer c.args.sides.now c.loop-i.i c.loop-i.end c.loop-i.most side c.loop-i.invariant c.loop-i-test.true here c.keeps.ensures (let h = w.if-most-len.true in omega (arith, h, len)))
+      | else-most-len w ↦ rw (w.most-is, w.end-is) (seeking_on c.args.sides.now c.loop-i.i c.loop-i.end c.loop-i.most side c.loop-i.invariant c.loop-i-test.true here c.keeps.ensures (let h = w.if-most-len.false in omega (arith, h, len)))
     ]
 
 pub returns-clause-longest : goal.returns-clause-longest

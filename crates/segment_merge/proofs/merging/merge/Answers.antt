@@ -1,5 +1,5 @@
 use Rattle.std.proofs.Common.{◌≡◌, arith, refl, ap, ◌∙◌, reverse}
-use Rattle.hill_valley.specs.Sides.{runs_of}
+use Rattle.hill_valley.specs.Side.{runs_of}
 use Rattle.segment_merge.specs.Merging.{insert_runs, merge_runs, all_runs_of}
 use Rattle.segment_merge.proofs.Kept.{each_kept, all_kept, ropes_reverse}
 use Rattle.segment_merge.proofs.Longest.{longest_le_count}
@@ -20,7 +20,7 @@ pub take_before-requires-clause-net : goal.take_before-requires-clause-net
 take_before-requires-clause-net g c = let t = around_net _ _ _ _ _ (around _ _ _ _ _ _ c.longest_end-end.result c.in_ok-after.ensures.items c.in_ok-after.ensures.tail c.in-Some.ensures.items c.reverse.ensures.items) in let n = c.requires.net in omega arith
 
 pub take_after-requires-clause-sides : goal.take_after-requires-clause-sides
-take_after-requires-clause-sides g c = all_kept c.below.ensures _ _ _ (around_ropes _ _ _ _ _ (around _ _ _ _ _ _ c.longest_end-end.result c.in_ok-after.ensures.items c.in_ok-after.ensures.tail c.in-Some.ensures.items c.reverse.ensures.items) c.args.ropes.now c.requires.ropes).2 c.take_before.ensures.kept
+take_after-requires-clause-sides g c = all_kept c.runs.ensures _ _ _ (around_ropes _ _ _ _ _ (around _ _ _ _ _ _ c.longest_end-end.result c.in_ok-after.ensures.items c.in_ok-after.ensures.tail c.in-Some.ensures.items c.reverse.ensures.items) c.args.ropes.now c.requires.ropes).2 c.take_before.ensures.kept
 
 pub take_after-requires-clause-net : goal.take_after-requires-clause-net
 take_after-requires-clause-net g c =
@@ -73,7 +73,7 @@ told : (g : Over) (c : goal.In_ok-take_after-in-Some g) → runs_of c.take_after
 told g c =
     let a = around _ _ _ _ _ _ c.longest_end-end.result c.in_ok-after.ensures.items c.in_ok-after.ensures.tail c.in-Some.ensures.items c.reverse.ensures.items in
     let r = around_ropes _ _ _ _ _ a c.args.ropes.now c.requires.ropes in
-    let later = each_kept c.below.ensures _ _ _ (ropes_reverse c.args.ropes.now c.reverse.new.self.items r.2) c.take_before.ensures.kept in
+    let later = each_kept c.runs.ensures _ _ _ (ropes_reverse c.args.ropes.now c.reverse.new.self.items r.2) c.take_before.ensures.kept in
     c.in_ok-take_after-in-Some.ensures.segments
     ∙ ap (λ l. insert_runs l (merge_runs (all_runs_of c.take_before.new.ropes (reverse c.reverse.new.self.items)))) c.in_ok-take_before-in-Some.ensures.segments
     ∙ ap (λ l. insert_runs (insert_runs (merge_runs (all_runs_of c.args.ropes.now c.pop.new.self.items)) (runs_of c.args.ropes.now c.in-Some.side)) (merge_runs l)) later
@@ -83,22 +83,22 @@ pub returns-in_ok-take_after-in-Some-clause-segments : goal.returns-in_ok-take_a
 returns-in_ok-take_after-in-Some-clause-segments g c = told g c
 
 pub returns-in_ok-take_after-in-Some-clause-interleaved : goal.returns-in_ok-take_after-in-Some-clause-interleaved
-returns-in_ok-take_after-in-Some-clause-interleaved g c = merged_interleaved c.below.ensures _ _ _ _ (rw c.deref.ensures.value at c.longest_end-end.ensures.sides) (told g c)
+returns-in_ok-take_after-in-Some-clause-interleaved g c = merged_interleaved c.runs.ensures _ _ _ _ (rw c.deref.ensures.value at c.longest_end-end.ensures.sides) (told g c)
 
 pub returns-in_ok-take_after-in-Some-clause-net : goal.returns-in_ok-take_after-in-Some-clause-net
-returns-in_ok-take_after-in-Some-clause-net g c = merged_net c.below.ensures _ _ _ _ (rw c.deref.ensures.value at c.longest_end-end.ensures.sides) (told g c) c.merging.ensures.net
+returns-in_ok-take_after-in-Some-clause-net g c = merged_net c.runs.ensures _ _ _ _ (rw c.deref.ensures.value at c.longest_end-end.ensures.sides) (told g c) c.merging.ensures.net
 
 pub returns-in_ok-take_after-in-Some-clause-profile : goal.returns-in_ok-take_after-in-Some-clause-profile
-returns-in_ok-take_after-in-Some-clause-profile g c = merged_profile c.below.ensures _ _ _ _ (rw c.deref.ensures.value at c.longest_end-end.ensures.sides) (told g c)
+returns-in_ok-take_after-in-Some-clause-profile g c = merged_profile c.runs.ensures _ _ _ _ (rw c.deref.ensures.value at c.longest_end-end.ensures.sides) (told g c)
 
 pub returns-in_ok-take_after-in-Some-clause-lowest : goal.returns-in_ok-take_after-in-Some-clause-lowest
-returns-in_ok-take_after-in-Some-clause-lowest g c = merged_lowest c.below.ensures _ _ _ _ (rw c.deref.ensures.value at c.longest_end-end.ensures.sides) (told g c) c.merging.ensures.net c.merging.ensures.lowest
+returns-in_ok-take_after-in-Some-clause-lowest g c = merged_lowest c.runs.ensures _ _ _ _ (rw c.deref.ensures.value at c.longest_end-end.ensures.sides) (told g c) c.merging.ensures.net c.merging.ensures.lowest
 
 pub returns-in_ok-take_after-in-Some-clause-top : goal.returns-in_ok-take_after-in-Some-clause-top
-returns-in_ok-take_after-in-Some-clause-top g c = merged_top c.below.ensures _ _ _ _ (rw c.deref.ensures.value at c.longest_end-end.ensures.sides) (told g c) c.merging.ensures.net c.merging.ensures.top
+returns-in_ok-take_after-in-Some-clause-top g c = merged_top c.runs.ensures _ _ _ _ (rw c.deref.ensures.value at c.longest_end-end.ensures.sides) (told g c) c.merging.ensures.net c.merging.ensures.top
 
 pub returns-in-None-clause-lowest : goal.returns-in-None-clause-lowest
 returns-in-None-clause-lowest g c =
     let none = none_left c.args.sides.items _ c.longest_end-end.result c.in_ok-after.ensures.items (rw c.deref.ensures.value at c.longest_end-end.ensures.within) (rw c.deref.ensures.value at c.longest_end-end.ensures.some)
     (let h = c.in-None.ensures.cases in omega arith) in
-    merged_lowest c.below.ensures c.args.ropes.now c.args.ropes.now c.args.sides.items c.new.result (rw c.deref.ensures.value at c.longest_end-end.ensures.sides) (rw (c.new.ensures.empty, none) refl) c.merging.ensures.net c.merging.ensures.lowest
+    merged_lowest c.runs.ensures c.args.ropes.now c.args.ropes.now c.args.sides.items c.new.result (rw c.deref.ensures.value at c.longest_end-end.ensures.sides) (rw (c.new.ensures.empty, none) refl) c.merging.ensures.net c.merging.ensures.lowest

@@ -5,16 +5,16 @@ use Rattle.segment_merge.proofs.Later.{following_starts, following_last, followi
 use Rattle.segment_merge.proofs.merging.take_after.Goals as goal
 
 pub loop-side-init : goal.loop-side-init
-loop-side-init g c = record { following = following_starts c.below.ensures _ _ _ c.requires.sides c.requires.into c.requires.net; steps = refl; ticks = omega arith }
+loop-side-init g c = record { following = following_starts c.runs.ensures _ _ _ c.requires.sides c.requires.into c.requires.net; steps = refl; ticks = omega arith }
 
 pub move_all-requires : goal.move_all-requires
 move_all-requires g c =
-    let l = following_last c.below.ensures _ c.loop-side.ropes _ _ _ _ _ c.loop-side.into c.loop-side.invariant.following c.in-Some.ensures.items in
+    let l = following_last c.runs.ensures _ c.loop-side.ropes _ _ _ _ _ c.loop-side.into c.loop-side.invariant.following c.in-Some.ensures.items in
     record { from = l.0; into = c.loop-side.invariant.following.into_ropes; net = l.1 }
 
 pub loop-side-preserved : goal.loop-side-preserved
 loop-side-preserved g c = record {
-  following = following_on c.below.ensures _ _ _ _ _ _ _ _ c.loop-side.invariant.following c.in-Some.ensures.items _ _ c.move_all.ensures.kept c.move_all.ensures.ropes c.move_all.ensures.from.2 c.move_all.ensures.into.2 c.in_ok-move_all.ensures.segments c.in_ok-move_all.ensures.net;
+  following = following_on c.runs.ensures _ _ _ _ _ _ _ _ c.loop-side.invariant.following c.in-Some.ensures.items _ _ c.move_all.ensures.kept c.move_all.ensures.ropes c.keeps.ensures.2 c.keeps-in-Some.ensures.2 c.in_ok-move_all.ensures.segments c.in_ok-move_all.ensures.net;
   steps =
       let e = ap segment_count c.in-Some.ensures.items in
       let k = count_append c.pop.new.self.items (c.in-Some.side ∷ []) in
@@ -36,4 +36,4 @@ pub returns-in_err-move_all-clause-ticks_stay : goal.returns-in_err-move_all-cla
 returns-in_err-move_all-clause-ticks_stay g c = let s = c.loop-side.invariant.ticks in let t = c.move_all.ensures.ticks_stay in omega arith
 
 pub returns-clause-segments : goal.returns-clause-segments
-returns-clause-segments g c = following_ends c.below.ensures _ _ _ _ _ _ c.loop-side.invariant.following (let h = c.in_default.ensures.cases in omega arith) c.len-rising.ensures.side.2
+returns-clause-segments g c = following_ends c.runs.ensures _ _ _ _ _ _ c.loop-side.invariant.following (let h = c.in_default.ensures.cases in omega arith) c.keeps-2.ensures.2

@@ -5,16 +5,16 @@ use Rattle.segment_merge.proofs.Earlier.{taking_starts, taking_last, taking_on}
 use Rattle.segment_merge.proofs.merging.take_before.Goals as goal
 
 pub loop-side-init : goal.loop-side-init
-loop-side-init g c = record { taking = taking_starts c.below.ensures _ _ _ c.requires.sides c.requires.into c.requires.net; steps = refl; ticks = omega arith }
+loop-side-init g c = record { taking = taking_starts c.runs.ensures _ _ _ c.requires.sides c.requires.into c.requires.net; steps = refl; ticks = omega arith }
 
 pub move_all-requires : goal.move_all-requires
 move_all-requires g c =
-    let l = taking_last c.below.ensures _ c.loop-side.ropes _ _ _ _ _ c.loop-side.into c.loop-side.invariant.taking c.in-Some.ensures.items in
+    let l = taking_last c.runs.ensures _ c.loop-side.ropes _ _ _ _ _ c.loop-side.into c.loop-side.invariant.taking c.in-Some.ensures.items in
     record { from = l.0; into = c.loop-side.invariant.taking.into_ropes; net = l.1 }
 
 pub loop-side-preserved : goal.loop-side-preserved
 loop-side-preserved g c = record {
-  taking = taking_on c.below.ensures _ _ _ _ _ _ _ _ c.loop-side.invariant.taking c.in-Some.ensures.items _ _ c.move_all.ensures.kept c.move_all.ensures.ropes c.move_all.ensures.from.2 c.in_ok-move_all.ensures.segments c.in_ok-move_all.ensures.net;
+  taking = taking_on c.runs.ensures _ _ _ _ _ _ _ _ c.loop-side.invariant.taking c.in-Some.ensures.items _ _ c.move_all.ensures.kept c.move_all.ensures.ropes c.keeps.ensures.2 c.in_ok-move_all.ensures.segments c.in_ok-move_all.ensures.net;
   steps =
       let e = ap segment_count c.in-Some.ensures.items in
       let k = count_append c.pop.new.self.items (c.in-Some.side ∷ []) in

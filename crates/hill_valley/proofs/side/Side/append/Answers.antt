@@ -2,7 +2,7 @@ use Rattle.std.proofs.Common.{◌≡◌, List, arith, sym, ◌∙◌, ap, max, O
 use Rattle.std.proofs.lemmas.Result.{on_ok_weaker}
 use Rattle.side_laws.specs.Segments.{lowest, top}
 use Rattle.side_laws.specs.Appending.{append_segment}
-use Rattle.hill_valley.specs.Sides.{profile, last_up, runs_of, run_profile, tasks_of, append_run, Run}
+use Rattle.hill_valley.specs.Side.{profile, last_up, runs_of, run_profile, tasks_of, append_run, Run}
 use Rattle.hill_valley.specs.Ropes.{list_of}
 use Rattle.hill_valley.proofs.Inserting.{run}
 use Rattle.hill_valley.proofs.Last.{append_is, last_within}
@@ -11,7 +11,7 @@ use Rattle.hill_valley.proofs.side.Side.append.Goals as goal
 
 pub insert-requires-clause-up : goal.insert-requires-clause-up
 insert-requires-clause-up c =
-    let l = last_within _ c.last_up.ensures.side.1 in
+    let l = last_within _ c.keeps.ensures.1 in
     let e = c.last_up.ensures.value in
     let m = c.max.ensures in
     let u = c.requires.up in
@@ -30,7 +30,7 @@ after c = runs_of c.insert.new.ropes c.insert.new.self
 told : (c : goal.After-insert) → OnOk c.insert.result (after c ≡ append_run (added c) (before c))
 told c =
     let h = profile_runs c.args.ropes.now c.args.self.now in
-    let e = append_is (added c) (before c) (rw h c.last_up.ensures.side.2) in
+    let e = append_is (added c) (before c) (rw h c.keeps.ensures.2) in
     let m : max (last_up (run_profile (before c))) c.args.up ≡ c.max.result =
     ap (λ l. max (last_up l) c.args.up) h ∙ ap (λ n. max n c.args.up) (sym c.last_up.ensures.value) ∙ sym c.max.ensures in
     rw (e, m) c.insert.ensures.segments

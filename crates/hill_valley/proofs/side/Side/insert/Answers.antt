@@ -1,7 +1,7 @@
 use Rattle.std.proofs.Common.{◌≡◌, sym, ◌∙◌, ap}
 use Rattle.side_laws.specs.Merging.{insert_segment}
 use Rattle.hill_valley.specs.Ropes.{list_of}
-use Rattle.hill_valley.specs.Sides.{profile, numbers, IsSide}
+use Rattle.hill_valley.specs.Side.{profile, numbers, IsSide}
 use Rattle.hill_valley.specs.Descents.{segs_of}
 use Rattle.hill_valley.proofs.Kept.{ropes_kept}
 use Rattle.hill_valley.proofs.Inserting.{own_fits, Put, runs_after, profile_after, ropes_after, net_after, side_after, lowest_after, top_after}

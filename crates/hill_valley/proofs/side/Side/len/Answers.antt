@@ -3,5 +3,5 @@ use Rattle.hill_valley.specs.declared.side.Seg.{Seg}
 use Rattle.hill_valley.proofs.Inserting.{length_segs}
 use Rattle.hill_valley.proofs.side.Side.len.Goals as goal
 
-pub returns-clause-len : goal.returns-clause-len
-returns-clause-len c = c.len.ensures.len ∙ sym (length_segs c.self.inside.segments.entries) ∙ ap (length {A = Seg}) c.self.view_is
+pub returns : goal.returns
+returns c = record { len = c.len.ensures.len ∙ sym (length_segs c.self.inside.segments.entries) ∙ ap (length {A = Seg}) c.self.view_is }

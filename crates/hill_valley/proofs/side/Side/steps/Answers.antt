@@ -2,7 +2,7 @@ use Rattle.std.proofs.Common.{◌∙◌}
 use Rattle.hill_valley.proofs.Walk.{walk_falls, walk_on}
 use Rattle.std.proofs.lemmas.Map.Iter.{rest_all}
 use Rattle.std.specs.Map.Iter.{deref_pair}
-use Rattle.hill_valley.specs.Sides.{profile}
+use Rattle.hill_valley.specs.Side.{profile}
 use Rattle.hill_valley.proofs.Staircases.{are_steps, combine_all}
 use Rattle.hill_valley.proofs.side.Side.steps.Goals as goal
 

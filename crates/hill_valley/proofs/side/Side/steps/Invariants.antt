@@ -1,5 +1,5 @@
 use Rattle.std.proofs.Common.{◌≡◌}
-use Rattle.hill_valley.specs.Sides.{profile}
+use Rattle.hill_valley.specs.Side.{profile}
 use Rattle.hill_valley.specs.Descents.{segs_of}
 use Rattle.hill_valley.proofs.Staircases.{staircase, combine}
 use Rattle.hill_valley.proofs.Walk.{Walk}

@@ -1,6 +1,6 @@
 use Rattle.std.proofs.Common.{◌≡◌, ◌≤◌, max}
 use Rattle.side_laws.specs.Segments.{top}
-use Rattle.hill_valley.specs.Sides.{profile}
+use Rattle.hill_valley.specs.Side.{profile}
 use Rattle.hill_valley.specs.Descents.{segs_of}
 use Rattle.hill_valley.proofs.Walk.{Walk}
 use Rattle.hill_valley.proofs.side.Side.top.Given as goal

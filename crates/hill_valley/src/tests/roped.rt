@@ -1,0 +1,116 @@
+//! A side with its ropes, for the tests alone: what each call requires is checked here.
+
+ghost use Rattle.std.specs.Prelude.{◌≤◌, ◌+◌};
+ghost use Rattle.std.specs.Bool.{OnTrue};
+ghost use Rattle.side_laws.specs.Segments.{net_sum};
+ghost use Rattle.limits.specs.Limits.{most_total};
+ghost use Rattle.hill_valley.specs.Side.{profile};
+
+use crate::tests::plain::PlainSeg;
+use crate::{NoMemory, Ropes, Seg, Side, Step};
+use limits::MOST_TOTAL;
+use std::alloc::Global;
+use std::marker::Model;
+
+#[derive(Drop)]
+pub struct RopedSide {
+    ropes: Ropes,
+    side: Side,
+    net: u64,
+}
+
+impl Model for RopedSide {
+    ghost use Rattle.std.specs.Prelude.{List, ◌≡◌, ◌≤◌};
+    ghost use Rattle.side_laws.specs.Segments.{net_sum};
+    ghost use Rattle.hill_valley.specs.declared.side.Seg.{Seg};
+    ghost use Rattle.limits.specs.Limits.{most_total};
+    ghost use Rattle.hill_valley.specs.Side.{profile, HaveRopes};
+
+    ghost Value = { List Seg };
+
+    ghost view = { λ b. b.side };
+
+    ghost invariant = { λ b. HaveRopes b.ropes b.side × (net_sum (profile b.side) ≡ b.net) × (b.net ≤ most_total) };
+}
+
+// Each level is as much above the sum of the `net` values as `more` says.
+impl RopedSide {
+    pub fn new(alloc: Global) -> RopedSide {
+        RopedSide {
+            ropes: Ropes::new(alloc),
+            side: Side::new(alloc),
+            net: 0,
+        }
+    }
+
+    pub fn len(&self) -> u64 {
+        self.side.len()
+    }
+
+    pub fn append(&mut self, up: u64, down: u64, task: u32) -> Result<(), NoMemory> {
+        if fits(self.net, up, down) {
+            let tasks = self.ropes.one(task)?;
+            self.side.append(&mut self.ropes, up, down, tasks)?;
+            self.net += down;
+        }
+        Ok(())
+    }
+
+    pub fn insert(&mut self, up: u64, net: u64, task: u32, before: bool) -> Result<(), NoMemory> {
+        if fits(self.net, up, net) {
+            let tasks = self.ropes.one(task)?;
+            self.side
+                .insert(&mut self.ropes, Seg { up, net, tasks }, before)?;
+            self.net += net;
+        }
+        Ok(())
+    }
+
+    pub fn take_first(&mut self, alloc: Global) -> Result<Option<PlainSeg>, NoMemory> {
+        match self.side.take_first() {
+            Some(seg) => {
+                self.net -= seg.net;
+                let tasks = self.ropes.list(alloc, seg.tasks)?;
+                Ok(Some(PlainSeg {
+                    up: seg.up,
+                    net: seg.net,
+                    tasks,
+                }))
+            }
+            None => Ok(None),
+        }
+    }
+
+    // A level from which the side can be run.
+    pub fn level(&self, more: u64) -> u64
+        ensures room { net_sum (profile self.now) ≤ result }
+        ensures within { result ≤ most_total }
+    {
+        self.net.saturating_add(more).min(MOST_TOTAL)
+    }
+
+    pub fn lowest(&self, more: u64, bound: i64) -> u64 {
+        self.side.lowest(self.level(more), bound)
+    }
+
+    pub fn top(&self, more: u64) -> u64 {
+        self.side.top(self.level(more))
+    }
+
+    // The tasks of all segments.
+    pub fn tasks(&mut self, alloc: Global) -> Result<Vec<u32>, NoMemory> {
+        let tasks = self.side.tasks(&mut self.ropes)?;
+        self.ropes.list(alloc, tasks)
+    }
+
+    pub fn steps(&self, alloc: Global, more: u64) -> Result<Vec<Step>, NoMemory> {
+        self.side.steps(alloc, self.level(more))
+    }
+}
+
+// A side of this sum can take in such a segment. One that is too large is left out, which the comparison shows.
+fn fits(sum: u64, up: u64, net: u64) -> bool
+    ensures { OnTrue result ((up ≤ most_total) × (sum + net ≤ most_total)) }
+{
+    up <= MOST_TOTAL && sum <= MOST_TOTAL && net <= MOST_TOTAL - sum
+}

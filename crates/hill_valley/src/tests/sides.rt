@@ -1,0 +1,177 @@
+//! Sides, by hand and against plain ones.
+
+use crate::tests::plain::{PlainSeg, PlainSide, are_same};
+use crate::tests::roped::RopedSide;
+use std::alloc::Global;
+use std::process::Abort;
+use std::test::Fail;
+
+// The steps are those of the pairs.
+fn assert_steps(
+    rt: &impl Abort,
+    alloc: Global,
+    side: &RopedSide,
+    more: u64,
+    pairs: &[(u64, u64)],
+) -> Result<(), Fail> {
+    let steps = side.steps(alloc, more)?;
+    assert_eq!(rt; steps.len(), pairs.len());
+    for (i, step) in steps.iter().enumerate() {
+        if i < pairs.len() {
+            assert_eq!(rt; step.bound, pairs[i].0);
+            assert_eq!(rt; step.level, pairs[i].1);
+        }
+    }
+    Ok(())
+}
+
+// The first segment, which is taken out, has these numbers and tasks.
+fn assert_first(
+    rt: &impl Abort,
+    alloc: Global,
+    side: &mut RopedSide,
+    up: u64,
+    net: u64,
+    tasks: &[u32],
+) -> Result<(), Fail> {
+    match side.take_first(alloc)? {
+        Some(seg) => {
+            assert_eq!(rt; seg.up, up);
+            assert_eq!(rt; seg.net, net);
+            assert_eq!(rt; seg.tasks.as_slice(), tasks);
+        }
+        None => assert!(rt; false),
+    }
+    Ok(())
+}
+
+#[test]
+fn a_side_is_appended_to(rt: HostRuntime) -> Result<(), Fail> {
+    let alloc = rt.alloc();
+    let mut side = RopedSide::new(alloc);
+    assert_eq!(rt; side.len(), 0);
+    assert!(rt; side.take_first(alloc)?.is_none());
+    side.append(5, 2, 1)?;
+    side.append(3, 1, 2)?;
+    side.append(5, 0, 3)?;
+    side.append(9, 4, 4)?;
+    assert_eq!(rt; side.len(), 2);
+    // from level 10 over 15 down to 7, and over 16 down to 3
+    assert_eq!(rt; side.top(3), 16);
+    assert_steps(&rt, alloc, &side, 3, &[(15, 7), (16, 3)])?;
+    for (bound, level) in [(-1, 10), (9, 10), (14, 10), (15, 7), (16, 3), (100, 3)] {
+        assert_eq!(rt; side.lowest(3, bound), level);
+    }
+    assert_eq!(rt; side.tasks(alloc)?.as_slice(), [1, 2, 3, 4].as_slice());
+    assert_first(&rt, alloc, &mut side, 5, 3, &[1, 2, 3])?;
+    assert_first(&rt, alloc, &mut side, 9, 4, &[4])
+}
+
+#[test]
+fn segments_are_put_in_at_their_places(rt: HostRuntime) -> Result<(), Fail> {
+    let alloc = rt.alloc();
+    let mut side = RopedSide::new(alloc);
+    side.insert(9, 4, 4, true)?;
+    side.insert(5, 3, 1, true)?;
+    side.insert(7, 1, 5, false)?;
+    assert_eq!(rt; side.len(), 3);
+    // from level 10 over 15 down to 7, over 14 down to 6, and over 15 down to 2
+    assert_eq!(rt; side.top(2), 15);
+    assert_steps(&rt, alloc, &side, 2, &[(15, 2)])?;
+    assert_eq!(rt; side.lowest(2, 14), 10);
+    assert_eq!(rt; side.lowest(2, 15), 2);
+    side.insert(7, 1, 6, true)?;
+    side.insert(7, 2, 8, false)?;
+    assert_first(&rt, alloc, &mut side, 5, 3, &[1])?;
+    assert_first(&rt, alloc, &mut side, 7, 4, &[6, 5, 8])?;
+    assert_first(&rt, alloc, &mut side, 9, 4, &[4])
+}
+
+// A number below `below`, by a linear congruential generator.
+fn next(state: &mut u64, below: u64) -> u64 {
+    *state = state
+        .wrapping_mul(6364136223846793005)
+        .wrapping_add(1442695040888963407);
+    (*state >> 33) % below.max(1)
+}
+
+// Both sides say the same under each limit, and the steps are where the plain one gets lower.
+fn compare(
+    rt: &impl Abort,
+    alloc: Global,
+    more: u64,
+    side: &RopedSide,
+    plain: &PlainSide,
+) -> Result<(), Fail> {
+    let level = side.level(more);
+    assert_eq!(rt; side.len(), plain.len());
+    assert_eq!(rt; side.top(more), plain.top(level));
+    let steps = side.steps(alloc, more)?;
+    let mut at = level;
+    let mut next = 0;
+    for limit in 0..100u64 {
+        let low = plain.lowest(level, limit);
+        assert_eq!(rt; side.lowest(more, limit as i64 - 1), low);
+        if level < limit && low < at {
+            assert!(rt; next < steps.len());
+            assert!(rt; steps[next].bound == limit - 1 && steps[next].level == low);
+            at = low;
+            next += 1;
+        }
+    }
+    assert_eq!(rt; next, steps.len());
+    Ok(())
+}
+
+// One change of both sides.
+fn change(
+    rt: &impl Abort,
+    alloc: Global,
+    state: &mut u64,
+    task: u32,
+    side: &mut RopedSide,
+    plain: &mut PlainSide,
+) -> Result<(), Fail> {
+    let up = next(state, 12);
+    let net = next(state, 4);
+    let mut tasks = Vec::new(alloc);
+    tasks.push(task)?;
+    let run = PlainSeg { up, net, tasks };
+    let kind = next(state, 6);
+    if kind == 0 {
+        let first = side.take_first(alloc)?;
+        assert!(rt; are_same(&first, &plain.take_first()));
+    } else if kind < 3 {
+        side.insert(up, net, task, kind == 1)?;
+        plain.insert(run, kind == 1)?;
+    } else {
+        side.append(up, net, task)?;
+        plain.append(run)?;
+    }
+    Ok(())
+}
+
+// Twenty changes of a new side, and what is left of it taken out.
+fn compare_one(rt: &impl Abort, alloc: Global, state: &mut u64) -> Result<(), Fail> {
+    let mut side = RopedSide::new(alloc);
+    let mut plain = PlainSide::new(alloc);
+    for task in 0..20 {
+        change(rt, alloc, state, task, &mut side, &mut plain)?;
+        compare(rt, alloc, next(state, 5), &side, &plain)?;
+    }
+    for _ in 0..20 {
+        let first = side.take_first(alloc)?;
+        assert!(rt; are_same(&first, &plain.take_first()));
+    }
+    Ok(())
+}
+
+#[test]
+fn random_sides_are_as_the_plain_ones(rt: HostRuntime) -> Result<(), Fail> {
+    let alloc = rt.alloc();
+    let mut state = 1;
+    for _ in 0..30 {
+        compare_one(&rt, alloc, &mut state)?;
+    }
+    Ok(())
+}

@@ -1,9 +1,0 @@
-use Rattle.std.proofs.Common.{length}
-use Rattle.sp_cuts.proofs.Listing.{Listing}
-use Rattle.sp_cuts.proofs.hills.tasks_down.Given as goal
-
-abbrev pub invariant-loop-seg : goal.invariant-loop-seg
-invariant-loop-seg l = record { listing : Listing l.fn.ropes l.ropes l.fn.side l.side l.way }
-
-abbrev pub decreases-loop-seg : goal.decreases-loop-seg
-decreases-loop-seg l = length l.side
