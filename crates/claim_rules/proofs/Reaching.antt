@@ -1,6 +1,7 @@
 -- Claims said of the states of a term that are reached below a limit.
 use Rattle.std.proofs.Common.{◌≡◌, ℕ, ◌<◌, ◌≤◌, refl, subst, arith, List, [], ◌∷◌, Option, Some, None}
 use Rattle.std.specs.Prelude.{ℤ}
+use Rattle.std.specs.List.{AllZip}
 use Rattle.sp_terms.specs.Term.{Term, Direction, forward, backward, first_memory, least_of}
 use Rattle.sp_term_laws.specs.Moves.{State, other, memory_of, first_state, Step, Reached, begin, next}
 use Rattle.claim_rules.specs.Claims.{Claim}
@@ -24,10 +25,7 @@ HoldsIf t None = Unit {0}
 HoldsIf t (Some c) = Holds t c.direction (limit_of c.bound) c.rest
 
 abbrev pub HoldEach : List Term → List (Option Claim) → Type 0
-HoldEach [] [] = Unit {0}
-HoldEach [] (c ∷ cs) = ⊥
-HoldEach (t ∷ ts) [] = ⊥
-HoldEach (t ∷ ts) (c ∷ cs) = HoldsIf t c × HoldEach ts cs
+HoldEach ts cs = AllZip HoldsIf ts cs
 
 -- with less rest it still holds
 weaker : (t : Term) (d : Direction) (limit rest less : ℕ) → less ≤ rest → Holds t d limit rest → Holds t d limit less

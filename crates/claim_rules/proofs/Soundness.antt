@@ -6,6 +6,7 @@ use Rattle.mp_system.specs.Traversal.{IsTraversal}
 use Rattle.sp_terms.specs.Places.{parts_of, list_of_parts}
 use Rattle.sp_terms.specs.SystemOfTerm.{system_of_term}
 use Rattle.sp_terms.specs.Term.{Term, hold, series, par, Parts, no_parts, part, Direction, forward, backward, IsAllowed, AreAllowed}
+use Rattle.sp_terms.specs.Values.{AllAllowed}
 use Rattle.sp_term_laws.specs.Along.{memory_after}
 use Rattle.sp_term_laws.specs.Moves.{State, other, memory_of, first_state, Reached}
 use Rattle.sp_term_laws.specs.Ways.{Way}
@@ -107,15 +108,11 @@ module _ (states : StateLaws) (ways : WayLaws) (t : Term) (allowed : IsAllowed t
 
 -- the parts of a term that is allowed are so
 
-abbrev AllowedEach : List Term → Type 0
-AllowedEach [] = Unit {0}
-AllowedEach (t ∷ ts) = IsAllowed t × AllowedEach ts
-
-parts-allowed : (ts : Parts) → AreAllowed ts → AllowedEach (list_of_parts ts)
+parts-allowed : (ts : Parts) → AreAllowed ts → AllAllowed (list_of_parts ts)
 parts-allowed no_parts a = tt
 parts-allowed (part t ts) a = (a.0, parts-allowed ts a.1)
 
-allowed-parts : (t : Term) → IsAllowed t → AllowedEach (parts_of t)
+allowed-parts : (t : Term) → IsAllowed t → AllAllowed (parts_of t)
 allowed-parts (hold size) a = tt
 allowed-parts (series a v b) (x, y, one, two) = (one, (two, tt))
 allowed-parts (par ts) a = parts-allowed ts a.1
@@ -124,7 +121,7 @@ hold_if : StateLaws → WayLaws → (t : Term) → IsAllowed t → (o : Option C
 hold_if states ways t a None s = tt
 hold_if states ways t a (Some c) s = sound_holds states ways t a c s
 
-hold_each : StateLaws → WayLaws → (ts : List Term) → AllowedEach ts → (cs : List (Option Claim)) → AreSound ts cs → HoldEach ts cs
+hold_each : StateLaws → WayLaws → (ts : List Term) → AllAllowed ts → (cs : List (Option Claim)) → AreSound ts cs → HoldEach ts cs
 hold_each states ways [] a [] s = tt
 hold_each states ways [] a (c ∷ cs) s = s
 hold_each states ways (t ∷ ts) a [] s = s

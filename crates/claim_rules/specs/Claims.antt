@@ -1,6 +1,7 @@
 -- Claims: lower bounds on the traversals of a term, each a statement that can be judged at one position. They turn the exchange argument
 -- of Liu 1987 (An application of generalized tree pebbling to sparse matrix factorization) into a certificate.
-use Rattle.std.specs.Prelude.{ℕ, ℤ, pos, ◌≤ℤ◌, ◌<ℤ◌, ◌≤◌, List, [], ◌∷◌, ◌++◌, Option, Some, None}
+use Rattle.std.specs.Prelude.{ℕ, ℤ, pos, ◌≤ℤ◌, ◌<ℤ◌, ◌≤◌, List, ◌++◌, Option, Some, None}
+use Rattle.std.specs.List.{AllZip}
 use Rattle.mp_system.specs.System.{TaskSystem}
 use Rattle.mp_system.specs.Memory.{peak_from, peak_of}
 use Rattle.mp_system.specs.Traversal.{IsTraversal}
@@ -36,7 +37,4 @@ IsSoundIf t (Some c) = IsSound t c
 
 -- so it is for each of these terms
 abbrev pub AreSound : List Term → List (Option Claim) → Type 0
-AreSound [] [] = Unit {0}
-AreSound [] (c ∷ cs) = ⊥
-AreSound (t ∷ ts) [] = ⊥
-AreSound (t ∷ ts) (c ∷ cs) = IsSoundIf t c × AreSound ts cs
+AreSound ts cs = AllZip IsSoundIf ts cs

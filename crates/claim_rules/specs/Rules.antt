@@ -18,27 +18,27 @@ MeetsData size c = (c.bound <ℤ pos size) × (c.rest ≤ size)
 -- ---- a series, whose parts are passed one after the other in the claim's direction
 
 -- of two, the one that is passed first in a direction, and the one that is passed last
-abbrev pub first_of : {A : Type 0} → Direction → A → A → A
-first_of forward a b = a
-first_of backward a b = b
+abbrev pub passed_first : {A : Type 0} → Direction → A → A → A
+passed_first forward a b = a
+passed_first backward a b = b
 
-abbrev pub last_of : {A : Type 0} → Direction → A → A → A
-last_of forward a b = b
-last_of backward a b = a
+abbrev pub passed_last : {A : Type 0} → Direction → A → A → A
+passed_last forward a b = b
+passed_last backward a b = a
 
 -- the series of a, v and b, with the claims p of a and q of b
 pub data MeetsSeries (a : Term) (v : Task) (b : Term) (p q : Option Claim) (c : Claim) : Type 0 where
   -- the first part is stuck above the rest
-  first_is_stuck : Has c.direction c.bound c.rest (first_of c.direction p q) → MeetsSeries a v b p q c
+  first_is_stuck : Has c.direction c.bound c.rest (passed_first c.direction p q) → MeetsSeries a v b p q c
   -- the first part cannot be passed at all
-  first_is_closed : Has (other c.direction) c.bound 0 (first_of c.direction p q)
-      → c.rest ≤ least_of (first_of c.direction a b) → MeetsSeries a v b p q c
+  first_is_closed : Has (other c.direction) c.bound 0 (passed_first c.direction p q)
+      → c.rest ≤ least_of (passed_first c.direction a b) → MeetsSeries a v b p q c
   -- the task itself needs more
   hill_is_above : c.bound <ℤ pos (hill_of a v b)
-      → c.rest ≤ least_of (first_of c.direction a b) → MeetsSeries a v b p q c
+      → c.rest ≤ least_of (passed_first c.direction a b) → MeetsSeries a v b p q c
   -- the second part is stuck, and the first part and it both stay above the rest
-  last_is_stuck : Has c.direction c.bound c.rest (last_of c.direction p q)
-      → c.rest ≤ least_of (first_of c.direction a b) → MeetsSeries a v b p q c
+  last_is_stuck : Has c.direction c.bound c.rest (passed_last c.direction p q)
+      → c.rest ≤ least_of (passed_first c.direction a b) → MeetsSeries a v b p q c
 
 -- ---- parts side by side
 

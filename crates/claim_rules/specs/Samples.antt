@@ -1,3 +1,4 @@
+-- No public clause names this.
 -- Worked examples: two chains of two nodes each below a root, as a term.
 use Rattle.std.specs.Prelude.{◌≡◌, ℕ, pos, List, [], ◌∷◌, ◌++◌, map, refl, Some}
 use Rattle.mp_system.specs.declared.system.Task.{Task}

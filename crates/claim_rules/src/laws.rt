@@ -1,4 +1,4 @@
-//! Laws over the definitions: each contract is a law, and each body is empty.
+//! Laws over the definitions: each contract is a law, and each body is empty or names the laws that it stands on.
 ghost use Rattle.std.specs.Prelude.{◌≡◌, ℕ, ◌≤◌, ℤ, pos, ◌≤ℤ◌, ◌+ℤ◌, List, length, Option, Some};
 ghost use Rattle.mp_system.specs.Memory.{peak_of};
 ghost use Rattle.mp_system.specs.Traversal.{IsTraversal, IsLeast};

@@ -1,6 +1,6 @@
 -- The memory of a composition's states and running tasks, from that of its parts.
 use Rattle.std.proofs.Common.{◌≡◌, ℕ, suc, ◌+◌, ◌-◌, ◌<◌, ◌≤◌, Bool, true, false, not, cond, refl, sym, subst, ap, arith, ◌∙◌, List, [], ◌∷◌, map, get_or, Option, Some, None, eq-eqb}
-use Rattle.std.specs.Prelude.{◌==◌, ◌&&◌, ◌||◌}
+use Rattle.std.specs.Prelude.{◌==◌, ◌&&◌, ◌||◌, nat_lt}
 use Rattle.mp_system.specs.Memory.{stands_in}
 use Rattle.mp_system.specs.System.{size_where, is_named, need_of}
 use Rattle.sp_terms.specs.SystemOfTerm.{task_count, task_count_of_parts, tasks_of_term, tasks_of_parts, items_of_term, items_of_parts, own_number, system_of_term}
@@ -12,7 +12,6 @@ use Rattle.sp_term_laws.specs.Composed.{of_part, parts_memory, parts_running}
 use Rattle.sp_term_laws.proofs.At.{held-append, held_one}
 use Rattle.sp_term_laws.proofs.Ends.{split2, clash}
 use Rattle.sp_term_laws.proofs.Next.{ne-eqb, made-append, made-outside, all_made-outside, length-tasks, need-left, need-right}
-use Rattle.sp_term_laws.proofs.SideLaws.{lt_yes, lt_not}
 use Rattle.sp_term_laws.proofs.Trails.{own-low, own-high, own-in}
 
 -- items that the same tasks make and take
@@ -131,6 +130,12 @@ need-same : (base : ℕ) (t : Term) (u : ℕ) → need_in (tasks_of_term t) (ite
 need-same base t u =
     ap (need_with (get_or (tasks_of_term t) u no_task)) (made-same (base + u) (suc u) base 1 None None None None t (λ x l. eqb-iff (base + x) (base + u) (1 + x) (suc u) (λ e. omega arith) (λ e. omega arith)) refl)
     ∙ ap (λ k. need_in (tasks_of_term t) (items_of_term 1 None None t) k (suc u)) (let e : u ≡ suc u - 1 = omega arith in e)
+
+lt_yes : {A : Type 0} (a b : ℕ) (x y : A) → a < b → cond (nat_lt a b) x y ≡ x
+lt_yes a b x y h = let e : nat_lt a b ≡ true = grind arith in rw e
+
+lt_not : {A : Type 0} (a b : ℕ) (x y : A) → b ≤ a → cond (nat_lt a b) x y ≡ y
+lt_not a b x y h = let e : nat_lt a b ≡ false = grind arith in rw e
 
 par_running : (base : ℕ) (ts : Parts) (done : List ℕ) (v : ℕ) → base ≤ v → v < base + task_count_of_parts ts
     → size_where (is_there done) (items_of_parts base None None ts) + need_in (tasks_of_parts ts) (items_of_parts base None None ts) (v - base) v ≡ parts_running base ts done v

@@ -15,12 +15,11 @@ use Rattle.sp_term_laws.proofs.Words.{is_there, need_with, no_task}
 use Rattle.sp_term_laws.specs.Along.{memory_while, memory_after}
 use Rattle.sp_term_laws.specs.Moves.{State, States, memory_of, memory_of_parts, first_state, first_states}
 use Rattle.sp_term_laws.proofs.At.{Ended, held-append, held-fresh, held-ended}
-use Rattle.sp_term_laws.proofs.Ends.{clash}
+use Rattle.sp_term_laws.proofs.Ends.{clash, split2}
 use Rattle.sp_term_laws.proofs.Walks.{mem-first, least-le}
 use Rattle.sp_term_laws.proofs.Next.{ne-eqb, made-outside, made-first, length-tasks, need-left, need-right, need-first, need-last, ended-at}
 use Rattle.sp_term_laws.proofs.Orders.{all-here, bool_cases, memory_at, start_at, traversal-ended}
 use Rattle.sp_term_laws.proofs.Trails.{Trail, walks, trail-legal, trail-join, second-trail}
-use Rattle.sp_term_laws.proofs.SideLaws.{lt_cases}
 use Rattle.sp_term_laws.proofs.Composed.{held-same, made-same, eqb-iff}
 
 zero_add : (u : ℕ) → 0 + u ≡ u
@@ -216,7 +215,7 @@ mutual
   lowest (series a w b) =
       let (s, e) = lowest a in
       let (u, f) = lowest b in
-      lt_cases (least_of a) (least_of b) (λ h. (inl s, omega (arith, e))) (λ h. (inr u, omega (arith, f)))
+      split2 (least_of a) (least_of b) (λ h. (inl s, omega (arith, e))) (λ h. (inr u, omega (arith, f)))
   lowest (par ts) = all_lowest ts
 
   all_lowest : (ts : Parts) → (ss : States ts) × (memory_of_parts ts ss ≡ least_of_parts ts)

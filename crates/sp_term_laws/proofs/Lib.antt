@@ -7,7 +7,6 @@ pub mod Next
 pub mod Orders
 pub mod Back
 pub mod Every
-pub mod SideLaws
 pub mod Ways
 pub mod Named
 pub mod Forth

@@ -1,7 +1,8 @@
 -- The traversals of a term's system are its walks; those of a series are walks of its parts in turn, those of a `par` interleave them.
-use Rattle.std.proofs.Common.{◌≡◌, ℕ, suc, ◌+◌, ◌-◌, ◌<◌, ◌≤◌, ◌⊎◌, inl, inr, false, refl, sym, subst, ap, arith, ◌∙◌, List, [], ◌∷◌, ◌++◌, map, length, None, append_assoc}
-use Rattle.std.specs.Prelude.{◌↔◌}
+use Rattle.std.proofs.Common.{◌≡◌, ℕ, suc, ◌+◌, ◌-◌, ◌<◌, ◌≤◌, ◌⊎◌, inl, inr, true, false, refl, sym, subst, ap, arith, ◌∙◌, List, [], ◌∷◌, ◌++◌, map, length, None, append_assoc}
+use Rattle.std.specs.Prelude.{◌↔◌, ◌&&◌, nat_le, nat_lt}
 use Rattle.std.proofs.lemmas.List.{append-nil}
+use Rattle.std.proofs.lemmas.List.Elements.{All-nil, All-cons, All-head, All-tail}
 use Rattle.mp_system.specs.Memory.{stands_in}
 use Rattle.mp_system.specs.Traversal.{IsTraversal}
 use Rattle.mp_system.specs.declared.system.Task.{Task}
@@ -18,7 +19,6 @@ use Rattle.sp_term_laws.proofs.Named.{run-at}
 use Rattle.sp_term_laws.proofs.Orders.{IsLegal, ended_last, start_at, traversal-legal, traversal-ended}
 use Rattle.sp_term_laws.proofs.Every.{legal_traversal}
 use Rattle.sp_term_laws.specs.Ways.{Run, Runs}
-use Rattle.sp_term_laws.proofs.SideLaws.{lt_yes, lt_not}
 
 -- a walk forwards along these tasks
 abbrev pub Trail : ℕ → (t : Term) → State t → List ℕ → State t → Type 0
@@ -151,13 +151,13 @@ series-walks a w b ga gb order = (
 -- par
 
 pub own-low : (base count v : ℕ) (xs : List ℕ) → v < base → numbers_within base count (v ∷ xs) ≡ numbers_within base count xs
-own-low base count v xs h = lt_yes v base _ _ h
+own-low base count v xs h = let e : (nat_le base v && nat_lt v (base + count)) ≡ false = grind arith in rw e refl
 
 pub own-high : (base count v : ℕ) (xs : List ℕ) → base + count ≤ v → numbers_within base count (v ∷ xs) ≡ numbers_within base count xs
-own-high base count v xs h = lt_not v base _ _ (omega arith) ∙ lt_not v (base + count) _ _ h
+own-high base count v xs h = let e : (nat_le base v && nat_lt v (base + count)) ≡ false = grind arith in rw e refl
 
 pub own-in : (base count v : ℕ) (xs : List ℕ) → base ≤ v → v < base + count → numbers_within base count (v ∷ xs) ≡ v ∷ numbers_within base count xs
-own-in base count v xs h k = lt_not v base _ _ h ∙ lt_yes v (base + count) _ _ k
+own-in base count v xs h k = let e : (nat_le base v && nat_lt v (base + count)) ≡ true = grind arith in rw e refl
 
 mutual
   run-range : (base : ℕ) (t : Term) (s : State t) (v r : ℕ) (s' : State t) → Run forward base t s v r s' → (base ≤ v) × (v < base + task_count t)
@@ -236,9 +236,10 @@ each-first base (part t ts) (s, ss) v xs (s', ss') l m (h, k) = split2 v (base +
 
 pub each-par : (base : ℕ) (ts : Parts) (ss : States ts) (xs : List ℕ) (ss' : States ts) → AreWithin base (task_count_of_parts ts) xs → EachTrail base ts ss xs ss' → Trail base (par ts) ss xs ss'
 each-par base ts ss [] ss' i h = each-done base ts ss ss' h
-each-par base ts ss (v ∷ xs) ss' ((l, m), i) h =
-    let y = each-first base ts ss v xs ss' l m h in
-    (y.after, (y.running, y.step), each-par base ts y.after xs ss' i y.rest)
+each-par base ts ss (v ∷ xs) ss' i h =
+    let own = All-head (λ u. (base ≤ u) × (u < base + task_count_of_parts ts)) v xs i in
+    let y = each-first base ts ss v xs ss' own.0 own.1 h in
+    (y.after, (y.running, y.step), each-par base ts y.after xs ss' (All-tail (λ u. (base ≤ u) × (u < base + task_count_of_parts ts)) v xs i) y.rest)
 
 each-traversal : (base : ℕ) (ts : Parts) (order : List ℕ) → 1 ≤ base → HaveParts ts → EachTrail base ts (first_states forward ts) order (first_states backward ts) → EachTraversal base ts order
 each-traversal base no_parts order some g h = tt
@@ -255,8 +256,8 @@ traversal-each base (part t ts) order some (g, gs) ((q, tr, e), k) = (
 )
 
 trail-in : (base : ℕ) (ts : Parts) (ss : States ts) (xs : List ℕ) (ss' : States ts) → Trail base (par ts) ss xs ss' → AreWithin base (task_count_of_parts ts) xs
-trail-in base ts ss [] ss' h = tt
-trail-in base ts ss (v ∷ xs) ss' (s1, (r, step), h) = (runs-range base ts ss v r s1 step, trail-in base ts s1 xs ss' h)
+trail-in base ts ss [] ss' h = All-nil _
+trail-in base ts ss (v ∷ xs) ss' (s1, (r, step), h) = All-cons (λ u. (base ≤ u) × (u < base + task_count_of_parts ts)) v xs (runs-range base ts ss v r s1 step) (trail-in base ts s1 xs ss' h)
 
 pub par-walks : (ts : Parts) → HasParts (par ts) → (order : List ℕ) → IsTraversal (system_of_term (par ts)) order ↔ (AreWithin 1 (task_count_of_parts ts) order × EachTraversal 1 ts order)
 par-walks ts g order = (

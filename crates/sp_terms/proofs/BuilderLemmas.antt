@@ -1,22 +1,24 @@
 -- What a builder keeps, one position further.
-use Rattle.std.proofs.Common.{◌≡◌, ℕ, zero, suc, ◌+◌, ◌-◌, ◌≤◌, ◌^◌, Bool, true, false, refl, sym, subst, ap, arith, ◌∙◌, List, [], ◌∷◌, ◌++◌, length, length-append, take, drop, get_or, Option, Some, None, append_assoc, length-take, length-drop, slice_set}
-use Rattle.std.specs.Prelude.{◌||◌, nat_lt, if◌then◌else◌, option_and_then}
+use Rattle.std.proofs.Common.{◌≡◌, ℕ, zero, suc, ◌+◌, ◌-◌, ◌≤◌, ◌^◌, Bool, true, false, refl, sym, subst, ap, arith, ◌∙◌, List, [], ◌∷◌, ◌++◌, length, length-append, take, drop, get_or, Option, Some, None, append_assoc, length-take, slice_set}
+use Rattle.std.specs.Prelude.{◌||◌, nat_lt, nat_le, if◌then◌else◌, option_and_then}
 use Rattle.std.specs.List.{sum_by}
-use Rattle.std.proofs.lemmas.List.{append-nil, take_all, get_or_read}
+use Rattle.std.proofs.lemmas.List.{append-nil, take-take, take_rest, get_or_read}
+use Rattle.std.proofs.lemmas.List.Elements.{All-push}
 use Rattle.std.proofs.Math.Seq.{take-append_seam, get_or-append_seam, drop-append_seam}
 use Rattle.std.proofs.lemmas.List.Sums.{sum_by-append, sum_by-cons, sum_by-take-drop}
 use Rattle.sp_terms.specs.declared.position.Position.{Position}
 use Rattle.sp_terms.specs.declared.position.Position.TheVariants.{Hold, Par}
 use Rattle.sp_terms.specs.declared.position.Position.TheVariants as at
 use Rattle.sp_terms.specs.declared.builder.Ends.{Ends}
+use Rattle.limits.specs.Limits.{most_tasks, most_positions, most_size, most_total, most_time}
 use Rattle.limits.specs.declared.name.LimitName.{LimitName}
 use Rattle.limits.specs.declared.name.LimitName.TheVariants.{Positions, Tasks, Size, Time, Total}
 use Rattle.sp_terms.specs.declared.builder.PushRefusal.TheVariants.{Short, Limit, Share}
 use Rattle.sp_terms.specs.Term.{Term, hold, series, par, Parts, no_parts, part, count, forward, backward, first_memory, first_memory_of_parts, AreAllowed}
 use Rattle.sp_terms.specs.Postfix.{gather, push, push_all, postfix}
-use Rattle.sp_terms.specs.Values.{stack_from, stack_of, top_of, Leaves, IsTerms, AllAllowed, AllWithin, IsWithin, added_tasks, added_size}
-use Rattle.sp_terms.specs.Builder.{IsPosition, is_short, total_limit, own_limit, limit_of, is_overshared, share_refusal, limit_or, refusal_of}
-use Rattle.sp_terms.specs.Ends.{ends_of, all_ends, IsBuilder, initial_at, fin_at, no_ends, beside, joined, in_turn, ends_after, over_ends}
+use Rattle.sp_terms.specs.Values.{stack_from, stack_of, last_term, Leaves, IsTerms, AllAllowed, IsWithinLimits, added_tasks, added_size}
+use Rattle.sp_terms.specs.Builder.{IsPosition, is_short, total_limit, own_limit, passed_limit, is_overshared, share_refusal, limit_or, refusal_of}
+use Rattle.sp_terms.specs.Ends.{ends_of, all_ends, IsBuilder, initial_at, fin_at, no_ends, beside, par_ends, series_ends, next_ends, over_ends}
 use Rattle.sp_terms.proofs.Stacks.{onto, Pushed, held, ran, beside as abreast, pushed, push_then, stack_postfix, all_pushed}
 use Rattle.sp_terms.proofs.Standing.{stack_few}
 use Rattle.sp_terms.proofs.ValuesLemmas.{first-le-weight}
@@ -33,7 +35,7 @@ height ps ends tasks total h = ap length h.ends_are ∙ ends-length (stack_of ps
 pub one_term : (ps : List Position) (ends : List Ends) (tasks total : ℕ) → IsBuilder ps ends tasks total → length ends ≡ 1 → IsTerms ps
 one_term ps ends tasks total h e = subst (Leaves ps) (single (stack_of ps) (sym (height ps ends tasks total h) ∙ e)) h.leave
   where
-    single : (stack : List Term) → length stack ≡ 1 → stack ≡ top_of stack ∷ []
+    single : (stack : List Term) → length stack ≡ 1 → stack ≡ last_term stack ∷ []
     single [] e = absurd (omega (arith, e))
     single (t ∷ []) e = refl
     single (t ∷ (u ∷ stack)) e = absurd (omega (arith, e))
@@ -46,19 +48,13 @@ set_last (x ∷ []) zero v e = refl
 set_last (x ∷ (y ∷ xs)) zero v e = absurd (omega (arith, e))
 set_last (x ∷ xs) (suc n) v e = ap (λ z. x ∷ z) (set_last xs n v (omega (arith, e)))
 
-take_take : {A : Type 0} (xs : List A) (n : ℕ) → take n (take (suc n) xs) ≡ take n xs
-take_take [] zero = refl
-take_take [] (suc n) = refl
-take_take (x ∷ xs) zero = refl
-take_take (x ∷ xs) (suc n) = ap (λ z. x ∷ z) (take_take xs n)
-
 -- what was cut after a place, and that place set
 pub cut_set : {A : Type 0} (xs cut : List A) (n m : ℕ) (v : A) → m ≡ suc n → m ≤ length xs → cut ≡ take m xs → slice_set cut n v ≡ take n xs ++ v ∷ []
 cut_set xs cut n m v e le c =
     let cut_is : cut ≡ take (suc n) xs = c ∙ ap (λ k. take k xs) e in
     ap (λ z. slice_set z n v) cut_is
     ∙ set_last (take (suc n) xs) n v (length-take (suc n) xs ∙ omega (arith, le, e))
-    ∙ ap (λ z. z ++ v ∷ []) (take_take xs n)
+    ∙ ap (λ z. z ++ v ∷ []) (take-take n (suc n) xs (omega arith))
 
 -- a position finds enough terms
 
@@ -69,6 +65,9 @@ gather_some (suc k) (t ∷ stack) us le = gather_some k stack (part t us) (omega
 
 lt_false : (a b : ℕ) → nat_lt a b ≡ false → b ≤ a
 lt_false a b e = grind arith
+
+le_false : (a b : ℕ) → nat_le a b ≡ false → b + 1 ≤ a
+le_false a b e = grind arith
 
 pub push_some : (p : Position) (stack : List Term) → is_short (length stack) p ≡ false → (out : List Term) × (push p stack ≡ Some out)
 push_some (Hold size) stack e = (hold size ∷ stack, refl)
@@ -101,13 +100,13 @@ list-fin : (ts : Parts) → sum_by fin_at (ends_list ts) ≡ first_memory_of_par
 list-fin no_parts = refl
 list-fin (part t ts) = sum_by-cons fin_at (ends_of t) (ends_list ts) ∙ ap (λ n. first_memory backward t + n) (list-fin ts)
 
-joined-ends : (xs ys : List Ends) (k : ℕ) → length ys ≡ k → joined (xs ++ ys) k ≡ xs ++ beside ys ∷ []
-joined-ends xs ys k e =
+par-ends : (xs ys : List Ends) (k : ℕ) → length ys ≡ k → par_ends (xs ++ ys) k ≡ xs ++ beside ys ∷ []
+par-ends xs ys k e =
     let n : length (xs ++ ys) - k ≡ length xs = omega (arith, length-append xs ys, e) in
     (λ i. take (n i) (xs ++ ys) ++ beside (drop (n i) (xs ++ ys)) ∷ []) ∙ (λ i. take-append_seam xs ys i ++ beside (drop-append_seam xs ys i) ∷ [])
 
-in_turn-ends : (xs : List Ends) (a b : Ends) → in_turn ((xs ++ a ∷ []) ++ b ∷ []) ≡ xs ++ record { initial = a.initial; fin = b.fin } ∷ []
-in_turn-ends xs a b =
+series-ends : (xs : List Ends) (a b : Ends) → series_ends ((xs ++ a ∷ []) ++ b ∷ []) ≡ xs ++ record { initial = a.initial; fin = b.fin } ∷ []
+series-ends xs a b =
     let all = (xs ++ a ∷ []) ++ b ∷ [] in
     let same : all ≡ xs ++ a ∷ (b ∷ []) = append_assoc xs (a ∷ []) (b ∷ []) in
     let n : length all - 2 ≡ length xs = omega (arith, ap length same, length-append xs (a ∷ (b ∷ []))) in
@@ -117,11 +116,11 @@ in_turn-ends xs a b =
     let last : get_or all (length all - 1) no_ends ≡ b = ap (λ k. get_or all k no_ends) m ∙ get_or-append_seam (xs ++ a ∷ []) b [] no_ends in
     λ i. low i ++ record { initial = (first i).initial; fin = (last i).fin } ∷ []
 
-pub ends_push : (p : Position) (stack out : List Term) → Pushed p stack out → ends_after p (all_ends stack) ≡ all_ends out
+pub ends_push : (p : Position) (stack out : List Term) → Pushed p stack out → next_ends p (all_ends stack) ≡ all_ends out
 ends_push p stack out (held size st) = refl
-ends_push p stack out (ran v a b st) = in_turn-ends (all_ends st) (ends_of a) (ends_of b)
+ends_push p stack out (ran v a b st) = series-ends (all_ends st) (ends_of a) (ends_of b)
 ends_push p stack out (abreast ts st g) =
-    ap (λ z. joined z (count ts)) (onto-ends ts st) ∙ joined-ends (all_ends st) (ends_list ts) (count ts) (list-length ts)
+    ap (λ z. par_ends z (count ts)) (onto-ends ts st) ∙ par-ends (all_ends st) (ends_list ts) (count ts) (list-length ts)
     ∙ (λ i. all_ends st ++ record { initial = list-initial ts i; fin = list-fin ts i } ∷ [])
 
 -- shares
@@ -178,20 +177,20 @@ if_none true x y e = absurd (some_none e)
 if_none false x y e = (refl, e)
 
 pub record Fits (ps tasks total : ℕ) (p : Position) : Type 0 where
-  pub within : IsWithin p
+  pub within : IsWithinLimits p
   pub light : added_size p ≤ 2 ^ 40
-  pub few : ps + 1 ≤ 4000001
-  pub few_tasks : tasks + added_tasks p ≤ 1000000
+  pub few : ps + 1 ≤ most_positions
+  pub few_tasks : tasks + added_tasks p ≤ most_tasks
   pub total_is : total + added_size p ≤ 2 ^ 60
 
 total_fits : (total size : ℕ) → total_limit total size ≡ None → total + size ≤ 2 ^ 60
 total_fits total size e = lt_false (2 ^ 60) (total + size) (if_none (nat_lt (2 ^ 60) (total + size)) Total None e).0
 
-count_fits : (n tasks total : ℕ) (p : Position) → limit_of n tasks total p ≡ None → (n + 1 ≤ 4000001) × (own_limit tasks total p ≡ None)
+count_fits : (n tasks total : ℕ) (p : Position) → passed_limit n tasks total p ≡ None → (n + 1 ≤ most_positions) × (own_limit tasks total p ≡ None)
 count_fits n tasks total p e =
-    let x = if_none (nat_lt 4000000 n) Positions (own_limit tasks total p) e in (omega (arith, lt_false 4000000 n x.0), x.1)
+    let x = if_none (nat_le most_positions n) Positions (own_limit tasks total p) e in (le_false most_positions n x.0, x.1)
 
-pub fits : (n tasks total : ℕ) (p : Position) → IsPosition p → tasks ≤ 1000000 → total ≤ 2 ^ 60 → limit_of n tasks total p ≡ None → Fits n tasks total p
+pub fits : (n tasks total : ℕ) (p : Position) → IsPosition p → tasks ≤ most_tasks → total ≤ 2 ^ 60 → passed_limit n tasks total p ≡ None → Fits n tasks total p
 fits n tasks total (Hold size) a l m e =
     let x = count_fits n tasks total (Hold size) e in
     let y = if_none (nat_lt (2 ^ 40) size) Size (total_limit total size) x.1 in
@@ -199,20 +198,16 @@ fits n tasks total (Hold size) a l m e =
     record { within = le; light = le; few = x.0; few_tasks = omega arith; total_is = total_fits total size y.1 }
 fits n tasks total (at.Task x s t) a l m e =
     let x1 = count_fits n tasks total (at.Task x s t) e in
-    let x2 = if_none (nat_lt 999999 tasks) Tasks (if nat_lt (2 ^ 40) x then Some Size else (if nat_lt (2 ^ 40) t then Some Time else total_limit total x)) x1.1 in
+    let x2 = if_none (nat_le most_tasks tasks) Tasks (if nat_lt (2 ^ 40) x then Some Size else (if nat_lt (2 ^ 40) t then Some Time else total_limit total x)) x1.1 in
     let x3 = if_none (nat_lt (2 ^ 40) x) Size (if nat_lt (2 ^ 40) t then Some Time else total_limit total x) x2.1 in
     let x4 = if_none (nat_lt (2 ^ 40) t) Time (total_limit total x) x3.1 in
     let le : x ≤ 2 ^ 40 = lt_false (2 ^ 40) x x3.0 in
     let le_time : t ≤ 2 ^ 40 = lt_false (2 ^ 40) t x4.0 in
-    let le_tasks : tasks ≤ 999999 = lt_false 999999 tasks x2.0 in
+    let le_tasks : tasks + 1 ≤ most_tasks = le_false most_tasks tasks x2.0 in
     record { within = (le, a, le_time); light = le; few = x1.0; few_tasks = omega (arith, le_tasks); total_is = total_fits total x x4.1 }
 fits n tasks total (Par k) a l m e =
     let x = count_fits n tasks total (Par k) e in
     record { within = a; light = omega arith; few = x.0; few_tasks = omega arith; total_is = omega arith }
-
-within-more : (ps : List Position) (p : Position) → AllWithin ps → IsWithin p → AllWithin (ps ++ p ∷ [])
-within-more [] p h k = (k, tt)
-within-more (q ∷ ps) p h k = (h.0, within-more ps p h.1 k)
 
 -- the sums of the ends
 
@@ -235,7 +230,7 @@ light ps ends tasks total h =
 
 -- there are no more terms than positions
 
-pub few_terms : (ps : List Position) (ends : List Ends) (tasks total : ℕ) → IsBuilder ps ends tasks total → length (stack_of ps) ≤ 4000001
+pub few_terms : (ps : List Position) (ends : List Ends) (tasks total : ℕ) → IsBuilder ps ends tasks total → length (stack_of ps) ≤ most_positions
 few_terms ps ends tasks total h = omega (arith, stack_few ps (stack_of ps) h.leave.is, h.leave.few)
 
 -- one position more
@@ -244,32 +239,32 @@ module _ (ps : List Position) (ends : List Ends) (tasks total : ℕ) (p : Positi
   same_short : is_short (length ends) p ≡ is_short (length (stack_of ps)) p
   same_short = ap (λ n. is_short n p) (height ps ends tasks total h)
 
-  same_limit : limit_of (length ps) tasks total p ≡ limit_of (length ps) (sum_by added_tasks ps) (sum_by added_size ps) p
-  same_limit = λ i. limit_of (length ps) (h.tasks_are i) (h.total_is i) p
+  same_limit : passed_limit (length ps) tasks total p ≡ passed_limit (length ps) (sum_by added_tasks ps) (sum_by added_size ps) p
+  same_limit = λ i. passed_limit (length ps) (h.tasks_are i) (h.total_is i) p
 
   same_over : is_short (length ends) p ≡ false → over_ends ends p ≡ is_overshared (stack_of ps) p
   same_over e = ap (λ z. over_ends z p) h.ends_are ∙ over_same p (stack_of ps) (sym same_short ∙ e)
 
   pub refused_short : is_short (length ends) p ≡ true → refusal_of ps p ≡ Some Short
-  refused_short e = ap (λ b. if b then Some Short else limit_or (limit_of (length ps) (sum_by added_tasks ps) (sum_by added_size ps) p) (share_refusal (is_overshared (stack_of ps) p))) (sym same_short ∙ e)
+  refused_short e = ap (λ b. if b then Some Short else limit_or (passed_limit (length ps) (sum_by added_tasks ps) (sum_by added_size ps) p) (share_refusal (is_overshared (stack_of ps) p))) (sym same_short ∙ e)
 
-  not_short : is_short (length ends) p ≡ false → refusal_of ps p ≡ limit_or (limit_of (length ps) (sum_by added_tasks ps) (sum_by added_size ps) p) (share_refusal (is_overshared (stack_of ps) p))
-  not_short e = ap (λ b. if b then Some Short else limit_or (limit_of (length ps) (sum_by added_tasks ps) (sum_by added_size ps) p) (share_refusal (is_overshared (stack_of ps) p))) (sym same_short ∙ e)
+  not_short : is_short (length ends) p ≡ false → refusal_of ps p ≡ limit_or (passed_limit (length ps) (sum_by added_tasks ps) (sum_by added_size ps) p) (share_refusal (is_overshared (stack_of ps) p))
+  not_short e = ap (λ b. if b then Some Short else limit_or (passed_limit (length ps) (sum_by added_tasks ps) (sum_by added_size ps) p) (share_refusal (is_overshared (stack_of ps) p))) (sym same_short ∙ e)
 
-  pub refused_limit : is_short (length ends) p ≡ false → (name : LimitName) → limit_of (length ps) tasks total p ≡ Some name → refusal_of ps p ≡ Some (Limit name)
+  pub refused_limit : is_short (length ends) p ≡ false → (name : LimitName) → passed_limit (length ps) tasks total p ≡ Some name → refusal_of ps p ≡ Some (Limit name)
   refused_limit e name l = not_short e ∙ ap (λ o. limit_or o (share_refusal (is_overshared (stack_of ps) p))) (sym same_limit ∙ l)
 
-  pub refused_share : is_short (length ends) p ≡ false → limit_of (length ps) tasks total p ≡ None → over_ends ends p ≡ true → refusal_of ps p ≡ Some Share
+  pub refused_share : is_short (length ends) p ≡ false → passed_limit (length ps) tasks total p ≡ None → over_ends ends p ≡ true → refusal_of ps p ≡ Some Share
   refused_share e l o = not_short e ∙ ap (λ x. limit_or x (share_refusal (is_overshared (stack_of ps) p))) (sym same_limit ∙ l) ∙ ap share_refusal (sym (same_over e) ∙ o)
 
-  pub taken : is_short (length ends) p ≡ false → limit_of (length ps) tasks total p ≡ None → over_ends ends p ≡ false → refusal_of ps p ≡ None
+  pub taken : is_short (length ends) p ≡ false → passed_limit (length ps) tasks total p ≡ None → over_ends ends p ≡ false → refusal_of ps p ≡ None
   taken e l o = not_short e ∙ ap (λ x. limit_or x (share_refusal (is_overshared (stack_of ps) p))) (sym same_limit ∙ l) ∙ ap share_refusal (sym (same_over e) ∙ o)
 
-  pub fits_now : IsPosition p → limit_of (length ps) tasks total p ≡ None → Fits (length ps) tasks total p
+  pub fits_now : IsPosition p → passed_limit (length ps) tasks total p ≡ None → Fits (length ps) tasks total p
   fits_now a l = fits (length ps) tasks total p a (omega (arith, h.tasks_are, h.leave.few_tasks)) (omega (arith, h.total_is, h.leave.total)) l
 
-  pub builder_more : IsPosition p → is_short (length ends) p ≡ false → limit_of (length ps) tasks total p ≡ None → over_ends ends p ≡ false
-      → IsBuilder (ps ++ p ∷ []) (ends_after p ends) (tasks + added_tasks p) (total + added_size p)
+  pub builder_more : IsPosition p → is_short (length ends) p ≡ false → passed_limit (length ps) tasks total p ≡ None → over_ends ends p ≡ false
+      → IsBuilder (ps ++ p ∷ []) (next_ends p ends) (tasks + added_tasks p) (total + added_size p)
   builder_more a e l o =
       let (out, k) = push_some p (stack_of ps) (sym same_short ∙ e) in
       let step = pushed p (stack_of ps) out k in
@@ -283,39 +278,36 @@ module _ (ps : List Position) (ends : List Ends) (tasks total : ℕ) (p : Positi
         leave = subst (Leaves (ps ++ p ∷ [])) is_out (record {
           is = all;
           allowed = good_push p (stack_of ps) out step a (sym (same_over e) ∙ o) h.leave.allowed;
-          within = within-more ps p h.leave.within f.within;
+          within = All-push IsWithinLimits ps p h.leave.within f.within;
           few = omega (arith, n, f.few);
           few_tasks = omega (arith, r, f.few_tasks, h.tasks_are);
           total = omega (arith, w, f.total_is, h.total_is);
         });
-        ends_are = ap (ends_after p) h.ends_are ∙ ends_push p (stack_of ps) out step ∙ ap all_ends is_out;
+        ends_are = ap (next_ends p) h.ends_are ∙ ends_push p (stack_of ps) out step ∙ ap all_ends is_out;
         tasks_are = omega (arith, r, h.tasks_are);
         total_is = omega (arith, w, h.total_is);
       }
 
 -- what the code does to the ends
 
-rest_all : {A : Type 0} (xs : List A) (m : ℕ) → take (length xs - m) (drop m xs) ≡ drop m xs
-rest_all xs m = take_all (length xs - m) (drop m xs) (omega (arith, length-drop m xs))
-
-pub join_is : (xs ds cut : List Ends) (k n m : ℕ) (all : Ends) → n ≡ m → m ≡ length xs → 1 ≤ k → k ≤ length xs → ds ≡ xs → cut ≡ take (n - k + 1) xs → all ≡ beside (take (length ds - (n - k)) (drop (n - k) ds))
-    → slice_set cut (n - k) all ≡ joined xs k
-join_is xs ds cut k n m all e f a b d c g =
+pub par_is : (xs ds cut : List Ends) (k n m : ℕ) (all : Ends) → n ≡ m → m ≡ length xs → 1 ≤ k → k ≤ length xs → ds ≡ xs → cut ≡ take (n - k + 1) xs → all ≡ beside (take (length ds - (n - k)) (drop (n - k) ds))
+    → slice_set cut (n - k) all ≡ par_ends xs k
+par_is xs ds cut k n m all e f a b d c g =
     let len : n ≡ length xs = e ∙ f in
     cut_set xs cut (n - k) (n - k + 1) all (omega arith) (omega (arith, len)) c
-    ∙ (λ i. take (len i - k) xs ++ (g ∙ ap (λ z. beside (take (length z - (n - k)) (drop (n - k) z))) d ∙ ap beside (rest_all xs (n - k)) ∙ ap (λ q. beside (drop (q - k) xs)) len) i ∷ [])
+    ∙ (λ i. take (len i - k) xs ++ (g ∙ ap (λ z. beside (take (length z - (n - k)) (drop (n - k) z))) d ∙ ap beside (take_rest xs (n - k)) ∙ ap (λ q. beside (drop (q - k) xs)) len) i ∷ [])
 
 pub rest_light : (xs ds : List Ends) (m : ℕ) → ds ≡ xs → (sum_by initial_at xs ≤ 2 ^ 60) × (sum_by fin_at xs ≤ 2 ^ 60)
     → (sum_by initial_at (take (length ds - m) (drop m ds)) ≤ 2 ^ 60) × (sum_by fin_at (take (length ds - m) (drop m ds)) ≤ 2 ^ 60)
 rest_light xs ds m d h =
-    let e : take (length ds - m) (drop m ds) ≡ drop m xs = rest_all ds m ∙ ap (drop m) d in (
+    let e : take (length ds - m) (drop m ds) ≡ drop m xs = take_rest ds m ∙ ap (drop m) d in (
       omega (arith, h.0, ap (sum_by initial_at) e, sum_by-take-drop initial_at xs m),
       omega (arith, h.1, ap (sum_by fin_at) e, sum_by-take-drop fin_at xs m),
     )
 
-pub in_turn_is : (xs cut : List Ends) (n m : ℕ) (a b : Ends) → 2 ≤ length xs → n ≡ m → m ≡ length xs → cut ≡ take (n - 1) xs → a ≡ get_or xs (n - 1 - 1) a → b ≡ get_or xs (n - 1) b
-    → slice_set cut (n - 1 - 1) (record { initial = a.initial; fin = b.fin }) ≡ in_turn xs
-in_turn_is xs cut n m a b two e f c first last =
+pub series_is : (xs cut : List Ends) (n m : ℕ) (a b : Ends) → 2 ≤ length xs → n ≡ m → m ≡ length xs → cut ≡ take (n - 1) xs → a ≡ get_or xs (n - 1 - 1) a → b ≡ get_or xs (n - 1) b
+    → slice_set cut (n - 1 - 1) (record { initial = a.initial; fin = b.fin }) ≡ series_ends xs
+series_is xs cut n m a b two e f c first last =
     let len : n ≡ length xs = e ∙ f in
     let low : n - 1 - 1 ≡ length xs - 2 = omega (arith, len) in
     let high : n - 1 ≡ length xs - 1 = omega (arith, len) in

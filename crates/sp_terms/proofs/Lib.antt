@@ -1,6 +1,6 @@
 pub mod Stacks
 pub mod ValuesLemmas
-pub mod SidesLemmas
+pub mod PendingLemmas
 pub mod SystemLemmas
 pub mod BuilderLemmas
 pub mod ReadLemmas

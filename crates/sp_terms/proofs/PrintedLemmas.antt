@@ -19,7 +19,7 @@ use Rattle.sp_terms.specs.declared.position.Position.TheVariants as at
 use Rattle.sp_terms.specs.Term.{Term, series, Parts, count, IsAllowed}
 use Rattle.sp_terms.specs.Fields.{number_at, share_at, number_stated, task_stated}
 use Rattle.sp_terms.specs.Postfix.{push_all, at_task}
-use Rattle.sp_terms.specs.Values.{stack_from, stack_of, added_size, added_tasks, IsTerms, IsWithin, AllAllowed}
+use Rattle.sp_terms.specs.Values.{stack_from, stack_of, added_size, added_tasks, IsTerms, IsWithinLimits, AllAllowed}
 use Rattle.sp_terms.specs.WorkflowFile.{workflow_format, workflow_line_tests, header_tests, has_shares, count_tests, count_stated, word_of, position_of, worded_tests, is_end, is_complete, positions_stated, ReadsWorkflow}
 use Rattle.sp_terms.specs.WorkflowText.{header_line, count_line, share_tokens, position_line, end_line, lines_in, text_in, is_sharing, text_of, text2_of}
 use Rattle.sp_terms.proofs.PrintingLemmas.{AreTokens, IsPrintable, position_line-tokens}
@@ -278,7 +278,7 @@ module _ (numbers : AreNumbers) (are_tokens : AreTokens) (are_rows : AreRows) (w
   printable : (first : List Position) (p : Position) → Standing ps first p → IsPrintable p
   printable first p stands = go p stands.stack stands.after stands.step stands.before stands.allowed stands.within stands.total
     where
-      go : (p : Position) (stack after : List Term) → Pushed p stack after → push_all first [] ≡ Some stack → AllAllowed after → IsWithin p → sum_by added_size first + added_size p ≤ 2 ^ 60 → IsPrintable p
+      go : (p : Position) (stack after : List Term) → Pushed p stack after → push_all first [] ≡ Some stack → AllAllowed after → IsWithinLimits p → sum_by added_size first + added_size p ≤ 2 ^ 60 → IsPrintable p
       go p stack after (held size st) before allowed within total = omega (arith, within)
       go p stack after (ran v a b st) before allowed within total = (omega (arith, within.0), small_share first v a b st before allowed.0 (omega (arith, total)), omega (arith, within.2))
       go p stack after (beside ts st e) before allowed within total = omega (arith, stands.few, few_parts ts st before)

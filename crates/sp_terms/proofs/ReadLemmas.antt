@@ -4,6 +4,7 @@ use Rattle.std.specs.Prelude.{◌⊎◌}
 use Rattle.std.specs.Option.{option_map}
 use Rattle.std.specs.List.{sum_by, list_any}
 use Rattle.std.proofs.lemmas.List.{take_all, take_more, drop_more, take-append-drop, map_push}
+use Rattle.std.proofs.lemmas.List.Elements.{All-nil}
 use Rattle.std.proofs.Math.Seq.{take-append_seam}
 use Rattle.std.proofs.lemmas.List.Folds.{list_any-append}
 use Rattle.std.proofs.lemmas.Bool.{leb-true, eqb-true, eqb-false, ltb-true}
@@ -21,7 +22,7 @@ use Rattle.sp_terms.specs.declared.kind.Word.TheVariants as words
 use Rattle.sp_terms.specs.declared.position.Position.{Position}
 use Rattle.sp_terms.specs.declared.position.Position.TheVariants.{Hold, Par}
 use Rattle.sp_terms.specs.Postfix.{at_task}
-use Rattle.sp_terms.specs.Values.{stack_of, added_tasks, added_size, Leaves, IsTerms}
+use Rattle.sp_terms.specs.Values.{stack_of, added_tasks, added_size, Leaves, IsTerms, IsWithinLimits}
 use Rattle.sp_terms.specs.Builder.{IsPosition, is_short, limit_or, share_refusal, refusal_of}
 use Rattle.sp_terms.specs.Ends.{IsBuilder, all_ends}
 use Rattle.sp_terms.specs.WorkflowFile.{workflow_format, has_shares, count_stated, word_of, number_on, task_on, position_worded, position_of, worded_tests, limit_tests, body_tests, is_end_word, is_end, is_complete, positions_stated, ReadsWorkflow, RefusesWorkflow}
@@ -100,7 +101,7 @@ no_row : Row
 no_row = record { number = 0; tokens = [] }
 
 no_leaves : Leaves [] []
-no_leaves = record { is = refl; allowed = tt; within = tt; few = omega arith; few_tasks = omega arith; total = omega arith }
+no_leaves = record { is = refl; allowed = tt; within = All-nil IsWithinLimits; few = omega arith; few_tasks = omega arith; total = omega arith }
 
 module _ (header counted last : Row) (rows : List Row) (passed : ArePassed workflow_format (header ∷ counted ∷ (rows ++ last ∷ []))) (unended : list_any is_end rows ≡ false) where
   few : count_stated counted ≤ 1000000

@@ -1,8 +1,9 @@
 -- The stack rule: what a list of positions leaves is the postfix form of the terms on the stack.
 use Rattle.std.proofs.Common.{◌≡◌, ℕ, zero, suc, ◌+◌, ◌-◌, ◌<◌, ◌≤◌, refl, sym, subst, ap, arith, ◌∙◌, List, [], ◌∷◌, ◌++◌, length, length-append, take, drop, get_or, Option, Some, None, append_assoc, length-take}
-use Rattle.std.specs.Prelude.{option_and_then}
-use Rattle.std.proofs.lemmas.List.{append-nil}
-use Rattle.std.proofs.Math.Seq.{split_at, take-append_seam}
+use Rattle.std.specs.Prelude.{All, option_and_then}
+use Rattle.std.proofs.lemmas.List.{append-nil, take-append-drop, take_at}
+use Rattle.std.proofs.lemmas.List.Elements.{All-nil, All-cons, All-head, All-tail}
+use Rattle.std.proofs.Math.Seq.{split_at, take-suc}
 use Rattle.mp_system.specs.declared.system.Task.{Task}
 use Rattle.sp_terms.specs.declared.position.Position.{Position}
 use Rattle.sp_terms.specs.declared.position.Position.TheVariants.{Hold, Par}
@@ -21,6 +22,12 @@ head_same e = cc
 
 pub tail_same : {A : Type 0} {x y : A} {xs ys : List A} → x ∷ xs ≡ y ∷ ys → xs ≡ ys
 tail_same e = cc
+
+-- what holds of each of two lists in a row
+pub all-split : {A : Type 0} (P : A → Type 0) (xs ys : List A) → All P (xs ++ ys) → All P xs × All P ys
+all-split P [] ys h = (All-nil P, h)
+all-split P (x ∷ xs) ys h =
+    let rest = all-split P xs ys (All-tail P x (xs ++ ys) h) in (All-cons P x xs (All-head P x (xs ++ ys) h) rest.0, rest.1)
 
 -- the terms on the stack, above what was there
 abbrev pub onto : Parts → List Term → List Term
@@ -168,33 +175,19 @@ pub record Under (ps : List Position) (n : ℕ) (t : Term) (stack : List Term) :
   pub cut : take (n - width_of t) ps ++ postfix t ≡ take n ps
   pub is : push_all (take (n - width_of t) ps) [] ≡ Some stack
 
-take_of : {A : Type 0} (p q : List A) (n : ℕ) → length p ≡ n → take n (p ++ q) ≡ p
-take_of p q n e = ap (λ m. take m (p ++ q)) (sym e) ∙ take-append_seam p q
-
-pub take_drop : {A : Type 0} (xs : List A) (n : ℕ) → take n xs ++ drop n xs ≡ xs
-take_drop [] zero = refl
-take_drop [] (suc n) = refl
-take_drop (x ∷ xs) zero = refl
-take_drop (x ∷ xs) (suc n) = ap (λ z. x ∷ z) (take_drop xs n)
-
 pub under : (ps : List Position) (n : ℕ) (t : Term) (stack : List Term) → n ≤ length ps → push_all (take n ps) [] ≡ Some (t ∷ stack) → Under ps n t stack
 under ps n t stack le e =
     let eq : take n ps ≡ stack_postfix stack ++ postfix t = all_pushed (take n ps) [] (t ∷ stack) e in
     let len : n ≡ length (stack_postfix stack) + width_of t = omega (arith, length-take n ps, ap length eq, length-append (stack_postfix stack) (postfix t), length-postfix t) in
     let low : length (stack_postfix stack) ≡ n - width_of t = omega arith in
-    let split : ps ≡ stack_postfix stack ++ (postfix t ++ drop n ps) = sym (take_drop ps n) ∙ ap (λ z. z ++ drop n ps) eq ∙ append_assoc (stack_postfix stack) (postfix t) (drop n ps) in
-    let first : take (n - width_of t) ps ≡ stack_postfix stack = ap (take (n - width_of t)) split ∙ take_of (stack_postfix stack) (postfix t ++ drop n ps) (n - width_of t) low in
+    let split : ps ≡ stack_postfix stack ++ (postfix t ++ drop n ps) = sym (take-append-drop n ps) ∙ ap (λ z. z ++ drop n ps) eq ∙ append_assoc (stack_postfix stack) (postfix t) (drop n ps) in
+    let first : take (n - width_of t) ps ≡ stack_postfix stack = ap (take (n - width_of t)) split ∙ take_at (stack_postfix stack) (postfix t ++ drop n ps) (n - width_of t) low in
     record {
       room = omega arith;
       some = some-position t;
       cut = ap (λ z. z ++ postfix t) first ∙ sym eq;
       is = ap (λ z. push_all z []) first ∙ whole_stack stack;
     }
-
-pub one_more : {A : Type 0} (ps : List A) (n : ℕ) (d : A) → n < length ps → take (suc n) ps ≡ take n ps ++ get_or ps n d ∷ []
-one_more [] n d lt = absurd (omega arith)
-one_more (p ∷ ps) zero d lt = refl
-one_more (p ∷ ps) (suc n) d lt = ap (λ z. p ∷ z) (one_more ps n d (omega arith))
 
 -- what a position of a list that leaves a stack finds and leaves
 pub record Place (ps : List Position) (n : ℕ) (p : Position) : Type 0 where
@@ -216,6 +209,6 @@ place ps out n d e lt =
       before = before;
       after = after;
       is = f;
-      then = ap (λ z. push_all z []) (one_more ps n d lt) ∙ push_then (take n ps) (get_or ps n d ∷ []) [] before f ∙ ap (option_and_then (push_all [])) k;
+      then = ap (λ z. push_all z []) (take-suc ps n d lt) ∙ push_then (take n ps) (get_or ps n d ∷ []) [] before f ∙ ap (option_and_then (push_all [])) k;
       step = pushed (get_or ps n d) before after k;
     }

@@ -1,16 +1,17 @@
 -- Within positions that denote a term, each position is one that a builder takes.
 use Rattle.std.proofs.Common.{◌≡◌, ◌+◌, ◌^◌, ◌<◌, ◌≤◌, false, List, [], ◌∷◌, ◌++◌, length, length-append, refl, sym, ap, subst, ◌∙◌, arith, Option, Some, None}
-use Rattle.std.specs.Prelude.{option_and_then}
+use Rattle.std.specs.Prelude.{All, option_and_then}
 use Rattle.std.specs.List.{sum_by}
 use Rattle.std.proofs.lemmas.Bool.{le-ltb}
+use Rattle.std.proofs.lemmas.List.Elements.{All-head}
 use Rattle.std.proofs.lemmas.List.Sums.{sum_by-append, sum_by-cons}
 use Rattle.mp_system.specs.declared.system.Task.{Task}
 use Rattle.sp_terms.specs.declared.position.Position.{Position}
 use Rattle.sp_terms.specs.Term.{Term, series, Parts, no_parts, part, count, backward, AreAllowed, IsAllowed}
 use Rattle.sp_terms.specs.Postfix.{push, push_all, postfix, at_task}
-use Rattle.sp_terms.specs.Values.{stack_from, stack_of, term_of, AllAllowed, AllWithin, IsWithin, added_size, added_tasks, IsTerms}
+use Rattle.sp_terms.specs.Values.{stack_from, stack_of, term_of, AllAllowed, IsWithinLimits, added_size, added_tasks, IsTerms}
 use Rattle.sp_terms.specs.Builder.{is_overshared}
-use Rattle.sp_terms.proofs.Stacks.{onto, stack_postfix, Pushed, held, ran, beside, pushed, all_pushed, prefix, none_some, some_same, length-postfix, some-position}
+use Rattle.sp_terms.proofs.Stacks.{onto, stack_postfix, Pushed, held, ran, beside, pushed, all_pushed, prefix, all-split, none_some, some_same, length-postfix, some-position}
 use Rattle.sp_terms.proofs.ValuesLemmas.{first-le-weight}
 
 -- what stood on the stack is allowed where what comes of it is
@@ -39,14 +40,10 @@ pub record Standing (ps first : List Position) (p : Position) : Type 0 where
   pub before : push_all first [] ≡ Some stack
   pub step : Pushed p stack after
   pub allowed : AllAllowed after
-  pub within : IsWithin p
+  pub within : IsWithinLimits p
   pub few : length first < 4000001
   pub total : sum_by added_size first + added_size p ≤ 2 ^ 60
   pub tasks : sum_by added_tasks first + added_tasks p ≤ sum_by added_tasks ps
-
-within-at : (first : List Position) (p : Position) (rest : List Position) → AllWithin (first ++ p ∷ rest) → IsWithin p
-within-at [] p rest h = h.0
-within-at (q ∷ first) p rest h = within-at first p rest h.1
 
 pub standing : (ps first : List Position) (p : Position) (rest : List Position) → IsTerms ps → ps ≡ first ++ p ∷ rest → Standing ps first p
 standing ps first p rest terms split =
@@ -64,7 +61,7 @@ standing ps first p rest terms split =
           before = before;
           step = pushed p stack after h;
           allowed = back_allowed rest after (term_of ps ∷ []) e terms.allowed;
-          within = within-at first p rest (subst AllWithin split terms.within);
+          within = All-head IsWithinLimits p rest (all-split IsWithinLimits first (p ∷ rest) (subst (All IsWithinLimits) split terms.within)).1;
           few = omega (arith, terms.few, ap length split, length-append first (p ∷ rest));
           total = omega (arith, terms.total, sizes, sum_by-cons added_size p rest);
           tasks = omega (arith, tasks, sum_by-cons added_tasks p rest);

@@ -3,9 +3,9 @@ use Rattle.std.proofs.Common.{◌≡◌, ℕ, zero, suc, ◌+◌, ◌-◌, ◌<�
 use Rattle.std.specs.Prelude.{if◌then◌else◌, ◌⊎◌}
 use Rattle.std.specs.Option.{ForSome}
 use Rattle.std.specs.List.{All}
-use Rattle.std.proofs.lemmas.List.Elements.{All-nil, All-cons}
+use Rattle.std.proofs.lemmas.List.Elements.{All-nil, All-cons, All-head, All-tail, All-append, filter_map-append}
 use Rattle.std.specs.List.{sum_by}
-use Rattle.std.proofs.lemmas.List.{append-nil, get_or_append_left, get_or-append-add}
+use Rattle.std.proofs.lemmas.List.{append-nil, get_or_append_left, get_or-append-add, take_more}
 use Rattle.std.proofs.Math.Seq.{get_or-append_seam}
 use Rattle.std.proofs.lemmas.List.Sums.{sum_by-append, sum_by-cons}
 use Rattle.mp_system.specs.declared.system.Task.{Task}
@@ -17,9 +17,9 @@ use Rattle.sp_terms.specs.declared.position.Position.TheVariants as at
 use Rattle.sp_terms.specs.Term.{Term, hold, series, par, Parts, no_parts, part, count, width_of, width_of_parts, forward, backward, first_memory, first_memory_of_parts, IsAllowed, AreAllowed}
 use Rattle.sp_terms.specs.SystemOfTerm.{task_count, task_count_of_parts, tasks_of_term, tasks_of_parts, items_of_term, items_of_parts, own_number, system_of_term}
 use Rattle.sp_terms.specs.Postfix.{postfix, all_postfix, at_task}
-use Rattle.sp_terms.specs.Values.{term_of, IsTerms, AllWithin, added_size, added_tasks}
-use Rattle.sp_terms.specs.Sides.{tasks_in}
-use Rattle.sp_terms.proofs.Stacks.{all_pushed, length-postfix, one_more}
+use Rattle.sp_terms.specs.Values.{term_of, IsTerms, IsWithinLimits, added_size, added_tasks}
+use Rattle.sp_terms.specs.Pending.{tasks_in, task_of}
+use Rattle.sp_terms.proofs.Stacks.{all_pushed, all-split, length-postfix}
 
 -- what is made and used among these items
 abbrev made : List Item → ℕ → ℕ
@@ -36,24 +36,18 @@ HasShareIn task items v = (task.share ≤ used items v) × (task.share ≤ task.
 
 -- tasks
 
-pub tasks_in-append : (ps qs : List Position) → tasks_in (ps ++ qs) ≡ tasks_in ps ++ tasks_in qs
-tasks_in-append [] qs = refl
-tasks_in-append (Hold size ∷ ps) qs = tasks_in-append ps qs
-tasks_in-append (at.Task x s t ∷ ps) qs = ap (λ z. record { extra = x; share = s; time = t } ∷ z) (tasks_in-append ps qs)
-tasks_in-append (Par k ∷ ps) qs = tasks_in-append ps qs
-
 mutual
   tasks-postfix : (t : Term) → tasks_in (postfix t) ≡ tasks_of_term t
   tasks-postfix (hold size) = refl
   tasks-postfix (series a v b) =
-      tasks_in-append (postfix a) (postfix b ++ at_task v ∷ [])
-      ∙ (λ i. tasks-postfix a i ++ tasks_in-append (postfix b) (at_task v ∷ []) i)
+      filter_map-append task_of (postfix a) (postfix b ++ at_task v ∷ [])
+      ∙ (λ i. tasks-postfix a i ++ filter_map-append task_of (postfix b) (at_task v ∷ []) i)
       ∙ ap (λ z. tasks_of_term a ++ (z ++ v ∷ [])) (tasks-postfix b)
-  tasks-postfix (par ts) = tasks_in-append (all_postfix ts) (Par (count ts) ∷ []) ∙ append-nil (tasks_in (all_postfix ts)) ∙ all_tasks-postfix ts
+  tasks-postfix (par ts) = filter_map-append task_of (all_postfix ts) (Par (count ts) ∷ []) ∙ append-nil (tasks_in (all_postfix ts)) ∙ all_tasks-postfix ts
 
   all_tasks-postfix : (ts : Parts) → tasks_in (all_postfix ts) ≡ tasks_of_parts ts
   all_tasks-postfix no_parts = refl
-  all_tasks-postfix (part t ts) = tasks_in-append (postfix t) (all_postfix ts) ∙ (λ i. tasks-postfix t i ++ all_tasks-postfix ts i)
+  all_tasks-postfix (part t ts) = filter_map-append task_of (postfix t) (all_postfix ts) ∙ (λ i. tasks-postfix t i ++ all_tasks-postfix ts i)
 
 mutual
   pub length-tasks : (t : Term) → length (tasks_of_term t) ≡ task_count t
@@ -72,18 +66,15 @@ pub tasks-of : (ps : List Position) → IsTerms ps → tasks_in ps ≡ tasks_of_
 tasks-of ps h = ap tasks_in (postfix-of ps h) ∙ tasks-postfix (term_of ps)
 
 -- one more position
+more_tasks : (ps : List Position) (n : ℕ) (d : Position) → n < length ps → tasks_in (take (n + 1) ps) ≡ tasks_in (take n ps) ++ tasks_in (get_or ps n d ∷ [])
+more_tasks ps n d lt = ap tasks_in (take_more ps n d lt) ∙ filter_map-append task_of (take n ps) (get_or ps n d ∷ [])
+
 pub step_task : (ps : List Position) (n : ℕ) (d : Position) (v : Task) (all : List Task) → n < length ps → get_or ps n d ≡ at_task v → all ≡ tasks_in (take n ps) → all ++ v ∷ [] ≡ tasks_in (take (n + 1) ps)
-step_task ps n d v all lt is e = ap (λ z. z ++ v ∷ []) e ∙ sym (ap (λ m. tasks_in (take m ps)) (plus n) ∙ ap tasks_in (one_more ps n d lt) ∙ tasks_in-append (take n ps) (get_or ps n d ∷ []) ∙ ap (λ p. tasks_in (take n ps) ++ tasks_in (p ∷ [])) is)
-  where
-    plus : (n : ℕ) → n + 1 ≡ suc n
-    plus n = omega arith
+step_task ps n d v all lt is e = ap (λ z. z ++ v ∷ []) e ∙ sym (more_tasks ps n d lt ∙ ap (λ p. tasks_in (take n ps) ++ tasks_in (p ∷ [])) is)
 
 pub step_other : (ps : List Position) (n : ℕ) (d : Position) (all : List Task) → n < length ps → ((x s t : ℕ) → get_or ps n d ≡ at.Task x s t → ⊥) → all ≡ tasks_in (take n ps) → all ≡ tasks_in (take (n + 1) ps)
-step_other ps n d all lt not_task e = e ∙ sym (ap (λ m. tasks_in (take m ps)) (plus n) ∙ ap tasks_in (one_more ps n d lt) ∙ tasks_in-append (take n ps) (get_or ps n d ∷ []) ∙ ap (λ z. tasks_in (take n ps) ++ z) (none (get_or ps n d) not_task) ∙ append-nil (tasks_in (take n ps)))
+step_other ps n d all lt not_task e = e ∙ sym (more_tasks ps n d lt ∙ ap (λ z. tasks_in (take n ps) ++ z) (none (get_or ps n d) not_task) ∙ append-nil (tasks_in (take n ps)))
   where
-    plus : (n : ℕ) → n + 1 ≡ suc n
-    plus n = omega arith
-
     none : (p : Position) → ((x s t : ℕ) → p ≡ at.Task x s t → ⊥) → tasks_in (p ∷ []) ≡ []
     none (Hold size) f = refl
     none (at.Task x s t) f = absurd (f x s t refl)
@@ -91,28 +82,13 @@ step_other ps n d all lt not_task e = e ∙ sym (ap (λ m. tasks_in (take m ps))
 
 -- items
 
-abbrev pub EachItem : (Item → Type 0) → List Item → Type 0
-EachItem P [] = Unit {0}
-EachItem P (x ∷ xs) = P x × EachItem P xs
-
-each-append : (P : Item → Type 0) (xs ys : List Item) → EachItem P xs → EachItem P ys → EachItem P (xs ++ ys)
-each-append P [] ys h k = k
-each-append P (x ∷ xs) ys h k = (h.0, each-append P xs ys h.1 k)
-
-pub each-index : (P : Item → Type 0) (xs : List Item) (i : ℕ) (d : Item) → EachItem P xs → i < length xs → P (get_or xs i d)
-each-index P [] i d h lt = absurd (omega arith)
-each-index P (x ∷ xs) zero d h lt = h.0
-each-index P (x ∷ xs) (suc i) d h lt = each-index P xs i d h.1 (omega arith)
-
-within-split : (ps qs : List Position) → AllWithin (ps ++ qs) → AllWithin ps × AllWithin qs
-within-split [] qs h = (tt, h)
-within-split (p ∷ ps) qs h = let k = within-split ps qs h.1 in ((h.0, k.0), k.1)
-
-tasks-within : (ps : List Position) → AllWithin ps → All IsTaskWithin (tasks_in ps)
+tasks-within : (ps : List Position) → All IsWithinLimits ps → All IsTaskWithin (tasks_in ps)
 tasks-within [] h = All-nil IsTaskWithin
-tasks-within (Hold size ∷ ps) h = tasks-within ps h.1
-tasks-within (at.Task x s t ∷ ps) h = All-cons IsTaskWithin (record { extra = x; share = s; time = t }) (tasks_in ps) (record { extra = h.0.0; time = (h.0.1, h.0.2) }) (tasks-within ps h.1)
-tasks-within (Par k ∷ ps) h = tasks-within ps h.1
+tasks-within (Hold size ∷ ps) h = tasks-within ps (All-tail IsWithinLimits (Hold size) ps h)
+tasks-within (at.Task x s t ∷ ps) h =
+    let own = All-head IsWithinLimits (at.Task x s t) ps h in
+    All-cons IsTaskWithin (record { extra = x; share = s; time = t }) (tasks_in ps) (record { extra = own.0; time = (own.1, own.2) }) (tasks-within ps (All-tail IsWithinLimits (at.Task x s t) ps h))
+tasks-within (Par k ∷ ps) h = tasks-within ps (All-tail IsWithinLimits (Par k) ps h)
 
 abbrev pub Within : ℕ → Option ℕ → Type 0
 Within n o = ForSome o (λ v. (1 ≤ v) × (v ≤ n))
@@ -127,21 +103,21 @@ abbrev Ends : ℕ → Item → Type 0
 Ends n item = (item.size ≤ 2 ^ 40) × Within n item.from × Within n item.to
 
 mutual
-  items-within : (n base : ℕ) (from to : Option ℕ) (t : Term) → AllWithin (postfix t) → 1 ≤ base → base + task_count t ≤ suc n → Within n from → Within n to → EachItem (Ends n) (items_of_term base from to t)
-  items-within n base from to (hold size) small some le f g = ((small.0, f, g), tt)
+  items-within : (n base : ℕ) (from to : Option ℕ) (t : Term) → All IsWithinLimits (postfix t) → 1 ≤ base → base + task_count t ≤ suc n → Within n from → Within n to → All (Ends n) (items_of_term base from to t)
+  items-within n base from to (hold size) small some le f g = All-cons (Ends n) _ [] (All-head IsWithinLimits (Hold size) [] small, f, g) (All-nil (Ends n))
   items-within n base from to (series a v b) small some le f g =
       let own : Within n (Some (own_number base a b)) = λ u e. (omega (arith, some_same' e), omega (arith, some_same' e)) in
-      let split = within-split (postfix a) (postfix b ++ at_task v ∷ []) small in
-      each-append (Ends n) (items_of_term base from (Some (own_number base a b)) a) (items_of_term (base + task_count a) (Some (own_number base a b)) to b)
+      let split = all-split IsWithinLimits (postfix a) (postfix b ++ at_task v ∷ []) small in
+      All-append (Ends n) (items_of_term base from (Some (own_number base a b)) a) (items_of_term (base + task_count a) (Some (own_number base a b)) to b)
       (items-within n base from (Some (own_number base a b)) a split.0 (omega arith) (omega arith) f own)
-      (items-within n (base + task_count a) (Some (own_number base a b)) to b (within-split (postfix b) (at_task v ∷ []) split.1).0 (omega arith) (omega arith) own g)
-  items-within n base from to (par ts) small some le f g = all_items-within n base from to ts (within-split (all_postfix ts) (Par (count ts) ∷ []) small).0 some le f g
+      (items-within n (base + task_count a) (Some (own_number base a b)) to b (all-split IsWithinLimits (postfix b) (at_task v ∷ []) split.1).0 (omega arith) (omega arith) own g)
+  items-within n base from to (par ts) small some le f g = all_items-within n base from to ts (all-split IsWithinLimits (all_postfix ts) (Par (count ts) ∷ []) small).0 some le f g
 
-  all_items-within : (n base : ℕ) (from to : Option ℕ) (ts : Parts) → AllWithin (all_postfix ts) → 1 ≤ base → base + task_count_of_parts ts ≤ suc n → Within n from → Within n to → EachItem (Ends n) (items_of_parts base from to ts)
-  all_items-within n base from to no_parts small some le f g = tt
+  all_items-within : (n base : ℕ) (from to : Option ℕ) (ts : Parts) → All IsWithinLimits (all_postfix ts) → 1 ≤ base → base + task_count_of_parts ts ≤ suc n → Within n from → Within n to → All (Ends n) (items_of_parts base from to ts)
+  all_items-within n base from to no_parts small some le f g = All-nil (Ends n)
   all_items-within n base from to (part t ts) small some le f g =
-      let split = within-split (postfix t) (all_postfix ts) small in
-      each-append (Ends n) (items_of_term base from to t) (items_of_parts (base + task_count t) from to ts)
+      let split = all-split IsWithinLimits (postfix t) (all_postfix ts) small in
+      All-append (Ends n) (items_of_term base from to t) (items_of_parts (base + task_count t) from to ts)
       (items-within n base from to t split.0 (omega arith) (omega arith) f g)
       (all_items-within n (base + task_count t) from to ts split.1 (omega arith) (omega arith) f g)
 
@@ -305,7 +281,7 @@ pub is_system : (ps : List Position) → IsTerms ps → IsSystem (system_of_term
 is_system ps h =
     let t = term_of ps in
     let e = postfix-of ps h in
-    let small : AllWithin (postfix t) = subst AllWithin e h.within in
+    let small : All IsWithinLimits (postfix t) = subst (All IsWithinLimits) e h.within in
     let each = items-within (task_count t) 1 None None t small (omega arith) (omega arith) (λ v e. absurd (none_some' e)) (λ v e. absurd (none_some' e)) in
     let n : task_count t ≡ length (tasks_of_term t) = sym (length-tasks t) in
     record {
@@ -313,7 +289,7 @@ is_system ps h =
       few_items = omega (arith, h.few, ap length e, length-postfix t, length-items 1 None None t);
       tasks = subst (All IsTaskWithin) (tasks-of ps h) (tasks-within ps h.within);
       items = λ i d lt.
-          let (size, from, to) = each-index (Ends (task_count t)) (items_of_term 1 None None t) i d each lt in
+          let (size, from, to) = each i d lt in
           let item = get_or (items_of_term 1 None None t) i d in
           record { size = size; producer = subst (λ m. Within m item.from) n from; consumer = subst (λ m. Within m item.to) n to };
       total = omega (arith, h.total, ap (sum_by added_size) e, sizes 1 None None t);

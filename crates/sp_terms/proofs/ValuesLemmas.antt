@@ -3,7 +3,7 @@ use Rattle.std.proofs.Common.{◌≡◌, ℕ, suc, ◌+◌, ◌-◌, ◌<◌, �
 use Rattle.std.specs.List.{sum_by}
 use Rattle.std.proofs.lemmas.List.{append-nil}
 use Rattle.std.proofs.lemmas.Grind.{common_steps}
-use Rattle.std.proofs.lemmas.List.Sums.{sum_by-append}
+use Rattle.std.proofs.lemmas.List.Sums.{sum_by-append, sum_by-take-le}
 use Rattle.mp_system.specs.declared.system.Task.{Task}
 use Rattle.sp_terms.specs.declared.position.Position.{Position}
 use Rattle.sp_terms.specs.declared.position.Values.{Values}
@@ -11,11 +11,11 @@ use Rattle.sp_terms.specs.declared.position.Position.TheVariants.{Hold, Par}
 use Rattle.sp_terms.specs.declared.position.Position.TheVariants as at
 use Rattle.sp_terms.specs.Term.{Term, hold, series, par, Parts, no_parts, part, count, width_of, width_of_parts, Direction, forward, backward, first_memory, first_memory_of_parts, least_of, least_of_parts}
 use Rattle.sp_terms.specs.Postfix.{gather, push_all, postfix, all_postfix, at_task}
-use Rattle.sp_terms.specs.Values.{stack_from, top_of, term_at, IsTerms, AreValues, values_of, added_size, IsTask}
-use Rattle.sp_terms.proofs.Stacks.{none_some, some_same, onto, Pushed, held, ran, beside, place, under, length-all_postfix, take_drop}
+use Rattle.sp_terms.specs.Values.{stack_from, last_term, term_at, IsTerms, AreValues, values_of, added_size, IsTaskPosition}
+use Rattle.sp_terms.proofs.Stacks.{none_some, some_same, onto, Pushed, held, ran, beside, place, under, length-all_postfix}
 
 -- what a position is, and what it found
-pub as_task : (p : Position) (before after : List Term) → Pushed p before after → IsTask p → (v : Task) × (a b : Term) × (stack : List Term) × (before ≡ b ∷ a ∷ stack) × (after ≡ series a v b ∷ stack)
+pub as_task : (p : Position) (before after : List Term) → Pushed p before after → IsTaskPosition p → (v : Task) × (a b : Term) × (stack : List Term) × (before ≡ b ∷ a ∷ stack) × (after ≡ series a v b ∷ stack)
 as_task p before after (held size stack) h = absurd h
 as_task p before after (ran v a b stack) h = (v, a, b, stack, refl, refl)
 as_task p before after (beside ts stack e) h = absurd h
@@ -52,7 +52,7 @@ as_par p before after (beside ts stack g) k e = (ts, stack, par_same e, refl, re
 pub ends : (ps : List Position) (n : ℕ) (t : Term) (stack : List Term) → 0 < n → push_all (take n ps) [] ≡ Some (t ∷ stack) → term_at ps (n - 1) ≡ t
 ends ps n t stack lt e =
     let one : suc (n - 1) ≡ n = omega arith in
-    ap (λ m. top_of (stack_from (push_all (take m ps) []))) one ∙ ap (λ o. top_of (stack_from o)) e
+    ap (λ m. last_term (stack_from (push_all (take m ps) []))) one ∙ ap (λ o. last_term (stack_from o)) e
 
 -- bounds
 
@@ -77,9 +77,6 @@ mutual
   all_least-le-first no_parts = omega arith
   all_least-le-first (part t ts) = omega (arith, least-le-first t, all_least-le-first ts)
 
-pub weight-take : (ps : List Position) (n : ℕ) → sum_by added_size (take n ps) ≤ sum_by added_size ps
-weight-take ps n = omega (arith, ap (sum_by added_size) (take_drop ps n), sum_by-append added_size (take n ps) (drop n ps))
-
 -- a series
 
 pub record SeriesAt (ps : List Position) (values : List Values) (at : ℕ) : Type 0 where
@@ -92,7 +89,7 @@ pub record SeriesAt (ps : List Position) (values : List Values) (at : ℕ) : Typ
   pub few : left.width + right.width ≤ at
   pub own : record { initial = left.initial; fin = right.fin; least = min left.least right.least; width = left.width + right.width + 1 } ≡ values_of (term_at ps at)
 
-pub series_at : (ps : List Position) (values : List Values) (at : ℕ) → IsTerms ps → at < length ps → AreValues ps values at → ((d : Position) → IsTask (get_or ps at d)) → SeriesAt ps values at
+pub series_at : (ps : List Position) (values : List Values) (at : ℕ) → IsTerms ps → at < length ps → AreValues ps values at → ((d : Position) → IsTaskPosition (get_or ps at d)) → SeriesAt ps values at
 series_at ps values at h lt known task =
     let p = place ps _ at (Par 0) h.is lt in
     let (v, a, b, stack, e, f) = as_task _ p.before p.after p.step (task (Par 0)) in
@@ -100,7 +97,7 @@ series_at ps values at h lt known task =
     let w = under ps (at - width_of b) a stack (omega arith) u.is in
     let right_is : term_at ps (at - 1) ≡ b = ends ps at b (a ∷ stack) (omega (arith, u.room, u.some)) (p.is ∙ ap Some e) in
     let left_is : term_at ps (at - width_of b - 1) ≡ a = ends ps (at - width_of b) a stack (omega (arith, w.room, w.some)) u.is in
-    let own_is : term_at ps at ≡ series a v b = ap (λ o. top_of (stack_from o)) p.then ∙ ap top_of f in
+    let own_is : term_at ps at ≡ series a v b = ap (λ o. last_term (stack_from o)) p.then ∙ ap last_term f in
     let same : at - 1 - width_of b ≡ at - width_of b - 1 = omega arith in
     record {
       left = values_of a;
@@ -145,7 +142,7 @@ taken_none ps at k h lt is =
       few = omega arith;
       is = p.is;
       gathers = g;
-      top = ap (λ o. top_of (stack_from o)) p.then ∙ ap top_of f;
+      top = ap (λ o. last_term (stack_from o)) p.then ∙ ap last_term f;
       cut = append-nil (take at ps);
       all_is = refl;
     }
@@ -178,7 +175,7 @@ take_next ps values at left end all h lt known some_left k =
         let u = under ps end t stack (omega (arith, k.few)) e in
         let top_is : term_at ps (end - 1) ≡ t = ends ps end t stack (omega (arith, u.room, u.some)) e in
         let cut : take (end - width_of t) ps ++ (postfix t ++ all_postfix k.parts) ≡ take at ps = sym (append_assoc (take (end - width_of t) ps) (postfix t) (all_postfix k.parts)) ∙ ap (λ z. z ++ all_postfix k.parts) u.cut ∙ k.cut in
-        let total : sum_by added_size (take at ps) ≤ 2 ^ 60 = omega (arith, weight-take ps at, h.total) in
+        let total : sum_by added_size (take at ps) ≤ 2 ^ 60 = omega (arith, sum_by-take-le added_size ps at, h.total) in
         let fits : sum_by added_size (postfix t ++ all_postfix k.parts) ≤ 2 ^ 60 = omega (arith, total, ap (sum_by added_size) cut, sum_by-append added_size (take (end - width_of t) ps) (postfix t ++ all_postfix k.parts)) in
         let lens : end + width_of_parts k.parts ≡ at = omega (arith, ap length k.cut, length-append (take end ps) (all_postfix k.parts), length-take end ps, length-take at ps, k.few, length-all_postfix k.parts) in
         let a_initial : all.initial ≡ first_memory_of_parts forward k.parts = ap (λ (v : Values). v.initial) k.all_is in
@@ -218,7 +215,7 @@ take_next ps values at left end all h lt known some_left k =
 pub hold_at : (ps : List Position) (at size : ℕ) (d : Position) → IsTerms ps → at < length ps → get_or ps at d ≡ Hold size → record { initial = size; fin = size; least = size; width = 1 } ≡ values_of (term_at ps at)
 hold_at ps at size d h lt is =
     let p = place ps _ at d h.is lt in
-    let top : term_at ps at ≡ hold size = ap (λ o. top_of (stack_from o)) p.then ∙ ap top_of (as_hold _ p.before p.after p.step size is) in
+    let top : term_at ps at ≡ hold size = ap (λ o. last_term (stack_from o)) p.then ∙ ap last_term (as_hold _ p.before p.after p.step size is) in
     sym (ap values_of top)
 
 -- one more value

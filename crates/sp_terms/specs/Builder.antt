@@ -1,9 +1,10 @@
 -- Which position a builder takes after others, and why it refuses one.
-use Rattle.std.specs.Prelude.{◌≡◌, ℕ, ◌+◌, ◌≤◌, ◌^◌, Bool, true, false, ◌||◌, nat_lt, if◌then◌else◌, length, List, ◌∷◌, Option, Some, None}
+use Rattle.std.specs.Prelude.{◌≡◌, ℕ, ◌+◌, ◌≤◌, Bool, true, false, ◌||◌, nat_lt, nat_le, if◌then◌else◌, length, List, ◌∷◌, Option, Some, None}
 use Rattle.std.specs.List.{sum_by}
 use Rattle.sp_terms.specs.declared.position.Position.{Position}
 use Rattle.sp_terms.specs.declared.position.Position.TheVariants.{Hold, Par}
 use Rattle.sp_terms.specs.declared.position.Position.TheVariants as at
+use Rattle.limits.specs.Limits.{most_tasks, most_positions, most_size, most_total, most_time}
 use Rattle.limits.specs.declared.name.LimitName.{LimitName}
 use Rattle.limits.specs.declared.name.LimitName.TheVariants.{Positions, Tasks, Size, Time, Total}
 use Rattle.sp_terms.specs.declared.builder.PushRefusal.{PushRefusal}
@@ -23,23 +24,23 @@ is_short height (Hold size) = false
 is_short height (at.Task extra share time) = nat_lt height 2
 is_short height (Par k) = nat_lt height k
 
--- the sum of all extras and sizes is at most 2^60
+-- the limit of the sum of all extras and sizes, where it is passed
 abbrev pub total_limit : ℕ → ℕ → Option LimitName
-total_limit total size = if nat_lt (2 ^ 60) (total + size) then Some Total else None
+total_limit total size = if nat_lt most_total (total + size) then Some Total else None
 
--- the first limit of its own that a position passes: 10^6 tasks, sizes and times of at most 2^40, and the total
+-- the first limit that a position passes, but for the number of positions
 abbrev pub own_limit : ℕ → ℕ → Position → Option LimitName
-own_limit tasks total (Hold size) = if nat_lt (2 ^ 40) size then Some Size else total_limit total size
+own_limit tasks total (Hold size) = if nat_lt most_size size then Some Size else total_limit total size
 own_limit tasks total (at.Task extra share time) =
-    if nat_lt 999999 tasks then Some Tasks
-    else (if nat_lt (2 ^ 40) extra then Some Size
-    else (if nat_lt (2 ^ 40) time then Some Time
+    if nat_le most_tasks tasks then Some Tasks
+    else (if nat_lt most_size extra then Some Size
+    else (if nat_lt most_time time then Some Time
     else total_limit total extra))
 own_limit tasks total (Par k) = None
 
--- the first limit that a position passes after so many positions: 4,000,001 of them, or one of its own
-abbrev pub limit_of : ℕ → ℕ → ℕ → Position → Option LimitName
-limit_of count tasks total p = if nat_lt 4000000 count then Some Positions else own_limit tasks total p
+-- the first limit that a position passes after so many positions, tasks and sizes in all
+abbrev pub passed_limit : ℕ → ℕ → ℕ → Position → Option LimitName
+passed_limit count tasks total p = if nat_le most_positions count then Some Positions else own_limit tasks total p
 
 -- the share of a task is greater than what its first part leaves, or than its extra and what its second part starts with
 abbrev pub is_overshared : List Term → Position → Bool
@@ -60,14 +61,14 @@ limit_or (Some name) other = Some (Limit name)
 abbrev pub refusal_of : List Position → Position → Option PushRefusal
 refusal_of ps p =
     if is_short (length (stack_of ps)) p then Some Short
-    else limit_or (limit_of (length ps) (sum_by added_tasks ps) (sum_by added_size ps) p) (share_refusal (is_overshared (stack_of ps) p))
+    else limit_or (passed_limit (length ps) (sum_by added_tasks ps) (sum_by added_size ps) p) (share_refusal (is_overshared (stack_of ps) p))
 
 -- an answer that refuses a position; want of memory says nothing of it
-abbrev pub IsRefusal : List Position → Position → PushRefusal → Type 0
-IsRefusal ps p NoMemory = Unit {0}
-IsRefusal ps p Short = refusal_of ps p ≡ Some Short
-IsRefusal ps p (Limit name) = refusal_of ps p ≡ Some (Limit name)
-IsRefusal ps p Share = refusal_of ps p ≡ Some Share
+abbrev pub IsPushRefusal : List Position → Position → PushRefusal → Type 0
+IsPushRefusal ps p NoMemory = Unit {0}
+IsPushRefusal ps p Short = refusal_of ps p ≡ Some Short
+IsPushRefusal ps p (Limit name) = refusal_of ps p ≡ Some (Limit name)
+IsPushRefusal ps p Share = refusal_of ps p ≡ Some Share
 
 -- the positions leave one term
 abbrev pub IsOneTerm : List Position → Type 0

@@ -1,3 +1,4 @@
+-- No public clause names this.
 -- What a builder keeps beside the positions: the first and the last memory of each term on the stack, the lowest term first.
 use Rattle.std.specs.Prelude.{◌≡◌, ℕ, ◌+◌, ◌-◌, Bool, false, ◌||◌, nat_lt, length, take, drop, List, [], ◌∷◌, ◌++◌, slice_index_or}
 use Rattle.std.specs.List.{sum_by}
@@ -39,22 +40,25 @@ abbrev pub beside : List Ends → Ends
 beside ends = record { initial = sum_by initial_at ends; fin = sum_by fin_at ends }
 
 -- the last k ends become those of the terms side by side
-abbrev pub joined : List Ends → ℕ → List Ends
-joined ends k = take (length ends - k) ends ++ beside (drop (length ends - k) ends) ∷ []
+abbrev pub par_ends : List Ends → ℕ → List Ends
+par_ends ends k = take (length ends - k) ends ++ beside (drop (length ends - k) ends) ∷ []
 
 -- the last two ends become those of a series
-abbrev pub in_turn : List Ends → List Ends
-in_turn ends = take (length ends - 2) ends ++ record { initial = (slice_index_or ends (length ends - 2) no_ends).initial; fin = (slice_index_or ends (length ends - 1) no_ends).fin } ∷ []
+abbrev pub series_ends : List Ends → List Ends
+series_ends ends =
+    take (length ends - 2) ends
+    ++ record { initial = (slice_index_or ends (length ends - 2) no_ends).initial; fin = (slice_index_or ends (length ends - 1) no_ends).fin } ∷ []
 
 -- the ends after a position
-abbrev pub ends_after : Position → List Ends → List Ends
-ends_after (Hold size) ends = ends ++ record { initial = size; fin = size } ∷ []
-ends_after (at.Task extra share time) ends = in_turn ends
-ends_after (Par k) ends = joined ends k
+abbrev pub next_ends : Position → List Ends → List Ends
+next_ends (Hold size) ends = ends ++ record { initial = size; fin = size } ∷ []
+next_ends (at.Task extra share time) ends = series_ends ends
+next_ends (Par k) ends = par_ends ends k
 
 -- whether the share of a task is too great, told from the ends
 abbrev pub over_ends : List Ends → Position → Bool
 over_ends ends (Hold size) = false
 over_ends ends (at.Task extra share time) =
-    nat_lt (slice_index_or ends (length ends - 2) no_ends).fin share || nat_lt (extra + (slice_index_or ends (length ends - 1) no_ends).initial) share
+    nat_lt (slice_index_or ends (length ends - 2) no_ends).fin share
+    || nat_lt (extra + (slice_index_or ends (length ends - 1) no_ends).initial) share
 over_ends ends (Par k) = false

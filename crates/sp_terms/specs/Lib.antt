@@ -5,7 +5,7 @@ pub mod Values
 pub mod Places
 pub mod Builder
 pub mod Ends
-pub mod Sides
+pub mod Pending
 pub mod Fields
 pub mod WorkflowFile
 pub mod Reader

@@ -10,6 +10,7 @@ use Rattle.sp_terms.specs.Values.{term_at}
 abbrev pub term_of_position : List Position → ℕ → Term
 term_of_position ps k = term_at ps (k - 1)
 
+-- parts as a list
 abbrev pub list_of_parts : Parts → List Term
 list_of_parts no_parts = []
 list_of_parts (part t ts) = t ∷ list_of_parts ts
@@ -21,13 +22,13 @@ parts_of (series a v b) = a ∷ b ∷ []
 parts_of (par ts) = list_of_parts ts
 
 -- the positions of terms that follow each other after so many positions
-abbrev pub ends_after : ℕ → List Term → List ℕ
-ends_after before [] = []
-ends_after before (t ∷ ts) = (before + width_of t) ∷ ends_after (before + width_of t) ts
+abbrev pub positions_after : ℕ → List Term → List ℕ
+positions_after before [] = []
+positions_after before (t ∷ ts) = (before + width_of t) ∷ positions_after (before + width_of t) ts
 
 -- the positions of the parts of a term that stands at k
 abbrev pub part_positions : ℕ → Term → List ℕ
-part_positions k t = ends_after (k - width_of t) (parts_of t)
+part_positions k t = positions_after (k - width_of t) (parts_of t)
 
 -- the term that stands at a position is what the position says: a data item, a series with this task, or so many parts
 abbrev pub IsTermAt : Position → Term → Type 0

@@ -6,7 +6,7 @@ use Rattle.std.specs.Option.{option_map}
 use Rattle.std.proofs.Common.{sym, ap, subst, ◌∙◌, arith}
 use Rattle.std.proofs.lemmas.List.{map_push}
 use Rattle.std.proofs.lemmas.List.Folds.{list_any-append}
-use Rattle.std.proofs.lemmas.Bool.{leb-true, ltb-true, le-ltb, eqb-true}
+use Rattle.std.proofs.lemmas.Bool.{leb-true, ltb-true, le-ltb, lt-leb, eqb-true}
 use Rattle.limits.specs.declared.name.LimitName.{LimitName}
 use Rattle.limits.specs.declared.name.LimitName.TheVariants as limits
 use Rattle.mp_text.specs.declared.refusals.Refusal.{Refusal}
@@ -29,7 +29,7 @@ use Rattle.sp_terms.specs.declared.position.Position.TheVariants.{Hold, Par}
 use Rattle.sp_terms.specs.Term.{Term}
 use Rattle.sp_terms.specs.Postfix.{at_task}
 use Rattle.sp_terms.specs.Values.{stack_of, added_tasks, added_size}
-use Rattle.sp_terms.specs.Builder.{refusal_of, is_short, limit_of, own_limit, total_limit, limit_or, share_refusal, is_overshared}
+use Rattle.sp_terms.specs.Builder.{refusal_of, is_short, passed_limit, own_limit, total_limit, limit_or, share_refusal, is_overshared}
 use Rattle.sp_terms.specs.WorkflowFile.{fault, fault_at, workflow_format, workflow_line_tests, workflow_end_tests, header_tests, has_shares, count_tests, count_stated, word_of, number_on, task_on, position_of, data_form, task_form, par_form, last_tests, limit_tests, worded_tests, body_tests, is_end, is_end_word, is_complete, position_worded}
 use Rattle.sp_terms.specs.Reader.{ReaderState, refusal_at, pushed_or, pushed, worded_step, staged_step, workflow_step, staged_end, workflow_end, TookPositions, staged_took, took}
 
@@ -45,8 +45,8 @@ both false b e = absurd cc
 
 -- ---- the limits of a position are those by which a builder refuses it
 
-flip_lt : (m n : ℕ) → nat_lt n (m + 1) ≡ not (nat_lt m n)
-flip_lt m n = grind arith
+flip_lt : (most n : ℕ) → nat_lt n most ≡ not (nat_le most n)
+flip_lt most n = grind arith
 
 flip_le : (m n : ℕ) → nat_le n m ≡ not (nat_lt m n)
 flip_le m n = grind arith
@@ -58,11 +58,11 @@ one_limit : (line : ℕ) (b : Bool) (name : LimitName) (rest : Option (Refusal W
 one_limit line true name rest own other e = refl
 one_limit line false name rest own other e = e
 
-limit_lt : (line m n : ℕ) (name : LimitName) (rest : Option (Refusal WorkflowKind)) (own : Option LimitName) (other : Option PushRefusal)
+limit_lt : (line most n : ℕ) (name : LimitName) (rest : Option (Refusal WorkflowKind)) (own : Option LimitName) (other : Option PushRefusal)
     → rest ≡ option_map (refusal_at line) (limit_or own other)
-    → (if nat_lt n (m + 1) then rest else Some (refusals.Limit name)) ≡ option_map (refusal_at line) (limit_or (if nat_lt m n then Some name else own) other)
-limit_lt line m n name rest own other e =
-    ap (λ (b : Bool). if b then rest else Some (refusals.Limit name)) (flip_lt m n) ∙ one_limit line (nat_lt m n) name rest own other e
+    → (if nat_lt n most then rest else Some (refusals.Limit name)) ≡ option_map (refusal_at line) (limit_or (if nat_le most n then Some name else own) other)
+limit_lt line most n name rest own other e =
+    ap (λ (b : Bool). if b then rest else Some (refusals.Limit name)) (flip_lt most n) ∙ one_limit line (nat_le most n) name rest own other e
 
 limit_le : (line m n : ℕ) (name : LimitName) (rest : Option (Refusal WorkflowKind)) (own : Option LimitName) (other : Option PushRefusal)
     → rest ≡ option_map (refusal_at line) (limit_or own other)
@@ -95,7 +95,7 @@ unfolding SameLimits
 hold_limits line before size =
     let total = sum_by added_size before in
     let over = is_overshared (stack_of before) (Hold size) in
-    limit_lt line 4000000 (length before) limits.Positions _ (own_limit (sum_by added_tasks before) total (Hold size)) (share_refusal over)
+    limit_lt line 4000001 (length before) limits.Positions _ (own_limit (sum_by added_tasks before) total (Hold size)) (share_refusal over)
     (limit_le line (2 ^ 40) size limits.Size _ (total_limit total size) (share_refusal over)
     (limit_le line (2 ^ 60) (total + size) limits.Total None None (share_refusal over) (no_share line over (hold_shares (stack_of before) size))))
 
@@ -110,14 +110,14 @@ task_limits line before v high fewer =
     let p = at_task v in
     let over = is_overshared (stack_of before) p in
     let after : Option LimitName = if nat_lt (2 ^ 40) v.extra then Some limits.Size else (if nat_lt (2 ^ 40) v.time then Some limits.Time else total_limit total v.extra) in
-    let few : own_limit tasks total p ≡ after = not_short (nat_lt 999999 tasks) (Some limits.Tasks) after (le-ltb 999999 tasks (omega (arith, fewer))) in
+    let few : own_limit tasks total p ≡ after = not_short (nat_le 1000000 tasks) (Some limits.Tasks) after (lt-leb 1000000 tasks fewer) in
     let low : is_short (length (stack_of before)) p ≡ false = le-ltb (length (stack_of before)) 2 high in
-    limit_lt line 4000000 (length before) limits.Positions _ after (share_refusal over)
+    limit_lt line 4000001 (length before) limits.Positions _ after (share_refusal over)
     (limit_le line (2 ^ 40) v.extra limits.Size _ (if nat_lt (2 ^ 40) v.time then Some limits.Time else total_limit total v.extra) (share_refusal over)
     (limit_le line (2 ^ 40) v.time limits.Time _ (total_limit total v.extra) (share_refusal over)
     (limit_le line (2 ^ 60) (total + v.extra) limits.Total _ None (share_refusal over) (share_test line over))))
-    ∙ ap (λ (own : Option LimitName). option_map (refusal_at line) (limit_or (if nat_lt 4000000 (length before) then Some limits.Positions else own) (share_refusal over))) (sym few)
-    ∙ ap (option_map (refusal_at line)) (sym (not_short (is_short (length (stack_of before)) p) (Some pushes.Short) (limit_or (limit_of (length before) tasks total p) (share_refusal over)) low))
+    ∙ ap (λ (own : Option LimitName). option_map (refusal_at line) (limit_or (if nat_le 4000001 (length before) then Some limits.Positions else own) (share_refusal over))) (sym few)
+    ∙ ap (option_map (refusal_at line)) (sym (not_short (is_short (length (stack_of before)) p) (Some pushes.Short) (limit_or (passed_limit (length before) tasks total p) (share_refusal over)) low))
 
 pub par_limits : (line : ℕ) (before : List Position) (k : ℕ) → k ≤ length (stack_of before) → SameLimits line before (Par k)
 unfolding SameLimits
@@ -127,8 +127,8 @@ par_limits line before k high =
     let p = Par k in
     let over = is_overshared (stack_of before) p in
     let low : is_short (length (stack_of before)) p ≡ false = le-ltb (length (stack_of before)) k high in
-    limit_lt line 4000000 (length before) limits.Positions None None (share_refusal over) (no_share line over (par_shares (stack_of before) k))
-    ∙ ap (option_map (refusal_at line)) (sym (not_short (is_short (length (stack_of before)) p) (Some pushes.Short) (limit_or (limit_of (length before) tasks total p) (share_refusal over)) low))
+    limit_lt line 4000001 (length before) limits.Positions None None (share_refusal over) (no_share line over (par_shares (stack_of before) k))
+    ∙ ap (option_map (refusal_at line)) (sym (not_short (is_short (length (stack_of before)) p) (Some pushes.Short) (limit_or (passed_limit (length before) tasks total p) (share_refusal over)) low))
 
 -- ---- lines
 

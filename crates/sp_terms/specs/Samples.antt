@@ -1,3 +1,4 @@
+-- No public clause names this.
 -- Worked examples: two series of two tasks each, side by side.
 use Rattle.std.specs.Prelude.{◌≡◌, ℕ, Option, Some, None, List, [], ◌∷◌, ◌++◌, refl, map}
 use Rattle.mp_system.specs.declared.system.Task.{Task}

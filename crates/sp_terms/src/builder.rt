@@ -1,15 +1,15 @@
-ghost use Rattle.std.specs.Prelude.{◌≡◌, ◌≤◌, ◌<◌, ◌+◌, ◌-◌, ◌^◌, ◌++◌, ◌∷◌, [], ℕ, List, None, Some, MatchResult, MatchOption, IfOk, OnErr, length, vec_len, take, drop, IsTrue, false, true, ◌↔◌};
-ghost use Rattle.sp_terms.specs.Builder.{IsPosition, refusal_of, IsRefusal, is_short, limit_of, total_limit, IsOneTerm};
-ghost use Rattle.sp_terms.specs.Ends.{over_ends, beside, ends_after, initial_at, fin_at, joined, in_turn};
+ghost use Rattle.std.specs.Prelude.{◌≡◌, ◌≤◌, ◌++◌, ◌∷◌, [], None, MatchResult, length, false};
+ghost use Rattle.limits.specs.Limits.{most_positions, most_size, most_total};
+ghost use Rattle.sp_terms.specs.Builder.{IsPosition, refusal_of, IsPushRefusal, is_short, passed_limit, total_limit, IsOneTerm};
+ghost use Rattle.sp_terms.specs.Ends.{over_ends, beside, next_ends, initial_at, fin_at, par_ends, series_ends};
 ghost use Rattle.sp_terms.specs.Values.{added_tasks, added_size, stack_of};
-ghost use Rattle.sp_terms.specs.declared.position.Position.{Position};
-ghost use Rattle.sp_terms.specs.declared.builder.Ends.{Ends};
 ghost use Rattle.std.specs.List.{sum_by};
 
 use crate::position::Position;
 use crate::terms::Terms;
-use limits::LimitName;
+use limits::{LimitName, MOST_POSITIONS, MOST_SIZE, MOST_TASKS, MOST_TIME, MOST_TOTAL};
 use std::alloc::{AllocError, Global};
+use std::fmt::{self, Display, Formatter, Write};
 use std::marker::Model;
 
 /// Why a position is not taken.
@@ -21,7 +21,7 @@ pub enum PushRefusal {
     Limit(LimitName),
     /// The share of a task is greater than what its first part leaves, or than its extra and what its second part starts with.
     Share,
-    /// No memory was found, which says nothing of the position.
+    /// Memory ran out, which says nothing of the position.
     NoMemory,
 }
 
@@ -32,6 +32,17 @@ impl From<AllocError> for PushRefusal {
 
     fn from(_e: AllocError) -> PushRefusal {
         PushRefusal::NoMemory
+    }
+}
+
+impl Display for PushRefusal {
+    fn fmt<W: Write>(&self, f: &mut Formatter<W>) -> fmt::Result {
+        match self {
+            PushRefusal::Short => f.write_str("stack-short"),
+            PushRefusal::Limit(name) => write!(f, "limit {name}"),
+            PushRefusal::Share => f.write_str("share"),
+            PushRefusal::NoMemory => f.write_str("no memory"),
+        }
     }
 }
 
@@ -79,7 +90,7 @@ impl TermBuilder {
     // The number of terms that the positions leave.
     pub(crate) fn height(&self) -> u64
         ensures value { result ≡ length (stack_of self.now) }
-        ensures few { result ≤ 4000001 }
+        ensures few { result ≤ most_positions }
     {
         self.ends.len() as u64
     }
@@ -96,12 +107,12 @@ impl TermBuilder {
         requires { IsPosition p }
         ensures { MatchResult result
             (λ _. (refusal_of self.old p ≡ None) × (self.new ≡ self.old ++ p ∷ []))
-            (λ e. IsRefusal self.old p e × (self.new ≡ self.old)) }
+            (λ e. IsPushRefusal self.old p e × (self.new ≡ self.old)) }
     {
         if short(self.ends.len(), p) {
             return Err(PushRefusal::Short);
         }
-        if let Some(name) = limit(self.positions.len(), self.tasks, self.total, p) {
+        if let Some(name) = limit(self.positions.len() as u64, self.tasks, self.total, p) {
             return Err(PushRefusal::Limit(name));
         }
         if overshared(&self.ends, p) {
@@ -159,11 +170,11 @@ fn short(height: usize, p: Position) -> bool
 
 // Whether a size passes the total.
 fn sum_limit(total: u64, size: u64) -> Option<LimitName>
-    requires total { total ≤ 2 ^ 60 }
-    requires size { size ≤ 2 ^ 40 }
+    requires total { total ≤ most_total }
+    requires size { size ≤ most_size }
     ensures { result ≡ total_limit total size }
 {
-    if total + size > 1 << 60 {
+    if total + size > MOST_TOTAL {
         Some(LimitName::Total)
     } else {
         None
@@ -171,28 +182,28 @@ fn sum_limit(total: u64, size: u64) -> Option<LimitName>
 }
 
 // The first limit that a position passes.
-fn limit(count: usize, tasks: u64, total: u64, p: Position) -> Option<LimitName>
-    requires { total ≤ 2 ^ 60 }
-    ensures { result ≡ limit_of count tasks total p }
+fn limit(count: u64, tasks: u64, total: u64, p: Position) -> Option<LimitName>
+    requires { total ≤ most_total }
+    ensures { result ≡ passed_limit count tasks total p }
 {
-    if count > 4_000_000 {
+    if count >= MOST_POSITIONS {
         return Some(LimitName::Positions);
     }
     match p {
         Position::Hold(size) => {
-            if size > 1 << 40 {
+            if size > MOST_SIZE {
                 return Some(LimitName::Size);
             }
             sum_limit(total, size)
         }
         Position::Task { extra, time, .. } => {
-            if tasks > 999_999 {
+            if tasks >= MOST_TASKS {
                 return Some(LimitName::Tasks);
             }
-            if extra > 1 << 40 {
+            if extra > MOST_SIZE {
                 return Some(LimitName::Size);
             }
-            if time > 1 << 40 {
+            if time > MOST_TIME {
                 return Some(LimitName::Time);
             }
             sum_limit(total, extra)
@@ -204,8 +215,8 @@ fn limit(count: usize, tasks: u64, total: u64, p: Position) -> Option<LimitName>
 // Whether a task's share is more than its parts allow.
 fn overshared(ends: &[Ends], p: Position) -> bool
     requires long { is_short (length ends.now) p ≡ false }
-    requires total { sum_by initial_at ends.now ≤ 2 ^ 60 }
-    requires extra { added_size p ≤ 2 ^ 40 }
+    requires total { sum_by initial_at ends.now ≤ most_total }
+    requires extra { added_size p ≤ most_size }
     ensures { result ≡ over_ends ends.now p }
 {
     match p {
@@ -225,10 +236,10 @@ fn append(
 ) -> Result<(), AllocError>
     requires asked { IsPosition p }
     requires long { is_short (length ends.old.items) p ≡ false }
-    requires initial { sum_by initial_at ends.old.items ≤ 2 ^ 60 }
-    requires fin { sum_by fin_at ends.old.items ≤ 2 ^ 60 }
+    requires initial { sum_by initial_at ends.old.items ≤ most_total }
+    requires fin { sum_by fin_at ends.old.items ≤ most_total }
     ensures positions { MatchResult result (λ _. positions.new.items ≡ positions.old.items ++ p ∷ []) (λ _. positions.new.items ≡ positions.old.items) }
-    ensures ends { MatchResult result (λ _. ends.new.items ≡ ends_after p ends.old.items) (λ _. ends.new.items ≡ ends.old.items) }
+    ensures ends { MatchResult result (λ _. ends.new.items ≡ next_ends p ends.old.items) (λ _. ends.new.items ≡ ends.old.items) }
 {
     match p {
         Position::Hold(size) => {
@@ -256,7 +267,7 @@ fn append(
 // The last two ends become those of a series.
 fn join_two(ends: &mut Vec<Ends>)
     requires { 2 ≤ length ends.old.items }
-    ensures { ends.new.items ≡ in_turn ends.old.items }
+    ensures { ends.new.items ≡ series_ends ends.old.items }
 {
     let last = ends.len() - 1;
     let initial = ends[last - 1].initial;
@@ -269,9 +280,9 @@ fn join_two(ends: &mut Vec<Ends>)
 fn join(ends: &mut Vec<Ends>, parts: usize)
     requires some { 1 ≤ parts }
     requires long { parts ≤ length ends.old.items }
-    requires initial { sum_by initial_at ends.old.items ≤ 2 ^ 60 }
-    requires fin { sum_by fin_at ends.old.items ≤ 2 ^ 60 }
-    ensures { ends.new.items ≡ joined ends.old.items parts }
+    requires initial { sum_by initial_at ends.old.items ≤ most_total }
+    requires fin { sum_by fin_at ends.old.items ≤ most_total }
+    ensures { ends.new.items ≡ par_ends ends.old.items parts }
 {
     let base = ends.len() - parts;
     let all = sums(&ends[base..]);
@@ -281,18 +292,12 @@ fn join(ends: &mut Vec<Ends>, parts: usize)
 
 // The sums of the ends.
 fn sums(ends: &[Ends]) -> Ends
-    requires initial { sum_by initial_at ends.now ≤ 2 ^ 60 }
-    requires fin { sum_by fin_at ends.now ≤ 2 ^ 60 }
+    requires initial { sum_by initial_at ends.now ≤ most_total }
+    requires fin { sum_by fin_at ends.now ≤ most_total }
     ensures { result ≡ beside ends.now }
 {
-    let mut all_initial: u64 = 0;
-    let mut all_fin: u64 = 0;
-    for one in ends {
-        all_initial += one.initial;
-        all_fin += one.fin;
-    }
     Ends {
-        initial: all_initial,
-        fin: all_fin,
+        initial: ends.iter().map(|one| one.initial).sum(),
+        fin: ends.iter().map(|one| one.fin).sum(),
     }
 }

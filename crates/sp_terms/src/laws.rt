@@ -1,10 +1,12 @@
 //! Laws over the definitions: each contract is a law, and each body is empty or names the laws that it stands on.
-ghost use Rattle.std.specs.Prelude.{◌≡◌, ◌⊎◌, ℕ, ◌-◌, ◌<◌, ◌≤◌, All, List, length, map, slice_index_or};
+ghost use Rattle.std.specs.Prelude.{◌≡◌, ◌⊎◌, ℕ, ◌+◌, ◌-◌, ◌<◌, ◌≤◌, All, List, length, map, slice_index_or};
+ghost use Rattle.limits.specs.Limits.{most_total};
 ghost use Rattle.mp_text.specs.declared.refusals.Refusal.{Refusal};
 ghost use Rattle.mp_system.specs.System.{IsSystem};
+ghost use Rattle.mp_system.specs.declared.system.Task.{Task};
 ghost use Rattle.sp_terms.specs.declared.kind.WorkflowKind.{WorkflowKind};
 ghost use Rattle.sp_terms.specs.declared.position.Position.{Position};
-ghost use Rattle.sp_terms.specs.Term.{Term, IsAllowed};
+ghost use Rattle.sp_terms.specs.Term.{Term, series, initial_of, final_of, IsAllowed};
 ghost use Rattle.sp_terms.specs.Places.{term_of_position, parts_of, part_positions, IsTermAt};
 ghost use Rattle.sp_terms.specs.Postfix.{Denotes, postfix};
 ghost use Rattle.sp_terms.specs.SystemOfTerm.{system_of_term};
@@ -54,7 +56,8 @@ pub fn terms_law()
 {}
 
 /// The parts of the term at a position stand at the positions that their widths say, before it. The whole term stands at the last
-/// position. Each term at a position is what that position says, with shares that are allowed.
+/// position. Each term at a position is what that position says, with shares that are allowed and a hill that is within
+/// the total.
 pub fn position_law()
     ensures parts { (positions : List Position) (k : ℕ) → IsTerms positions → 1 ≤ k → k ≤ length positions →
         map (term_of_position positions) (part_positions k (term_of_position positions k)) ≡ parts_of (term_of_position positions k) }
@@ -65,4 +68,6 @@ pub fn position_law()
         IsTermAt (slice_index_or positions (k - 1) d) (term_of_position positions k) }
     ensures allowed { (positions : List Position) (k : ℕ) → IsTerms positions → 1 ≤ k → k ≤ length positions →
         IsAllowed (term_of_position positions k) }
+    ensures small { (positions : List Position) (k : ℕ) (a : Term) (v : Task) (b : Term) → IsTerms positions → 1 ≤ k → k ≤ length positions →
+        term_of_position positions k ≡ series a v b → final_of a + (v.extra + initial_of b) ≤ most_total }
 {}

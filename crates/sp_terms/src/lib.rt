@@ -28,5 +28,5 @@ pub use system::system_of;
 pub use terms::Terms;
 pub use value::{hill, values, values_at};
 
-/// No memory was found for what a call had to keep.
+/// Want of memory: an allocation was refused.
 pub type NoMemory = AllocError;

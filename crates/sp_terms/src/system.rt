@@ -1,9 +1,7 @@
-ghost use Rattle.std.specs.Prelude.{◌≡◌, ◌≤◌, ◌<◌, ◌++◌, ◌∷◌, ℕ, None, IfOk};
+ghost use Rattle.std.specs.Prelude.{◌≡◌, ◌++◌, None, IfOk, replicate};
 ghost use Rattle.sp_terms.specs.Values.{IsTerms, term_of};
 ghost use Rattle.sp_terms.specs.SystemOfTerm.{system_of_term, items_of_term, task_count};
-ghost use Rattle.sp_terms.specs.Sides.{tasks_in, copies};
-ghost use Rattle.sp_terms.specs.declared.system.Sides.{Sides};
-ghost use Rattle.std.specs.Prelude.{List};
+ghost use Rattle.sp_terms.specs.Pending.{tasks_in};
 
 use crate::NoMemory;
 use crate::position::Position;
@@ -35,22 +33,22 @@ fn tasks_of(alloc: Global, positions: &[Position]) -> Result<Vec<Task>, NoMemory
     Ok(tasks)
 }
 
-// What makes the first items of a term, and what takes its last ones.
+// A term whose items are still to come: what makes its first items, and what takes its last ones.
 #[derive(Clone, Copy)]
-struct Sides {
+struct Pending {
     from: Option<u32>,
     to: Option<u32>,
 }
 
-// The items, from the last position on: each position hands its sides on to the parts that end before it.
+// The items, from the last position on: each position hands what makes and takes its items on to the parts that end before it.
 fn items_of(alloc: Global, positions: &[Position], tasks: u32) -> Result<Vec<Item>, NoMemory>
     requires terms { IsTerms positions.now }
     requires tasks { tasks ≡ task_count (term_of positions.now) }
     ensures { IfOk result (λ found. found.items ≡ items_of_term 1 None None (term_of positions.now)) }
 {
     let mut found: Vec<Item> = Vec::new(alloc);
-    let mut pending: Vec<Sides> = Vec::new(alloc);
-    pending.push(Sides {
+    let mut pending: Vec<Pending> = Vec::new(alloc);
+    pending.push(Pending {
         from: None,
         to: None,
     })?;
@@ -58,40 +56,40 @@ fn items_of(alloc: Global, positions: &[Position], tasks: u32) -> Result<Vec<Ite
     let mut at = positions.len();
     while at > 0 {
         at -= 1;
-        let sides = pending[pending.len() - 1];
+        let term = pending[pending.len() - 1];
         pending.pop();
         match positions[at] {
             Position::Hold(size) => {
                 found.push(Item {
                     size,
-                    from: sides.from,
-                    to: sides.to,
+                    from: term.from,
+                    to: term.to,
                 })?;
             }
             Position::Task { .. } => {
-                pending.push(Sides {
-                    from: sides.from,
+                pending.push(Pending {
+                    from: term.from,
                     to: Some(own),
                 })?;
-                pending.push(Sides {
+                pending.push(Pending {
                     from: Some(own),
-                    to: sides.to,
+                    to: term.to,
                 })?;
                 own -= 1;
             }
-            Position::Par(parts) => push_copies(&mut pending, sides, parts)?,
+            Position::Par(parts) => push_copies(&mut pending, term, parts)?,
         }
     }
     found.reverse();
     Ok(found)
 }
 
-// The sides of each part of a parallel composition.
-fn push_copies(pending: &mut Vec<Sides>, sides: Sides, count: u32) -> Result<(), NoMemory>
-    ensures { IfOk result (λ _. pending.new.items ≡ pending.old.items ++ copies count sides) }
+// Each part of terms side by side lies between the same tasks as the whole.
+fn push_copies(pending: &mut Vec<Pending>, term: Pending, count: u32) -> Result<(), NoMemory>
+    ensures { IfOk result (λ _. pending.new.items ≡ pending.old.items ++ replicate count term) }
 {
     for _i in 0..count {
-        pending.push(sides)?;
+        pending.push(term)?;
     }
     Ok(())
 }

@@ -33,6 +33,13 @@ impl Terms {
         Terms { positions }
     }
 
+    /// What every value of this type keeps; a proof that needs it calls it. It does nothing.
+    pub fn keeps(&self)
+        ensures { IsTerms self.now }
+    {
+        let _ = &self.positions;
+    }
+
     /// The number of positions, at least 1.
     pub fn len(&self) -> u32
         ensures value { result ≡ length self.now }

@@ -1,6 +1,6 @@
 ghost use Rattle.std.specs.Prelude.{◌≡◌, ◌≤◌, ◌<◌, ◌+◌, ◌-◌, ◌^◌, length, vec_len, slice_index_or, IfOk};
 ghost use Rattle.sp_terms.specs.Term.{Term, hill_of};
-ghost use Rattle.sp_terms.specs.Values.{IsTask, IsTerms, AreValues, values_of, term_at};
+ghost use Rattle.sp_terms.specs.Values.{IsTaskPosition, IsTerms, AreValues, values_of, term_at};
 ghost use Rattle.sp_terms.specs.declared.position.Position.{Position};
 ghost use Rattle.sp_terms.specs.declared.position.Position.TheVariants.{Hold, Par};
 
@@ -50,7 +50,7 @@ fn series_values(positions: &[Position], before: &[Values], at: usize) -> Values
     requires at { at < length positions.now }
     requires long { at ≤ length before.now }
     requires known { AreValues positions.now before.now at }
-    requires task { (d : Position) → IsTask (slice_index_or positions.now at d) }
+    requires task { (d : Position) → IsTaskPosition (slice_index_or positions.now at d) }
     ensures { result ≡ values_of (term_at positions.now at) }
 {
     let right = before[at - 1];

@@ -1,4 +1,4 @@
-use Rattle.sp_terms.proofs.BuilderLemmas.{join_is, rest_light}
+use Rattle.sp_terms.proofs.BuilderLemmas.{par_is, rest_light}
 use Rattle.sp_terms.proofs.builder.join.Goals as goal
 
 pub sums-all-requires-clause-initial : goal.sums-all-requires-clause-initial
@@ -8,4 +8,4 @@ pub sums-all-requires-clause-fin : goal.sums-all-requires-clause-fin
 sums-all-requires-clause-fin c = (rest_light c.args.ends.now.items c.deref.result.now _ c.deref.ensures.value (c.requires.initial, c.requires.fin)).1
 
 pub returns : goal.returns
-returns c = join_is c.args.ends.now.items c.deref.result.now _ c.args.parts _ _ _ c.len.ensures c.args.ends.now.ok.0 c.requires.some c.requires.long c.deref.ensures.value c.truncate.ensures.items c.sums-all.ensures
+returns c = par_is c.args.ends.now.items c.deref.result.now _ c.args.parts _ _ _ c.len.ensures c.args.ends.now.ok.0 c.requires.some c.requires.long c.deref.ensures.value c.truncate.ensures.items c.sums-all.ensures

@@ -1,4 +1,4 @@
-use Rattle.sp_terms.proofs.Positions.{own_at, parts_here, before_here, allowed_here, last_is}
+use Rattle.sp_terms.proofs.Positions.{own_at, parts_here, before_here, allowed_here, small_here, last_is}
 use Rattle.sp_terms.proofs.laws.position_law.Goals as goal
 
 pub returns-clause-parts : goal.returns-clause-parts
@@ -15,3 +15,6 @@ returns-clause-own c = λ ps k d terms low high. own_at ps k terms low high d
 
 pub returns-clause-allowed : goal.returns-clause-allowed
 returns-clause-allowed c = λ ps k terms low high. allowed_here ps k terms low high
+
+pub returns-clause-small : goal.returns-clause-small
+returns-clause-small c = λ ps k a v b terms low high is. small_here ps k terms low high a v b is

@@ -1,4 +1,4 @@
-use Rattle.sp_terms.proofs.SidesLemmas.{Opened}
+use Rattle.sp_terms.proofs.PendingLemmas.{Opened}
 use Rattle.sp_terms.proofs.system.items_of.Given as goal
 
 abbrev pub invariant-loop-at : goal.invariant-loop-at

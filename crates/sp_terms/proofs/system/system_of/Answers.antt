@@ -3,7 +3,7 @@ use Rattle.std.specs.Prelude.{None}
 use Rattle.sp_terms.specs.declared.position.Position.{Position}
 use Rattle.sp_terms.specs.SystemOfTerm.{task_count, tasks_of_term, items_of_term}
 use Rattle.sp_terms.specs.Values.{term_of}
-use Rattle.sp_terms.specs.Sides.{tasks_in}
+use Rattle.sp_terms.specs.Pending.{tasks_in}
 use Rattle.sp_terms.proofs.SystemLemmas.{is_system, tasks-of, length-tasks}
 use Rattle.sp_terms.proofs.system.system_of.Goals as goal
 

@@ -1,5 +1,5 @@
 use Rattle.std.proofs.Common.{◌≡◌, take}
-use Rattle.sp_terms.specs.Sides.{tasks_in}
+use Rattle.sp_terms.specs.Pending.{tasks_in}
 use Rattle.sp_terms.proofs.system.tasks_of.Given as goal
 
 abbrev pub invariant-loop-position : goal.invariant-loop-position

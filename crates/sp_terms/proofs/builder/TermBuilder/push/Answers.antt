@@ -3,7 +3,7 @@ use Rattle.std.specs.List.{sum_by}
 use Rattle.sp_terms.specs.declared.position.Position.{Position}
 use Rattle.sp_terms.specs.declared.builder.Ends.{Ends}
 use Rattle.sp_terms.specs.declared.builder.PushRefusal.TheVariants.{Short, Limit, Share}
-use Rattle.sp_terms.specs.Builder.{refusal_of, is_short, limit_of}
+use Rattle.sp_terms.specs.Builder.{refusal_of, is_short, passed_limit}
 use Rattle.sp_terms.specs.Ends.{over_ends, initial_at}
 use Rattle.sp_terms.proofs.BuilderLemmas.{refused_short, refused_limit, refused_share, taken, builder_more, light}
 use Rattle.sp_terms.proofs.builder.TermBuilder.push.Goals as goal
@@ -16,7 +16,7 @@ returns-then-short c =
 pub returns-in-Some : goal.returns-in-Some
 returns-in-Some c =
     let short = ap (λ (n : ℕ). is_short n c.args.p) (sym (c.len.ensures ∙ c.self.inside.ends.ok.0)) ∙ sym c.short.ensures ∙ c.if-short.false in
-    let limit = ap (λ (n : ℕ). limit_of n c.self.inside.tasks c.self.inside.total c.args.p) (sym (c.len-2.ensures ∙ c.self.inside.positions.ok.0)) ∙ sym c.in-Some.ensures in
+    let limit = ap (λ (n : ℕ). passed_limit n c.self.inside.tasks c.self.inside.total c.args.p) (sym (c.len-2.ensures ∙ c.self.inside.positions.ok.0)) ∙ sym c.in-Some.ensures in
     (subst (λ (z : List Position). refusal_of z c.args.p ≡ Some (Limit c.in-Some.name)) c.self.view_is (refused_limit _ _ _ _ c.args.p c.self.invariant short c.in-Some.name limit), refl)
 
 pub overshared-requires-clause-total : goal.overshared-requires-clause-total
@@ -31,20 +31,20 @@ append-requires-clause-fin c = (light _ _ _ _ c.self.invariant).1
 pub returns-then-overshared : goal.returns-then-overshared
 returns-then-overshared c =
     let short = ap (λ (n : ℕ). is_short n c.args.p) (sym (c.len.ensures ∙ c.self.inside.ends.ok.0)) ∙ sym c.short.ensures ∙ c.if-short.false in
-    let limit = ap (λ (n : ℕ). limit_of n c.self.inside.tasks c.self.inside.total c.args.p) (sym (c.len-2.ensures ∙ c.self.inside.positions.ok.0)) ∙ sym c.in_default.ensures in
+    let limit = ap (λ (n : ℕ). passed_limit n c.self.inside.tasks c.self.inside.total c.args.p) (sym (c.len-2.ensures ∙ c.self.inside.positions.ok.0)) ∙ sym c.in_default.ensures in
     let over = ap (λ (z : List Ends). over_ends z c.args.p) (sym c.deref.ensures.value) ∙ sym c.overshared.ensures ∙ c.if-overshared.true in
     (subst (λ (z : List Position). refusal_of z c.args.p ≡ Some Share) c.self.view_is (refused_share _ _ _ _ c.args.p c.self.invariant short limit over), refl)
 
 pub invariant_of-self-2 : goal.invariant_of-self-2
 invariant_of-self-2 c =
     let short = ap (λ (n : ℕ). is_short n c.args.p) (sym (c.len.ensures ∙ c.self.inside.ends.ok.0)) ∙ sym c.short.ensures ∙ c.if-short.false in
-    let limit = ap (λ (n : ℕ). limit_of n c.self.inside.tasks c.self.inside.total c.args.p) (sym (c.len-2.ensures ∙ c.self.inside.positions.ok.0)) ∙ sym c.in_default.ensures in
+    let limit = ap (λ (n : ℕ). passed_limit n c.self.inside.tasks c.self.inside.total c.args.p) (sym (c.len-2.ensures ∙ c.self.inside.positions.ok.0)) ∙ sym c.in_default.ensures in
     let over = ap (λ (z : List Ends). over_ends z c.args.p) (sym c.deref.ensures.value) ∙ sym c.overshared.ensures ∙ c.if-overshared.false in
     rw (c.in_ok-append.ensures.positions, c.in_ok-append.ensures.ends, c.count.ensures, c.size.ensures) (builder_more _ _ _ _ c.args.p c.self.invariant c.requires short limit over)
 
 pub returns : goal.returns
 returns c =
     let short = ap (λ (n : ℕ). is_short n c.args.p) (sym (c.len.ensures ∙ c.self.inside.ends.ok.0)) ∙ sym c.short.ensures ∙ c.if-short.false in
-    let limit = ap (λ (n : ℕ). limit_of n c.self.inside.tasks c.self.inside.total c.args.p) (sym (c.len-2.ensures ∙ c.self.inside.positions.ok.0)) ∙ sym c.in_default.ensures in
+    let limit = ap (λ (n : ℕ). passed_limit n c.self.inside.tasks c.self.inside.total c.args.p) (sym (c.len-2.ensures ∙ c.self.inside.positions.ok.0)) ∙ sym c.in_default.ensures in
     let over = ap (λ (z : List Ends). over_ends z c.args.p) (sym c.deref.ensures.value) ∙ sym c.overshared.ensures ∙ c.if-overshared.false in
     (subst (λ (z : List Position). refusal_of z c.args.p ≡ None) c.self.view_is (taken _ _ _ _ c.args.p c.self.invariant short limit over), c.in_ok-append.ensures.positions ∙ ap (λ (z : List Position). z ++ c.args.p ∷ []) c.self.view_is)
