@@ -3,4 +3,5 @@ pub mod Words
 pub mod Ahead
 pub mod Grammar
 pub mod Reading
+pub mod ReadingLaws
 pub mod Report

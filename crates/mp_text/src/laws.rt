@@ -32,7 +32,8 @@ pub fn printed_lines()
     ensures more { (text : List ℕ) (lines : List (List (List ℕ))) (line : List (List ℕ)) →
         (text ++ text_of_lines lines) ++ line_text line ≡ text ++ text_of_lines (lines ++ line ∷ []) }
     ensures parts { (xs ys : List (List (List ℕ))) → text_of_lines (xs ++ ys) ≡ text_of_lines xs ++ text_of_lines ys }
-    ensures start { (text : List ℕ) (lines : List (List (List ℕ))) → IsTrue (is_line_start text) → IsTrue (is_line_start (text ++ text_of_lines lines)) }
+    ensures start { (text : List ℕ) (lines : List (List (List ℕ))) → IsTrue (is_line_start text) →
+        IsTrue (is_line_start (text ++ text_of_lines lines)) }
 {}
 
 /// Numbers that are printed are tokens that begin no comment, and are read as they were.
@@ -52,6 +53,7 @@ pub fn printed_file()
         rows_of_bytes layout (text_of_lines lines) ≡ numbered_from 1 lines }
     ensures past { (layout : Layout) (lines : List (List (List ℕ))) → IsTrue (list_all (is_counted layout) lines) →
         past_of_bytes (text_of_lines lines) ≡ length lines + 1 }
-    ensures parts { (n : ℕ) (xs ys : List (List (List ℕ))) → numbered_from n (xs ++ ys) ≡ numbered_from n xs ++ numbered_from (n + length xs) ys }
+    ensures parts { (n : ℕ) (xs ys : List (List (List ℕ))) →
+        numbered_from n (xs ++ ys) ≡ numbered_from n xs ++ numbered_from (n + length xs) ys }
     ensures count { (n : ℕ) (lines : List (List (List ℕ))) → length (numbered_from n lines) ≡ length lines }
 {}

@@ -115,7 +115,9 @@ impl<'a> Lines<'a> {
         ensures line { IfSome result (λ line. IsNextLine self.old line.number line.text.now self.new) }
         // all lines are passed over
         ensures end { IfNone result ((self.new.lines ≡ []) × IsTrue (are_passed self.old.layout self.old.number self.old.lines)) }
-        ensures rows { MatchOption result (rows_of self.old ≡ []) (λ line. rows_of self.old ≡ row line.number line.text.now ∷ rows_of self.new) }
+        ensures rows { MatchOption result
+            (rows_of self.old ≡ [])
+            (λ line. rows_of self.old ≡ row line.number line.text.now ∷ rows_of self.new) }
         ensures none { IfNone result (rows_of self.new ≡ []) }
         ensures past { past_of self.new ≡ past_of self.old }
         ensures layout { self.new.layout ≡ self.old.layout }

@@ -36,7 +36,8 @@ pub trait Reader: Drop {
         ensures { Steps (end_step self.old past) result self.new };
 
     ghost line_follows: { (reader : Self) (before : List Row) (row : Row) → took reader before → ArePassed (format reader) before →
-        Follows ((format reader).line_tests before row) (λ next. took next (before ++ row ∷ []) × (format next ≡ format reader)) (step reader row) };
+        Follows ((format reader).line_tests before row)
+        (λ next. took next (before ++ row ∷ []) × (format next ≡ format reader)) (step reader row) };
 
     ghost end_follows: { (reader : Self) (rows : List Row) (past : ℕ) → took reader rows → ArePassed (format reader) rows →
         Follows ((format reader).end_tests rows past) (λ next. took next rows) (end_step reader past) };
