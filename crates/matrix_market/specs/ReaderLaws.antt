@@ -6,7 +6,8 @@ use Rattle.std.proofs.Common.{sym, subst, ◌∙◌, ap}
 use Rattle.std.proofs.lemmas.List.{map_push, length-map}
 use Rattle.mp_text.specs.Text.{Row}
 use Rattle.mp_text.specs.Grammar.{Test, test, ArePassed, fault_at}
-use Rattle.mp_text.specs.Reading.{Follows, tested, tested-follows}
+use Rattle.mp_text.specs.Reading.{Follows, tested}
+use Rattle.mp_text.specs.ReadingLaws.{tested-follows}
 use Rattle.matrix_market.specs.MatrixFile.{matrix_format, matrix_line_tests, matrix_end_tests, banner_tests, values_stated, size_tests, size_of, entry_tests, pair_of}
 use Rattle.matrix_market.specs.Reader.{MatrixState, TookBanner, TookEntries, staged_step, staged_end, staged_took, matrix_step, matrix_end, took}
 use Rattle.matrix_market.specs.declared.kind.MatrixKind.{MatrixKind}
@@ -82,7 +83,7 @@ staged_end_follows stages.Entries s rows past e t =
     let same : test (length s.pairs == s.entries) (fault_at past kinds.TooFew) ∷ [] ≡ tests = rw (taken s rows t, t.entries) refl in
     let here : took s rows = subst (λ (st : Stage). staged_took st s rows) (sym e) t in
     let follows : Follows tests (λ next. took next rows) (tested (test (length s.pairs == s.entries) (fault_at past kinds.TooFew) ∷ []) s) =
-        subst (λ (ts : List (Test MatrixKind)). Follows tests (λ next. took next rows) (tested ts s)) (sym same) (tested-follows tests s (λ next. took next rows) (λ _. here)) in
+    subst (λ (ts : List (Test MatrixKind)). Follows tests (λ next. took next rows) (tested ts s)) (sym same) (tested-follows tests s (λ next. took next rows) (λ _. here)) in
     subst (λ (r : List Row). Follows (matrix_end_tests r past) (λ next. took next rows) (staged_end stages.Entries s past)) (sym t.rows_are) follows
 
 pub end_follows : (s : MatrixState) (rows : List Row) (past : ℕ) → took s rows → ArePassed matrix_format rows →
