@@ -6,3 +6,4 @@ pub mod PatternLemmas
 pub mod ReadingLemmas
 pub mod SameRows
 pub mod FileLemmas
+pub mod EntryLemmas

@@ -1,38 +1,22 @@
 -- Matrix files: the coordinate format of Matrix Market (Boisvert, Pozo and Remington 1996, NIST), with the field words `double` and
 -- `unsigned-integer` besides. What a file reads as, and what it is refused with.
 use Rattle.std.specs.Prelude.{◌==◌, ℕ, Bool, false, ◌&&◌, ◌||◌, not, nat_lt, nat_le, is_some, unwrap_or, Option, Some, None, List, [], ◌∷◌, length, map, codes, if◌then◌else◌, slice_index_or}
+use Rattle.std.specs.Option.{option_and_then, option_map}
 use Rattle.std.specs.Char.{to_ascii_lowercase}
 use Rattle.std.specs.Str.{bytes_eq}
 use Rattle.limits.specs.declared.name.LimitName.TheVariants as limits
+use Rattle.limits.specs.Limits.{most_order, most_entries}
 use Rattle.mp_text.specs.declared.refusals.Refusal.{Refusal}
 use Rattle.mp_text.specs.declared.refusals.Refusal.TheVariants as refusals
-use Rattle.mp_text.specs.Text.{Row, number_of, lines_of, rows_from}
-use Rattle.mp_text.specs.Ahead.{row, past_of_bytes}
-use Rattle.mp_text.specs.Grammar.{Test, test, Format, IsWellFormed, Refuses}
+use Rattle.mp_text.specs.declared.layout.Layout.TheVariants.{Banner}
+use Rattle.mp_text.specs.Text.{Row, number_of, numbers_of}
+use Rattle.mp_text.specs.Ahead.{rows_of_bytes, past_of_bytes}
+use Rattle.mp_text.specs.Grammar.{Test, test, Format, IsWellFormed, Refuses, fault, fault_at, token_at}
 use Rattle.matrix_market.specs.Pattern.{IsPatternOf}
 use Rattle.matrix_market.specs.declared.kind.MatrixKind.{MatrixKind}
 use Rattle.matrix_market.specs.declared.kind.MatrixKind.TheVariants as kinds
 
-abbrev pub fault_at : ℕ → MatrixKind → Refusal MatrixKind
-fault_at line kind = refusals.Format (record { line = line; kind = kind })
-
-abbrev pub fault : MatrixKind → Row → Refusal MatrixKind
-fault kind row = fault_at row.number kind
-
--- ---- the lines that count: the first, of whatever kind, and after it those that are neither blank nor begin with %
-
-abbrev pub matrix_lines : List (List ℕ) → List Row
-matrix_lines [] = []
-matrix_lines (line ∷ lines) = row 1 line ∷ rows_from false 2 lines
-
-abbrev pub matrix_rows : List ℕ → List Row
-matrix_rows bytes = matrix_lines (lines_of bytes)
-
 -- ---- line 1: `%%MatrixMarket matrix coordinate FIELD SYMMETRY`
-
--- the token at a place, counted from 0
-abbrev pub token_at : ℕ → Row → List ℕ
-token_at place row = slice_index_or row.tokens place []
 
 -- whether a token is this word, without regard to case
 unfoldable pub is_word : List ℕ → List ℕ → Bool
@@ -63,19 +47,6 @@ banner_tests row =
 abbrev pub values_stated : Row → ℕ
 values_stated banner = unwrap_or (values_of_field (token_at 3 banner)) 0
 
--- ---- numbers that stand in a row
-
--- what follows where a number was there
-infixl 10 ◌>>?◌
-abbrev pub ◌>>?◌ : {A B : Type 0} → Option A → (A → Option B) → Option B
-(Some x) >>? f = f x
-None >>? f = None
-
--- the number that the first token spells, and the tokens after it
-unfoldable pub number_at : List (List ℕ) → Option (ℕ × List (List ℕ))
-number_at [] = None
-number_at (token ∷ tokens) = number_of token >>? λ n. Some (n, tokens)
-
 -- ---- the size line: `ROWS COLUMNS ENTRIES`
 
 pub record Size : Type 0 where
@@ -84,10 +55,12 @@ pub record Size : Type 0 where
   pub entries : ℕ
 
 -- three tokens, all numbers
+abbrev pub three_numbers : List ℕ → Option Size
+three_numbers (rows ∷ columns ∷ entries ∷ []) = Some (record { rows = rows; columns = columns; entries = entries })
+three_numbers _ = None
+
 unfoldable pub size_stated : List (List ℕ) → Option Size
-size_stated tokens =
-    number_at tokens >>? λ rows. number_at rows.1 >>? λ columns. number_at columns.1 >>? λ entries.
-    if length entries.1 == 0 then Some (record { rows = rows.0; columns = columns.0; entries = entries.0 }) else None
+size_stated tokens = option_and_then three_numbers (numbers_of tokens)
 
 abbrev pub size_of : Row → Size
 size_of row = unwrap_or (size_stated row.tokens) (record { rows = 0; columns = 0; entries = 0 })
@@ -96,17 +69,17 @@ abbrev pub size_tests : Row → List (Test MatrixKind)
 size_tests row =
     test (is_some (size_stated row.tokens) && (not ((size_of row).rows == 0) && not ((size_of row).columns == 0))) (fault kinds.SizeLine row)
     ∷ test ((size_of row).rows == (size_of row).columns) (fault kinds.NotSquare row)
-    ∷ test (nat_le (size_of row).rows 1000000) (refusals.Limit limits.Order)
-    ∷ test (nat_le (size_of row).entries 10000000) (refusals.Limit limits.Entries)
+    ∷ test (nat_le (size_of row).rows most_order) (refusals.Limit limits.Order)
+    ∷ test (nat_le (size_of row).entries most_entries) (refusals.Limit limits.Entries)
     ∷ []
 
 -- ---- an entry: `I J`, and the values of its field
 
 -- two numbers, and as many tokens as there are values
 unfoldable pub entry_stated : ℕ → List (List ℕ) → Option (ℕ × ℕ)
-entry_stated values tokens =
-    number_at tokens >>? λ i. number_at i.1 >>? λ j.
-    if length j.1 == values then Some (i.0, j.0) else None
+entry_stated values (i ∷ j ∷ rest) =
+    if length rest == values then option_and_then (λ a. option_map (λ b. (a, b)) (number_of j)) (number_of i) else None
+entry_stated values _ = None
 
 abbrev pub pair_of : ℕ → Row → ℕ × ℕ
 pair_of values row = unwrap_or (entry_stated values row.tokens) (0, 0)
@@ -150,11 +123,11 @@ pairs_stated (banner ∷ size ∷ entries) = map (pair_of (values_stated banner)
 
 -- every line passes, and the pattern is that of the order and the pairs stated
 pub record ReadsPattern (bytes : List ℕ) (rows : List (List ℕ)) : Type 0 where
-  pub form : IsWellFormed matrix_format (matrix_rows bytes) (past_of_bytes bytes)
-  pub pattern : IsPatternOf (order_stated (matrix_rows bytes)) (pairs_stated (matrix_rows bytes)) rows
+  pub form : IsWellFormed matrix_format (rows_of_bytes Banner bytes) (past_of_bytes bytes)
+  pub pattern : IsPatternOf (order_stated (rows_of_bytes Banner bytes)) (pairs_stated (rows_of_bytes Banner bytes)) rows
 
 abbrev pub RefusesPattern : List ℕ → Refusal MatrixKind → Type 0
-RefusesPattern bytes refusal = Refuses matrix_format (matrix_rows bytes) (past_of_bytes bytes) refusal
+RefusesPattern bytes refusal = Refuses matrix_format (rows_of_bytes Banner bytes) (past_of_bytes bytes) refusal
 
 -- an answer that is no pattern: a refusal of the file, or memory ran out
 abbrev pub IsMatrixRefusal : List ℕ → Refusal MatrixKind → Type 0

@@ -2,6 +2,7 @@
 use Rattle.std.specs.Prelude.{◌≡◌, ◌==◌, ℕ, zero, suc, ◌≤◌, Bool, true, false, ◌&&◌, ◌||◌, not, List, [], length, slice_index_or}
 use Rattle.std.specs.List.{list_any}
 use Rattle.std.specs.List.Sorted.{IsStrictlyIncreasing}
+use Rattle.limits.specs.Limits.{most_order}
 
 -- a pattern as its rows, one for each vertex: row v is the list of the neighbours of v; 0 is no vertex, and has none
 abbrev pub neighbours_of : List (List ℕ) → ℕ → List ℕ
@@ -19,7 +20,7 @@ is_joined rows a b = has (neighbours_of rows a) b
 -- 1 to 10^6 vertices; neighbours rise, are vertices, and are so both ways; no vertex is its own neighbour
 pub record IsPattern (rows : List (List ℕ)) : Type 0 where
   pub some : 1 ≤ length rows
-  pub few : length rows ≤ 1000000
+  pub few : length rows ≤ most_order
   pub rising : (v : ℕ) → IsStrictlyIncreasing (neighbours_of rows v)
   pub inside : (a b : ℕ) → is_joined rows a b ≡ true → (1 ≤ b) × (b ≤ length rows)
   pub symmetric : (a b : ℕ) → is_joined rows a b ≡ true → is_joined rows b a ≡ true

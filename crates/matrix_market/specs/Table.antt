@@ -1,3 +1,4 @@
+-- No public clause names this.
 -- Lists that lie one after the other in one table, each in a room of a fixed size.
 use Rattle.std.specs.Prelude.{◌≡◌, ℕ, ◌+◌, ◌-◌, ◌^◌, ◌<◌, ◌≤◌, List, [], length, slice_index, slice_index_or, slice_range, map}
 use Rattle.std.specs.List.{range_with_len}

@@ -1,8 +1,13 @@
+ghost use Rattle.std.specs.Prelude.{◌≡◌};
+ghost use Rattle.matrix_market.specs.Kinds.{word_of};
+
+use std::fmt::{self, Display, Formatter, Write};
+
 /// What is wrong with a matrix file.
 #[derive(Clone, Copy, Debug, PartialEq, Eq)]
 pub enum MatrixKind {
     /// Line 1 is not `%%MatrixMarket` and four more words, or its format is neither `coordinate` nor `array`.
-    Banner,
+    Banner = 1,
     /// The object is not `matrix`.
     NotMatrix,
     /// The format is `array`, which is not read.
@@ -23,4 +28,31 @@ pub enum MatrixKind {
     TooFew,
     /// There are more entries than stated.
     TooMany,
+}
+
+impl MatrixKind {
+    /// The word for it in reports.
+    pub fn word(self) -> &'static str
+        ensures { result.now ≡ word_of self }
+    {
+        match self {
+            MatrixKind::Banner => "banner",
+            MatrixKind::NotMatrix => "not-matrix",
+            MatrixKind::ArrayFormat => "array-format",
+            MatrixKind::Field => "field",
+            MatrixKind::Symmetry => "symmetry",
+            MatrixKind::SizeLine => "size-line",
+            MatrixKind::NotSquare => "not-square",
+            MatrixKind::Entry => "entry",
+            MatrixKind::Index => "index",
+            MatrixKind::TooFew => "too-few",
+            MatrixKind::TooMany => "too-many",
+        }
+    }
+}
+
+impl Display for MatrixKind {
+    fn fmt<W: Write>(&self, f: &mut Formatter<W>) -> fmt::Result {
+        f.write_str(self.word())
+    }
 }

@@ -7,6 +7,7 @@ mod lines;
 mod pairs;
 mod pattern;
 mod reader;
+mod stage;
 mod table;
 #[cfg(test)]
 mod tests;
@@ -14,4 +15,7 @@ mod tests;
 pub use kind::MatrixKind;
 pub use pattern::Pattern;
 pub use reader::read_pattern;
-pub use table::NoMemory;
+use std::alloc::AllocError;
+
+/// Want of memory: an allocation was refused.
+pub type NoMemory = AllocError;

@@ -1,26 +1,16 @@
 //! One function for each line of a matrix file: its tests in the order of the format's table.
 
-ghost use Rattle.std.specs.Prelude.{◌≡◌, ◌==◌, ◌≤◌, ◌<◌, ◌&&◌, ℕ, List, [], ◌∷◌, length, nat_le, false, true, MatchOption, MatchResult, IfOk, Some, None};
-ghost use Rattle.matrix_market.specs.Pattern.{IsPairWithin};
+ghost use Rattle.std.specs.Prelude.{◌≡◌, ◌==◌, ◌≤◌, ◌<◌, ◌&&◌, ℕ, List, [], ◌∷◌, length, nat_le, false, true, MatchOption, IfOk, Some, None};
+ghost use Rattle.limits.specs.Limits.{most_order, most_entries};
 ghost use Rattle.mp_text.specs.Text.{tokens_of};
 ghost use Rattle.mp_text.specs.Ahead.{row};
-ghost use Rattle.mp_text.specs.Reading.{Gives, GivesBy, tested};
-ghost use Rattle.matrix_market.specs.MatrixFile.{fault_at, is_word, values_of_field, is_symmetry, banner_tests, values_stated, number_at, size_stated, size_of, size_tests, entry_stated, pair_of, entry_tests};
+ghost use Rattle.mp_text.specs.Reading.{Gives, tested};
+ghost use Rattle.matrix_market.specs.Pattern.{IsPairWithin};
+ghost use Rattle.matrix_market.specs.MatrixFile.{is_word, values_of_field, is_symmetry, banner_tests, values_stated, size_stated, size_of, size_tests, entry_stated, pair_of, entry_tests};
 
 use crate::kind::MatrixKind;
-use limits::LimitName;
-use mp_text::{Fault, Line, Refusal, Tokens, number, tokens};
-
-const MOST_ORDER: u64 = 1_000_000;
-
-const MOST_ENTRIES: u64 = 10_000_000;
-
-/// The refusal of a line.
-pub fn fault(line: u64, kind: MatrixKind) -> Refusal<MatrixKind>
-    ensures { result ≡ fault_at line kind }
-{
-    Refusal::Format(Fault { line, kind })
-}
+use limits::{LimitName, MOST_ENTRIES, MOST_ORDER};
+use mp_text::{Line, Refusal, Tokens, fault, tokens};
 
 // Whether a token is this word, without regard to case.
 #[tactic(auto, unfolding(crate::specs::MatrixFile::is_word))]
@@ -117,15 +107,6 @@ pub fn banner_on(line: Line<'_>) -> Result<usize, Refusal<MatrixKind>>
     Ok(values)
 }
 
-// The number that the next token spells.
-#[tactic(auto, unfolding(crate::specs::MatrixFile::number_at))]
-fn next_number(words: &mut Tokens<'_>) -> Option<u64>
-    ensures { MatchOption result (number_at words.old ≡ None) (λ n. number_at words.old ≡ Some (n, words.new)) }
-{
-    let word = words.next()?;
-    number(word)
-}
-
 // Whether just so many tokens are left.
 fn are_left(mut words: Tokens<'_>, count: usize) -> bool
     ensures { result ≡ (length words.entry == count) }
@@ -138,63 +119,45 @@ fn are_left(mut words: Tokens<'_>, count: usize) -> bool
     words.next().is_none()
 }
 
-/// What a size line states.
-#[derive(Clone, Copy, Debug)]
-struct SizeFields {
-    rows: u64,
-    columns: u64,
-    entries: u64,
-}
-
 #[tactic(auto, unfolding(crate::specs::MatrixFile::size_stated))]
-fn size_fields(text: &[u8]) -> Option<SizeFields>
-    ensures { MatchOption result (size_stated (tokens_of text.now) ≡ None) (λ s. size_stated (tokens_of text.now) ≡ Some (record { rows = s.rows; columns = s.columns; entries = s.entries })) }
+fn size_fields(text: &[u8]) -> Option<[u64; 3]>
+    ensures { MatchOption result (size_stated (tokens_of text.now) ≡ None) (λ ns. (rows columns entries : ℕ) × (ns ≡ rows ∷ columns ∷ entries ∷ []) × (size_stated (tokens_of text.now) ≡ Some (record { rows = rows; columns = columns; entries = entries }))) }
 {
-    let mut words = tokens(text);
-    let rows = next_number(&mut words)?;
-    let columns = next_number(&mut words)?;
-    let entries = next_number(&mut words)?;
-    if !are_left(words, 0) {
-        return None;
-    }
-    Some(SizeFields {
-        rows,
-        columns,
-        entries,
-    })
+    tokens(text).numbers()
 }
 
 /// The order and the number of entries that a matrix file states.
 #[derive(Clone, Copy, Debug)]
-pub struct Stated {
+pub struct Size {
     pub order: u64,
     pub entries: u64,
 }
 
 /// The size line.
-pub fn size_on(line: Line<'_>) -> Result<Stated, Refusal<MatrixKind>>
+pub fn size_on(line: Line<'_>) -> Result<Size, Refusal<MatrixKind>>
     ensures judged { let r = row line.entry.number line.entry.text.now in
         Gives (tested (size_tests r) (record { order = (size_of r).rows; entries = (size_of r).entries })) result }
-    ensures within { IfOk result (λ s. ((1 ≤ s.order) × (s.order ≤ 1000000)) × (s.entries ≤ 10000000)) }
+    ensures within { IfOk result (λ s. s.order ≤ most_order) }
 {
-    let Some(size) = size_fields(line.text) else {
+    let Some(stated) = size_fields(line.text) else {
         return Err(fault(line.number, MatrixKind::SizeLine));
     };
-    if size.rows == 0 || size.columns == 0 {
+    let [rows, columns, entries] = stated;
+    if rows == 0 || columns == 0 {
         return Err(fault(line.number, MatrixKind::SizeLine));
     }
-    if size.rows != size.columns {
+    if rows != columns {
         return Err(fault(line.number, MatrixKind::NotSquare));
     }
-    if size.rows > MOST_ORDER {
+    if rows > MOST_ORDER {
         return Err(Refusal::Limit(LimitName::Order));
     }
-    if size.entries > MOST_ENTRIES {
+    if entries > MOST_ENTRIES {
         return Err(Refusal::Limit(LimitName::Entries));
     }
-    Ok(Stated {
-        order: size.rows,
-        entries: size.entries,
+    Ok(Size {
+        order: rows,
+        entries,
     })
 }
 
@@ -203,8 +166,8 @@ fn entry_indices(values: usize, text: &[u8]) -> Option<(u64, u64)>
     ensures { result ≡ entry_stated values (tokens_of text.now) }
 {
     let mut words = tokens(text);
-    let i = next_number(&mut words)?;
-    let j = next_number(&mut words)?;
+    let i = words.next_number()?;
+    let j = words.next_number()?;
     if are_left(words, values) {
         Some((i, j))
     } else {
@@ -221,22 +184,22 @@ fn is_index(order: u64, i: u64) -> bool
 /// An entry line, after so many others.
 pub fn entry_on(
     values: usize,
-    stated: Stated,
+    size: Size,
     taken: u64,
     line: Line<'_>,
 ) -> Result<(u32, u32), Refusal<MatrixKind>>
-    requires { stated.order ≤ 1000000 }
+    requires { size.order ≤ most_order }
     ensures judged { let r = row line.entry.number line.entry.text.now in
-        Gives (tested (entry_tests values stated.order stated.entries taken r) (pair_of values r)) result }
-    ensures within { IfOk result (λ p. IsPairWithin stated.order p × (taken < stated.entries)) }
+        Gives (tested (entry_tests values size.order size.entries taken r) (pair_of values r)) result }
+    ensures within { IfOk result (IsPairWithin size.order) }
 {
-    if taken >= stated.entries {
+    if taken >= size.entries {
         return Err(fault(line.number, MatrixKind::TooMany));
     }
     let Some((i, j)) = entry_indices(values, line.text) else {
         return Err(fault(line.number, MatrixKind::Entry));
     };
-    if !is_index(stated.order, i) || !is_index(stated.order, j) {
+    if !is_index(size.order, i) || !is_index(size.order, j) {
         return Err(fault(line.number, MatrixKind::Index));
     }
     Ok((i as u32, j as u32))

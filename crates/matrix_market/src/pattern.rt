@@ -1,9 +1,11 @@
 //! Patterns of symmetric matrices.
 
 ghost use Rattle.std.specs.Prelude.{◌≡◌, ◌≤◌, ◌+◌, All, length, IfOk};
+ghost use Rattle.limits.specs.Limits.{most_order, most_entries};
 
+use crate::NoMemory;
 use crate::pairs::{partner_counts, partner_lists, turned};
-use crate::table::{ListTable, NoMemory};
+use crate::table::ListTable;
 use std::alloc::Global;
 use std::marker::Model;
 
@@ -29,6 +31,13 @@ impl Model for Pattern {
 impl Pattern {
     ghost use Rattle.matrix_market.specs.Pattern.{IsPattern, IsPatternOf, IsPairWithin, neighbours_of};
 
+    /// What every value of this type keeps; a proof that needs it calls it. It does nothing.
+    pub fn keeps(&self)
+        ensures { IsPattern self.now }
+    {
+        let _ = &self.table;
+    }
+
     /// How many vertices there are, 1 to 10^6.
     pub fn order(&self) -> u32
         ensures value { result ≡ length self.now }
@@ -52,8 +61,8 @@ impl Pattern {
         order: u32,
         pairs: Vec<(u32, u32)>,
     ) -> Result<Pattern, NoMemory>
-        requires order { (1 ≤ order) × (order ≤ 1000000) }
-        requires few { length pairs.items ≤ 10000000 }
+        requires order { (1 ≤ order) × (order ≤ most_order) }
+        requires few { length pairs.items ≤ most_entries }
         requires within { All (IsPairWithin order) pairs.items }
         ensures { IfOk result (λ pattern. IsPatternOf order pairs.items pattern) }
     {

@@ -1,12 +1,109 @@
-ghost use Rattle.std.specs.Prelude.{◌≡◌, IfOk, IfErr, MatchResult};
+ghost use Rattle.std.specs.Prelude.{◌≡◌, [], IfOk, IfErr, MatchResult};
+ghost use Rattle.mp_text.specs.Ahead.{row};
 ghost use Rattle.matrix_market.specs.MatrixFile.{ReadsPattern, IsMatrixRefusal};
 ghost use Rattle.matrix_market.specs.Stated.{AreStated};
 
 use crate::kind::MatrixKind;
-use crate::lines::{banner_on, entry_on, fault, size_on};
+use crate::lines::{Size, banner_on, entry_on, size_on};
 use crate::pattern::Pattern;
-use mp_text::{Lines, Refusal};
+use crate::stage::Stage;
+use mp_text::{Layout, Line, Reader, Refusal, fault, read_with};
 use std::alloc::Global;
+use std::marker::Model;
+
+/// What the lines of a matrix file stated so far.
+#[derive(Drop)]
+struct MatrixReader {
+    stage: Stage,
+    values: usize,
+    size: Size,
+    pairs: Vec<(u32, u32)>,
+}
+
+impl Model for MatrixReader {
+    ghost use Rattle.std.specs.Prelude.{◌≤◌};
+    ghost use Rattle.limits.specs.Limits.{most_order};
+    ghost use Rattle.matrix_market.specs.Reader.{MatrixState};
+
+    ghost Value = { MatrixState };
+
+    ghost view = { λ s. record { stage = s.stage; values = s.values; order = s.size.order; entries = s.size.entries; pairs = s.pairs.items } };
+
+    ghost invariant = { λ s. s.size.order ≤ most_order };
+}
+
+impl MatrixReader {
+    ghost use Rattle.matrix_market.specs.Reader.{start};
+
+    /// A reader of which nothing was read.
+    fn new(alloc: Global) -> MatrixReader
+        ensures { result ≡ start }
+    {
+        MatrixReader {
+            stage: Stage::Banner,
+            values: 0,
+            size: Size {
+                order: 0,
+                entries: 0,
+            },
+            pairs: Vec::new(alloc),
+        }
+    }
+}
+
+impl Reader for MatrixReader {
+    type Kind = MatrixKind;
+
+    ghost use Rattle.matrix_market.specs.Reader.{matrix_step, matrix_end, took};
+    ghost use Rattle.matrix_market.specs.MatrixFile.{matrix_format};
+    ghost use Rattle.matrix_market.specs.ReaderLaws.{step_follows, end_follows as the_end_follows};
+
+    ghost step = { matrix_step };
+
+    ghost end_step = { matrix_end };
+
+    ghost format = { λ _. matrix_format };
+
+    ghost took = { took };
+
+    #[tactic(auto, unfolding(crate::specs::Reader::matrix_step))]
+    fn line(&mut self, line: Line<'_>) -> Result<(), Refusal<MatrixKind>> {
+        match self.stage {
+            Stage::Banner => {
+                self.values = banner_on(line)?;
+                self.stage = Stage::Size;
+            }
+            Stage::Size => {
+                self.size = size_on(line)?;
+                self.stage = Stage::Entries;
+            }
+            Stage::Entries => {
+                let taken = self.pairs.len() as u64;
+                let pair = entry_on(self.values, self.size, taken, line)?;
+                self.pairs.push(pair)?;
+            }
+        }
+        Ok(())
+    }
+
+    #[tactic(auto, unfolding(crate::specs::Reader::matrix_end))]
+    fn end(&mut self, past: u64) -> Result<(), Refusal<MatrixKind>> {
+        match self.stage {
+            Stage::Banner => Err(fault(past, MatrixKind::Banner)),
+            Stage::Size => Err(fault(past, MatrixKind::SizeLine)),
+            Stage::Entries => {
+                if self.pairs.len() as u64 != self.size.entries {
+                    return Err(fault(past, MatrixKind::TooFew));
+                }
+                Ok(())
+            }
+        }
+    }
+
+    ghost line_follows = { step_follows };
+
+    ghost end_follows = { the_end_follows };
+}
 
 // The order, and the pairs of indices of the entries.
 #[derive(Drop)]
@@ -19,25 +116,10 @@ fn read_entries(alloc: Global, bytes: &[u8]) -> Result<Entries, Refusal<MatrixKi
     ensures stated { IfOk result (λ e. AreStated bytes.now e.order e.pairs.items) }
     ensures refused { IfErr result (IsMatrixRefusal bytes.now) }
 {
-    let mut lines = Lines::new(bytes, false);
-    let Some(banner) = lines.raw() else {
-        return Err(fault(1, MatrixKind::Banner));
-    };
-    let values = banner_on(banner)?;
-    let Some(size) = lines.next_line() else {
-        return Err(fault(lines.past(), MatrixKind::SizeLine));
-    };
-    let stated = size_on(size)?;
-    let mut pairs = Vec::new(alloc);
-    while let Some(line) = lines.next_line() {
-        let pair = entry_on(values, stated, pairs.len() as u64, line)?;
-        pairs.push(pair)?;
-    }
-    if (pairs.len() as u64) < stated.entries {
-        return Err(fault(lines.past(), MatrixKind::TooFew));
-    }
+    let reader = read_with(bytes, Layout::Banner, MatrixReader::new(alloc))?;
+    let MatrixReader { size, pairs, .. } = reader;
     Ok(Entries {
-        order: stated.order as u32,
+        order: size.order as u32,
         pairs,
     })
 }

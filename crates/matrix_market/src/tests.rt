@@ -4,7 +4,7 @@ ghost use Rattle.std.specs.Prelude.{◌≡◌, ◌&&◌};
 ghost use Rattle.std.specs.List.{list_any};
 ghost use Rattle.matrix_market.specs.Pattern.{names, are_named};
 
-use crate::{MatrixKind, Pattern, laws, read_pattern};
+use crate::{MatrixKind, Pattern, read_pattern};
 use limits::LimitName;
 use mp_text::{Fault, Refusal};
 use std::alloc::Global;
@@ -33,7 +33,6 @@ fn refusal_of(alloc: Global, text: &[u8]) -> Option<Refusal<MatrixKind>> {
 #[test]
 fn reads(rt: HostRuntime) -> Result<(), Fail> {
     let alloc = rt.alloc();
-    laws::exactly_one();
     check_rows(&rt, &read_pattern(alloc, STAR)?, &STAR_ROWS);
     check_rows(&rt, &read_pattern(alloc, GENERAL_STAR)?, &STAR_ROWS);
     let rows: [(&str, &[&[u32]]); 4] = [
@@ -263,7 +262,6 @@ fn are_named(pairs: &[(u32, u32)], a: u32, b: u32) -> bool
 #[test]
 fn joins_pairs(rt: HostRuntime) -> Result<(), Fail> {
     let alloc = rt.alloc();
-    laws::one_pattern();
     let pairs = [
         (3, 1),
         (5, 2),
@@ -288,6 +286,21 @@ fn joins_pairs(rt: HostRuntime) -> Result<(), Fail> {
                 "{a} {b}"
             );
         }
+    }
+    Ok(())
+}
+
+#[test]
+fn refusals_in_words(rt: HostRuntime) -> Result<(), Fail> {
+    let banner = "%%MatrixMarket matrix coordinate pattern general\n";
+    for (rest, said) in [
+        ("1 2 0\n", "not-square at line 2"),
+        ("2 2 1\n", "too-few at line 3"),
+        ("1000001 1000001 0\n", "limit order"),
+    ] {
+        let text = format!(in rt.alloc(); "{banner}{rest}")?;
+        let refusal = read_pattern(rt.alloc(), text.as_bytes()).err().ok_or(rest)?;
+        assert_eq!(rt; format!(in rt.alloc(); "{refusal}")?.as_str(), said);
     }
     Ok(())
 }

@@ -1,0 +1,7 @@
+/// What the reader of a matrix file expects next.
+#[derive(Clone, Copy, Debug, PartialEq, Eq)]
+pub enum Stage {
+    Banner,
+    Size,
+    Entries,
+}
