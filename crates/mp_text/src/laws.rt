@@ -9,7 +9,7 @@ ghost use Rattle.mp_text.specs.declared.refusals.Refusal.{Refusal};
 ghost use Rattle.mp_text.specs.Text.{Row, number_of, numbers_of, signed_of};
 ghost use Rattle.mp_text.specs.Ahead.{rows_of_bytes, past_of_bytes};
 ghost use Rattle.mp_text.specs.Grammar.{Format, IsWellFormed, Refuses};
-ghost use Rattle.mp_text.specs.Report.{is_counted, is_line_start, is_token, line_text, numbered_from, text_of_lines};
+ghost use Rattle.mp_text.specs.Report.{is_counted, is_line_start, is_token, line_text, numbered_from, text_of_lines, with_tokens};
 
 /// Of each format, a file is well formed or refused, never both, and its refusal is one.
 pub fn exactly_one<K>()
