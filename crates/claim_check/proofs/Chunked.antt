@@ -4,7 +4,7 @@ use Rattle.std.specs.Prelude.{slice_index_or, is_some}
 use Rattle.std.proofs.lemmas.Bool.{cases_lt}
 use Rattle.sp_terms.specs.declared.position.Position.{Position}
 use Rattle.claim_rules.specs.Claims.{Claim}
-use Rattle.claim_check.specs.Judged.{Passes}
+use Rattle.claim_check.specs.Judged.{PassesAt}
 use Rattle.claim_check.specs.Lowest.{IsLowestFrom, IsLowestIn, AreLowest, IsFirstOf}
 
 -- the chunks cover the whole
@@ -17,7 +17,7 @@ chunks_cover n size h =
 
 module _ (ps : List Position) (f : ℕ → Option Claim) (size : ℕ) (rs : List (Option ℕ)) (each : AreLowest ps f size rs) where
   -- no claim before chunk n fails, where no chunk before it has one that does
-  clean_before : (n : ℕ) → n ≤ length rs → ((m : ℕ) → m < n → slice_index_or rs m None ≡ None) → (k : ℕ) → 1 ≤ k → k ≤ n * size → k ≤ length ps → Passes ps f k
+  clean_before : (n : ℕ) → n ≤ length rs → ((m : ℕ) → m < n → slice_index_or rs m None ≡ None) → (k : ℕ) → 1 ≤ k → k ≤ n * size → k ≤ length ps → PassesAt ps f k
   clean_before zero h none k low l w = absurd (omega arith)
   clean_before (suc n) h none k low l w =
       ⊎_elim
@@ -42,7 +42,7 @@ module _ (ps : List Position) (f : ℕ → Option Claim) (size : ℕ) (rs : List
         ),
       )
 
-from_0 : (ps : List Position) (f : ℕ → Option Claim) → Passes ps f 0 → (k : ℕ) → (1 ≤ k → Passes ps f k) → Passes ps f k
+from_0 : (ps : List Position) (f : ℕ → Option Claim) → PassesAt ps f 0 → (k : ℕ) → (1 ≤ k → PassesAt ps f k) → PassesAt ps f k
 from_0 ps f none zero more = none
 from_0 ps f none (suc k) more = more (omega arith)
 
@@ -54,21 +54,21 @@ lowest_of_term ps f size rs some many each numbers same r first =
     first_of_chunks ps f size rs each covered r (subst (λ l. IsFirstOf l r) same first)
 
 -- a claim that fails at a position of the term comes before those past it
-pub lowest_inside : (ps : List Position) (f : ℕ → Option Claim) → Passes ps f 0 → (r : Option ℕ) → is_some r ≡ true → IsLowestIn ps f 1 (length ps + 1) r → IsLowestFrom ps f 0 r
+pub lowest_inside : (ps : List Position) (f : ℕ → Option Claim) → PassesAt ps f 0 → (r : Option ℕ) → is_some r ≡ true → IsLowestIn ps f 1 (length ps + 1) r → IsLowestFrom ps f 0 r
 lowest_inside ps f none None s h = absurd (apart s)
   where
     apart : false ≡ true → ⊥
     apart e = cc
 lowest_inside ps f none (Some position) s h = (omega arith, h.1.1, λ k low high. from_0 ps f none k (λ one. h.1.2 k one high))
 
-past : (ps : List Position) (f : ℕ → Option Claim) → Passes ps f 0 → IsLowestIn ps f 1 (length ps + 1) None
+past : (ps : List Position) (f : ℕ → Option Claim) → PassesAt ps f 0 → IsLowestIn ps f 1 (length ps + 1) None
     → (r : Option ℕ) → IsLowestFrom ps f (length ps + 1) r → IsLowestFrom ps f 0 r
 past ps f none inside None out = λ k low. from_0 ps f none k (λ one. ⊎_elim (λ early. inside k one early) (λ late. out k late) (cases_lt k (length ps + 1)))
 past ps f none inside (Some position) out =
     (omega arith, out.1, λ k low high. from_0 ps f none k (λ one. ⊎_elim (λ early. inside k one early) (λ late. out.2 k late high) (cases_lt k (length ps + 1))))
 
 -- where none does, the first one past it is the lowest
-pub lowest_outside : (ps : List Position) (f : ℕ → Option Claim) → Passes ps f 0 → (inside : Option ℕ) → is_some inside ≡ false → IsLowestIn ps f 1 (length ps + 1) inside
+pub lowest_outside : (ps : List Position) (f : ℕ → Option Claim) → PassesAt ps f 0 → (inside : Option ℕ) → is_some inside ≡ false → IsLowestIn ps f 1 (length ps + 1) inside
     → (r : Option ℕ) → IsLowestFrom ps f (length ps + 1) r → IsLowestFrom ps f 0 r
 lowest_outside ps f none None s h r out = past ps f none h r out
 lowest_outside ps f none (Some position) s h r out = absurd (apart s)

@@ -9,8 +9,8 @@ use Rattle.sp_terms.specs.Places.{list_of_parts, term_of_position, part_position
 use Rattle.sp_term_laws.specs.Moves.{other}
 use Rattle.claim_rules.specs.Claims.{Claim}
 use Rattle.claim_rules.specs.Placed.{MeetsAt}
-use Rattle.claim_rules.specs.Rules.{Has, MeetsSeries, first_is_stuck, first_is_closed, hill_is_above, last_is_stuck, first_of, last_of, value_in, values_in, HasRoom, HaveRoom, SomeClaim, MeetsPar, MeetsRule}
-use Rattle.claim_check.specs.Judged.{Passes}
+use Rattle.claim_rules.specs.Rules.{Has, MeetsSeries, first_is_stuck, first_is_closed, hill_is_above, last_is_stuck, passed_first, passed_last, value_in, values_in, HasRoom, HaveRoom, SomeClaim, MeetsPar, MeetsRule}
+use Rattle.claim_check.specs.Judged.{PassesAt}
 
 -- the one or the other
 abbrev pub Decided : Type 0 → Type 0
@@ -70,10 +70,10 @@ either_of a b c d out (inr fails) (inr fails2) (inr fails3) (inr fails4) = inr (
     none f g h k (inr (inr (inr x))) = k x
 
 which : (a : Term) (v : Task) (b : Term) (p q : Option Claim) (c : Claim) → MeetsSeries a v b p q c
-    → Has c.direction c.bound c.rest (first_of c.direction p q)
-    ⊎ ((Has (other c.direction) c.bound 0 (first_of c.direction p q) × (c.rest ≤ least_of (first_of c.direction a b)))
-    ⊎ (((c.bound <ℤ pos (hill_of a v b)) × (c.rest ≤ least_of (first_of c.direction a b)))
-    ⊎ (Has c.direction c.bound c.rest (last_of c.direction p q) × (c.rest ≤ least_of (first_of c.direction a b)))))
+    → Has c.direction c.bound c.rest (passed_first c.direction p q)
+    ⊎ ((Has (other c.direction) c.bound 0 (passed_first c.direction p q) × (c.rest ≤ least_of (passed_first c.direction a b)))
+    ⊎ (((c.bound <ℤ pos (hill_of a v b)) × (c.rest ≤ least_of (passed_first c.direction a b)))
+    ⊎ (Has c.direction c.bound c.rest (passed_last c.direction p q) × (c.rest ≤ least_of (passed_first c.direction a b)))))
 which a v b p q c (first_is_stuck h) = inl h
 which a v b p q c (first_is_closed h le) = inr (inl (h, le))
 which a v b p q c (hill_is_above h le) = inr (inr (inl (h, le)))
@@ -81,13 +81,13 @@ which a v b p q c (last_is_stuck h le) = inr (inr (inr (h, le)))
 
 meets_series : (a : Term) (v : Task) (b : Term) (p q : Option Claim) (c : Claim) → Decided (MeetsSeries a v b p q c)
 meets_series a v b p q c =
-    let low = at_most c.rest (least_of (first_of c.direction a b)) in
+    let low = at_most c.rest (least_of (passed_first c.direction a b)) in
     either_of (λ h. first_is_stuck h) (λ h. first_is_closed h.0 h.1) (λ h. hill_is_above h.0 h.1) (λ h. last_is_stuck h.0 h.1)
     (which a v b p q c)
-    (has c.direction c.bound c.rest (first_of c.direction p q))
-    (both (has (other c.direction) c.bound 0 (first_of c.direction p q)) low)
+    (has c.direction c.bound c.rest (passed_first c.direction p q))
+    (both (has (other c.direction) c.bound 0 (passed_first c.direction p q)) low)
     (both (below_z c.bound (pos (hill_of a v b))) low)
-    (both (has c.direction c.bound c.rest (last_of c.direction p q)) low)
+    (both (has c.direction c.bound c.rest (passed_last c.direction p q)) low)
 
 -- ---- parts side by side
 
@@ -123,17 +123,17 @@ meets_rule (par ts) cs c = meets_par (list_of_parts ts) cs c
 
 -- ---- a position
 
-pub passes : (ps : List Position) (f : ℕ → Option Claim) (k : ℕ) → Decided (Passes ps f k)
+pub passes : (ps : List Position) (f : ℕ → Option Claim) (k : ℕ) → Decided (PassesAt ps f k)
 passes ps f k = at (f k) refl
   where
     none : {A : Type 0} {x : A} → None ≡ Some x → ⊥
     none e = cc
 
-    at : (o : Option Claim) → f k ≡ o → Decided (Passes ps f k)
+    at : (o : Option Claim) → f k ≡ o → Decided (PassesAt ps f k)
     at None e = inl (λ c is. absurd (none (sym e ∙ is)))
     at (Some c) e = of_claim c e (both (at_most 1 k) (both (at_most k (length ps)) (meets_rule (term_of_position ps k) (map f (part_positions k (term_of_position ps k))) c)))
       where
-        of_claim : (c : Claim) → f k ≡ Some c → Decided ((1 ≤ k) × ((k ≤ length ps) × MeetsAt ps f k c)) → Decided (Passes ps f k)
+        of_claim : (c : Claim) → f k ≡ Some c → Decided ((1 ≤ k) × ((k ≤ length ps) × MeetsAt ps f k c)) → Decided (PassesAt ps f k)
         of_claim c e (inl h) = inl (λ d is. subst (λ x. (1 ≤ k) × (k ≤ length ps) × MeetsAt ps f k x) (some_same (sym e ∙ is)) (h.0, h.1.0, h.1.1))
         of_claim c e (inr fails) = inr (λ pass. let p = pass c e in fails (p.0, (p.1, p.2)))
 

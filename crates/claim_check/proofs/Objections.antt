@@ -13,7 +13,7 @@ use Rattle.claim_rules.specs.Claims.{Claim as RuleClaim}
 use Rattle.plan_text.specs.declared.claim.Claim.{Claim}
 use Rattle.plan_text.specs.Plan.{PlanText, claim_at}
 use Rattle.claim_check.specs.Accepted.{HasRoot, IsAccepted, IsObjection}
-use Rattle.claim_check.specs.Judged.{Passes}
+use Rattle.claim_check.specs.Judged.{PassesAt}
 use Rattle.claim_check.specs.Shapes.{shape_at}
 use Rattle.claim_check.specs.declared.objection.Objection.{Objection}
 use Rattle.claim_check.specs.declared.objection.Objection.TheVariants as objections
@@ -39,11 +39,11 @@ none_above (c ∷ cs) k lt =
 
 -- all claims pass, or one is the lowest that does not
 all_or_lowest : (ps : List Position) (cs : List Claim)
-    → ((k : ℕ) → Passes ps (claim_at cs) k) ⊎ ((m : ℕ) × (Passes ps (claim_at cs) m → ⊥) × ((k : ℕ) → k < m → Passes ps (claim_at cs) k))
-all_or_lowest ps cs = go (search_below (Passes ps (claim_at cs)) (passes ps (claim_at cs)) (top cs + 1))
+    → ((k : ℕ) → PassesAt ps (claim_at cs) k) ⊎ ((m : ℕ) × (PassesAt ps (claim_at cs) m → ⊥) × ((k : ℕ) → k < m → PassesAt ps (claim_at cs) k))
+all_or_lowest ps cs = go (search_below (PassesAt ps (claim_at cs)) (passes ps (claim_at cs)) (top cs + 1))
   where
-    go : ((k : ℕ) → k < top cs + 1 → Passes ps (claim_at cs) k) ⊎ ((m : ℕ) × (m < top cs + 1) × (Passes ps (claim_at cs) m → ⊥) × ((k : ℕ) → k < m → Passes ps (claim_at cs) k))
-        → ((k : ℕ) → Passes ps (claim_at cs) k) ⊎ ((m : ℕ) × (Passes ps (claim_at cs) m → ⊥) × ((k : ℕ) → k < m → Passes ps (claim_at cs) k))
+    go : ((k : ℕ) → k < top cs + 1 → PassesAt ps (claim_at cs) k) ⊎ ((m : ℕ) × (m < top cs + 1) × (PassesAt ps (claim_at cs) m → ⊥) × ((k : ℕ) → k < m → PassesAt ps (claim_at cs) k))
+        → ((k : ℕ) → PassesAt ps (claim_at cs) k) ⊎ ((m : ℕ) × (PassesAt ps (claim_at cs) m → ⊥) × ((k : ℕ) → k < m → PassesAt ps (claim_at cs) k))
     go (inl all) = inl (λ k. ⊎_elim (λ low. all k low) (λ high. passes_without ps cs k (none_above cs k (omega arith))) (cases_lt k (top cs + 1)))
     go (inr h) = inr (h.0, h.2, h.3)
 
@@ -74,7 +74,7 @@ pub accepted_or_objected : FaultLaw → (system : TaskSystem) (ps : List Positio
 accepted_or_objected law system ps plan = by_order (first_fault system plan.order) refl
   where
     by_claims : IsTraversal system plan.order → peak_of system plan.order ≡ plan.peak → HasRoot ps plan
-        → ((k : ℕ) → Passes ps (claim_at plan.claims) k) ⊎ ((m : ℕ) × (Passes ps (claim_at plan.claims) m → ⊥) × ((k : ℕ) → k < m → Passes ps (claim_at plan.claims) k))
+        → ((k : ℕ) → PassesAt ps (claim_at plan.claims) k) ⊎ ((m : ℕ) × (PassesAt ps (claim_at plan.claims) m → ⊥) × ((k : ℕ) → k < m → PassesAt ps (claim_at plan.claims) k))
         → IsAccepted system ps plan ⊎ SomeObjection system ps plan
     by_claims traversal peak root (inl all) = inl (record { traversal = traversal; peak = peak; root = root; claims = all })
     by_claims traversal peak root (inr h) = inr (objections.Claim h.0 (shape_at ps h.0), (traversal, peak, root, h.2, h.1, refl))
@@ -143,7 +143,7 @@ one_objection law system ps plan (objections.Claim k s) (objections.Order f) o p
 one_objection law system ps plan (objections.Claim k s) (objections.Peak r q) o p = absurd (p.3 (sym p.1 ∙ o.1 ∙ p.2))
 one_objection law system ps plan (objections.Claim k s) (objections.Root l) o p = absurd (p.3 o.2)
 one_objection law system ps plan (objections.Claim k s) (objections.Claim m t) o p =
-    let at : k ≡ m = same_lowest (Passes ps (claim_at plan.claims)) k m o.3 o.4 p.3 p.4 in
+    let at : k ≡ m = same_lowest (PassesAt ps (claim_at plan.claims)) k m o.3 o.4 p.3 p.4 in
     let shape : s ≡ t = sym o.5 ∙ ap (shape_at ps) at ∙ p.5 in
     λ i. objections.Claim (at i) (shape i)
 

@@ -7,7 +7,7 @@ use Rattle.claim_rules.specs.Claims.{Claim as RuleClaim}
 use Rattle.plan_text.specs.declared.claim.Claim.{Claim}
 use Rattle.plan_text.specs.Plan.{claim_of, claim_at, RiseFrom}
 use Rattle.claim_check.specs.Claimed.{Claimed}
-use Rattle.claim_check.specs.Judged.{Passes}
+use Rattle.claim_check.specs.Judged.{PassesAt}
 use Rattle.claim_check.specs.Lowest.{IsLowestFrom}
 use Rattle.claim_check.proofs.Table.{some_claim, bool_cases, none_before}
 
@@ -18,14 +18,14 @@ within : (k n : ℕ) → 1 ≤ k → k ≤ n → (nat_le 1 k && nat_le k n) ≡ 
 within k n low high = grind arith
 
 pub claimed : (ps : List Position) (cs : List Claim) (k : ℕ) → (nat_le 1 k && nat_le k (length ps)) ≡ false
-    → list_any (λ (c : Claim). c.position == k) cs ≡ true → Passes ps (claim_at cs) k → ⊥
+    → list_any (λ (c : Claim). c.position == k) cs ≡ true → PassesAt ps (claim_at cs) k → ⊥
 claimed ps cs k out some pass = go (claim_at cs k) refl (sym (some_claim cs k) ∙ some)
   where
     go : (o : Option RuleClaim) → claim_at cs k ≡ o → is_some o ≡ true → ⊥
     go None e s = cc
     go (Some c) e s = let p = pass c e in let w = within k (length ps) p.0 p.1 in cc (w, out)
 
-pub unclaimed : (ps : List Position) (cs : List Claim) (k : ℕ) → list_any (λ (c : Claim). c.position == k) cs ≡ false → Passes ps (claim_at cs) k
+pub unclaimed : (ps : List Position) (cs : List Claim) (k : ℕ) → list_any (λ (c : Claim). c.position == k) cs ≡ false → PassesAt ps (claim_at cs) k
 unclaimed ps cs k none c e = absurd (apart (sym none ∙ some_claim cs k ∙ ap is_some e))
   where
     apart : false ≡ true → ⊥
@@ -33,7 +33,7 @@ unclaimed ps cs k none c e = absurd (apart (sym none ∙ some_claim cs k ∙ ap 
 
 -- ---- the first claim past a position
 
-pub passes_without : (ps : List Position) (cs : List Claim) (k : ℕ) → claim_at cs k ≡ None → Passes ps (claim_at cs) k
+pub passes_without : (ps : List Position) (cs : List Claim) (k : ℕ) → claim_at cs k ≡ None → PassesAt ps (claim_at cs) k
 passes_without ps cs k none c e = absurd (some_none (sym e ∙ none))
 
 -- what stands past `last`: nothing, or a claim first
@@ -85,5 +85,5 @@ first_outside_of view cs last same rise is r e =
     first_outside view.positions view.claims last rise is r
     (e ∙ ap (λ l. option_map (λ (c : Claim). c.position) (find (λ (c : Claim). nat_lt last c.position) l)) (sym same))
 
-pub passes_0 : (ps : List Position) (cs : List Claim) → RiseFrom 0 cs → Passes ps (claim_at cs) 0
+pub passes_0 : (ps : List Position) (cs : List Claim) → RiseFrom 0 cs → PassesAt ps (claim_at cs) 0
 passes_0 ps cs rise = passes_without ps cs 0 (none_before 0 cs 0 rise (omega arith))

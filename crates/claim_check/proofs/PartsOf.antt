@@ -5,31 +5,31 @@ use Rattle.std.proofs.lemmas.List.{get_or-map, length-map}
 use Rattle.std.proofs.lemmas.List.Elements.{All-get_or}
 use Rattle.mp_system.specs.declared.system.Task.{Task}
 use Rattle.sp_terms.specs.Term.{Term, hold, series, par, Parts, no_parts, part, width_of, width_of_parts, count}
-use Rattle.sp_terms.specs.Places.{list_of_parts, ends_after, parts_of, part_positions}
+use Rattle.sp_terms.specs.Places.{list_of_parts, positions_after, parts_of, part_positions}
 use Rattle.claim_rules.specs.Claims.{Claim}
 
 pub widths : List Term → ℕ
 widths [] = 0
 widths (t ∷ ts) = width_of t + widths ts
 
-pub length_ends : (before : ℕ) (ts : List Term) → length (ends_after before ts) ≡ length ts
+pub length_ends : (before : ℕ) (ts : List Term) → length (positions_after before ts) ≡ length ts
 length_ends before [] = refl
 length_ends before (t ∷ ts) = ap suc (length_ends (before + width_of t) ts)
 
 -- each part ends its width behind the one before it
 ends_next : (before : ℕ) (ts : List Term) (i : ℕ) → suc i < length ts
-    → get_or (ends_after before ts) (suc i) 0 ≡ get_or (ends_after before ts) i 0 + width_of (get_or ts (suc i) (hold 0))
+    → get_or (positions_after before ts) (suc i) 0 ≡ get_or (positions_after before ts) i 0 + width_of (get_or ts (suc i) (hold 0))
 ends_next before [] i lt = absurd (omega arith)
 ends_next before (t ∷ []) i lt = absurd (omega arith)
 ends_next before (t ∷ u ∷ ts) zero lt = refl
 ends_next before (t ∷ u ∷ ts) (suc i) lt = ends_next (before + width_of t) (u ∷ ts) i (omega arith)
 
-ends_wide : (before : ℕ) (ts : List Term) (i : ℕ) → i < length ts → width_of (get_or ts i (hold 0)) ≤ get_or (ends_after before ts) i 0
+ends_wide : (before : ℕ) (ts : List Term) (i : ℕ) → i < length ts → width_of (get_or ts i (hold 0)) ≤ get_or (positions_after before ts) i 0
 ends_wide before [] i lt = absurd (omega arith)
 ends_wide before (t ∷ ts) zero lt = omega arith
 ends_wide before (t ∷ ts) (suc i) lt = ends_wide (before + width_of t) ts i (omega arith)
 
-pub ends_last : (before : ℕ) (ts : List Term) (i : ℕ) → suc i ≡ length ts → get_or (ends_after before ts) i 0 ≡ before + widths ts
+pub ends_last : (before : ℕ) (ts : List Term) (i : ℕ) → suc i ≡ length ts → get_or (positions_after before ts) i 0 ≡ before + widths ts
 unfolding widths
 ends_last before [] i e = absurd (omega arith)
 ends_last before (t ∷ []) zero e = omega arith
@@ -49,7 +49,7 @@ length_parts (part t ts) = ap suc (length_parts ts)
 -- so many parts are left, and the last of them stands here
 pub record Walk (before : ℕ) (ts : List Term) (left here : ℕ) : Type 0 where
   pub few : left ≤ length ts
-  pub stands : 0 < left → here ≡ get_or (ends_after before ts) (left - 1) 0
+  pub stands : 0 < left → here ≡ get_or (positions_after before ts) (left - 1) 0
 
 -- the part that stands here, and what comes before it
 pub record Step (term : ℕ → Term) (k before : ℕ) (ts : List Term) (left here : ℕ) : Type 0 where
@@ -57,13 +57,13 @@ pub record Step (term : ℕ → Term) (k before : ℕ) (ts : List Term) (left he
   pub high : here < k
   pub room : width_of (term here) ≤ here
   pub terms : drop (left - 1) ts ≡ term here ∷ drop left ts
-  pub claims : (f : ℕ → Option Claim) → drop (left - 1) (map f (ends_after before ts)) ≡ f here ∷ drop left (map f (ends_after before ts))
+  pub claims : (f : ℕ → Option Claim) → drop (left - 1) (map f (positions_after before ts)) ≡ f here ∷ drop left (map f (positions_after before ts))
   pub walk : Walk before ts (left - 1) (here - width_of (term here))
 
-pub step : (term : ℕ → Term) (k before : ℕ) (ts : List Term) (left here : ℕ) → map term (ends_after before ts) ≡ ts
-    → All (λ j. (1 ≤ j) × (j < k)) (ends_after before ts) → 0 < left → Walk before ts left here → Step term k before ts left here
+pub step : (term : ℕ → Term) (k before : ℕ) (ts : List Term) (left here : ℕ) → map term (positions_after before ts) ≡ ts
+    → All (λ j. (1 ≤ j) × (j < k)) (positions_after before ts) → 0 < left → Walk before ts left here → Step term k before ts left here
 step term k before ts left here are within some w =
-    let ends = ends_after before ts in
+    let ends = positions_after before ts in
     let lens : length ends ≡ length ts = length_ends before ts in
     let lt : left - 1 < length ts = omega (arith, w.few) in
     let lt_ends : left - 1 < length ends = omega arith in
@@ -98,12 +98,12 @@ pub first_step : (k : ℕ) (t : Term) → width_of t ≡ suc (widths (parts_of t
 first_step k t wide within =
     let before = k - width_of t in
     let ts = parts_of t in
-    let lens : length (ends_after before ts) ≡ length ts = length_ends before ts in
+    let lens : length (positions_after before ts) ≡ length ts = length_ends before ts in
     record {
       few = omega arith;
       stands = λ some.
           let last = ends_last before ts (length ts - 1) (omega arith) in
-          let low = All-get_or (λ j. (1 ≤ j) × (j < k)) (ends_after before ts) (length ts - 1) 0 (omega arith) within in
+          let low = All-get_or (λ j. (1 ≤ j) × (j < k)) (positions_after before ts) (length ts - 1) 0 (omega arith) within in
           omega (arith, last, low.1, wide);
     }
 
@@ -113,9 +113,3 @@ width_of_par ts = ap suc (sym (widths_of_parts ts))
 pub width_of_series : (a : Term) (v : Task) (b : Term) → width_of (series a v b) ≡ suc (widths (parts_of (series a v b)))
 unfolding widths
 width_of_series a v b = omega arith
-
-pub drop_end : {A : Type 0} (n : ℕ) (xs : List A) → length xs ≤ n → drop n xs ≡ []
-drop_end zero [] le = refl
-drop_end zero (x ∷ xs) le = absurd (omega arith)
-drop_end (suc n) [] le = refl
-drop_end (suc n) (x ∷ xs) le = drop_end n xs (omega arith)

@@ -7,14 +7,14 @@ use Rattle.mp_system.specs.declared.system.Task.{Task}
 use Rattle.sp_terms.specs.declared.position.Position.{Position}
 use Rattle.sp_terms.specs.declared.position.Position.TheVariants.{Hold, Par}
 use Rattle.sp_terms.specs.Postfix.{at_task}
-use Rattle.sp_terms.specs.Term.{Term, series, width_of, initial_of, IsAllowed}
+use Rattle.sp_terms.specs.Term.{Term, series, width_of, initial_of, final_of, IsAllowed}
 use Rattle.sp_terms.specs.Places.{term_of_position, part_positions, parts_of, IsTermAt}
 use Rattle.claim_rules.specs.Claims.{Claim}
-use Rattle.claim_rules.specs.Placed.{MeetsAt}
+use Rattle.limits.specs.Limits.{most_total}
+use Rattle.claim_rules.specs.Placed.{MeetsAt, claims_at}
 use Rattle.claim_rules.specs.Rules.{values_in, HaveRoom, SomeClaim, MeetsRule, MeetsData, MeetsSeries, MeetsPar}
-use Rattle.claim_check.specs.Judged.{parts_at, claims_at}
-use Rattle.sp_terms.specs.Values.{IsTerms}
-use Rattle.claim_check.proofs.Sums.{Placed, PositionLaws, placed_by, own_by}
+use Rattle.claim_check.specs.Judgeable.{IsPlaced, parts_at}
+use Rattle.claim_check.proofs.Sums.{own_at}
 
 pub not_true : (b : Bool) → not b ≡ true → b ≡ false
 not_true true e = cc
@@ -33,10 +33,11 @@ pub record SeriesAt (ps : List Position) (k : ℕ) (v : Task) : Type 0 where
   pub last_is : term_of_position ps (k - 1) ≡ last
   pub first_is : term_of_position ps (k - 1 - width_of last) ≡ first
   pub share : v.share ≤ v.extra + initial_of last
+  pub small : final_of first + (v.extra + initial_of last) ≤ most_total
   pub ends : part_positions k (series first v last) ≡ (k - 1 - width_of last) ∷ (k - 1) ∷ []
 
-pub series_at : (ps : List Position) (k : ℕ) (v : Task) → Placed ps k → IsAllowed (term_of_position ps k) → IsTermAt (at_task v) (term_of_position ps k) → SeriesAt ps k v
-series_at ps k v p allowed (a, b, is) =
+series_of : (ps : List Position) (k : ℕ) (v : Task) → IsPlaced ps k → IsTermAt (at_task v) (term_of_position ps k) → SeriesAt ps k v
+series_of ps k v p (a, b, is) =
     let before = k - suc (width_of a + width_of b) in
     let parts : map (term_of_position ps) (part_positions k (series a v b)) ≡ a ∷ b ∷ [] =
     subst (λ t. map (term_of_position ps) (part_positions k t) ≡ parts_of t) is p.parts in
@@ -46,7 +47,7 @@ series_at ps k v p allowed (a, b, is) =
     let two : (1 ≤ before + width_of a + width_of b) × (before + width_of a + width_of b < k) = All-get_or (λ j. (1 ≤ j) × (j < k)) (part_positions k (series a v b)) 1 0 (omega arith) within in
     let last_place : before + width_of a + width_of b ≡ k - 1 = omega (arith, one, two) in
     let first_place : before + width_of a ≡ k - 1 - width_of b = omega (arith, one, two) in
-    let fits = subst IsAllowed is allowed in
+    let fits = subst IsAllowed is p.allowed in
     record {
       first = a;
       last = b;
@@ -55,6 +56,7 @@ series_at ps k v p allowed (a, b, is) =
       last_is = ap (term_of_position ps) (sym last_place) ∙ second parts;
       first_is = ap (term_of_position ps) (sym first_place) ∙ head parts;
       share = fits.1;
+      small = p.small a v b is;
       ends = λ i. first_place i ∷ last_place i ∷ [];
     }
   where
@@ -64,8 +66,8 @@ series_at ps k v p allowed (a, b, is) =
     second : {x y z w : Term} → x ∷ y ∷ [] ≡ z ∷ w ∷ [] → y ≡ w
     second e = cc
 
-pub series_by : PositionLaws → (ps : List Position) (k : ℕ) (v : Task) → IsTerms ps → (1 ≤ k) × (k ≤ length ps) → ((d : Position) → get_or ps (k - 1) d ≡ at_task v) → SeriesAt ps k v
-series_by laws ps k v terms at is = series_at ps k v (placed_by laws ps k terms at) (laws.allowed ps k terms at.0 at.1) (own_by laws ps k terms at (at_task v) is)
+pub series_at : (ps : List Position) (k : ℕ) (v : Task) → IsPlaced ps k → ((d : Position) → get_or ps (k - 1) d ≡ at_task v) → SeriesAt ps k v
+series_at ps k v placed is = series_of ps k v placed (own_at ps k placed (at_task v) is)
 
 pub series_judged : (ps : List Position) (k : ℕ) (v : Task) (s : SeriesAt ps k v) (f : ℕ → Option Claim) (c : Claim) (answer : Bool) (p q : Option Claim)
     → p ≡ f (k - 1 - width_of s.last) → q ≡ f (k - 1) → IsTrue answer ↔ MeetsSeries s.first v s.last p q c → IsTrue answer ↔ MeetsAt ps f k c

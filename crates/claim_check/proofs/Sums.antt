@@ -3,32 +3,18 @@ use Rattle.std.proofs.Common.{◌≡◌, refl, sym, ap, ◌∙◌, subst, ℕ, z
 use Rattle.std.specs.Prelude.{◌↔◌, ◌||◌, is_some, ℤ}
 use Rattle.sp_terms.specs.declared.position.Position.{Position}
 use Rattle.sp_terms.specs.declared.position.Position.TheVariants.{Par}
-use Rattle.sp_terms.specs.Term.{Term, width_of, Direction, IsAllowed}
-use Rattle.sp_terms.specs.Values.{IsTerms}
+use Rattle.sp_terms.specs.Term.{Term, width_of, Direction}
 use Rattle.sp_terms.specs.Places.{term_of_position, part_positions, parts_of, IsTermAt}
-use Rattle.std.proofs.lemmas.List.{length-map}
+use Rattle.std.proofs.lemmas.List.{length-map, drop_all}
 use Rattle.claim_rules.specs.Claims.{Claim}
 use Rattle.claim_rules.specs.Rules.{values_in, value_in, HaveRoom, HasRoom, SomeClaim}
-use Rattle.claim_check.specs.Judged.{parts_at, claims_at}
-use Rattle.claim_check.proofs.PartsOf.{Walk, Step, step, first_step, width_of_par, length_ends, length_parts, drop_end}
-
--- what the laws of positions say at a position
-pub record Placed (ps : List Position) (k : ℕ) : Type 0 where
-  pub parts : map (term_of_position ps) (part_positions k (term_of_position ps k)) ≡ parts_at ps k
-  pub before : All (λ j. (1 ≤ j) × (j < k)) (part_positions k (term_of_position ps k))
-
-pub record PositionLaws : Type 0 where
-  pub parts : (ps : List Position) (k : ℕ) → IsTerms ps → 1 ≤ k → k ≤ length ps → map (term_of_position ps) (part_positions k (term_of_position ps k)) ≡ parts_of (term_of_position ps k)
-  pub before : (ps : List Position) (k : ℕ) → IsTerms ps → 1 ≤ k → k ≤ length ps → All (λ j. (1 ≤ j) × (j < k)) (part_positions k (term_of_position ps k))
-  pub own : (ps : List Position) (k : ℕ) (d : Position) → IsTerms ps → 1 ≤ k → k ≤ length ps → IsTermAt (get_or ps (k - 1) d) (term_of_position ps k)
-  pub allowed : (ps : List Position) (k : ℕ) → IsTerms ps → 1 ≤ k → k ≤ length ps → IsAllowed (term_of_position ps k)
-
-pub placed_by : PositionLaws → (ps : List Position) (k : ℕ) → IsTerms ps → (1 ≤ k) × (k ≤ length ps) → Placed ps k
-placed_by laws ps k terms at = record { parts = laws.parts ps k terms at.0 at.1; before = laws.before ps k terms at.0 at.1 }
+use Rattle.claim_rules.specs.Placed.{claims_at}
+use Rattle.claim_check.specs.Judgeable.{IsPlaced, parts_at}
+use Rattle.claim_check.proofs.PartsOf.{widths, Walk, Step, step, first_step, width_of_par, length_ends, length_parts}
 
 -- the term is what the position says
-pub own_by : PositionLaws → (ps : List Position) (k : ℕ) → IsTerms ps → (1 ≤ k) × (k ≤ length ps) → (p : Position) → ((d : Position) → get_or ps (k - 1) d ≡ p) → IsTermAt p (term_of_position ps k)
-own_by laws ps k terms at p is = subst (λ q. IsTermAt q (term_of_position ps k)) (is (Par 0)) (laws.own ps k (Par 0) terms at.0 at.1)
+pub own_at : (ps : List Position) (k : ℕ) → IsPlaced ps k → (p : Position) → ((d : Position) → get_or ps (k - 1) d ≡ p) → IsTermAt p (term_of_position ps k)
+own_at ps k placed p is = subst (λ q. IsTermAt q (term_of_position ps k)) (is (Par 0)) (placed.own (Par 0))
 
 -- the walk through the parts at a position
 abbrev pub WalkAt : List Position → ℕ → ℕ → ℕ → Type 0
@@ -37,27 +23,27 @@ WalkAt ps k left here = Walk (k - width_of (term_of_position ps k)) (parts_at ps
 abbrev pub StepAt : List Position → ℕ → ℕ → ℕ → Type 0
 StepAt ps k left here = Step (term_of_position ps) k (k - width_of (term_of_position ps k)) (parts_at ps k) left here
 
-pub step_at : (ps : List Position) (k left here : ℕ) → Placed ps k → 0 < left → WalkAt ps k left here → StepAt ps k left here
+pub step_at : (ps : List Position) (k left here : ℕ) → IsPlaced ps k → 0 < left → WalkAt ps k left here → StepAt ps k left here
 step_at ps k left here p some w = step (term_of_position ps) k (k - width_of (term_of_position ps k)) (parts_at ps k) left here p.parts p.before some w
 
 -- the term at this position is a `par` of so many
 pub record ParAt (ps : List Position) (k parts : ℕ) : Type 0 where
-  pub placed : Placed ps k
+  pub placed : IsPlaced ps k
   pub many : length (parts_at ps k) ≡ parts
   pub walk : WalkAt ps k parts (k - 1)
 
-pub par_at : (ps : List Position) (k parts : ℕ) → Placed ps k → IsTermAt (Par parts) (term_of_position ps k) → ParAt ps k parts
-par_at ps k parts p (ts, n, is) =
-    let many : length (parts_at ps k) ≡ parts = ap (λ t. length (parts_of t)) is ∙ length_parts ts ∙ n in
-    let wide : width_of (term_of_position ps k) ≡ _ = subst (λ t. width_of t ≡ suc (Rattle.claim_check.proofs.PartsOf.widths (parts_of t))) (sym is) (width_of_par ts) in
-    record {
-      placed = p;
-      many = many;
-      walk = subst (λ n. WalkAt ps k n (k - 1)) many (first_step k (term_of_position ps k) wide p.before);
-    }
-
-pub par_by : PositionLaws → (ps : List Position) (k parts : ℕ) → IsTerms ps → (1 ≤ k) × (k ≤ length ps) → ((d : Position) → get_or ps (k - 1) d ≡ Par parts) → ParAt ps k parts
-par_by laws ps k parts terms at is = par_at ps k parts (placed_by laws ps k terms at) (own_by laws ps k terms at (Par parts) is)
+pub par_at : (ps : List Position) (k parts : ℕ) → IsPlaced ps k → ((d : Position) → get_or ps (k - 1) d ≡ Par parts) → ParAt ps k parts
+par_at ps k parts placed at = go (own_at ps k placed (Par parts) at)
+  where
+    go : IsTermAt (Par parts) (term_of_position ps k) → ParAt ps k parts
+    go (ts, n, is) =
+        let many : length (parts_at ps k) ≡ parts = ap (λ t. length (parts_of t)) is ∙ length_parts ts ∙ n in
+        let wide = subst (λ t. width_of t ≡ suc (widths (parts_of t))) (sym is) (width_of_par ts) in
+        record {
+          placed = placed;
+          many = many;
+          walk = subst (λ m. WalkAt ps k m (k - 1)) many (first_step k (term_of_position ps k) wide placed.before);
+        }
 
 claims_len : (ps : List Position) (f : ℕ → Option Claim) (k : ℕ) → length (claims_at ps f k) ≡ length (parts_at ps k)
 claims_len ps f k = length-map (part_positions k (term_of_position ps k)) f ∙ length_ends (k - width_of (term_of_position ps k)) (parts_at ps k)
@@ -72,8 +58,8 @@ pub record Summed (ps : List Position) (f : ℕ → Option Claim) (d : Direction
 
 pub summed_none : (ps : List Position) (f : ℕ → Option Claim) (d : Direction) (k parts : ℕ) → ParAt ps k parts → Summed ps f d k parts parts (k - 1) 0 false
 summed_none ps f d k parts p =
-    let none : drop parts (parts_at ps k) ≡ [] = drop_end parts (parts_at ps k) (omega (arith, p.many)) in
-    let no_claims : drop parts (claims_at ps f k) ≡ [] = drop_end parts (claims_at ps f k) (omega (arith, p.many, claims_len ps f k)) in
+    let none : drop parts (parts_at ps k) ≡ [] = drop_all parts (parts_at ps k) (omega (arith, p.many)) in
+    let no_claims : drop parts (claims_at ps f k) ≡ [] = drop_all parts (claims_at ps f k) (omega (arith, p.many, claims_len ps f k)) in
     record {
       walk = p.walk;
       is = ap (λ ts. values_in d ts (drop parts (claims_at ps f k))) (sym none);
@@ -81,7 +67,7 @@ summed_none ps f d k parts p =
       small = omega arith;
     }
 
-pub summed_more : (ps : List Position) (f : ℕ → Option Claim) (d : Direction) (k parts left here total : ℕ) (some : Bool) → Placed ps k → 0 < left
+pub summed_more : (ps : List Position) (f : ℕ → Option Claim) (d : Direction) (k parts left here total : ℕ) (some : Bool) → IsPlaced ps k → 0 < left
     → Summed ps f d k parts left here total some → (width value : ℕ) (claim : Option Claim) → width ≡ width_of (term_of_position ps here)
     → claim ≡ f here → value ≡ value_in d (term_of_position ps here) claim → value < 2 ^ 64
     → Summed ps f d k parts (left - 1) (here - width) (total + value) (some || is_some claim)
@@ -115,14 +101,14 @@ pub record Roomy (ps : List Position) (f : ℕ → Option Claim) (d : Direction)
 
 pub roomy_none : (ps : List Position) (f : ℕ → Option Claim) (d : Direction) (bound : ℤ) (total k parts : ℕ) → ParAt ps k parts → Roomy ps f d bound total k parts (k - 1)
 roomy_none ps f d bound total k parts p =
-    let none : drop parts (parts_at ps k) ≡ [] = drop_end parts (parts_at ps k) (omega (arith, p.many)) in
+    let none : drop parts (parts_at ps k) ≡ [] = drop_all parts (parts_at ps k) (omega (arith, p.many)) in
     record {
       walk = p.walk;
       have = subst (λ ts. HaveRoom d bound total ts (drop parts (claims_at ps f k))) (sym none) tt;
     }
 
 -- the part that stands here has room
-pub roomy_more : (ps : List Position) (f : ℕ → Option Claim) (d : Direction) (bound : ℤ) (total k left here : ℕ) → Placed ps k → 0 < left
+pub roomy_more : (ps : List Position) (f : ℕ → Option Claim) (d : Direction) (bound : ℤ) (total k left here : ℕ) → IsPlaced ps k → 0 < left
     → Roomy ps f d bound total k left here → HasRoom bound (total - value_in d (term_of_position ps here) (f here)) (f here)
     → Roomy ps f d bound total k (left - 1) (here - width_of (term_of_position ps here))
 roomy_more ps f d bound total k left here p more r room =
@@ -142,6 +128,25 @@ from_end d bound total (suc n) [] (c ∷ cs) e h = tt
 from_end d bound total (suc n) (t ∷ ts) [] e h = absurd (omega (arith, e))
 from_end d bound total (suc n) (t ∷ ts) (c ∷ cs) e h = from_end d bound total n ts cs (omega (arith, e)) h.1
 
+-- each value is at most the sum
+values_from : (d : Direction) (n : ℕ) (ts : List Term) (cs : List (Option Claim)) → values_in d (drop n ts) (drop n cs) ≤ values_in d ts cs
+values_from d zero ts cs = omega arith
+values_from d (suc n) [] cs = omega arith
+values_from d (suc n) (t ∷ ts) [] = none d (drop n ts)
+  where
+    none : (d : Direction) (ts : List Term) → values_in d ts [] ≤ 0
+    none d [] = omega arith
+    none d (t ∷ ts) = omega arith
+values_from d (suc n) (t ∷ ts) (c ∷ cs) = omega (arith, values_from d n ts cs)
+
+pub value_below : (ps : List Position) (f : ℕ → Option Claim) (d : Direction) (k left here : ℕ) → IsPlaced ps k → 0 < left → WalkAt ps k left here
+    → value_in d (term_of_position ps here) (f here) ≤ values_in d (parts_at ps k) (claims_at ps f k)
+value_below ps f d k left here p more w =
+    let st = step_at ps k left here p more w in
+    let is : values_in d (drop (left - 1) (parts_at ps k)) (drop (left - 1) (claims_at ps f k)) ≡ value_in d (term_of_position ps here) (f here) + values_in d (drop left (parts_at ps k)) (drop left (claims_at ps f k)) =
+    λ i. values_in d (st.terms i) (st.claims f i) in
+    omega (arith, is, values_from d (left - 1) (parts_at ps k) (claims_at ps f k))
+
 -- the room of a part by its value
 pub room_same : (bound : ℤ) (d : Direction) (t : Term) (total others value : ℕ) (p q : Option Claim) → others ≡ total - value → value ≡ value_in d t p → p ≡ q
     → HasRoom bound others p ↔ HasRoom bound (total - value_in d t q) q
@@ -150,7 +155,7 @@ room_same bound d t total others value p q others_is value_is same =
     (subst (λ n. HasRoom bound others p ↔ HasRoom bound n p) (others_is ∙ ap (λ v. total - v) value_is) ((λ h. h), (λ h. h)))
 
 -- where all have room, so has the part that stands here
-pub room_here : (ps : List Position) (f : ℕ → Option Claim) (d : Direction) (bound : ℤ) (total k left here : ℕ) → Placed ps k → 0 < left
+pub room_here : (ps : List Position) (f : ℕ → Option Claim) (d : Direction) (bound : ℤ) (total k left here : ℕ) → IsPlaced ps k → 0 < left
     → WalkAt ps k left here → HaveRoom d bound total (parts_at ps k) (claims_at ps f k)
     → HasRoom bound (total - value_in d (term_of_position ps here) (f here)) (f here)
 room_here ps f d bound total k left here p more w have =

@@ -5,7 +5,7 @@ use Rattle.std.specs.List.{list_any}
 use Rattle.std.proofs.lemmas.Grind.{common_steps}
 use Rattle.plan_text.specs.declared.claim.Claim.{Claim}
 use Rattle.plan_text.specs.Plan.{claim_of, claim_at, RiseFrom}
-use Rattle.claim_check.specs.Claimed.{IsTable, named_claim, entry_of}
+use Rattle.claim_check.specs.Judgeable.{IsClaimTable, named_claim, entry_of}
 
 -- the claims of the first positions have their entries, and those from `passed` on stand later
 pub record Filled (claims : List Claim) (table : List ℕ) (done passed : ℕ) : Type 0 where
@@ -13,7 +13,7 @@ pub record Filled (claims : List Claim) (table : List ℕ) (done passed : ℕ) :
   pub passed_some : passed ≤ length claims
   pub rising : RiseFrom done (drop passed claims)
   pub later : (k : ℕ) → done < k → claim_at claims k ≡ claim_at (drop passed claims) k
-  pub is : IsTable claims table
+  pub is : IsClaimTable claims table
 
 pub bool_cases : {X : Type 0} (b : Bool) → (b ≡ true → X) → (b ≡ false → X) → X
 bool_cases true f g = f refl
@@ -45,17 +45,18 @@ named_next claims n =
     let back : suc n - 1 ≡ n = omega arith in
     rw more (ap (slice_get claims) back)
 
-more_entries : (claims : List Claim) (table : List ℕ) (e : ℕ) → IsTable claims table
-    → option_map claim_of (named_claim claims e) ≡ claim_at claims (length table + 1) → IsTable claims (table ++ e ∷ [])
-more_entries claims table e is here k lt =
+more_entries : (claims : List Claim) (table : List ℕ) (e : ℕ) → IsClaimTable claims table → e ≤ length claims
+    → option_map claim_of (named_claim claims e) ≡ claim_at claims (length table + 1) → IsClaimTable claims (table ++ e ∷ [])
+more_entries claims table e is few here k lt =
     bool_cases (k == length table)
     (λ s. let t : k ≡ length table = same _ _ s in
     let g : get_or (table ++ e ∷ []) k 0 ≡ e = grind (arith, common_steps) in
-    ap (λ n. option_map claim_of (named_claim claims n)) g ∙ here ∙ ap (λ n. claim_at claims (n + 1)) (sym t))
+    (omega (arith, g, few), ap (λ n. option_map claim_of (named_claim claims n)) g ∙ here ∙ ap (λ n. claim_at claims (n + 1)) (sym t)))
     (λ s. let t : k ≡ length table → ⊥ = other_than _ _ s in
     let l : k < length table = omega (arith, length-append table (e ∷ [])) in
     let g : get_or (table ++ e ∷ []) k 0 ≡ get_or table k 0 = grind (arith, common_steps) in
-    ap (λ n. option_map claim_of (named_claim claims n)) g ∙ is k l)
+    let own = is k l in
+    (omega (arith, g, own.0), ap (λ n. option_map claim_of (named_claim claims n)) g ∙ own.1))
 
 pub filled_none : (claims : List Claim) → RiseFrom 0 claims → Filled claims [] 0 0
 filled_none claims rise = record {
@@ -74,7 +75,7 @@ none_here claims table done passed f rise = record {
   passed_some = f.passed_some;
   rising = rise;
   later = λ k lt. f.later k (omega arith);
-  is = more_entries claims table 0 f.is
+  is = more_entries claims table 0 f.is (omega arith)
       (sym (ap (λ n. claim_at claims (n + 1)) f.len ∙ f.later (done + 1) (omega arith) ∙ none_before (done + 1) (drop passed claims) (done + 1) rise (omega arith)));
 }
 
@@ -94,7 +95,7 @@ one_here claims table done passed f c cs e at =
       passed_some = omega (arith, d.1);
       rising = subst (λ l. RiseFrom (done + 1) l) (sym tail) (subst (λ n. RiseFrom n cs) at rise.1);
       later = λ k lt. f.later k (omega arith) ∙ ap (λ l. claim_at l k) e ∙ passed_by c cs k (λ s. omega arith) ∙ ap (λ l. claim_at l k) (sym tail);
-      is = more_entries claims table (passed + 1) f.is
+      is = more_entries claims table (passed + 1) f.is (omega (arith, d.1))
           (ap (λ n. option_map claim_of (named_claim claims n)) (sym more) ∙ ap (option_map claim_of) (named_next claims passed ∙ d.2)
           ∙ sym here ∙ ap (λ n. claim_at claims (n + 1)) (sym f.len));
     }

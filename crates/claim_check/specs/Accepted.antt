@@ -8,7 +8,7 @@ use Rattle.claim_rules.specs.Claims.{Claim}
 use Rattle.plan_text.specs.Plan.{PlanText, claim_at}
 use Rattle.claim_check.specs.declared.objection.Objection.{Objection}
 use Rattle.claim_check.specs.declared.objection.Objection.TheVariants as objections
-use Rattle.claim_check.specs.Judged.{Passes}
+use Rattle.claim_check.specs.Judged.{PassesAt}
 use Rattle.claim_check.specs.Shapes.{shape_at}
 
 -- a claim on the whole term, which stands at the last position, has a bound of at least the plan's peak less 1
@@ -20,7 +20,7 @@ pub record IsAccepted (system : TaskSystem) (ps : List Position) (plan : PlanTex
   pub traversal : IsTraversal system plan.order
   pub peak : peak_of system plan.order ≡ plan.peak
   pub root : HasRoot ps plan
-  pub claims : (k : ℕ) → Passes ps (claim_at plan.claims) k
+  pub claims : (k : ℕ) → PassesAt ps (claim_at plan.claims) k
 
 -- what is objected to first: the order, the peak, the claim on the whole term, or the lowest claim that fails
 abbrev pub IsObjection : TaskSystem → List Position → PlanText → Objection → Type 0
@@ -31,4 +31,4 @@ IsObjection system ps plan (objections.Root last) =
     IsTraversal system plan.order × (peak_of system plan.order ≡ plan.peak) × (length ps ≡ last) × ¬ (HasRoot ps plan)
 IsObjection system ps plan (objections.Claim position shape) =
     IsTraversal system plan.order × (peak_of system plan.order ≡ plan.peak) × HasRoot ps plan
-    × ((k : ℕ) → k < position → Passes ps (claim_at plan.claims) k) × ¬ (Passes ps (claim_at plan.claims) position) × (shape_at ps position ≡ shape)
+    × ((k : ℕ) → k < position → PassesAt ps (claim_at plan.claims) k) × ¬ (PassesAt ps (claim_at plan.claims) position) × (shape_at ps position ≡ shape)

@@ -1,4 +1,5 @@
 pub mod Claimed
+pub mod Judgeable
 pub mod Shapes
 pub mod Judged
 pub mod Lowest

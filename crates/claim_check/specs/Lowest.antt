@@ -2,17 +2,17 @@
 use Rattle.std.specs.Prelude.{◌≡◌, ℕ, ◌+◌, ◌-◌, ◌*◌, ◌<◌, ◌≤◌, min, length, slice_index_or, List, Option, Some, None}
 use Rattle.sp_terms.specs.declared.position.Position.{Position}
 use Rattle.claim_rules.specs.Claims.{Claim}
-use Rattle.claim_check.specs.Judged.{Passes}
+use Rattle.claim_check.specs.Judged.{PassesAt}
 
 -- the lowest position from one on whose claim fails, if there is one
 abbrev pub IsLowestFrom : List Position → (ℕ → Option Claim) → ℕ → Option ℕ → Type 0
-IsLowestFrom ps claim_at from None = (k : ℕ) → from ≤ k → Passes ps claim_at k
+IsLowestFrom ps claim_at from None = (k : ℕ) → from ≤ k → PassesAt ps claim_at k
 IsLowestFrom ps claim_at from (Some position) =
-    (from ≤ position) × ¬ (Passes ps claim_at position) × ((k : ℕ) → from ≤ k → k < position → Passes ps claim_at k)
+    (from ≤ position) × ¬ (PassesAt ps claim_at position) × ((k : ℕ) → from ≤ k → k < position → PassesAt ps claim_at k)
 
 -- the same, but before another position
 abbrev pub IsLowestIn : List Position → (ℕ → Option Claim) → ℕ → ℕ → Option ℕ → Type 0
-IsLowestIn ps claim_at from to None = (k : ℕ) → from ≤ k → k < to → Passes ps claim_at k
+IsLowestIn ps claim_at from to None = (k : ℕ) → from ≤ k → k < to → PassesAt ps claim_at k
 IsLowestIn ps claim_at from to (Some position) = (position < to) × IsLowestFrom ps claim_at from (Some position)
 
 -- the lowest one of each chunk of so many positions; the first chunk begins at position 1

@@ -1,9 +1,16 @@
 -- What stands at a position, as an objection names it.
-use Rattle.std.specs.Prelude.{ℕ, ◌-◌, ◌&&◌, nat_le, length, List, if◌then◌else◌, slice_index_or}
+use Rattle.std.specs.Prelude.{ℕ, ◌-◌, ◌&&◌, nat_le, length, List, codes, if◌then◌else◌, slice_index_or}
 use Rattle.sp_terms.specs.declared.position.Position.{Position}
 use Rattle.sp_terms.specs.declared.position.Position.TheVariants as at
 use Rattle.claim_check.specs.declared.shape.Shape.{Shape}
 use Rattle.claim_check.specs.declared.shape.Shape.TheVariants as shapes
+
+-- the word for it in reports
+abbrev pub word_of : Shape → List ℕ
+word_of shapes.Hold = codes "data"
+word_of shapes.Series = codes "series"
+word_of shapes.Par = codes "par"
+word_of shapes.Outside = codes "outside"
 
 abbrev pub shape_of : Position → Shape
 shape_of (at.Hold size) = shapes.Hold

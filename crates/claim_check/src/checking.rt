@@ -1,4 +1,5 @@
 ghost use Rattle.std.specs.Prelude.{◌≡◌, ◌≤◌, pos, ◌≤ℤ◌, ◌+ℤ◌, IsTrue, ◌↔◌, IfOk};
+ghost use Rattle.limits.specs.Limits.{most_workers};
 ghost use Rattle.claim_check.specs.Accepted.{HasRoot};
 ghost use Rattle.claim_check.specs.Verdicts.{IsVerdict};
 
@@ -27,7 +28,7 @@ pub fn check<R: Threads + Sync, G: Gate>(
     workers: u32,
     gate: &G,
 ) -> Result<Verdict, NoMemory>
-    requires workers { (1 ≤ workers) × (workers ≤ 4096) }
+    requires workers { (1 ≤ workers) × (workers ≤ most_workers) }
     ensures verdict { IfOk result (λ verdict. IsVerdict system.now terms.now plan.now verdict) }
 {
     let replayed = match replay(alloc, system, plan.order()) {

@@ -1,4 +1,5 @@
 ghost use Rattle.std.specs.Prelude.{◌≡◌, ◌+◌, ◌*◌, ◌/◌, ◌%◌, ◌<◌, ◌≤◌, ◌^◌, min, length, IfOk};
+ghost use Rattle.limits.specs.Limits.{most_positions};
 ghost use Rattle.plan_text.specs.Plan.{claim_at};
 ghost use Rattle.claim_check.specs.Lowest.{IsLowestFrom, IsLowestIn, AreLowest, IsFirstOf};
 
@@ -49,7 +50,7 @@ fn lowest_of_chunks<R: Threads + Sync, G: Gate>(
         view.places(),
         size,
         &|start: usize, places: &[u32]| -> Option<u32>
-            requires { (0 < size) × (start + length places.now ≤ 4000001) }
+            requires { (0 < size) × (start + length places.now ≤ most_positions) }
             ensures { IsLowestIn view.entry.now.positions (claim_at view.entry.now.claims) (start + 1) (start + 1 + length places.now) result }
         {
             gate.enter((start / size) as u32);

@@ -3,8 +3,6 @@
 //! The definitions stand in specs/: `Claimed`, `Shapes`, `Judged`, `Lowest`, `Accepted`, `Verdicts`.
 #![tactic(auto)]
 
-#[cfg(test)]
-mod check_tests;
 mod checking;
 mod chunks;
 mod judge;
@@ -24,7 +22,7 @@ pub use objection::Objection;
 pub use shape::Shape;
 use std::alloc::AllocError;
 pub use verdict::Verdict;
-pub use view::View;
+pub use view::{View, are_claims};
 
-/// No memory was found for what a call had to keep.
+/// Want of memory: an allocation was refused.
 pub type NoMemory = AllocError;

@@ -1,15 +1,14 @@
 ghost use Rattle.std.specs.Prelude.{◌≡◌, ◌≤◌, ◌-◌, ◌^◌, IsTrue, ◌↔◌, length, slice_index_or};
-ghost use Rattle.sp_terms.specs.Values.{IsTerms};
 ghost use Rattle.sp_terms.specs.declared.position.Position.{Position};
 ghost use Rattle.sp_terms.specs.declared.position.Position.TheVariants.{Par};
+ghost use Rattle.claim_rules.specs.Placed.{claims_at};
 ghost use Rattle.claim_rules.specs.Rules.{values_in, HaveRoom, SomeClaim};
 ghost use Rattle.plan_text.specs.Plan.{claim_at, direction_of};
-ghost use Rattle.claim_check.specs.Judged.{parts_at, claims_at};
+ghost use Rattle.claim_check.specs.Judgeable.{IsPlaced, parts_at};
 
 use crate::rules::{has_room, value_in};
 use crate::view::View;
 use plan_text::{Claim, Dir};
-use sp_terms::laws;
 
 /// The parts of a `par` taken together.
 #[derive(Clone, Copy)]
@@ -22,15 +21,14 @@ pub struct Sum {
 
 /// The sum of the values of all parts, from the last one back: each says by its width where the one before it ends.
 pub fn sum_of_parts(view: &View<'_>, position: u32, parts: u32, dir: Dir) -> Sum
-    requires terms { IsTerms view.now.positions }
     requires at { (1 ≤ position) × (position ≤ length view.now.positions) }
+    requires placed { IsPlaced view.now.positions position }
     requires par { (d : Position) → slice_index_or view.now.positions (position - 1) d ≡ Par parts }
     ensures total { result.total ≡
         values_in (direction_of dir) (parts_at view.now.positions position) (claims_at view.now.positions (claim_at view.now.claims) position) }
     ensures some { IsTrue result.some ↔ SomeClaim (claims_at view.now.positions (claim_at view.now.claims) position) }
     ensures small { result.total ≤ 2 ^ 96 }
 {
-    laws::position_law();
     let mut total: u128 = 0;
     let mut some = false;
     let mut here = position - 1;
@@ -45,21 +43,22 @@ pub fn sum_of_parts(view: &View<'_>, position: u32, parts: u32, dir: Dir) -> Sum
     Sum { total, some }
 }
 
-/// Whether each part that has a claim has room for the values of all other parts.
+/// Whether each part that has a claim has room for the values of all other parts, where these are their sum.
 pub fn have_room(view: &View<'_>, position: u32, parts: u32, claim: &Claim, total: u128) -> bool
-    requires terms { IsTerms view.now.positions }
     requires at { (1 ≤ position) × (position ≤ length view.now.positions) }
+    requires placed { IsPlaced view.now.positions position }
     requires par { (d : Position) → slice_index_or view.now.positions (position - 1) d ≡ Par parts }
+    requires sum { total ≡
+        values_in (direction_of claim.now.dir) (parts_at view.now.positions position) (claims_at view.now.positions (claim_at view.now.claims) position) }
     requires small { total ≤ 2 ^ 96 }
     ensures { IsTrue result ↔
         HaveRoom (direction_of claim.now.dir) claim.now.bound total (parts_at view.now.positions position) (claims_at view.now.positions (claim_at view.now.claims) position) }
 {
-    laws::position_law();
     let mut here = position - 1;
     let mut left = parts;
     while left > 0 {
         let part = view.part(here);
-        let others = total.saturating_sub(u128::from(value_in(&part, claim.dir)));
+        let others = total - u128::from(value_in(&part, claim.dir));
         if !has_room(&part, claim, others) {
             return false;
         }

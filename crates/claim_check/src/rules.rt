@@ -1,16 +1,13 @@
-ghost use Rattle.std.specs.Prelude.{◌≡◌, ◌≤◌, ◌+◌, ◌^◌, pos, IsTrue, ◌↔◌, Option, option_map};
+ghost use Rattle.std.specs.Prelude.{◌≡◌, ◌≤◌, ◌^◌, IsTrue, ◌↔◌, Option, option_map};
 ghost use Rattle.mp_system.specs.declared.system.Task.{Task};
 ghost use Rattle.sp_terms.specs.Term.{Term, least_of, hill_of};
 ghost use Rattle.sp_terms.specs.Values.{values_of};
-ghost use Rattle.claim_rules.specs.Rules.{MeetsData, MeetsSeries, Has, HasRoom, value_in, is_same, first_of, last_of};
+ghost use Rattle.claim_rules.specs.Rules.{MeetsData, MeetsSeries, Has, HasRoom, value_in, is_same, passed_first, passed_last};
 ghost use Rattle.claim_rules.specs.Claims.{Claim as RuleClaim};
 ghost use Rattle.plan_text.specs.Plan.{claim_of, direction_of};
-ghost use Rattle.claim_check.specs.declared.view.Part.{Part};
 
 use crate::view::Part;
-use mp_system::Task;
 use plan_text::{Claim, Dir};
-use sp_terms::Values;
 
 /// Whether a claim on a data item of this size meets its rule.
 pub fn meets_data(size: u64, claim: &Claim) -> bool
@@ -19,29 +16,11 @@ pub fn meets_data(size: u64, claim: &Claim) -> bool
     i128::from(claim.bound) < i128::from(size) && claim.rest <= size
 }
 
-/// The memory while the task of a series runs. It is summed in 128 bits, so that no bound of the values is called for.
-pub fn hill(first: &Values, task: &Task, second: &Values) -> i128
-    requires { task.now.share ≤ task.now.extra + second.now.initial }
-    ensures { (a b : Term) → first.now ≡ values_of a → second.now ≡ values_of b → result ≡ pos (hill_of a task.now b) }
-{
-    i128::from(first.fin)
-        + (i128::from(task.extra) + i128::from(second.initial) - i128::from(task.share))
-}
-
 /// Whether two directions are the same.
 pub fn is_same(one: Dir, two: Dir) -> bool
     ensures { result ≡ is_same (direction_of one) (direction_of two) }
 {
-    match one {
-        Dir::F => match two {
-            Dir::F => true,
-            Dir::R => false,
-        },
-        Dir::R => match two {
-            Dir::F => false,
-            Dir::R => true,
-        },
-    }
+    one == two
 }
 
 /// Whether there is a claim in this direction, with this bound and at least this rest.
@@ -61,12 +40,12 @@ fn has(claim: Option<Claim>, dir: Dir, bound: i64, rest: u64) -> bool
 }
 
 /// Whether a claim on a series with this hill meets one of its rules. The parts come in the claim's direction.
-fn is_passed(first: &Part, last: &Part, hill: i128, claim: &Claim) -> bool
+fn is_passed(first: &Part, last: &Part, hill: u64, claim: &Claim) -> bool
     ensures { (a b : Term) (v : Task) (p q : Option RuleClaim) →
-        first.now.values ≡ values_of (first_of (direction_of claim.now.dir) a b) →
-        option_map claim_of first.now.claim ≡ first_of (direction_of claim.now.dir) p q →
-        option_map claim_of last.now.claim ≡ last_of (direction_of claim.now.dir) p q →
-        hill ≡ pos (hill_of a v b) →
+        first.now.values ≡ values_of (passed_first (direction_of claim.now.dir) a b) →
+        option_map claim_of first.now.claim ≡ passed_first (direction_of claim.now.dir) p q →
+        option_map claim_of last.now.claim ≡ passed_last (direction_of claim.now.dir) p q →
+        hill ≡ hill_of a v b →
         IsTrue result ↔ MeetsSeries a v b p q (claim_of claim.now) }
 {
     if has(first.claim, claim.dir, claim.bound, claim.rest) {
@@ -75,7 +54,7 @@ fn is_passed(first: &Part, last: &Part, hill: i128, claim: &Claim) -> bool
     if claim.rest > first.values.least {
         return false;
     }
-    if i128::from(claim.bound) < hill {
+    if i128::from(claim.bound) < i128::from(hill) {
         return true;
     }
     if has(first.claim, claim.dir.opposite(), claim.bound, 0) {
@@ -85,8 +64,8 @@ fn is_passed(first: &Part, last: &Part, hill: i128, claim: &Claim) -> bool
 }
 
 /// Whether a claim on a series, whose parts and hill are these, meets one of its rules.
-pub fn meets_series(left: &Part, right: &Part, hill: i128, claim: &Claim) -> bool
-    ensures { (a b : Term) (v : Task) → left.now.values ≡ values_of a → right.now.values ≡ values_of b → hill ≡ pos (hill_of a v b) →
+pub fn meets_series(left: &Part, right: &Part, hill: u64, claim: &Claim) -> bool
+    ensures { (a b : Term) (v : Task) → left.now.values ≡ values_of a → right.now.values ≡ values_of b → hill ≡ hill_of a v b →
         IsTrue result ↔ MeetsSeries a v b (option_map claim_of left.now.claim) (option_map claim_of right.now.claim) (claim_of claim.now) }
 {
     match claim.dir {

@@ -1,7 +1,8 @@
 ghost use Rattle.std.specs.Prelude.{◌≡◌};
-ghost use Rattle.claim_check.specs.Shapes.{shape_of};
+ghost use Rattle.claim_check.specs.Shapes.{shape_of, word_of};
 
 use sp_terms::Position;
+use std::fmt::{self, Display, Formatter, Write};
 
 /// What stands at the position of a claim that is objected to.
 #[derive(Clone, Copy, Debug, PartialEq, Eq)]
@@ -14,6 +15,26 @@ pub enum Shape {
     Par,
     /// Nothing: the position is past the last one of the term, or 0.
     Outside,
+}
+
+impl Shape {
+    /// The word for it in reports.
+    pub fn word(self) -> &'static str
+        ensures { result.now ≡ word_of self }
+    {
+        match self {
+            Shape::Hold => "data",
+            Shape::Series => "series",
+            Shape::Par => "par",
+            Shape::Outside => "outside",
+        }
+    }
+}
+
+impl Display for Shape {
+    fn fmt<W: Write>(&self, f: &mut Formatter<W>) -> fmt::Result {
+        f.write_str(self.word())
+    }
 }
 
 /// What stands at a position, as an objection names it.

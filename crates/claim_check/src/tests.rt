@@ -1,47 +1,61 @@
-use crate::{Shape, View, check_at, laws};
-use plan_text::{PlanFile, read_plan};
-use sp_terms::{Terms, read_workflow};
-use std::alloc::Global;
-use std::test::Fail;
+ghost use Rattle.std.specs.Prelude.{◌≤◌};
+ghost use Rattle.limits.specs.Limits.{most_workers};
 
-// Two chains of two tasks below a root, all with extras of 9 or 0.
+use crate::{Objection, Shape, Verdict, View, are_claims, check, check_at};
+use mp_outside::{Gate, NoGate};
+use mp_system::{OrderFault, OrderKind};
+use plan_text::{Claim, Dir, read_plan};
+use sp_terms::{read_workflow, system_of};
+use std::alloc::Global;
+use std::rt::HostRuntime;
+use std::sync::atomic::{AtomicBool, AtomicU32, Ordering};
+use std::test::Fail;
+use std::thread::{Threads, yield_now};
+
+// Two chains of two tasks below a root, all with extras of 9 or 0: 13 positions, and a least peak of 11.
 const FIVE: &[u8] =
     b"workflow 1\ntasks 5\ndata 0\ndata 1\ntask 9 1\ndata 5\ntask 0 1\ndata 0\ndata 1\ntask 9 1\ndata 5\ntask 0 1\npar 2\ndata 0\ntask 0 1\nend\n";
 
 const PLAN: &[u8] =
     b"plan 1\norder 5\n1\n3\n2\n4\n5\npeak 11\nclaims 4\n5 R 5 5\n10 R 5 5\n11 R 10 10\n13 R 10 0\nend\n";
 
-const OUTSIDE: &[u8] =
-    b"plan 1\norder 5\n1\n3\n2\n4\n5\npeak 11\nclaims 5\n5 R 5 5\n10 R 5 5\n11 R 10 10\n13 R 10 0\n99 R 0 0\nend\n";
-
-fn five(alloc: Global) -> Result<Terms, Fail> {
-    Ok(read_workflow(alloc, FIVE)?)
+fn claim(position: u32, dir: Dir, bound: i64, rest: u64) -> Claim {
+    Claim {
+        position,
+        dir,
+        bound,
+        rest,
+    }
 }
 
-fn plan(alloc: Global, text: &[u8]) -> Result<PlanFile, Fail> {
-    Ok(read_plan(alloc, text)?)
+// The claims of the plan.
+fn certificate() -> [Claim; 4] {
+    [
+        claim(5, Dir::R, 5, 5),
+        claim(10, Dir::R, 5, 5),
+        claim(11, Dir::R, 10, 10),
+        claim(13, Dir::R, 10, 0),
+    ]
 }
 
 #[test]
-fn every_claim_of_a_plan_meets_its_rule(rt: HostRuntime) -> Result<(), Fail> {
-    laws::accepted_law();
-    let alloc = rt.alloc();
-    let terms = five(alloc)?;
-    let plan = plan(alloc, PLAN)?;
-    let view = View::new(alloc, &terms, plan.claims())?;
-    assert_eq!(rt; view.len(), 13);
-    for position in 0..100 {
-        assert!(rt; check_at(&view, position).is_none());
-    }
-    Ok(())
+fn claims_stand_at_rising_positions_from_1(rt: HostRuntime) {
+    let at = |position| claim(position, Dir::F, 0, 0);
+    assert!(rt; are_claims(&[]));
+    assert!(rt; are_claims(&[at(1), at(2), at(4_294_967_295)]));
+    assert!(rt; !are_claims(&[at(0), at(1)]));
+    assert!(rt; !are_claims(&[at(2), at(2)]));
+    assert!(rt; !are_claims(&[at(3), at(2)]));
 }
 
 #[test]
 fn a_claim_past_the_last_position_is_outside(rt: HostRuntime) -> Result<(), Fail> {
-    let alloc = rt.alloc();
-    let terms = five(alloc)?;
-    let plan = plan(alloc, OUTSIDE)?;
-    let view = View::new(alloc, &terms, plan.claims())?;
+    let terms = read_workflow(rt.alloc(), FIVE)?;
+    let [a, b, c, d] = certificate();
+    let claims = [a, b, c, d, claim(99, Dir::R, 0, 0)];
+    assert!(rt; are_claims(&claims));
+    let view = View::new(rt.alloc(), &terms, &claims)?;
+    assert_eq!(rt; view.len(), 13);
     for position in 0..99 {
         assert!(rt; check_at(&view, position).is_none());
     }
@@ -51,90 +65,333 @@ fn a_claim_past_the_last_position_is_outside(rt: HostRuntime) -> Result<(), Fail
 }
 
 // The lowest position whose claim fails, and its shape.
-fn lowest(alloc: Global, text: &[u8]) -> Result<Option<(u32, Shape)>, Fail> {
-    let terms = five(alloc)?;
-    let plan = plan(alloc, text)?;
-    let view = View::new(alloc, &terms, plan.claims())?;
-    for position in 1..=13 {
-        if let Some(shape) = check_at(&view, position) {
-            return Ok(Some((position, shape)));
+fn lowest(alloc: Global, claims: &[Claim]) -> Result<Option<(u32, Shape)>, Fail> {
+    let terms = read_workflow(alloc, FIVE)?;
+    if are_claims(claims) {
+        let view = View::new(alloc, &terms, claims)?;
+        for position in 1..=13 {
+            if let Some(shape) = check_at(&view, position) {
+                return Ok(Some((position, shape)));
+            }
         }
     }
     Ok(None)
 }
 
-// One claim is altered, or one is added at position 4. Whether the bound of the last claim is great enough for a peak isn't judged here.
-const ALTERED: [(&[u8], Option<(u32, Shape)>); 16] = [
-    (
-        b"plan 1\norder 0\npeak 0\nclaims 4\n5 R 6 5\n10 R 5 5\n11 R 10 10\n13 R 10 0\nend\n",
-        Some((5, Shape::Series)),
-    ),
-    (
-        b"plan 1\norder 0\npeak 0\nclaims 4\n5 R 4 5\n10 R 5 5\n11 R 10 10\n13 R 10 0\nend\n",
-        Some((11, Shape::Par)),
-    ),
-    (
-        b"plan 1\norder 0\npeak 0\nclaims 4\n5 R 5 6\n10 R 5 5\n11 R 10 10\n13 R 10 0\nend\n",
-        Some((5, Shape::Series)),
-    ),
-    (
-        b"plan 1\norder 0\npeak 0\nclaims 4\n5 R 5 4\n10 R 5 5\n11 R 10 10\n13 R 10 0\nend\n",
-        Some((11, Shape::Par)),
-    ),
-    (
-        b"plan 1\norder 0\npeak 0\nclaims 4\n5 F 5 5\n10 R 5 5\n11 R 10 10\n13 R 10 0\nend\n",
-        Some((5, Shape::Series)),
-    ),
-    (
-        b"plan 1\norder 0\npeak 0\nclaims 4\n5 R 5 5\n10 R 5 5\n11 R 11 10\n13 R 10 0\nend\n",
-        Some((11, Shape::Par)),
-    ),
-    (
-        b"plan 1\norder 0\npeak 0\nclaims 4\n5 R 5 5\n10 R 5 5\n11 R 9 10\n13 R 10 0\nend\n",
-        Some((13, Shape::Series)),
-    ),
-    (
-        b"plan 1\norder 0\npeak 0\nclaims 4\n5 R 5 5\n10 R 5 5\n11 R 10 9\n13 R 10 0\nend\n",
-        None,
-    ),
-    (
-        b"plan 1\norder 0\npeak 0\nclaims 4\n5 R 5 5\n10 R 5 5\n11 R 10 11\n13 R 10 0\nend\n",
-        Some((11, Shape::Par)),
-    ),
-    (
-        b"plan 1\norder 0\npeak 0\nclaims 4\n5 R 5 5\n10 R 5 5\n11 F 10 10\n13 R 10 0\nend\n",
-        Some((11, Shape::Par)),
-    ),
-    (
-        b"plan 1\norder 0\npeak 0\nclaims 4\n5 R 5 5\n10 R 5 5\n11 R 10 10\n13 R 11 0\nend\n",
-        Some((13, Shape::Series)),
-    ),
-    (
-        b"plan 1\norder 0\npeak 0\nclaims 4\n5 R 5 5\n10 R 5 5\n11 R 10 10\n13 R 9 0\nend\n",
-        None,
-    ),
-    (
-        b"plan 1\norder 0\npeak 0\nclaims 4\n5 R 5 5\n10 R 5 5\n11 R 10 10\n13 R 10 1\nend\n",
-        Some((13, Shape::Series)),
-    ),
-    (
-        b"plan 1\norder 0\npeak 0\nclaims 4\n5 R 5 5\n10 R 5 5\n11 R 10 10\n13 F 10 0\nend\n",
-        None,
-    ),
-    (
-        b"plan 1\norder 0\npeak 0\nclaims 5\n4 R 5 5\n5 R 5 5\n10 R 5 5\n11 R 10 10\n13 R 10 0\nend\n",
-        Some((4, Shape::Hold)),
-    ),
-    (
-        b"plan 1\norder 0\npeak 0\nclaims 5\n4 R 4 6\n5 R 5 5\n10 R 5 5\n11 R 10 10\n13 R 10 0\nend\n",
-        Some((4, Shape::Hold)),
-    ),
+// One claim of the plan is altered. Whether the bound of the last claim is great enough for a peak isn't judged here.
+const ALTERED: [(usize, u32, Dir, i64, u64, Option<(u32, Shape)>); 16] = [
+    (0, 5, Dir::R, 6, 5, Some((5, Shape::Series))),
+    (0, 5, Dir::R, 4, 5, Some((11, Shape::Par))),
+    (0, 5, Dir::R, 5, 6, Some((5, Shape::Series))),
+    (0, 5, Dir::R, 5, 4, Some((11, Shape::Par))),
+    (0, 5, Dir::F, 5, 5, Some((5, Shape::Series))),
+    (0, 4, Dir::R, 5, 5, Some((4, Shape::Hold))),
+    (0, 4, Dir::R, 4, 6, Some((4, Shape::Hold))),
+    (2, 11, Dir::R, 11, 10, Some((11, Shape::Par))),
+    (2, 11, Dir::R, 9, 10, Some((13, Shape::Series))),
+    (2, 11, Dir::R, 10, 9, None),
+    (2, 11, Dir::R, 10, 11, Some((11, Shape::Par))),
+    (2, 11, Dir::F, 10, 10, Some((11, Shape::Par))),
+    (3, 13, Dir::R, 11, 0, Some((13, Shape::Series))),
+    (3, 13, Dir::R, 9, 0, None),
+    (3, 13, Dir::R, 10, 1, Some((13, Shape::Series))),
+    (3, 13, Dir::F, 10, 0, None),
 ];
 
 #[test]
 fn an_altered_claim_fails_or_is_met_otherwise(rt: HostRuntime) -> Result<(), Fail> {
-    for (text, expected) in ALTERED {
-        assert!(rt; lowest(rt.alloc(), text)? == expected);
+    for (place, position, dir, bound, rest, expected) in ALTERED {
+        let mut claims = certificate();
+        if place < 4 {
+            claims[place] = claim(position, dir, bound, rest);
+        }
+        assert!(rt; are_claims(&claims));
+        assert!(rt; lowest(rt.alloc(), &claims)? == expected);
+    }
+    Ok(())
+}
+
+// What is said of a plan for a workflow.
+fn verdict<R: Threads + Sync, G: Gate>(
+    rt: &R,
+    alloc: Global,
+    workflow: &[u8],
+    plan: &[u8],
+    workers: u32,
+    gate: &G,
+) -> Result<Verdict, Fail>
+    requires { (1 ≤ workers) × (workers ≤ most_workers) }
+{
+    let terms = read_workflow(alloc, workflow)?;
+    let system = system_of(alloc, &terms)?;
+    let plan = read_plan(alloc, plan)?;
+    Ok(check(rt, alloc, &system, &terms, &plan, workers, gate)?)
+}
+
+#[test]
+fn a_plan_is_accepted_by_any_number_of_workers(rt: HostRuntime) -> Result<(), Fail> {
+    for workers in [1, 2, 3, 13, 4096] {
+        let said = verdict(&rt, rt.alloc(), FIVE, PLAN, workers, &NoGate)?;
+        assert_eq!(rt; said, Verdict::Yes(11));
+    }
+    Ok(())
+}
+
+// A single node; one without memory; two data items side by side; two roots; two chains that shrink before they grow, also with a bound of
+// position 5 that is below 12 - 3; a task that takes over the 4 that it finds, so that its hill is 4 + 2 + 3 - 4, also with a bound of 5.
+const VERDICTS: [(&[u8], &[u8], Verdict); 8] = [
+    (
+        b"workflow 1\ntasks 1\ndata 0\ndata 7\ntask 2 1\nend\n",
+        b"plan 1\norder 1\n1\npeak 9\nclaims 1\n3 R 8 7\nend\n",
+        Verdict::Yes(9),
+    ),
+    (
+        b"workflow 1\ntasks 1\ndata 0\ndata 0\ntask 0 1\nend\n",
+        b"plan 1\norder 1\n1\npeak 0\nclaims 2\n1 F -1 0\n3 F -1 0\nend\n",
+        Verdict::Yes(0),
+    ),
+    (
+        b"workflow 1\ntasks 0\ndata 10\ndata 10\npar 2\nend\n",
+        b"plan 1\norder 0\npeak 20\nclaims 3\n1 F 9 10\n2 F 9 10\n3 F 19 20\nend\n",
+        Verdict::Yes(20),
+    ),
+    (
+        b"workflow 1\ntasks 2\ndata 0\ndata 3\ntask 0 1\ndata 0\ndata 4\ntask 1 1\npar 2\nend\n",
+        b"plan 1\norder 2\n2\n1\npeak 7\nclaims 3\n3 R 2 3\n6 R 3 4\n7 R 6 7\nend\n",
+        Verdict::Yes(7),
+    ),
+    (
+        b"workflow 1\ntasks 4\ndata 4\ndata 1\ntask 0 1\ndata 3\ntask 6 1\ndata 4\ndata 1\ntask 0 1\ndata 3\ntask 6 1\npar 2\nend\n",
+        b"plan 1\norder 4\n1\n3\n2\n4\npeak 13\nclaims 3\n5 R 9 3\n10 R 9 3\n11 R 12 6\nend\n",
+        Verdict::Yes(13),
+    ),
+    (
+        b"workflow 1\ntasks 4\ndata 4\ndata 1\ntask 0 1\ndata 3\ntask 6 1\ndata 4\ndata 1\ntask 0 1\ndata 3\ntask 6 1\npar 2\nend\n",
+        b"plan 1\norder 4\n1\n3\n2\n4\npeak 13\nclaims 3\n5 R 8 3\n10 R 9 3\n11 R 12 6\nend\n",
+        Verdict::No(Objection::Claim {
+            position: 11,
+            shape: Shape::Par,
+        }),
+    ),
+    (
+        b"workflow 2\ntasks 1\ndata 4\ndata 3\ntask 2 4 1\nend\n",
+        b"plan 1\norder 1\n1\npeak 5\nclaims 1\n3 F 4 4\nend\n",
+        Verdict::Yes(5),
+    ),
+    (
+        b"workflow 2\ntasks 1\ndata 4\ndata 3\ntask 2 4 1\nend\n",
+        b"plan 1\norder 1\n1\npeak 5\nclaims 1\n3 F 5 4\nend\n",
+        Verdict::No(Objection::Claim {
+            position: 3,
+            shape: Shape::Series,
+        }),
+    ),
+];
+
+#[test]
+fn other_workflows_have_their_verdicts(rt: HostRuntime) -> Result<(), Fail> {
+    for (workflow, plan, expected) in VERDICTS {
+        for workers in [1, 4] {
+            let said = verdict(&rt, rt.alloc(), workflow, plan, workers, &NoGate)?;
+            assert_eq!(rt; said, expected);
+        }
+    }
+    Ok(())
+}
+
+#[test]
+fn an_order_that_is_no_traversal_is_objected_to_first(rt: HostRuntime) -> Result<(), Fail> {
+    let rows: [(&[u8], u64, OrderKind); 4] = [
+        (
+            b"plan 1\norder 5\n2\n1\n3\n4\n5\npeak 11\nclaims 4\n5 R 5 5\n10 R 5 5\n11 R 10 10\n13 R 10 0\nend\n",
+            1,
+            OrderKind::TooEarly,
+        ),
+        (
+            b"plan 1\norder 2\n1\n1\npeak 10\nclaims 0\nend\n",
+            2,
+            OrderKind::Repeated,
+        ),
+        (
+            b"plan 1\norder 1\n9\npeak 11\nclaims 0\nend\n",
+            1,
+            OrderKind::Unknown,
+        ),
+        (
+            b"plan 1\norder 4\n1\n2\n3\n4\npeak 1\nclaims 1\n4 R 5 5\nend\n",
+            5,
+            OrderKind::Missing,
+        ),
+    ];
+    for (plan, place, kind) in rows {
+        for workers in [1, 3] {
+            let said = verdict(&rt, rt.alloc(), FIVE, plan, workers, &NoGate)?;
+            assert_eq!(rt;
+                said,
+                Verdict::No(Objection::Order(OrderFault { place, kind }))
+            );
+        }
+    }
+    Ok(())
+}
+
+// Then the peak, the claim on the whole term, and the lowest claim that fails, at a position of the term or past the last.
+const OBJECTIONS: [(&[u8], Objection); 9] = [
+    (
+        b"plan 1\norder 5\n1\n3\n2\n4\n5\npeak 10\nclaims 4\n5 R 5 5\n10 R 5 5\n11 R 10 10\n13 R 10 0\nend\n",
+        Objection::Peak {
+            replayed: 11,
+            printed: 10,
+        },
+    ),
+    (
+        b"plan 1\norder 5\n1\n2\n3\n4\n5\npeak 11\nclaims 1\n5 F 5 5\nend\n",
+        Objection::Peak {
+            replayed: 15,
+            printed: 11,
+        },
+    ),
+    (
+        b"plan 1\norder 5\n1\n3\n2\n4\n5\npeak 11\nclaims 3\n5 R 5 5\n10 R 5 5\n11 R 10 10\nend\n",
+        Objection::Root { last: 13 },
+    ),
+    (
+        b"plan 1\norder 5\n1\n3\n2\n4\n5\npeak 11\nclaims 4\n5 F 5 5\n10 R 5 5\n11 R 10 10\n13 R 9 0\nend\n",
+        Objection::Root { last: 13 },
+    ),
+    (
+        b"plan 1\norder 5\n1\n3\n2\n4\n5\npeak 11\nclaims 4\n5 R 5 5\n10 R 5 5\n11 R 10 11\n13 R 10 0\nend\n",
+        Objection::Claim {
+            position: 11,
+            shape: Shape::Par,
+        },
+    ),
+    (
+        b"plan 1\norder 5\n1\n3\n2\n4\n5\npeak 11\nclaims 5\n4 R 5 5\n5 F 5 5\n10 R 5 5\n11 R 10 11\n13 R 10 0\nend\n",
+        Objection::Claim {
+            position: 4,
+            shape: Shape::Hold,
+        },
+    ),
+    (
+        b"plan 1\norder 5\n1\n3\n2\n4\n5\npeak 11\nclaims 5\n5 R 5 5\n10 R 5 5\n11 R 10 10\n13 R 10 0\n99 R 0 0\nend\n",
+        Objection::Claim {
+            position: 99,
+            shape: Shape::Outside,
+        },
+    ),
+    (
+        b"plan 1\norder 5\n1\n3\n2\n4\n5\npeak 11\nclaims 6\n5 R 5 5\n10 R 5 5\n11 R 10 10\n13 R 10 0\n14 R 0 0\n99 R 0 0\nend\n",
+        Objection::Claim {
+            position: 14,
+            shape: Shape::Outside,
+        },
+    ),
+    (
+        b"plan 1\norder 5\n1\n3\n2\n4\n5\npeak 11\nclaims 5\n5 R 5 5\n10 R 5 5\n11 R 10 10\n13 R 10 1\n99 R 0 0\nend\n",
+        Objection::Claim {
+            position: 13,
+            shape: Shape::Series,
+        },
+    ),
+];
+
+#[test]
+fn the_first_objection_wins(rt: HostRuntime) -> Result<(), Fail> {
+    for (plan, objection) in OBJECTIONS {
+        for workers in [1, 2, 3, 13, 4096] {
+            let said = verdict(&rt, rt.alloc(), FIVE, plan, workers, &NoGate)?;
+            assert_eq!(rt; said, Verdict::No(objection));
+        }
+    }
+    Ok(())
+}
+
+// Counts how often chunks were entered, and adds up their numbers.
+#[derive(Drop)]
+struct Counts {
+    entered: AtomicU32,
+    numbers: AtomicU32,
+}
+
+impl Gate for Counts {
+    fn enter(&self, chunk: u32) {
+        self.entered.fetch_add(1, Ordering::SeqCst);
+        self.numbers
+            .fetch_or(1u32.wrapping_shl(chunk), Ordering::SeqCst);
+    }
+}
+
+// 13 positions come to chunks of 13, 7, 5, 2 and 1. Each chunk sets a bit.
+#[test]
+fn each_chunk_is_entered_once(rt: HostRuntime) -> Result<(), Fail> {
+    for (workers, chunks) in [(1, 1), (2, 2), (3, 3), (12, 7), (13, 13), (4096, 13)] {
+        let gate = Counts {
+            entered: AtomicU32::new(0),
+            numbers: AtomicU32::new(0),
+        };
+        let said = verdict(&rt, rt.alloc(), FIVE, PLAN, workers, &gate)?;
+        assert_eq!(rt; said, Verdict::Yes(11));
+        assert_eq!(rt; gate.entered.load(Ordering::SeqCst), chunks);
+        assert_eq!(rt;
+            gate.numbers.load(Ordering::SeqCst),
+            1u32.wrapping_shl(chunks) - 1
+        );
+    }
+    Ok(())
+}
+
+// Holds each of the first two chunks until the other has entered, for so many looks at most.
+#[derive(Drop)]
+struct Meeting {
+    first: AtomicBool,
+    second: AtomicBool,
+    gave_up: AtomicBool,
+}
+
+impl Gate for Meeting {
+    fn enter(&self, chunk: u32) {
+        let (mine, other) = match chunk {
+            0 => (&self.first, &self.second),
+            1 => (&self.second, &self.first),
+            _ => return,
+        };
+        mine.store(true, Ordering::SeqCst);
+        for _ in 0..10_000_000u32 {
+            if other.load(Ordering::SeqCst) {
+                return;
+            }
+            yield_now();
+        }
+        self.gave_up.store(true, Ordering::SeqCst);
+    }
+}
+
+#[test]
+fn two_chunks_meet(rt: HostRuntime) -> Result<(), Fail> {
+    let gate = Meeting {
+        first: AtomicBool::new(false),
+        second: AtomicBool::new(false),
+        gave_up: AtomicBool::new(false),
+    };
+    let said = verdict(&rt, rt.alloc(), FIVE, PLAN, 2, &gate)?;
+    assert_eq!(rt; said, Verdict::Yes(11));
+    assert!(rt; gate.first.load(Ordering::SeqCst));
+    assert!(rt; gate.second.load(Ordering::SeqCst));
+    assert!(rt; !gate.gave_up.load(Ordering::SeqCst));
+    Ok(())
+}
+
+#[test]
+fn shapes_have_their_words(rt: HostRuntime) -> Result<(), Fail> {
+    for (shape, word) in [
+        (Shape::Hold, "data"),
+        (Shape::Series, "series"),
+        (Shape::Par, "par"),
+        (Shape::Outside, "outside"),
+    ] {
+        assert_eq!(rt; shape.word(), word);
+        assert_eq!(rt; format!(in rt.alloc(); "{shape}")?.as_str(), word);
     }
     Ok(())
 }

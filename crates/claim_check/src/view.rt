@@ -1,18 +1,21 @@
-ghost use Rattle.std.specs.Prelude.{◌≡◌, ◌==◌, ◌&&◌, nat_le, nat_lt, ◌≤◌, ◌+◌, ◌-◌, length, drop, vec_len, slice_index_or, slice_get, option_map, IfOk};
+ghost use Rattle.std.specs.Prelude.{◌≡◌, ◌==◌, ◌&&◌, nat_le, nat_lt, ◌≤◌, ◌+◌, ◌-◌, ◌↔◌, IsTrue, length, drop, vec_len, slice_index_or, option_map, IfOk};
 ghost use Rattle.std.specs.List.{list_any, find};
+ghost use Rattle.limits.specs.Limits.{most_positions};
 ghost use Rattle.plan_text.specs.declared.claim.Claim.{Claim};
-ghost use Rattle.plan_text.specs.Plan.{claim_of, claim_at};
+ghost use Rattle.plan_text.specs.Plan.{claim_of, claim_at, RiseFrom};
 ghost use Rattle.sp_terms.specs.Values.{IsTerms, values_of};
 ghost use Rattle.sp_terms.specs.Places.{term_of_position};
 ghost use Rattle.sp_terms.specs.declared.position.Position.{Position};
-ghost use Rattle.claim_check.specs.Claimed.{AreClaims, IsTable, named_claim, entry_of};
+ghost use Rattle.claim_check.specs.Claimed.{AreClaims};
+ghost use Rattle.claim_check.specs.Judgeable.{IsPlaced, IsClaimTable, named_claim, entry_of};
 ghost use Rattle.claim_check.specs.Lowest.{IsLowestFrom};
 ghost use Rattle.claim_check.specs.Shapes.{shape_at};
 
 use crate::NoMemory;
 use crate::shape::{Shape, shape_of};
+use limits::MOST_POSITIONS;
 use plan_text::Claim;
-use sp_terms::{Position, Terms, Values, values};
+use sp_terms::{Position, Terms, Values, laws, values};
 use std::alloc::Global;
 use std::marker::Model;
 
@@ -28,9 +31,8 @@ pub struct View<'a> {
 }
 
 impl<'a> Model for View<'a> {
-    ghost use Rattle.std.specs.Prelude.{◌≡◌, length};
-    ghost use Rattle.sp_terms.specs.Values.{IsTerms, AreValues};
-    ghost use Rattle.claim_check.specs.Claimed.{Claimed, AreClaims, IsTable, IsJudgeable};
+    ghost use Rattle.claim_check.specs.Claimed.{Claimed};
+    ghost use Rattle.claim_check.specs.Judgeable.{IsJudgeable};
 
     ghost Value = { Claimed };
 
@@ -47,14 +49,15 @@ pub struct Part {
 }
 
 impl<'a> View<'a> {
-    ghost use Rattle.std.specs.Prelude.{All};
     ghost use Rattle.claim_check.specs.Claimed.{Claimed};
 
-    /// A term with these claims, which are as in a plan file. Claims at positions past the last are kept. Linear.
+    /// A term with these claims, which are as in a plan file: `are_claims` tells. Claims at positions past the last are kept. Linear.
     pub fn new(alloc: Global, terms: &'a Terms, claims: &'a [Claim]) -> Result<View<'a>, NoMemory>
         requires { AreClaims claims.now }
         ensures { IfOk result (λ view. view ≡ record { positions = terms.now; claims = claims.now }) }
     {
+        laws::position_law();
+        terms.keeps();
         let values = values(alloc, terms)?;
         let table = table_of(alloc, terms.len(), claims)?;
         Ok(View {
@@ -77,7 +80,7 @@ impl<'a> View<'a> {
     /// Whether the term has this position.
     pub(crate) fn has_position(&self, position: u32) -> bool
         ensures value { result ≡ (nat_le 1 position && nat_le position (length self.now.positions)) }
-        ensures terms { IsTerms self.now.positions }
+        ensures placed { IsTrue result → IsPlaced self.now.positions position }
     {
         1 <= position && position <= self.terms.len()
     }
@@ -106,7 +109,7 @@ impl<'a> View<'a> {
     /// A list with an element for each position of the term.
     pub(crate) fn places(&self) -> &[u32]
         ensures len { length result.now ≡ length self.now.positions }
-        ensures few { length self.now.positions ≤ 4000001 }
+        ensures few { length self.now.positions ≤ most_positions }
     {
         &self.table
     }
@@ -128,12 +131,33 @@ impl<'a> View<'a> {
         first_past(self.claims, self.len())
     }
 
-    /// Whether a claim stands at a position.
+    /// Whether a claim stands at a position, also at one that the term has not, which the table does not know. Linear in the claims.
     pub(crate) fn has_claim(&self, position: u32) -> bool
         ensures { result ≡ list_any (λ (c : Claim). c.position == position) self.now.claims }
     {
         self.claims.iter().any(|claim| claim.position == position)
     }
+}
+
+/// Whether these can be the claims on a term: at most 4,000,001 of them, and by rising positions, from 1. Linear.
+pub fn are_claims(claims: &[Claim]) -> bool
+    ensures { IsTrue result ↔ AreClaims claims.now }
+{
+    claims.len() as u64 <= MOST_POSITIONS && rise(claims)
+}
+
+// Whether each position is greater than the one before, and the first than 0.
+fn rise(claims: &[Claim]) -> bool
+    ensures { IsTrue result ↔ RiseFrom 0 claims.now }
+{
+    let mut last = 0;
+    for claim in claims {
+        if claim.position <= last {
+            return false;
+        }
+        last = claim.position;
+    }
+    true
 }
 
 // The position of the first claim past a position.
@@ -146,18 +170,19 @@ fn first_past(claims: &[Claim], last: u32) -> Option<u32>
 
 // The claim that an entry of the table names.
 fn named_claim(claims: &[Claim], entry: u32) -> Option<Claim>
+    requires { entry ≤ length claims.now }
     ensures { result ≡ named_claim claims.now entry }
 {
     if entry == 0 {
         None
     } else {
-        claims.get(entry as usize - 1).copied()
+        Some(claims[entry as usize - 1])
     }
 }
 
 // The entry of a position, where so many claims stand before it.
 fn entry_of(claims: &[Claim], passed: usize, position: u32) -> u32
-    requires { length claims.now ≤ 4000001 }
+    requires { length claims.now ≤ most_positions }
     ensures { result ≡ entry_of (drop passed claims.now) passed position }
 {
     if passed >= claims.len() {
@@ -173,7 +198,7 @@ fn entry_of(claims: &[Claim], passed: usize, position: u32) -> u32
 fn table_of(alloc: Global, positions: u32, claims: &[Claim]) -> Result<Vec<u32>, NoMemory>
     requires { AreClaims claims.now }
     ensures len { IfOk result (λ table. vec_len table ≡ positions) }
-    ensures table { IfOk result (λ table. IsTable claims.now table.items) }
+    ensures table { IfOk result (λ table. IsClaimTable claims.now table.items) }
 {
     let mut table = Vec::new(alloc);
     let mut passed: usize = 0;

@@ -1,7 +1,7 @@
 use Rattle.std.proofs.Common.{ℕ, ◌<◌, ◌≤◌}
 use Rattle.plan_text.specs.Plan.{claim_at}
-use Rattle.claim_check.specs.Judged.{Passes}
+use Rattle.claim_check.specs.Judged.{PassesAt}
 use Rattle.claim_check.proofs.chunks.lowest_in.Given as goal
 
 abbrev pub invariant-loop-position : goal.invariant-loop-position
-invariant-loop-position l = (k : ℕ) → l.from ≤ k → k < l.position → Passes l.view.positions (claim_at l.view.claims) k
+invariant-loop-position l = (k : ℕ) → l.from ≤ k → k < l.position → PassesAt l.view.positions (claim_at l.view.claims) k

@@ -2,7 +2,7 @@ use Rattle.std.proofs.Common.{ap, sym, ◌∙◌, arith}
 use Rattle.std.proofs.lemmas.Int.{ints}
 use Rattle.std.specs.Prelude.{option_map}
 use Rattle.sp_terms.specs.Values.{values_of}
-use Rattle.claim_rules.specs.Rules.{first_of, last_of}
+use Rattle.claim_rules.specs.Rules.{passed_first, passed_last}
 use Rattle.plan_text.specs.Plan.{claim_of, direction_of}
 use Rattle.plan_text.specs.declared.claim.Dir.{Dir}
 use Rattle.claim_check.proofs.rules.meets_series.Goals as goal
@@ -12,15 +12,15 @@ returns-in-F c = λ a b v left right hill.
     let p = option_map claim_of c.args.left.now.claim in
     let q = option_map claim_of c.args.right.now.claim in
     c.is_passed.ensures a b v p q
-    (left ∙ ap (λ (d : Dir). values_of (first_of (direction_of d) a b)) (sym c.in-F.is))
-    (ap (λ (d : Dir). first_of (direction_of d) p q) (sym c.in-F.is))
-    (ap (λ (d : Dir). last_of (direction_of d) p q) (sym c.in-F.is)) (omega (arith, ints, hill))
+    (left ∙ ap (λ (d : Dir). values_of (passed_first (direction_of d) a b)) (sym c.in-F.is))
+    (ap (λ (d : Dir). passed_first (direction_of d) p q) (sym c.in-F.is))
+    (ap (λ (d : Dir). passed_last (direction_of d) p q) (sym c.in-F.is)) hill
 
 pub returns-in-R : goal.returns-in-R
 returns-in-R c = λ a b v left right hill.
     let p = option_map claim_of c.args.left.now.claim in
     let q = option_map claim_of c.args.right.now.claim in
     c.is_passed-in-R.ensures a b v p q
-    (right ∙ ap (λ (d : Dir). values_of (first_of (direction_of d) a b)) (sym c.in-R.is))
-    (ap (λ (d : Dir). first_of (direction_of d) p q) (sym c.in-R.is))
-    (ap (λ (d : Dir). last_of (direction_of d) p q) (sym c.in-R.is)) (omega (arith, ints, hill))
+    (right ∙ ap (λ (d : Dir). values_of (passed_first (direction_of d) a b)) (sym c.in-R.is))
+    (ap (λ (d : Dir). passed_first (direction_of d) p q) (sym c.in-R.is))
+    (ap (λ (d : Dir). passed_last (direction_of d) p q) (sym c.in-R.is)) hill
