@@ -5,7 +5,7 @@ use Rattle.std.proofs.lemmas.List.Sums.{get_or-le-sum_by}
 use Rattle.std.proofs.lemmas.List.FromFn.{length-range_with_len, length-map-range_with_len, get_or-range_with_len, get_or-map-range_with_len}
 use Rattle.std.proofs.lemmas.Bool.{cases_eq, cases_Bool, eq-eqb}
 use Rattle.ordering.specs.Perm.{IsVertex}
-use Rattle.ordering.specs.Fill.{IsPattern, IsParent, structure_of, parent_of, count_of, parents_of, counts_of}
+use Rattle.ordering.specs.Fill.{IsAdjacency, IsParent, structure_of, parent_of, count_of, parents_of, counts_of}
 use Rattle.elim_tree.specs.Trees.{parent_at}
 use Rattle.elim_tree.specs.Paths.{IsWithin, IsInherited}
 use Rattle.assembly_tree.specs.Supernodes.{count_at, AreColumnCounts}
@@ -66,12 +66,12 @@ abbrev pub ParentsAreFirst : Type 0
 ParentsAreFirst = (joined : ℕ → ℕ → Bool) (n j : ℕ) → IsParent joined n j (parent_of joined n j)
 
 abbrev pub StructuresByChildren : Type 0
-StructuresByChildren = (joined : ℕ → ℕ → Bool) (n j i : ℕ) → IsPattern joined → IsWithin n joined → IsVertex n j → IsTrue (structure_of joined j i) ↔ IsInherited joined n j i
+StructuresByChildren = (joined : ℕ → ℕ → Bool) (n j i : ℕ) → IsAdjacency joined → IsWithin n joined → IsVertex n j → IsTrue (structure_of joined j i) ↔ IsInherited joined n j i
 
 abbrev pub NoEarlierRows : Type 0
 NoEarlierRows = (joined : ℕ → ℕ → Bool) (j i : ℕ) → IsTrue (structure_of joined j i) → j ≤ i
 
-module _ (firsts : ParentsAreFirst) (by_children : StructuresByChildren) (later : NoEarlierRows) (joined : ℕ → ℕ → Bool) (n : ℕ) (pattern : IsPattern joined) (inside : IsWithin n joined) where
+module _ (firsts : ParentsAreFirst) (by_children : StructuresByChildren) (later : NoEarlierRows) (joined : ℕ → ℕ → Bool) (n : ℕ) (pattern : IsAdjacency joined) (inside : IsWithin n joined) where
   own : (j : ℕ) → structure_of joined j j ≡ true
   own j = rw (eq-eqb j j refl) refl
 

@@ -1,7 +1,7 @@
 //! Laws of assembly trees: what holds of each, without a call.
 
 ghost use Rattle.std.specs.Prelude.{◌≡◌, ℕ, Bool, List};
-ghost use Rattle.ordering.specs.Fill.{IsPattern, parents_of, counts_of};
+ghost use Rattle.ordering.specs.Fill.{IsAdjacency, parents_of, counts_of};
 ghost use Rattle.tree_input.specs.Tree.{IsTree};
 ghost use Rattle.elim_tree.specs.Paths.{IsWithin};
 ghost use Rattle.assembly_tree.specs.declared.front.Shape.{Shape};
@@ -16,7 +16,7 @@ use ordering::laws as fill_laws;
 
 /// The counts of the fill meet what supernodes ask of counts.
 pub fn counts_of_fill()
-    ensures { (joined : ℕ → ℕ → Bool) (n : ℕ) → IsPattern joined → IsWithin n joined →
+    ensures { (joined : ℕ → ℕ → Bool) (n : ℕ) → IsAdjacency joined → IsWithin n joined →
         AreColumnCounts (parents_of joined n) (counts_of joined n) }
 {
     fill_laws::parent_is_first();

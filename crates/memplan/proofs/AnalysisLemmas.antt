@@ -4,7 +4,7 @@ use Rattle.std.proofs.lemmas.List.{length-map}
 use Rattle.std.proofs.lemmas.List.FromFn.{length-map-range_with_len}
 use Rattle.matrix_market.specs.Pattern.{is_joined}
 use Rattle.ordering.specs.Perm.{vertex_at}
-use Rattle.ordering.specs.Fill.{renamed, parent_of, parents_of, counts_of, IsPattern}
+use Rattle.ordering.specs.Fill.{renumbered, parent_of, parents_of, counts_of, IsAdjacency}
 use Rattle.elim_tree.specs.Paths.{IsWithin}
 use Rattle.elim_tree.specs.Postorders.{IsPostorder}
 use Rattle.assembly_tree.specs.Assembly.{AssemblyTree}
@@ -28,8 +28,8 @@ module _ (rows : List (List ℕ)) (order parents post : List ℕ)
   new-parents perm new is_perm is = is ∙ ap (parents_of (columns rows perm)) (sym (new-length perm is_perm ∙ parents-length))
 
   -- so they are, where renumbering carries each pattern's tree over
-  pub carried : (perm new : List ℕ) → perm ≡ map (vertex_at order) post → length order ≡ length rows → IsPattern (is_joined rows) → IsWithin (length rows) (is_joined rows)
-      → ((joined : ℕ → ℕ → Bool) → IsPattern joined → IsWithin (length parents) joined → parents ≡ parents_of (renamed joined order) (length parents) → new ≡ parents_of (renamed joined perm) (length parents))
+  pub carried : (perm new : List ℕ) → perm ≡ map (vertex_at order) post → length order ≡ length rows → IsAdjacency (is_joined rows) → IsWithin (length rows) (is_joined rows)
+      → ((joined : ℕ → ℕ → Bool) → IsAdjacency joined → IsWithin (length parents) joined → parents ≡ parents_of (renumbered joined order) (length parents) → new ≡ parents_of (renumbered joined perm) (length parents))
       → new ≡ parents_of (columns rows perm) (length perm)
   carried perm new is_perm len pattern within tree =
       new-parents perm new is_perm (tree (is_joined rows) pattern (subst (λ (n : ℕ). IsWithin n (is_joined rows)) (sym len ∙ parents-length) within)

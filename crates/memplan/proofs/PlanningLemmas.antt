@@ -14,7 +14,7 @@ use Rattle.plan_text.specs.Plan.{PlanText, IsPlan, IsClaimWithin, RiseFrom, clai
 use Rattle.plan_text.specs.PlanFile.{ReadsPlan}
 use Rattle.plan_text.specs.Printed.{text_of}
 use Rattle.claim_check.specs.Accepted.{IsAccepted, HasRoot}
-use Rattle.claim_check.specs.Judged.{Passes}
+use Rattle.claim_check.specs.Judged.{PassesAt}
 use Rattle.claim_check.specs.declared.verdict.Verdict.TheVariants.{Yes}
 use Rattle.memplan.specs.declared.inputs.Work.{Work}
 use Rattle.memplan.specs.Answer.{IsPlanFile, IsSystemWithTerm, plan_answer}
@@ -81,7 +81,7 @@ module _
     priority = inl none;
   }
 
-  pub plan_accepted : (plan : PlanText) → plan.order ≡ named → plan.peak ≡ peak → HasRoot work.terms plan → ((k : ℕ) → Passes work.terms (claim_at plan.claims) k)
+  pub plan_accepted : (plan : PlanText) → plan.order ≡ named → plan.peak ≡ peak → HasRoot work.terms plan → ((k : ℕ) → PassesAt work.terms (claim_at plan.claims) k)
       → IsAccepted work.system work.terms plan
   plan_accepted plan same_order same_peak root pass = record {
     traversal = subst (IsTraversal work.system) (sym same_order) walks_named;

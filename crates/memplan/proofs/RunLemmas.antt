@@ -2,7 +2,7 @@
 use Rattle.std.proofs.Common.{◌≡◌, ◌∙◌, ℕ, List, ◌++◌, subst}
 use Rattle.activation.specs.declared.events.Event.{Event}
 use Rattle.activation.specs.Machine.{Setting, IsSetting, start_state}
-use Rattle.activation.specs.Runs.{AreLegal, state_after_all, IsWithin, EachOnce}
+use Rattle.activation.specs.Runs.{AreLegal, state_after_all, IsWithinBound, EachOnce}
 use Rattle.activation.specs.Schedule.{IsSchedule, first_moment, last_time, most_used, most_booked}
 use Rattle.mp_text.specs.Report.{text_of_lines}
 use Rattle.memplan.specs.Answer.{simulation_answer}
@@ -13,7 +13,7 @@ use Rattle.memplan.specs.Traces.{report_lines}
 pub record Laws : Type 0 where
   pub legal : (c : Setting) (priority : List ℕ) (events : List Event) → IsSchedule c priority (first_moment c) events → AreLegal c (start_state c) events
   pub within : (c : Setting) → IsSetting c → (priority : List ℕ) (before rest : List Event) → IsSchedule c priority (first_moment c) (before ++ rest)
-      → IsWithin c (state_after_all (start_state c) before)
+      → IsWithinBound c (state_after_all (start_state c) before)
 
 module _ (c : Setting) (events : List Event) (makespan used booked : ℕ) (is_makespan : makespan ≡ last_time 0 events)
     (is_used : used ≡ most_used c (start_state c) events) (is_booked : booked ≡ most_booked c (start_state c) events) where

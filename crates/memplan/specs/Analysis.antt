@@ -3,7 +3,7 @@
 use Rattle.std.specs.Prelude.{◌≡◌, ℕ, Bool, List, Option, Some, None, length, map}
 use Rattle.matrix_market.specs.Pattern.{is_joined}
 use Rattle.ordering.specs.Perm.{vertex_at}
-use Rattle.ordering.specs.Fill.{renamed, parents_of, counts_of}
+use Rattle.ordering.specs.Fill.{renumbered, parents_of, counts_of}
 use Rattle.elim_tree.specs.Postorders.{IsPostorder}
 use Rattle.assembly_tree.specs.Amalgamation.{amalgamated}
 use Rattle.assembly_tree.specs.Assembly.{AssemblyTree}
@@ -14,7 +14,7 @@ use Rattle.memplan.specs.Request.{Matrix}
 
 -- the pattern of a matrix by columns: its vertices in the order in which they are eliminated
 abbrev pub columns : List (List ℕ) → List ℕ → ℕ → ℕ → Bool
-columns rows order = renamed (is_joined rows) order
+columns rows order = renumbered (is_joined rows) order
 
 -- merged where that adds at most so many explicit zeros
 abbrev pub relaxed : Option ℕ → AssemblyTree → AssemblyTree

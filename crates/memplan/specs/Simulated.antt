@@ -2,7 +2,7 @@
 use Rattle.std.specs.Prelude.{◌≡◌, ℕ, ◌≤◌, List, ◌∷◌, ◌++◌}
 use Rattle.activation.specs.declared.events.Event.{Event}
 use Rattle.activation.specs.Machine.{Setting, start_state}
-use Rattle.activation.specs.Runs.{AreLegal, state_after_all, IsWithin, EachOnce}
+use Rattle.activation.specs.Runs.{AreLegal, state_after_all, IsWithinBound, EachOnce}
 use Rattle.mp_system.specs.Memory.{peak_of}
 use Rattle.mp_system.specs.System.{TaskSystem}
 use Rattle.mp_system.specs.Traversal.{IsTraversal}
@@ -17,7 +17,7 @@ pub record IsRun (c : Setting) (printed : List ℕ) : Type 0 where
   pub events : List Event
   pub legal : AreLegal c (start_state c) events
   pub each_once : EachOnce c events
-  pub within : (before rest : List Event) → events ≡ before ++ rest → IsWithin c (state_after_all (start_state c) before)
+  pub within : (before rest : List Event) → events ≡ before ++ rest → IsWithinBound c (state_after_all (start_state c) before)
   pub printed_is : printed ≡ (simulation_answer c events).text
 
 -- such a run of the input's system along the order was printed; the texts are those of the input's files, that of the order or the plan, and

@@ -1,6 +1,6 @@
 use Rattle.std.proofs.Common.{◌≤◌, ◌^◌, ℕ, sym, ap, subst}
 use Rattle.claim_check.specs.Accepted.{HasRoot}
-use Rattle.claim_check.specs.Judged.{Passes}
+use Rattle.claim_check.specs.Judged.{PassesAt}
 use Rattle.plan_text.specs.Plan.{PlanText, claim_at}
 use Rattle.memplan.proofs.PlanningLemmas.{plan_within, plan_accepted}
 use Rattle.memplan.proofs.planning.plan_counted.Goals as goal
@@ -23,4 +23,4 @@ returns-clause-accepted g c =
     c.in_ok-plan.plan.order.items c.in_ok-plan.plan.peak made.traversal.0 made.traversal.1 c.in_ok-order.order.items c.in_ok-order.ensures
     c.new-2.result (ap (λ (p : PlanText). p.order) is) (ap (λ (p : PlanText). p.peak) is)
     (subst (HasRoot c.args.work.now.terms) (sym is) claims.root)
-    (subst (λ (p : PlanText). (k : ℕ) → Passes c.args.work.now.terms (claim_at p.claims) k) (sym is) claims.pass)
+    (subst (λ (p : PlanText). (k : ℕ) → PassesAt c.args.work.now.terms (claim_at p.claims) k) (sym is) claims.pass)
