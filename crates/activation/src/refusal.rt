@@ -26,10 +26,10 @@ impl From<NoMemory> for CoreRefusal {
 impl From<ReplayRefusal> for CoreRefusal {
     ghost use Rattle.std.specs.Prelude.{ℕ, List};
     ghost use Rattle.mp_system.specs.System.{TaskSystem};
-    ghost use Rattle.mp_system.specs.Refusal.{IsRefusal};
+    ghost use Rattle.mp_system.specs.Refusal.{IsOrderRefusal};
     ghost use Rattle.activation.specs.Refusal.{IsCoreRefusal};
 
-    ghost from_gives = { λ r e. (system : TaskSystem) (order : List ℕ) (bound : ℕ) → IsRefusal system order r → IsCoreRefusal system order bound e };
+    ghost from_gives = { λ r e. (system : TaskSystem) (order : List ℕ) (bound : ℕ) → IsOrderRefusal system order r → IsCoreRefusal system order bound e };
 
     fn from(refusal: ReplayRefusal) -> CoreRefusal {
         match refusal {

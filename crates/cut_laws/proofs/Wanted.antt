@@ -7,7 +7,7 @@ use Rattle.hill_valley.specs.Side.{limit_of, run_profile}
 use Rattle.sp_terms.specs.Term.{Term, Parts, no_parts, part, Direction, forward, backward, first_memory, least_of}
 use Rattle.sp_term_laws.specs.Moves.{other}
 use Rattle.claim_rules.specs.Claims.{Claim}
-use Rattle.claim_rules.specs.Rules.{first_of}
+use Rattle.claim_rules.specs.Rules.{passed_first}
 use Rattle.cut_laws.specs.Cuts.{Cut, top_of, lowest_of, starts, sides}
 
 -- the claim with the greatest bound below this limit
@@ -54,11 +54,11 @@ far_claim k near between hill = if nat_le (limit_of k.bound) (max near (max betw
 -- the claims on the two parts of a series: on the first thing that does not pass within the bound
 abbrev pub first_claim : Claim → Cut → Cut → ℕ → Option Claim
 first_claim k a b hill =
-    first_of k.direction (near_claim k (top_of forward a) (top_of backward a)) (far_claim k (top_of backward b) (top_of forward b) hill)
+    passed_first k.direction (near_claim k (top_of forward a) (top_of backward a)) (far_claim k (top_of backward b) (top_of forward b) hill)
 
 abbrev pub second_claim : Claim → Cut → Cut → ℕ → Option Claim
 second_claim k a b hill =
-    first_of k.direction (far_claim k (top_of forward a) (top_of backward a) hill) (near_claim k (top_of backward b) (top_of forward b))
+    passed_first k.direction (far_claim k (top_of forward a) (top_of backward a) hill) (near_claim k (top_of backward b) (top_of forward b))
 
 -- ---- parts side by side
 

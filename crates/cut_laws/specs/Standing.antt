@@ -12,7 +12,7 @@ use Rattle.sp_terms.specs.SystemOfTerm.{task_count, system_of_term}
 use Rattle.sp_terms.specs.Term.{Term, Parts, no_parts, part, Direction, forward, backward, initial_of, final_of, least_of}
 use Rattle.sp_term_laws.specs.Along.{memory_after}
 use Rattle.claim_rules.specs.Claims.{peak_up_to}
-use Rattle.claim_rules.specs.Rules.{first_of}
+use Rattle.claim_rules.specs.Rules.{passed_first}
 use Rattle.cut_laws.specs.Cuts.{Cut, side_of, start_of, lowest_of, front_peak, back_peak, order_of}
 
 -- ---- along one traversal, whose tasks are written by their names
@@ -27,7 +27,7 @@ pub record HasLevel (d : Direction) (t : Term) (names order tasks : List ℕ) (l
   pub done : List ℕ
   pub rest : List ℕ
   pub whole : order ≡ done ++ rest
-  pub named : map (name_in names) (first_of d done rest) ≡ in_order d tasks
+  pub named : map (name_in names) (passed_first d done rest) ≡ in_order d tasks
   pub memory : memory_after (system_of_term t) done ≡ level
 
 -- behind these tasks stand those of the run, and from the state before the run to the state after it the greatest memory is `high`
@@ -36,7 +36,7 @@ pub record HasHigh (d : Direction) (t : Term) (names order tasks run : List ℕ)
   pub between : List ℕ
   pub rest : List ℕ
   pub whole : order ≡ done ++ (between ++ rest)
-  pub named : map (name_in names) (first_of d done rest) ≡ in_order d tasks
+  pub named : map (name_in names) (passed_first d done rest) ≡ in_order d tasks
   pub named_run : map (name_in names) between ≡ in_order d run
   pub greatest : peak_from (system_of_term t) done between ≡ high
 

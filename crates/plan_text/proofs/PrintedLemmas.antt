@@ -9,6 +9,7 @@ use Rattle.std.proofs.lemmas.Bool.{and_parts, and_from, or_from, leb-true, le-le
 use Rattle.std.proofs.lemmas.Int.{fits_signed_from_abs}
 use Rattle.std.proofs.lemmas.List.Elements.{All-nil, All-head, All-tail}
 use Rattle.std.proofs.lemmas.List.Folds.{list_all-append}
+use Rattle.mp_text.specs.declared.layout.Layout.{Layout}
 use Rattle.mp_text.specs.declared.layout.Layout.TheVariants.{Commented}
 use Rattle.mp_text.specs.Text.{Row, says_nothing, is_digit, number_of, number_from, signed_of}
 use Rattle.mp_text.specs.Ahead.{rows_of_bytes, past_of_bytes}
@@ -36,7 +37,7 @@ abbrev pub AreSigned : Type 0
 AreSigned = (n : ℤ) → FitsSigned w64 n → signed_of (signed_decimal n) ≡ Some n
 
 abbrev pub AreRows : Type 0
-AreRows = (hash : Bool) (lines : List (List (List ℕ))) → IsTrue (list_all (is_counted hash) lines) → rows_of_bytes hash (text_of_lines lines) ≡ numbered_from 1 lines
+AreRows = (layout : Layout) (lines : List (List (List ℕ))) → IsTrue (list_all (is_counted layout) lines) → rows_of_bytes layout (text_of_lines lines) ≡ numbered_from 1 lines
 
 -- ---- lines that pass, one after another
 
@@ -316,7 +317,7 @@ unfolding stated
 printed-reads numbers signed are_tokens are_signed are_rows b plan is none =
     let text = text_in b plan in
     let rows = numbered_from 1 (lines_in b plan) in
-    let read : rows_of_bytes Commented text ≡ rows = are_rows true (lines_in b plan) (lines-counted numbers are_tokens are_signed b plan is) in
+    let read : rows_of_bytes Commented text ≡ rows = are_rows Commented (lines_in b plan) (lines-counted numbers are_tokens are_signed b plan is) in
     let leads : Leads (stated []) rows (whole b plan) = all-lead numbers signed plan is b in
     let stated_is : stated (rows_of_bytes Commented text) ≡ whole b plan = ap stated read ∙ leads-stated [] rows (whole b plan) leads in
     record {

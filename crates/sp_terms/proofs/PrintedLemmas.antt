@@ -8,6 +8,7 @@ use Rattle.std.proofs.lemmas.Bool.{and_from, le-leb, lt-ltb, ne_eqb, eq-eqb, eqb
 use Rattle.std.proofs.lemmas.List.Elements.{All-nil, All-cons, All-head, All-tail}
 use Rattle.std.proofs.lemmas.List.Folds.{list_all-append, list_any-append}
 use Rattle.mp_system.specs.declared.system.Task.{Task}
+use Rattle.mp_text.specs.declared.layout.Layout.{Layout}
 use Rattle.mp_text.specs.declared.layout.Layout.TheVariants.{Commented}
 use Rattle.mp_text.specs.Text.{Row, number_of}
 use Rattle.mp_text.specs.Ahead.{rows_of_bytes}
@@ -33,7 +34,7 @@ abbrev pub AreNumbers : Type 0
 AreNumbers = (n : ℕ) → n < 2 ^ 64 → number_of (decimal n) ≡ Some n
 
 abbrev pub AreRows : Type 0
-AreRows = (hash : Bool) (lines : List (List (List ℕ))) → IsTrue (list_all (is_counted hash) lines) → rows_of_bytes hash (text_of_lines lines) ≡ numbered_from 1 lines
+AreRows = (layout : Layout) (lines : List (List (List ℕ))) → IsTrue (list_all (is_counted layout) lines) → rows_of_bytes layout (text_of_lines lines) ≡ numbered_from 1 lines
 
 -- ---- one line
 
@@ -385,7 +386,7 @@ module _ (numbers : AreNumbers) (are_tokens : AreTokens) (are_rows : AreRows) (w
 
   pub printed-reads : ReadsWorkflow (text_in with_share ps) ps
   printed-reads =
-      let read : rows_of_bytes Commented (text_in with_share ps) ≡ header ∷ counted ∷ (rows ++ last ∷ []) = are_rows true (lines_in with_share ps) lines_counted ∙ rows_are in
+      let read : rows_of_bytes Commented (text_in with_share ps) ≡ header ∷ counted ∷ (rows ++ last ∷ []) = are_rows Commented (lines_in with_share ps) lines_counted ∙ rows_are in
       record {
         form = record {
           lines = subst (ArePassed workflow_format) (sym read) passed;
