@@ -73,7 +73,3 @@ text_of plan = text_in (is_ranked plan.priority) plan
 -- the text of version 2
 abbrev pub text2_of : PlanText → List ℕ
 text2_of plan = text_in true plan
-
--- a report holds what it held before, and then the first bytes of a text
-abbrev pub HoldsPart : List ℕ → List ℕ → List ℕ → Type 0
-HoldsPart before text after = (n : ℕ) × (after ≡ before ++ take n text)

@@ -14,4 +14,8 @@ mod tests;
 
 pub use claim::{Claim, Dir, PlanKind};
 pub use plan::{PlanFile, read_plan};
-pub use printing::{NoMemory, print_plan, print_plan_2};
+pub use printing::{print_plan, print_plan_2};
+use std::alloc::AllocError;
+
+/// Want of memory: an allocation was refused.
+pub type NoMemory = AllocError;

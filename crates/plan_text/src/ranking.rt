@@ -1,7 +1,7 @@
 ghost use Rattle.std.specs.Prelude.{◌≡◌, ◌==◌, ◌+◌, ◌≤◌, ℕ, [], ◌∷◌, ◌++◌, length, not, OnOk};
 ghost use Rattle.plan_text.specs.Plan.{times};
 
-use crate::printing::NoMemory;
+use crate::NoMemory;
 use std::alloc::Global;
 use std::marker::Model;
 
