@@ -2,9 +2,9 @@
 
 use crate::{counts, counts_by_marking};
 use elim_tree::laws::pattern_of_rows;
-use elim_tree::{Numbered, etree, postorder, renumber};
+use elim_tree::{etree, postorder, renumber};
 use matrix_market::{Pattern, read_pattern};
-use ordering::read_perm;
+use ordering::{Perm, read_perm};
 use std::alloc::Global;
 use std::collections::BTreeSet;
 use std::process::Abort;
@@ -53,6 +53,26 @@ fn counts_by_elimination(
     Ok(counts)
 }
 
+// The plain elimination in this order gives these counts.
+fn check_plain(
+    rt: &impl Abort,
+    alloc: Global,
+    pairs: &[(u32, u32)],
+    perm: &Perm,
+    found: &[u32],
+) -> Result<(), Fail> {
+    let mut vertices = Vec::new(alloc);
+    for k in 0..perm.len() {
+        vertices.push(perm.at(k + 1))?;
+    }
+    let plain = counts_by_elimination(alloc, pairs, &vertices)?;
+    assert_eq!(rt; found.len(), plain.len());
+    for (count, wanted) in found.iter().zip(&plain) {
+        assert_eq!(rt; *count as usize, *wanted);
+    }
+    Ok(())
+}
+
 // The counts along the postorder, both ways, which agree with the plain elimination.
 fn check_counts(
     rt: &impl Abort,
@@ -69,17 +89,12 @@ fn check_counts(
     let parents = etree(alloc, &pattern, &perm)?;
     assert_eq!(rt; parents.len(), n);
     let post = postorder(alloc, &parents)?;
-    let Numbered { perm, parents } = renumber(alloc, &perm, &parents, &post)?;
-    assert_eq!(rt; perm.len(), n);
-    let found = counts(alloc, &pattern, &perm, &parents)?;
-    let marked = counts_by_marking(alloc, &pattern, &perm, &parents)?;
+    let numbered = renumber(alloc, &perm, &parents, &post)?;
+    assert_eq!(rt; numbered.perm.len(), n);
+    let found = counts(alloc, &pattern, &numbered.perm, &numbered.parents)?;
+    let marked = counts_by_marking(alloc, &pattern, &numbered.perm, &numbered.parents)?;
     assert_eq!(rt; found.as_slice(), marked.as_slice());
-    let vertices: Vec<u32> = (0..n).map(|k| perm.at(k + 1)).collect(alloc)?;
-    let plain = counts_by_elimination(alloc, pairs, &vertices)?;
-    assert_eq!(rt; found.len(), plain.len());
-    for (count, wanted) in found.iter().zip(&plain) {
-        assert_eq!(rt; *count as usize, *wanted);
-    }
+    check_plain(rt, alloc, pairs, &numbered.perm, &found)?;
     Ok(found)
 }
 
