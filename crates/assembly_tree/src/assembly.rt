@@ -45,6 +45,7 @@ pub(crate) fn super_in(nodes: &[u32], column: u32) -> u32
 }
 
 impl Assembly {
+    // The one place where an assembly tree is made.
     pub(crate) fn of(supers: Vec<Super>, nodes: Vec<u32>) -> Assembly
         requires { IsAssembly (record { supers = supers.items; nodes = nodes.items }) }
         ensures { result ≡ record { supers = supers.items; nodes = nodes.items } }

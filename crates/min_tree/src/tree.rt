@@ -1,4 +1,4 @@
-ghost use Rattle.std.specs.Prelude.{◌≡◌, ◌<◌, ◌≤◌, ◌^◌, length, slice_index, slice_set, replicate, IfOk};
+ghost use Rattle.std.specs.Prelude.{◌≡◌, ◌+◌, ◌*◌, ◌<◌, ◌≤◌, ◌^◌, min, length, slice_index, slice_set, replicate, IfOk};
 ghost use Rattle.min_tree.specs.Least.{IsFirstLeast, greatest};
 
 use crate::NoMemory;
@@ -23,6 +23,29 @@ impl Model for MinTree {
     ghost view = { λ t. take t.count (drop t.leaves t.nodes.items) };
 
     ghost invariant = { λ t. IsMinTree t.depth t.leaves t.count t.nodes.items };
+}
+
+// The lesser of the numbers of the two children.
+#[inline]
+fn least_of_children(nodes: &[u64], at: usize) -> u64
+    requires { 2 * at + 1 < length nodes.now }
+    ensures { result ≡ min (slice_index nodes.now (2 * at)) (slice_index nodes.now (2 * at + 1)) }
+{
+    nodes[2 * at].min(nodes[2 * at + 1])
+}
+
+// The child that has the lesser number, the left one where they are equal.
+#[inline]
+fn lesser_child(nodes: &[u64], at: usize) -> usize
+    requires { 2 * at + 1 < length nodes.now }
+    ensures left { slice_index nodes.now (2 * at) ≤ slice_index nodes.now (2 * at + 1) → result ≡ 2 * at }
+    ensures right { slice_index nodes.now (2 * at + 1) < slice_index nodes.now (2 * at) → result ≡ 2 * at + 1 }
+{
+    if nodes[2 * at + 1] < nodes[2 * at] {
+        2 * at + 1
+    } else {
+        2 * at
+    }
 }
 
 impl MinTree {
@@ -70,7 +93,7 @@ impl MinTree {
         self.nodes[at] = number;
         while at > 1 {
             at /= 2;
-            self.nodes[at] = self.nodes[2 * at].min(self.nodes[2 * at + 1]);
+            self.nodes[at] = least_of_children(&self.nodes, at);
         }
     }
 
@@ -81,11 +104,7 @@ impl MinTree {
     {
         let mut at = 1;
         while at < self.leaves {
-            at *= 2;
-            let (left, right) = (self.nodes[at], self.nodes[at + 1]);
-            if right < left {
-                at += 1;
-            }
+            at = lesser_child(&self.nodes, at);
         }
         at - self.leaves
     }

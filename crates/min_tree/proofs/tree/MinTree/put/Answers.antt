@@ -1,8 +1,6 @@
-use Rattle.std.proofs.Common.{◌≡◌, ◌+◌, ◌*◌, ◌/◌, ◌<◌, min, length, take, drop, set, arith, ap, ◌∙◌}
+use Rattle.std.proofs.Common.{◌≡◌, ◌/◌, ◌<◌, length, take, drop, set, arith, ap, ◌∙◌}
 use Rattle.std.proofs.lemmas.List.{length-take, drop-set-add}
 use Rattle.std.proofs.Math.Seq.{take-set-lt}
-use Rattle.std.proofs.lemmas.Grind.{common_steps}
-use Rattle.std.specs.Prelude.{slice_index}
 use Rattle.min_tree.proofs.Trees.{IsMinTreeBut, mended, leaves_stay, all_right}
 use Rattle.min_tree.proofs.tree.MinTree.put.Goals as goal
 
@@ -10,7 +8,7 @@ pub loop-at-preserved : goal.loop-at-preserved
 loop-at-preserved c =
     let f = c.loop-at.self-inside in
     let i = c.loop-at.invariant in
-    let least : c.min.result ≡ min (slice_index f.nodes.items (2 * (c.loop-at.at / 2))) (slice_index f.nodes.items (2 * (c.loop-at.at / 2) + 1)) = grind (arith, common_steps) in
+    let least = rw c.deref.ensures.value at c.least_of_children.ensures in
     record {
       depth = i.depth;
       width = i.width;
