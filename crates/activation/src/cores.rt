@@ -138,7 +138,7 @@ impl Core {
         fill_places(order, &mut places);
         let running = RunningTasks::new(alloc, workers as usize, count)?;
         let phases = vec![in alloc; Phase::Idle; count]?;
-        let memory = start_memory(alloc, system)?;
+        let memory = start_memory(system);
         let room = Room::new(alloc, count)?;
         let events = Vec::with_capacity(alloc, 3 * count)?;
         let order = Vec::from_slice(alloc, order)?;
@@ -190,14 +190,18 @@ impl Core {
         ensures { result ≡ is_startable self.now.setting self.now.state task }
     {
         let at = task as usize - 1;
-        (self.places[at] as usize) < self.activated && self.phases[at].is_idle() && self.waiting[at] == 0
+        (self.places[at] as usize) < self.activated
+            && self.phases[at].is_idle()
+            && self.waiting[at] == 0
     }
 
     // Whether the task may start now.
     fn may_start(&self, task: u32) -> bool
         ensures { IsTrue result ↔ MayStart self.now.setting self.now.state task }
     {
-        is_number(task, self.system.tasks().len()) && self.running.has_room() && self.is_startable(task)
+        is_number(task, self.system.tasks().len())
+            && self.running.has_room()
+            && self.is_startable(task)
     }
 
     /// Starts an activated task whose suppliers are done, where a worker is free.

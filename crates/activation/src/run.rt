@@ -7,9 +7,9 @@ ghost use Rattle.activation.specs.Tables.{is_startable};
 ghost use Rattle.activation.specs.Schedule.{HoldsEach, task_entry, moment_after, first_moment, ComesNext, NoneDue, NoneActivates, NoneStarts};
 ghost use Rattle.activation.specs.Run.{event_count, IsRoom, IsNextDue, IsFirstStartable, run_tables};
 
+use crate::cores::Core;
 use crate::events::{Event, EventKind};
 use crate::laws::progress_law;
-use crate::cores::Core;
 use crate::places::fill_places;
 use crate::room::Room;
 use mp_system::laws::traversal_law;
