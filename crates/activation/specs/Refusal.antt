@@ -4,13 +4,13 @@ use Rattle.mp_system.specs.declared.order.ReplayRefusal.TheVariants as replays
 use Rattle.mp_system.specs.System.{TaskSystem}
 use Rattle.mp_system.specs.Memory.{peak_of}
 use Rattle.mp_system.specs.Traversal.{IsTraversal}
-use Rattle.mp_system.specs.Refusal.{IsRefusal}
+use Rattle.mp_system.specs.Refusal.{IsOrderRefusal}
 use Rattle.activation.specs.declared.refusal.CoreRefusal.{CoreRefusal}
 use Rattle.activation.specs.declared.refusal.CoreRefusal.TheVariants as refusals
 
 -- the order is no traversal, and the refusal has its first fault; or it is one, and its peak passes the bound; want of memory tells nothing
 abbrev pub IsCoreRefusal : TaskSystem → List ℕ → ℕ → CoreRefusal → Type 0
-IsCoreRefusal system order bound (refusals.Order fault) = IsRefusal system order (replays.Order fault)
+IsCoreRefusal system order bound (refusals.Order fault) = IsOrderRefusal system order (replays.Order fault)
 IsCoreRefusal system order bound (refusals.BoundBelow stated peak) =
     IsTraversal system order × (stated ≡ bound) × (peak ≡ peak_of system order) × (bound < peak)
 IsCoreRefusal system order bound refusals.NoMemory = Unit {0}

@@ -1,11 +1,13 @@
-ghost use Rattle.std.specs.Prelude.{◌≡◌, nat_eq, ◌*◌, ◌<◌, ◌≤◌, ℕ, true, false, if◌then◌else◌, [], length, slice_index, count_by, vec_capacity, IfOk, IfErr, IsTrue, IfSome, IfNone, ◌↔◌};
+ghost use Rattle.std.specs.Prelude.{◌≡◌, nat_eq, ◌*◌, ◌<◌, ◌≤◌, ℕ, true, false, if◌then◌else◌, [], length, slice_index, count_by};
+ghost use Rattle.std.specs.Prelude.{vec_capacity, IfOk, IfErr, IsTrue, IfSome, IfNone, ◌↔◌};
 ghost use Rattle.std.specs.Bool.{OnTrue, OnFalse};
 ghost use Rattle.std.specs.List.{IsDistinct};
 ghost use Rattle.limits.specs.Limits.{most_time, most_workers};
 ghost use Rattle.mp_system.specs.System.{IsTask, is_named, task_at};
 ghost use Rattle.mp_system.specs.Memory.{peak_of, stands_in};
 ghost use Rattle.mp_system.specs.Traversal.{IsTraversal};
-ghost use Rattle.activation.specs.Machine.{IsSetting, MayActivate, MayStart, MayFinish, state_after, start_state, is_running, is_done, booked_memory, used_memory};
+ghost use Rattle.activation.specs.Machine.{IsSetting, MayActivate, MayStart, MayFinish, state_after, start_state, is_running, is_done};
+ghost use Rattle.activation.specs.Machine.{booked_memory, used_memory};
 ghost use Rattle.activation.specs.Safe.{IsSafe};
 ghost use Rattle.activation.specs.Refusal.{IsCoreRefusal};
 ghost use Rattle.activation.specs.Tables.{is_startable, is_edge};
@@ -31,9 +33,9 @@ use row_table::laws::numbers_law;
 use std::alloc::Global;
 use std::marker::Model;
 
-/// The activation core of a system, an order, a bound on memory and so many workers. Whoever runs the tasks embeds it: it activates the next
-/// task where its need fits, and starts and finishes the tasks that it is told, where they may. All its calls but `new` take no memory.
-/// Agullo et al. 2016.
+/// The activation core of a system, an order, a bound on memory and so many workers. Whoever runs the tasks embeds it: it activates the
+/// next task where its need fits, and starts and finishes the tasks that it is told, where they may. All its calls but `new` take no
+/// memory. Agullo et al. 2016.
 #[derive(Drop)]
 pub struct Core {
     system: System,
@@ -79,7 +81,8 @@ impl Model for Core {
           booked = m.booked;
           used = m.used;
         })
-        × ForSome m.room (λ room. IsRoom (length m.system.tasks) (run_tables room.0) × (room.1.items ≡ []) × (3 * length m.system.tasks ≤ vec_capacity room.1)) };
+        × ForSome m.room (λ room. IsRoom (length m.system.tasks) (run_tables room.0)
+        × (room.1.items ≡ []) × (3 * length m.system.tasks ≤ vec_capacity room.1)) };
 }
 
 // The mark of a task that is startable, or is not.
@@ -100,7 +103,8 @@ impl Core {
         workers: u32,
     ) -> Result<Core, CoreRefusal>
         requires { (1 ≤ workers) × (workers ≤ most_workers) }
-        ensures setting { IfOk result (λ core. core.setting ≡ record { system = system.now; order = order.now; bound = bound; workers = workers }) }
+        ensures setting { IfOk result (λ core.
+            core.setting ≡ record { system = system.now; order = order.now; bound = bound; workers = workers }) }
         ensures start { IfOk result (λ core. core.state ≡ start_state core.setting) }
         ensures room { IfOk result (λ core. core.has_room ≡ true) }
         ensures within { IfOk result (λ core. IsSetting core.setting) }
@@ -124,7 +128,8 @@ impl Core {
         requires traversal { IsTraversal system.now order.now }
         requires bound { peak_of system.now order.now ≤ bound }
         requires workers { (1 ≤ workers) × (workers ≤ most_workers) }
-        ensures setting { IfOk result (λ m. m.setting ≡ record { system = system.now; order = order.now; bound = bound; workers = workers }) }
+        ensures setting { IfOk result (λ m.
+            m.setting ≡ record { system = system.now; order = order.now; bound = bound; workers = workers }) }
         ensures start { IfOk result (λ m. m.state ≡ start_state m.setting) }
         ensures room { IfOk result (λ m. m.has_room ≡ true) }
     {
@@ -348,7 +353,8 @@ impl Core {
         requires long { length ready.old ≡ length self.now.setting.system.tasks }
         ensures long { length ready.new ≡ length ready.old }
         ensures marks { (t : ℕ) → IsTask self.now.setting.system t → slice_index ready.new (task_entry ranks.now t)
-            ≡ (if is_named task t then mark (is_startable self.now.setting self.now.state t) else slice_index ready.old (task_entry ranks.now t)) }
+            ≡ (if is_named task t then mark (is_startable self.now.setting self.now.state t)
+            else slice_index ready.old (task_entry ranks.now t)) }
     {
         if let Some(named) = task {
             let rank = ranks[named as usize - 1] as usize;

@@ -35,7 +35,7 @@ pub record CanFollow (system : TaskSystem) (before : List ℕ) (v : ℕ) : Type 
 is_task-true : (system : TaskSystem) (v : ℕ) → is_task system v ≡ true → IsTask system v
 is_task-true system v e = let parts = and_parts _ _ e in (leb-true 1 v parts.0, leb-true v (length system.tasks) parts.1)
 
-true-is_task : (system : TaskSystem) (v : ℕ) → IsTask system v → is_task system v ≡ true
+pub true-is_task : (system : TaskSystem) (v : ℕ) → IsTask system v → is_task system v ≡ true
 true-is_task system v task = rw (le-leb 1 v task.0, le-leb v (length system.tasks) task.1)
 
 no_fault : (task done ready : Bool) → ◌≡◌ {A = Option OrderKind} (cond (not task) (Some Unknown) (cond done (Some Repeated) (cond (not ready) (Some TooEarly) None))) None → (task ≡ true) × (done ≡ false) × (ready ≡ true)

@@ -1,7 +1,6 @@
 pub mod Present
 pub mod Sums
-pub mod Chains
-pub mod Walks
+pub mod InputPlaces
 pub mod Running
 pub mod Counts
 pub mod Legal

@@ -12,6 +12,7 @@ use Rattle.mp_system.specs.System.{size_if, size_where, is_input}
 use Rattle.mp_system.specs.Memory.{is_produced}
 use Rattle.mp_system.specs.Renaming.{renamed, has_producer, is_solid}
 use Rattle.mp_system.proofs.Present.{is_supplied}
+use Rattle.mp_system.proofs.Sums.{sum_by_mapped}
 
 -- ---- lists
 
@@ -41,10 +42,6 @@ module _ {X : Type 0} (p : X → Bool) where
 
   list_all-IsPermutation : (xs ys : List X) → IsPermutation xs ys → list_all p ys ≡ list_all p xs
   list_all-IsPermutation xs ys moved = list_all-list_any ys ∙ ap not (sym (list_any-IsPermutation (λ x. not (p x)) xs ys moved)) ∙ sym (list_all-list_any xs)
-
-sum_by_mapped : {X Y : Type 0} (h : X → Y) (f : Y → ℕ) (g : X → ℕ) → ((x : X) → f (h x) ≡ g x) → (xs : List X) → sum_by f (map h xs) ≡ sum_by g xs
-sum_by_mapped h f g each [] = refl
-sum_by_mapped h f g each (x ∷ xs) = omega (arith, sum_by-cons f (h x) (map h xs), sum_by-cons g x xs, each x, sum_by_mapped h f g each xs)
 
 -- ---- items of size 0 that no task produces
 

@@ -1,10 +1,11 @@
 -- The items of a system by places, and the sums of outputs kept one item at a time.
-use Rattle.std.proofs.Common.{◌≡◌, ℕ, ◌+◌, ◌-◌, ◌^◌, ◌<◌, ◌≤◌, Bool, true, false, cond, eqb, eq-eqb, List, length, take, get_or, set, sym, ap, subst, arith, Option, Some, None, inl, inr}
+use Rattle.std.proofs.Common.{◌≡◌, ℕ, ◌+◌, ◌-◌, ◌<◌, ◌≤◌, Bool, true, false, cond, eqb, eq-eqb, List, [], ◌∷◌, map, length, take, get_or, set, refl, sym, ap, subst, arith, Option, Some, None, inl, inr}
 use Rattle.std.specs.Prelude.{All}
 use Rattle.std.specs.List.{sum_by}
 use Rattle.std.proofs.lemmas.List.{get_or-set_same, get_or-set_other, get_or_read}
-use Rattle.std.proofs.lemmas.List.Sums.{sum_by_more, sum_by_more_le_part, sum_by-le-sum_by}
+use Rattle.std.proofs.lemmas.List.Sums.{sum_by-cons, sum_by_more, sum_by_more_le_part, sum_by-le-sum_by}
 use Rattle.std.proofs.lemmas.Bool.{cases_eq, ne_eqb}
+use Rattle.limits.specs.Limits.{most_total}
 use Rattle.mp_system.specs.declared.system.Item.{Item}
 use Rattle.mp_system.specs.System.{TaskSystem, IsSystem, IsItemWithin, is_named, is_output, size_if, size_where, item_size}
 
@@ -14,13 +15,17 @@ size_if-le test item = elim (test item) as (λ b. cond b item.size 0 ≤ item.si
 pub size_where-le : (test : Item → Bool) (items : List Item) → size_where test items ≤ sum_by item_size items
 size_where-le test items = sum_by-le-sum_by (size_if test) item_size items (size_if-le test)
 
+pub sum_by_mapped : {X Y : Type 0} (h : X → Y) (f : Y → ℕ) (g : X → ℕ) → ((x : X) → f (h x) ≡ g x) → (xs : List X) → sum_by f (map h xs) ≡ sum_by g xs
+sum_by_mapped h f g each [] = refl
+sum_by_mapped h f g each (x ∷ xs) = omega (arith, sum_by-cons f (h x) (map h xs), sum_by-cons g x xs, each x, sum_by_mapped h f g each xs)
+
 -- ---- the items as the code reads them
 
 module _ (system : TaskSystem) (items : List Item) (same : items ≡ system.items) (within : IsSystem system) where
   pub items_within : All (IsItemWithin system) items
   items_within = subst (All (IsItemWithin system)) (sym same) within.items
 
-  pub items_total : sum_by item_size items ≤ 2 ^ 60
+  pub items_total : sum_by item_size items ≤ most_total
   items_total = omega (arith, within.total, ap (sum_by item_size) same)
 
 -- ---- sums of outputs

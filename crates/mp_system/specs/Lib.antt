@@ -4,6 +4,7 @@ pub mod Peak
 pub mod Step
 pub mod Traversal
 pub mod Replay
+pub mod ReplayTables
 pub mod Refusal
 pub mod Renaming
 pub mod Samples

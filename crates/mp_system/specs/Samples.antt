@@ -1,4 +1,5 @@
--- Worked examples: a tree of five nodes, a node that shares memory with its input, and the tree with other numbers.
+-- Worked examples: a tree of five nodes, a node that shares memory with its input, blocks that no task produces, and the tree with
+-- other numbers.
 use Rattle.std.specs.Prelude.{◌≡◌, ℕ, Option, Some, None, List, [], ◌∷◌, map, refl}
 use Rattle.std.specs.List.{filter}
 use Rattle.std.specs.List.Sorted.{apply_swaps}
@@ -75,6 +76,19 @@ shared = record { tasks = task 0 0 ∷ task 2 4 ∷ []; items = item 4 (Some 1) 
 
 pub shared_peak : peak_of shared (1 ∷ 2 ∷ []) ≡ 5
 shared_peak = refl
+
+-- a block of size 7 and one of size 2 are there from the start; task 1 takes up the first, and the other stays
+abbrev pub stocked : TaskSystem
+stocked = record {
+  tasks = task 1 0 ∷ task 0 0 ∷ [];
+  items = item 7 None (Some 1) ∷ item 3 (Some 1) (Some 2) ∷ item 2 None None ∷ [];
+}
+
+pub stocked_states : memory_after stocked [] ∷ memory_after stocked (1 ∷ []) ∷ memory_after stocked (1 ∷ 2 ∷ []) ∷ [] ≡ 9 ∷ 5 ∷ 2 ∷ []
+stocked_states = refl
+
+pub stocked_peak : peak_of stocked (1 ∷ 2 ∷ []) ≡ 13
+stocked_peak = refl
 
 -- the tree with its leaves numbered first: tasks 1 to 5 are the tree's 3, 1, 4, 2 and 5; its items stand in another order, and
 -- one more, of size 0 and without a producer, goes to task 3

@@ -1,7 +1,8 @@
 -- Systems of tasks and data items (Liu 1987, where the tasks are the nodes of a tree and the items their blocks).
-use Rattle.std.specs.Prelude.{◌==◌, ℕ, ◌+◌, ◌-◌, ◌^◌, ◌≤◌, Bool, false, if◌then◌else◌, Option, Some, None, All, List, length, slice_index_or}
+use Rattle.std.specs.Prelude.{◌==◌, ℕ, ◌+◌, ◌-◌, ◌≤◌, Bool, false, if◌then◌else◌, Option, Some, None, All, List, length, slice_index_or}
 use Rattle.std.specs.List.{sum_by}
 use Rattle.std.specs.Option.{ForSome}
+use Rattle.limits.specs.Limits.{most_tasks, most_positions, most_size, most_time, most_total}
 use Rattle.mp_system.specs.declared.system.Task.{Task}
 use Rattle.mp_system.specs.declared.system.Item.{Item}
 
@@ -62,20 +63,19 @@ item_size item = item.size
 
 -- what each task keeps to, and each item
 pub record IsTaskWithin (task : Task) : Type 0 where
-  pub extra : task.extra ≤ 2 ^ 40
-  pub time : (1 ≤ task.time) × (task.time ≤ 2 ^ 40)
+  pub extra : task.extra ≤ most_size
+  pub time : (1 ≤ task.time) × (task.time ≤ most_time)
 
 pub record IsItemWithin (system : TaskSystem) (item : Item) : Type 0 where
-  pub size : item.size ≤ 2 ^ 40
+  pub size : item.size ≤ most_size
   pub producer : ForSome item.from (IsTask system)
   pub consumer : ForSome item.to (IsTask system)
 
--- a system within the limits: 10^6 tasks, 4,000,001 items, each size and time at most 2^40, all extras and sizes together
--- at most 2^60
+-- a system within the limits: of tasks and items, of each size and time, and of all extras and sizes together
 pub record IsSystem (system : TaskSystem) : Type 0 where
-  pub few_tasks : length system.tasks ≤ 1000000
-  pub few_items : length system.items ≤ 4000001
+  pub few_tasks : length system.tasks ≤ most_tasks
+  pub few_items : length system.items ≤ most_positions
   pub tasks : All IsTaskWithin system.tasks
   pub items : All (IsItemWithin system) system.items
-  pub total : sum_by extra_size system.tasks + sum_by item_size system.items ≤ 2 ^ 60
+  pub total : sum_by extra_size system.tasks + sum_by item_size system.items ≤ most_total
   pub shares : (v : ℕ) → IsTask system v → HasShare system v

@@ -18,5 +18,5 @@ pub use state::Replay;
 use std::alloc::AllocError;
 pub use system::{Item, OrderKind, System, Task};
 
-/// No memory was found for what a call had to keep.
+/// Want of memory: an allocation was refused.
 pub type NoMemory = AllocError;

@@ -1,5 +1,5 @@
 ghost use Rattle.std.specs.Prelude.{IfOk};
-ghost use Rattle.mp_system.specs.Replay.{AreOutputs};
+ghost use Rattle.mp_system.specs.ReplayTables.{AreOutputs};
 
 use crate::NoMemory;
 use crate::system::System;

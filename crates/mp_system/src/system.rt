@@ -1,5 +1,7 @@
 ghost use Rattle.std.specs.Prelude.{◌≡◌};
+ghost use Rattle.mp_system.specs.Refusal.{word_of};
 
+use std::fmt::{self, Display, Formatter, Write};
 use std::marker::Model;
 
 /// A task: what it needs while it runs. All three are sizes or times of at most 2^40, the time at least 1.
@@ -35,6 +37,26 @@ pub enum OrderKind {
     TooEarly = 3,
     /// The order ends here, and not every task has run.
     Missing = 4,
+}
+
+impl OrderKind {
+    /// The word for it in reports.
+    pub fn word(self) -> &'static str
+        ensures { result.now ≡ word_of self }
+    {
+        match self {
+            OrderKind::Unknown => "unknown",
+            OrderKind::Repeated => "repeated",
+            OrderKind::TooEarly => "too-early",
+            OrderKind::Missing => "missing",
+        }
+    }
+}
+
+impl Display for OrderKind {
+    fn fmt<W: Write>(&self, f: &mut Formatter<W>) -> fmt::Result {
+        f.write_str(self.word())
+    }
 }
 
 /// Tasks and the items between them: at most 10^6 tasks and 4,000,001 items, and at most 2^60 of sizes in all.

@@ -1,9 +1,7 @@
 ghost use Rattle.std.specs.Prelude.{◌≡◌, IfOk};
 ghost use Rattle.mp_system.specs.Samples as samples;
 
-use crate::{
-    Item, NoMemory, OrderFault, OrderKind, Replay, ReplayRefusal, System, Task, laws, replay,
-};
+use crate::{Item, NoMemory, OrderFault, OrderKind, Replay, ReplayRefusal, System, Task, replay};
 use std::alloc::Global;
 use std::rt::HostRuntime;
 use std::test::Fail;
@@ -48,6 +46,19 @@ fn shared(alloc: Global) -> Result<System, NoMemory>
     Ok(System::new(tasks, items))
 }
 
+// A task that takes up a block of size 7 and leaves one of size 3 to the next; another block of size 2 stays throughout.
+fn stocked(alloc: Global) -> Result<System, NoMemory>
+    ensures { IfOk result (λ system. system ≡ samples.stocked) }
+{
+    let tasks = vec![in alloc; task(1, 0), task(0, 0)]?;
+    let items = vec![in alloc;
+        item(7, None, Some(1)),
+        item(3, Some(1), Some(2)),
+        item(2, None, None),
+    ]?;
+    Ok(System::new(tasks, items))
+}
+
 fn fault(place: u64, kind: OrderKind) -> Result<u64, ReplayRefusal> {
     Err(ReplayRefusal::Order(OrderFault { place, kind }))
 }
@@ -69,6 +80,12 @@ fn peaks_and_first_faults(rt: HostRuntime) -> Result<(), Fail> {
     }
     let system = shared(rt.alloc())?;
     assert_eq!(rt; replay(rt.alloc(), &system, &[1, 2]), Ok(5));
+    let system = stocked(rt.alloc())?;
+    assert_eq!(rt; replay(rt.alloc(), &system, &[1, 2]), Ok(13));
+    assert_eq!(rt;
+        replay(rt.alloc(), &system, &[2, 1]),
+        fault(1, OrderKind::TooEarly)
+    );
     Ok(())
 }
 
@@ -96,15 +113,35 @@ fn memory_step_by_step(rt: HostRuntime) -> Result<(), Fail> {
     Ok(())
 }
 
-// The laws return nothing; they are called so that a change of what they need is seen here.
 #[test]
-fn laws_are_called() {
-    laws::traversal_law();
-    laws::peak_law();
-    laws::congruence();
-    laws::ready_law();
-    laws::state_step_law();
-    laws::running_law();
-    laws::least_law();
-    laws::renaming_law();
+fn items_that_no_task_produces(rt: HostRuntime) -> Result<(), Fail> {
+    let system = stocked(rt.alloc())?;
+    let mut replay = Replay::new(rt.alloc(), &system)?;
+    assert_eq!(rt; replay.memory(), 9);
+    assert_eq!(rt; replay.step(&system, 1), Ok(13));
+    assert_eq!(rt; replay.memory(), 5);
+    assert_eq!(rt; replay.step(&system, 2), Ok(5));
+    assert_eq!(rt; replay.memory(), 2);
+    Ok(())
+}
+
+#[test]
+fn words_of_refusals(rt: HostRuntime) -> Result<(), Fail> {
+    let rows = [
+        (OrderKind::Unknown, "unknown", "unknown at place 3"),
+        (OrderKind::Repeated, "repeated", "repeated at place 3"),
+        (OrderKind::TooEarly, "too-early", "too-early at place 3"),
+        (OrderKind::Missing, "missing", "missing at place 3"),
+    ];
+    for (kind, word, text) in rows {
+        assert_eq!(rt; kind.word(), word);
+        assert_eq!(rt; format!(in rt.alloc(); "{kind}")?.as_str(), word);
+        let fault = OrderFault { place: 3, kind };
+        assert_eq!(rt; format!(in rt.alloc(); "{fault}")?.as_str(), text);
+        let refusal = ReplayRefusal::Order(fault);
+        assert_eq!(rt; format!(in rt.alloc(); "{refusal}")?.as_str(), text);
+    }
+    let refusal = ReplayRefusal::NoMemory;
+    assert_eq!(rt; format!(in rt.alloc(); "{refusal}")?.as_str(), "no memory");
+    Ok(())
 }

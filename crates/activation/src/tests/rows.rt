@@ -285,6 +285,24 @@ fn orders_and_bounds_that_are_refused(rt: HostRuntime) -> Result<(), Fail> {
 }
 
 #[test]
+fn refusals_are_told(rt: HostRuntime) -> Result<(), Fail> {
+    let alloc = rt.alloc();
+    let fault = OrderFault {
+        place: 3,
+        kind: OrderKind::TooEarly,
+    };
+    let below = CoreRefusal::BoundBelow { bound: 7, peak: 9 };
+    for (refusal, words) in [
+        (CoreRefusal::Order(fault), "too-early at place 3"),
+        (below, "bound 7 9"),
+        (CoreRefusal::NoMemory, "no memory"),
+    ] {
+        assert_eq!(rt; format!(in alloc; "{refusal}")?.as_str(), words);
+    }
+    Ok(())
+}
+
+#[test]
 fn a_core_event_by_event(rt: HostRuntime) -> Result<(), Fail> {
     let alloc = rt.alloc();
     let mut core = Core::new(alloc, &tree(alloc)?, &[1, 3, 2, 4, 5], 11, 1)?;

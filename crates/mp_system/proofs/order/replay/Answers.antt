@@ -5,7 +5,7 @@ use Rattle.mp_system.proofs.order.replay.Goals as goal
 pub loop-i-init : goal.loop-i-init
 loop-i-init c =
     let begins = c.in_ok-replay.ensures in
-    reaches-start c.args.system.now c.args.order.now _ _ begins.0 begins.1 (c.memory-peak.ensures c.args.system.now begins.0)
+    reaches-start c.args.system.now c.args.order.now _ _ begins.system begins.none c.memory-peak.ensures
 
 pub returns-in-Err-clause-fault : goal.returns-in-Err-clause-fault
 returns-in-Err-clause-fault c =
@@ -15,7 +15,7 @@ returns-in-Err-clause-fault c =
 pub loop-i-preserved : goal.loop-i-preserved
 loop-i-preserved c =
     rw (c.max-peak.ensures, c.max.ensures) (reaches-next c.args.system.now c.args.order.now c.loop-i.i c.loop-i.peak _ c.loop-i.replay c.loop-i.invariant (omega arith) refl c.step.new.self c.in-Ok.running _
-    c.in-Ok.ensures.ran.0 c.in-Ok.ensures.ran.1 c.step.ensures.stands c.in-Ok.ensures.next (c.memory.ensures c.args.system.now c.step.ensures.stands))
+    c.in-Ok.ensures.ran.0 c.in-Ok.ensures.ran.1 c.step.ensures.system c.in-Ok.ensures.next c.memory.ensures)
 
 pub returns-then-order-tasks-clause-fault : goal.returns-then-order-tasks-clause-fault
 returns-then-order-tasks-clause-fault c =
