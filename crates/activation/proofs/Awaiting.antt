@@ -4,6 +4,7 @@ use Rattle.std.specs.Prelude.{count_by, ◌==◌, ◌||◌}
 use Rattle.std.specs.List.{list_all}
 use Rattle.std.proofs.lemmas.List.Sums.{sum_by-cons}
 use Rattle.std.proofs.lemmas.Bool.{cases_eq, cases_Bool, eq-eqb, ne_eqb, and_parts, not-true, or_right}
+use Rattle.std.proofs.Math.Bool.{or-false}
 use Rattle.mp_system.specs.declared.system.Item.{Item}
 use Rattle.mp_system.specs.System.{TaskSystem, is_named, is_input}
 use Rattle.mp_system.specs.Memory.{is_done_or, is_produced, is_ready}
@@ -28,11 +29,7 @@ module _ (d e : ℕ → Bool) (v : ℕ) (off : d v ≡ false) (adds : AddsTask d
   on = adds v ∙ or_right (d v) (v == v) (eq-eqb v v refl)
 
   other : (a : ℕ) → a ≢ v → e a ≡ d a
-  other a n = adds a ∙ ap (λ (b : Bool). d a || b) (ne_eqb a v n) ∙ no_more (d a)
-    where
-      no_more : (b : Bool) → (b || false) ≡ b
-      no_more true = refl
-      no_more false = refl
+  other a n = adds a ∙ ap (λ (b : Bool). d a || b) (ne_eqb a v n) ∙ or-false (d a)
 
   awaited_item : (b : Bool) (from : Option ℕ) →
       ◌≡◌ {A = ℕ} (cond (b && not (is_done_or true e from)) 1 0 + cond (is_named from v && b) 1 0) (cond (b && not (is_done_or true d from)) 1 0)

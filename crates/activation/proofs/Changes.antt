@@ -4,6 +4,7 @@ use Rattle.std.specs.Prelude.{count_by, ◌==◌, ◌||◌}
 use Rattle.std.specs.List.{sum_by}
 use Rattle.std.proofs.lemmas.List.Sums.{sum_by_more}
 use Rattle.std.proofs.lemmas.Bool.{cases_eq, eq-eqb, ne_eqb, true≢false}
+use Rattle.std.proofs.Math.Bool.{or-false}
 use Rattle.mp_system.specs.System.{need_of}
 use Rattle.mp_system.specs.Memory.{stands_in}
 use Rattle.mp_system.specs.Step.{AddsTask, CanRun}
@@ -92,12 +93,8 @@ module _ (c : Setting) (set : IsSetting c) (st : State) (so : IsSafe c st) (t : 
       let off : is_done st x ≡ false = ap (λ y. is_done st y) e ∙ ap is_done_phase h.running in
       rw (on, off, e'))
       (λ n. let e' : (x == t) ≡ false = ne_eqb x t n in
-      rw (ap is_done_phase (with_phase_other st.phases t x Done n), e') (no_more (is_done st x)))
+      rw (ap is_done_phase (with_phase_other st.phases t x Done n), e') (sym (or-false (is_done st x))))
       (cases_eq x t)
-    where
-      no_more : (b : Bool) → b ≡ (b || false)
-      no_more true = refl
-      no_more false = refl
 
   -- a done task is not idle
   not_idle : (u : ℕ) → is_done st u ≡ true → phase_in st.phases u ≢ Idle

@@ -3,6 +3,8 @@ use Rattle.std.proofs.Common.{◌≡◌, ℕ, ◌+◌, ◌-◌, ◌<◌, ◌≤�
 use Rattle.std.specs.Prelude.{count_by, ◌==◌, ◌||◌, nat_lt, slice_index}
 use Rattle.std.proofs.lemmas.List.{get_or_read, length-take, get_or-take}
 use Rattle.std.proofs.lemmas.Bool.{cases_eq, eq-eqb, eqb-true, ne_eqb, ltb-true, lt-ltb, and_parts, and_from}
+use Rattle.std.proofs.lemmas.List.Folds.{list_any-append}
+use Rattle.std.proofs.Math.Bool.{or-true, or-false, and-true, and-false}
 use Rattle.mp_system.specs.System.{IsTask, need_of, inputs_of, outputs_of}
 use Rattle.mp_system.specs.Memory.{stands_in, is_ready}
 use Rattle.activation.specs.declared.events.Phase.{Phase}
@@ -29,12 +31,7 @@ start_startable c st task h = and_from _ _ h.activated (and_from _ _ (ap is_idle
 
 -- a task that is appended
 pub stands_appended : (xs : List ℕ) (t u : ℕ) → stands_in (xs ++ t ∷ []) u ≡ (stands_in xs u || (t == u))
-stands_appended [] t u = last (t == u)
-  where
-    last : (b : Bool) → (b || false) ≡ (false || b)
-    last true = refl
-    last false = refl
-stands_appended (x ∷ xs) t u = elim (x == u) as (λ b. (b || stands_in (xs ++ t ∷ []) u) ≡ ((b || stands_in xs u) || (t == u))) [ true ↦ refl | false ↦ stands_appended xs t u ]
+stands_appended xs t u = list_any-append (λ x. x == u) xs (t ∷ []) ∙ ap (λ b. stands_in xs u || b) (or-false (t == u))
 
 module _ {c : Setting} {st : State} {x : CoreTables} (a : AreCoreTables c st x) where
   -- what is read of the needs
@@ -173,23 +170,15 @@ module _ {c : Setting} {st : State} {x : CoreTables} (a : AreCoreTables c st x) 
               ⊎_elim
               (λ e. let yes : (task == t) ≡ true = eq-eqb task t e in
               let on : is_running (state_after st Start task) t ≡ true = ap (λ u. is_running (state_after st Start task) u) (sym e) ∙ ap is_running_phase here in
-              rw (yes, on) (or_true (stands_in x.running.listed t)))
+              rw (yes, on) (or-true (stands_in x.running.listed t)))
               (λ d. let no : (task == t) ≡ false = ne_eqb task t d in
               let other : is_running (state_after st Start task) t ≡ is_running st t = ap is_running_phase (with_phase_other st.phases task t Running (λ z. d (sym z))) in
-              rw (no, other) (or_false (stands_in x.running.listed t) ∙ a.running_are t))
+              rw (no, other) (or-false (stands_in x.running.listed t) ∙ a.running_are t))
               (cases_eq task t);
           booked_is = a.booked_is ∙ sym change.booked;
           used_is = omega (arith, a.used_is, change.used, need_read task n is cost);
         } in
         rw (phase_written st.phases task Running is.0) at tables
-      where
-        or_true : (b : Bool) → (b || true) ≡ true
-        or_true true = refl
-        or_true false = refl
-
-        or_false : (b : Bool) → (b || false) ≡ b
-        or_false true = refl
-        or_false false = refl
 
   -- after a finish
   module _ {task n : ℕ} (h : MayFinish c st task) (freed : n ≡ get_or x.fixed.frees (task - 1) n) (change : FreesNeed c st task) where
@@ -229,20 +218,12 @@ module _ {c : Setting} {st : State} {x : CoreTables} (a : AreCoreTables c st x) 
               ⊎_elim
               (λ e. let yes : (t == task) ≡ true = eq-eqb t task e in
               let off : is_running (state_after st Finish task) t ≡ false = ap (λ u. is_running (state_after st Finish task) u) e ∙ ap is_running_phase here in
-              rw (yes, off) (and_false (stands_in x.running.listed t)))
+              rw (yes, off) (and-false (stands_in x.running.listed t)))
               (λ d. let no : (t == task) ≡ false = ne_eqb t task d in
               let other : is_running (state_after st Finish task) t ≡ is_running st t = ap is_running_phase (with_phase_other st.phases task t Done d) in
-              rw (no, other) (and_true (stands_in x.running.listed t) ∙ a.running_are t))
+              rw (no, other) (and-true (stands_in x.running.listed t) ∙ a.running_are t))
               (cases_eq t task);
           booked_is = omega (arith, frees_read, change.booked, a.booked_is);
           used_is = omega (arith, frees_read, change.used, a.used_is);
         } in
         rw (phase_written st.phases task Done is.0) at tables
-      where
-        and_false : (b : Bool) → (b && not true) ≡ false
-        and_false true = refl
-        and_false false = refl
-
-        and_true : (b : Bool) → (b && not false) ≡ b
-        and_true true = refl
-        and_true false = refl

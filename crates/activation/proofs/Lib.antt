@@ -20,3 +20,4 @@ pub mod Clocks
 pub mod Advancing
 pub mod Looping
 pub mod Priorities
+pub mod SmallSystems

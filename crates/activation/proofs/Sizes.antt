@@ -1,9 +1,10 @@
 -- Sums of sizes stay within the whole.
-use Rattle.std.proofs.Common.{◌≡◌, ℕ, ◌+◌, ◌-◌, ◌^◌, ◌<◌, ◌≤◌, Bool, true, false, cond, List, length, take, get_or, sym, ap, subst, arith, ◌∙◌, Option, Some, None}
+use Rattle.std.proofs.Common.{◌≡◌, ℕ, ◌+◌, ◌-◌, ◌<◌, ◌≤◌, Bool, true, false, cond, List, length, take, get_or, sym, ap, subst, arith, ◌∙◌, Option, Some, None}
 use Rattle.std.specs.Prelude.{All}
 use Rattle.std.specs.List.{sum_by}
 use Rattle.std.proofs.lemmas.Bool.{eqb-true}
 use Rattle.std.proofs.lemmas.List.Sums.{sum_by_more_le_part, sum_by-le-sum_by}
+use Rattle.limits.specs.Limits.{most_size, most_time, most_total}
 use Rattle.mp_system.specs.declared.system.Item.{Item}
 use Rattle.std.proofs.lemmas.List.{get_or_default}
 use Rattle.std.proofs.lemmas.List.Elements.{All-get_or}
@@ -12,7 +13,7 @@ use Rattle.mp_system.specs.System.{TaskSystem, IsSystem, IsTask, IsItemWithin, I
 use Rattle.activation.specs.Schedule.{task_entry}
 use Rattle.activation.proofs.Numbers.{number_at}
 
-size_if-le : (test : Item → Bool) (item : Item) → size_if test item ≤ item_size item
+pub size_if-le : (test : Item → Bool) (item : Item) → size_if test item ≤ item_size item
 size_if-le test item = elim (test item) as (λ b. cond b item.size 0 ≤ item.size) [ true ↦ omega arith | false ↦ omega arith ]
 
 pub size_where-le : (test : Item → Bool) (items : List Item) → size_where test items ≤ sum_by item_size items
@@ -28,12 +29,12 @@ size_fits test items i d w is =
 
 -- what the task at a place keeps to
 pub record TaskFacts (s : TaskSystem) (task : Task) (k : ℕ) : Type 0 where
-  pub extra : task.extra ≤ 2 ^ 40
-  pub time : (1 ≤ task.time) × (task.time ≤ 2 ^ 40)
+  pub extra : task.extra ≤ most_size
+  pub time : (1 ≤ task.time) × (task.time ≤ most_time)
   pub inputs : task.share ≤ inputs_of s (k + 1)
   pub whole : task.share ≤ task.extra + outputs_of s (k + 1)
-  pub few_inputs : inputs_of s (k + 1) ≤ 2 ^ 60
-  pub few_outputs : outputs_of s (k + 1) ≤ 2 ^ 60
+  pub few_inputs : inputs_of s (k + 1) ≤ most_total
+  pub few_outputs : outputs_of s (k + 1) ≤ most_total
 
 pub task_facts : (s : TaskSystem) → IsSystem s → (tasks : List Task) → tasks ≡ s.tasks → (k : ℕ) (d : Task) → k < length tasks → TaskFacts s (get_or tasks k d) k
 task_facts s sys tasks same k d w =

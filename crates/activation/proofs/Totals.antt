@@ -1,7 +1,9 @@
 -- Sums over a list whose terms change at one element, and counts in a list's front.
-use Rattle.std.proofs.Common.{◌≡◌, ◌≢◌, ℕ, zero, suc, ◌+◌, ◌*◌, ◌<◌, Bool, true, cond, List, [], ◌∷◌, ◌++◌, length, get_or, refl, ◌∙◌, ap, arith, ⊎_elim, zero-add}
+use Rattle.std.proofs.Common.{◌≡◌, ◌≢◌, ℕ, zero, suc, ◌+◌, ◌*◌, ◌<◌, Bool, true, cond, List, [], ◌∷◌, ◌++◌, length, get_or, refl, sym, ◌∙◌, ap, arith, ⊎_elim, zero-add}
 use Rattle.std.specs.Prelude.{sum_by, count_by, ◌==◌}
 use Rattle.std.specs.List.{list_any}
+use Rattle.std.proofs.lemmas.List.{get_or_read}
+use Rattle.std.proofs.lemmas.List.Folds.{list_any-append, list_any_at, Any-from_list_any}
 use Rattle.std.proofs.lemmas.List.Sums.{sum_by-cons}
 use Rattle.std.proofs.lemmas.Bool.{cases_eq, eq-eqb, ne_eqb, eqb-true, or_left, or_right, or_cases}
 
@@ -56,27 +58,17 @@ counted_in (x ∷ xs) t h =
 
 -- where an element of a list stands
 pub place_in : (xs : List ℕ) (t : ℕ) → list_any (λ x. x == t) xs ≡ true → (k : ℕ) × (k < length xs) × (get_or xs k 0 ≡ t)
-place_in [] t h = cc
-place_in (x ∷ xs) t h =
-    ⊎_elim
-    (λ e. (0, omega arith, eqb-true x t e))
-    (λ r. let p = place_in xs t r in (suc p.0, omega (arith, p.1), p.2))
-    (or_cases (x == t) (list_any (λ y. y == t) xs) h)
+place_in xs t h =
+    let p = Any-from_list_any (λ x. x == t) xs h in
+    (p.0, p.2, sym (get_or_read xs p.0 p.1 p.2 (sym p.3) 0) ∙ eqb-true p.1 t p.4)
 
 -- and the other way
 pub in_at : (xs : List ℕ) (k : ℕ) → k < length xs → list_any (λ x. x == get_or xs k 0) xs ≡ true
-in_at [] k h = absurd (omega arith)
-in_at (x ∷ xs) zero h = or_left (x == x) (list_any (λ y. y == x) xs) (eq-eqb x x refl)
-in_at (x ∷ xs) (suc k) h = or_right (x == get_or xs k 0) (list_any (λ y. y == get_or xs k 0) xs) (in_at xs k (omega arith))
+in_at xs k h = list_any_at (λ x. x == get_or xs k 0) xs k 0 h (eq-eqb (get_or xs k 0) (get_or xs k 0) refl)
 
--- an element of a list's front is in the list, and counted no more often there
+-- an element of a list's front is in the list
 pub in_more : (xs ys : List ℕ) (t : ℕ) → list_any (λ x. x == t) xs ≡ true → list_any (λ x. x == t) (xs ++ ys) ≡ true
-in_more [] ys t h = cc
-in_more (x ∷ xs) ys t h =
-    ⊎_elim
-    (λ e. or_left (x == t) (list_any (λ y. y == t) (xs ++ ys)) e)
-    (λ r. or_right (x == t) (list_any (λ y. y == t) (xs ++ ys)) (in_more xs ys t r))
-    (or_cases (x == t) (list_any (λ y. y == t) xs) h)
+in_more xs ys t h = list_any-append (λ x. x == t) xs ys ∙ or_left (list_any (λ x. x == t) xs) (list_any (λ x. x == t) ys) h
 
 -- the terms change at t alone, which stands once in the list
 pub sum_changed_once : (f g : ℕ → ℕ) (t : ℕ) → ((x : ℕ) → x ≢ t → f x ≡ g x) → (xs : List ℕ) → count_by (λ x. x == t) xs ≡ 1 → sum_by f xs + g t ≡ sum_by g xs + f t

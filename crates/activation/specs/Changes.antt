@@ -17,8 +17,10 @@ pub record UsesNeed (c : Setting) (st : State) (t : ℕ) : Type 0 where
 
 -- a finish gives it back, takes the inputs away and adds the outputs
 pub record FreesNeed (c : Setting) (st : State) (t : ℕ) : Type 0 where
-  pub booked : booked_memory c (state_after st Finish t) + need_of c.system t + inputs_of c.system t ≡ booked_memory c st + outputs_of c.system t
-  pub used : used_memory c (state_after st Finish t) + need_of c.system t + inputs_of c.system t ≡ used_memory c st + outputs_of c.system t
+  pub booked :
+      booked_memory c (state_after st Finish t) + need_of c.system t + inputs_of c.system t ≡ booked_memory c st + outputs_of c.system t
+  pub used :
+      used_memory c (state_after st Finish t) + need_of c.system t + inputs_of c.system t ≡ used_memory c st + outputs_of c.system t
   pub running : running_count c (state_after st Finish t) + 1 ≡ running_count c st
 
 abbrev pub IsChange : Setting → State → EventKind → ℕ → Type 0

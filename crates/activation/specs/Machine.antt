@@ -2,7 +2,8 @@
 -- activated tasks once their suppliers are done. The method is that of E. Agullo, A. Buttari, A. Guermouche and F. Lopez, "Implementing
 -- multifrontal sparse solvers for multicore architectures with sequential task flow runtime systems", ACM Transactions on Mathematical
 -- Software 43, 2016; G. Aupy, C. Brasseur and L. Marchal, "Dynamic memory-aware task-tree scheduling", 2017, call it Activation.
-use Rattle.std.specs.Prelude.{◌≡◌, ℕ, zero, suc, ◌+◌, ◌<◌, ◌≤◌, Bool, true, false, if◌then◌else◌, List, length, take, slice_index, slice_index_or, slice_set, count_by, replicate}
+use Rattle.std.specs.Prelude.{◌≡◌, ℕ, zero, suc, ◌+◌, ◌<◌, ◌≤◌, Bool, true, false, if◌then◌else◌, List, length, take, slice_index}
+use Rattle.std.specs.Prelude.{slice_index_or, slice_set, count_by, replicate}
 use Rattle.std.specs.List.{sum_by}
 use Rattle.mp_system.specs.System.{TaskSystem, IsSystem, IsTask, need_of}
 use Rattle.mp_system.specs.Memory.{state_memory, stands_in, is_ready, peak_of}

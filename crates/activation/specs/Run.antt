@@ -75,8 +75,8 @@ pub record AreRanked (c : Setting) (priority ranks : List ℕ) : Type 0 where
   pub ranks_are : AreRanks (length c.system.tasks) ranks
   pub places : AreTaskPlaces priority ranks
 
--- at the place of each running task the clock has its due moment, at the rank of each startable task the tree has 0, and elsewhere both have
--- the greatest number
+-- at the place of each running task the clock has its due moment, at the rank of each startable task the tree has 0, and elsewhere both
+-- have the greatest number
 pub record IsRun (c : Setting) (st : State) (time : ℕ) (x : RunTables) : Type 0 where
   pub ranked : AreRanked c x.priority x.ranks
   pub dues_long : length x.dues ≡ length c.system.tasks

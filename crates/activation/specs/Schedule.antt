@@ -1,11 +1,13 @@
 -- The simulated run: the one schedule of a setting and a priority, and its trace.
-use Rattle.std.specs.Prelude.{◌≡◌, ◌≢◌, ◌==◌, ℕ, zero, suc, ◌+◌, ◌<◌, ◌≤◌, ◌⊎◌, max, List, [], ◌∷◌, All, length, slice_index, slice_set, replicate, count_by}
+use Rattle.std.specs.Prelude.{◌≡◌, ◌≢◌, ◌==◌, ℕ, zero, suc, ◌+◌, ◌<◌, ◌≤◌, ◌⊎◌, max, List, [], ◌∷◌, All, length, slice_index, slice_set}
+use Rattle.std.specs.Prelude.{replicate, count_by}
 use Rattle.mp_system.specs.System.{TaskSystem, IsTask, task_at}
 use Rattle.activation.specs.declared.events.Phase.TheVariants.{Running}
 use Rattle.activation.specs.declared.events.EventKind.{EventKind}
 use Rattle.activation.specs.declared.events.EventKind.TheVariants.{Activate, Start, Finish}
 use Rattle.activation.specs.declared.events.Event.{Event}
-use Rattle.activation.specs.Machine.{Setting, State, phase_in, MayActivate, MayStart, MayFinish, state_after, start_state, AllDone, booked_memory, used_memory}
+use Rattle.activation.specs.Machine.{Setting, State, phase_in, MayActivate, MayStart, MayFinish, state_after, start_state, AllDone}
+use Rattle.activation.specs.Machine.{booked_memory, used_memory}
 
 -- the number of a task in a list that has one for each task, the first task's first; 0 for a number that is no task's
 unfoldable pub task_entry : List ℕ → ℕ → ℕ

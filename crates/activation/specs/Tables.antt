@@ -1,12 +1,14 @@
 -- No public clause names this.
 -- The tables of a core: what its code keeps beside the state, and what each number stands for.
-use Rattle.std.specs.Prelude.{◌≡◌, ℕ, ◌+◌, ◌<◌, ◌≤◌, Bool, true, not, ◌&&◌, None, List, length, map, slice_index, slice_index_or, unwrap_or, count_by}
+use Rattle.std.specs.Prelude.{◌≡◌, ℕ, ◌+◌, ◌<◌, ◌≤◌, Bool, true, not, ◌&&◌, None, List, length, map, slice_index, slice_index_or, unwrap_or}
+use Rattle.std.specs.Prelude.{count_by}
 use Rattle.limits.specs.Limits.{most_workers}
 use Rattle.row_table.specs.Rows.{row_at, numbers_with}
 use Rattle.mp_system.specs.declared.system.Item.{Item}
 use Rattle.mp_system.specs.System.{TaskSystem, IsTask, is_input, is_output, inputs_of, outputs_of, need_of}
 use Rattle.mp_system.specs.Memory.{is_produced, is_ready, stands_in}
-use Rattle.activation.specs.Machine.{Setting, State, IsSetting, phase_in, is_idle_phase, activated_tasks, is_done, is_running, running_count, booked_memory, used_memory}
+use Rattle.activation.specs.Machine.{Setting, State, IsSetting, phase_in, is_idle_phase, activated_tasks, is_done, is_running}
+use Rattle.activation.specs.Machine.{running_count, booked_memory, used_memory}
 use Rattle.activation.specs.Safe.{IsSafe}
 use Rattle.activation.specs.Numbers.{IsNumber}
 use Rattle.activation.specs.Running.{RunningValue}

@@ -1,11 +1,13 @@
-ghost use Rattle.std.specs.Prelude.{◌≡◌, nat_eq, ◌*◌, ◌<◌, ◌≤◌, ℕ, true, false, if◌then◌else◌, [], length, slice_index, count_by, vec_capacity, IfOk, IfErr, IsTrue, IfSome, IfNone, ◌↔◌};
+ghost use Rattle.std.specs.Prelude.{◌≡◌, nat_eq, ◌*◌, ◌<◌, ◌≤◌, ℕ, true, false, if◌then◌else◌, [], length, slice_index, count_by};
+ghost use Rattle.std.specs.Prelude.{vec_capacity, IfOk, IfErr, IsTrue, IfSome, IfNone, ◌↔◌};
 ghost use Rattle.std.specs.Bool.{OnTrue, OnFalse};
 ghost use Rattle.std.specs.List.{IsDistinct};
 ghost use Rattle.limits.specs.Limits.{most_time, most_workers};
 ghost use Rattle.mp_system.specs.System.{IsTask, is_named, task_at};
 ghost use Rattle.mp_system.specs.Memory.{peak_of, stands_in};
 ghost use Rattle.mp_system.specs.Traversal.{IsTraversal};
-ghost use Rattle.activation.specs.Machine.{IsSetting, MayActivate, MayStart, MayFinish, state_after, start_state, is_running, is_done, booked_memory, used_memory};
+ghost use Rattle.activation.specs.Machine.{IsSetting, MayActivate, MayStart, MayFinish, state_after, start_state, is_running, is_done};
+ghost use Rattle.activation.specs.Machine.{booked_memory, used_memory};
 ghost use Rattle.activation.specs.Safe.{IsSafe};
 ghost use Rattle.activation.specs.Refusal.{IsCoreRefusal};
 ghost use Rattle.activation.specs.Tables.{is_startable, is_edge};
@@ -31,9 +33,9 @@ use row_table::laws::numbers_law;
 use std::alloc::Global;
 use std::marker::Model;
 
-/// The activation core of a system, an order, a bound on memory and so many workers. Whoever runs the tasks embeds it: it activates the next
-/// task where its need fits, and starts and finishes the tasks that it is told, where they may. All its calls but `new` take no memory.
-/// Agullo et al. 2016.
+/// The activation core of a system, an order, a bound on memory and so many workers. Whoever runs the tasks embeds it: it activates the
+/// next task where its need fits, and starts and finishes the tasks that it is told, where they may. All its calls but `new` take no
+/// memory. Agullo et al. 2016.
 #[derive(Drop)]
 pub struct Core {
     system: System,
@@ -79,7 +81,8 @@ impl Model for Core {
           booked = m.booked;
           used = m.used;
         })
-        × ForSome m.room (λ room. IsRoom (length m.system.tasks) (run_tables room.0) × (room.1.items ≡ []) × (3 * length m.system.tasks ≤ vec_capacity room.1)) };
+        × ForSome m.room (λ room. IsRoom (length m.system.tasks) (run_tables room.0)
+        × (room.1.items ≡ []) × (3 * length m.system.tasks ≤ vec_capacity room.1)) };
 }
 
 // The mark of a task that is startable, or is not.
@@ -100,7 +103,8 @@ impl Core {
         workers: u32,
     ) -> Result<Core, CoreRefusal>
         requires { (1 ≤ workers) × (workers ≤ most_workers) }
-        ensures setting { IfOk result (λ core. core.setting ≡ record { system = system.now; order = order.now; bound = bound; workers = workers }) }
+        ensures setting { IfOk result (λ core.
+            core.setting ≡ record { system = system.now; order = order.now; bound = bound; workers = workers }) }
         ensures start { IfOk result (λ core. core.state ≡ start_state core.setting) }
         ensures room { IfOk result (λ core. core.has_room ≡ true) }
         ensures within { IfOk result (λ core. IsSetting core.setting) }
@@ -124,7 +128,8 @@ impl Core {
         requires traversal { IsTraversal system.now order.now }
         requires bound { peak_of system.now order.now ≤ bound }
         requires workers { (1 ≤ workers) × (workers ≤ most_workers) }
-        ensures setting { IfOk result (λ m. m.setting ≡ record { system = system.now; order = order.now; bound = bound; workers = workers }) }
+        ensures setting { IfOk result (λ m.
+            m.setting ≡ record { system = system.now; order = order.now; bound = bound; workers = workers }) }
         ensures start { IfOk result (λ m. m.state ≡ start_state m.setting) }
         ensures room { IfOk result (λ m. m.has_room ≡ true) }
     {
@@ -138,7 +143,7 @@ impl Core {
         fill_places(order, &mut places);
         let running = RunningTasks::new(alloc, workers as usize, count)?;
         let phases = vec![in alloc; Phase::Idle; count]?;
-        let memory = start_memory(alloc, system)?;
+        let memory = start_memory(system);
         let room = Room::new(alloc, count)?;
         let events = Vec::with_capacity(alloc, 3 * count)?;
         let order = Vec::from_slice(alloc, order)?;
@@ -190,14 +195,18 @@ impl Core {
         ensures { result ≡ is_startable self.now.setting self.now.state task }
     {
         let at = task as usize - 1;
-        (self.places[at] as usize) < self.activated && self.phases[at].is_idle() && self.waiting[at] == 0
+        (self.places[at] as usize) < self.activated
+            && self.phases[at].is_idle()
+            && self.waiting[at] == 0
     }
 
     // Whether the task may start now.
     fn may_start(&self, task: u32) -> bool
         ensures { IsTrue result ↔ MayStart self.now.setting self.now.state task }
     {
-        is_number(task, self.system.tasks().len()) && self.running.has_room() && self.is_startable(task)
+        is_number(task, self.system.tasks().len())
+            && self.running.has_room()
+            && self.is_startable(task)
     }
 
     /// Starts an activated task whose suppliers are done, where a worker is free.
@@ -344,7 +353,8 @@ impl Core {
         requires long { length ready.old ≡ length self.now.setting.system.tasks }
         ensures long { length ready.new ≡ length ready.old }
         ensures marks { (t : ℕ) → IsTask self.now.setting.system t → slice_index ready.new (task_entry ranks.now t)
-            ≡ (if is_named task t then mark (is_startable self.now.setting self.now.state t) else slice_index ready.old (task_entry ranks.now t)) }
+            ≡ (if is_named task t then mark (is_startable self.now.setting self.now.state t)
+            else slice_index ready.old (task_entry ranks.now t)) }
     {
         if let Some(named) = task {
             let rank = ranks[named as usize - 1] as usize;

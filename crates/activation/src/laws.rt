@@ -3,7 +3,8 @@ ghost use Rattle.std.specs.Prelude.{◌≡◌, ℕ, false, ◌*◌, ◌≤◌, �
 ghost use Rattle.mp_system.specs.Memory.{state_memory};
 ghost use Rattle.activation.specs.declared.events.EventKind.{EventKind};
 ghost use Rattle.activation.specs.declared.events.Event.{Event};
-ghost use Rattle.activation.specs.Machine.{Setting, IsSetting, State, MayHappen, state_after, start_state, AllDone, booked_memory, used_memory};
+ghost use Rattle.activation.specs.Machine.{Setting, IsSetting, State, MayHappen, state_after, start_state, AllDone, booked_memory};
+ghost use Rattle.activation.specs.Machine.{used_memory};
 ghost use Rattle.activation.specs.Safe.{IsSafe};
 ghost use Rattle.activation.specs.Changes.{IsChange};
 ghost use Rattle.activation.specs.Runs.{AreLegal, state_after_all, IsWithinBound, HasNext, NoneRuns, CanBegin, AtMostOnce, EachOnce};
@@ -42,8 +43,8 @@ pub fn within_law()
     event_law();
 }
 
-/// A state in which not every task is done has an event: each safe one, and so each to which events lead from the start. Where no task runs,
-/// that is an activation or a start; so who ends the tasks that run, and else activates and starts, comes to the end.
+/// A state in which not every task is done has an event: each safe one, and so each to which events lead from the start. Where no task
+/// runs, that is an activation or a start: whoever activates and starts what may be, and waits only while a task runs, gets to the end.
 pub fn progress_law()
     ensures safe { (c : Setting) → IsSetting c → (st : State) → IsSafe c st → (AllDone c st → ⊥) → HasNext c st }
     ensures run { (c : Setting) → IsSetting c → (events : List Event) → AreLegal c (start_state c) events →

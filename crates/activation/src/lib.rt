@@ -1,9 +1,9 @@
-//! Activation (Agullo et al. 2016): tasks of a system run on several workers under a bound on memory. They are activated one after the other
-//! along a traversal, which books their memory, and started by free workers once their suppliers are done. So no run gets stuck, and
+//! Activation (Agullo et al. 2016): tasks of a system run on several workers under a bound on memory. They are activated one after the
+//! other along a traversal, which books their memory, and started by free workers once their suppliers are done. So no run gets stuck, and
 //! memory stays within every bound that the traversal keeps alone.
 //!
-//! [`Core`] is the machine, for whoever runs the tasks; [`simulate`] is its run in simulated time, for a priority that passes [`holds_each`].
-//! The definitions stand in specs/: `Machine`, `Runs`, `Safe`, `Schedule`; the laws over every list of events in [`laws`].
+//! [`Core`] is the machine, for whoever runs the tasks; [`simulate`] is its run in simulated time, for a priority that passes
+//! [`holds_each`]. The definitions stand in specs/: `Machine`, `Runs`, `Safe`, `Schedule`; the laws over every list of events in [`laws`].
 #![tactic(auto)]
 
 mod cores;

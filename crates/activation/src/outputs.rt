@@ -11,6 +11,9 @@ pub fn output_rows(alloc: Global, system: &System) -> Result<RowTable, NoMemory>
     ensures { IfOk result (λ rows. AreOutputRows (length system.now.tasks) system.now.items rows) }
 {
     let (tasks, items) = (system.tasks(), system.items());
-    let producers: Vec<u32> = items.iter().map(|item| item.from.unwrap_or(0)).collect(alloc)?;
+    let producers: Vec<u32> = items
+        .iter()
+        .map(|item| item.from.unwrap_or(0))
+        .collect(alloc)?;
     RowTable::group(alloc, &producers, tasks.len() as u32 + 1, 0)
 }

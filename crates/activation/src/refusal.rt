@@ -1,5 +1,6 @@
 use crate::NoMemory;
 use mp_system::{OrderFault, ReplayRefusal};
+use std::fmt::{self, Display, Formatter, Write};
 
 /// Why there is no core.
 #[derive(Clone, Copy, Debug, PartialEq, Eq)]
@@ -8,7 +9,7 @@ pub enum CoreRefusal {
     Order(OrderFault),
     /// The order's peak passes the bound.
     BoundBelow { bound: u64, peak: u64 },
-    /// No memory was found for a run.
+    /// Memory ran out, which says nothing of the order.
     NoMemory,
 }
 
@@ -23,18 +24,30 @@ impl From<NoMemory> for CoreRefusal {
     }
 }
 
+// The same refusal as that of a replay.
 impl From<ReplayRefusal> for CoreRefusal {
     ghost use Rattle.std.specs.Prelude.{ℕ, List};
     ghost use Rattle.mp_system.specs.System.{TaskSystem};
     ghost use Rattle.mp_system.specs.Refusal.{IsOrderRefusal};
     ghost use Rattle.activation.specs.Refusal.{IsCoreRefusal};
 
-    ghost from_gives = { λ r e. (system : TaskSystem) (order : List ℕ) (bound : ℕ) → IsOrderRefusal system order r → IsCoreRefusal system order bound e };
+    ghost from_gives = { λ r e. (system : TaskSystem) (order : List ℕ) (bound : ℕ) → IsOrderRefusal system order r →
+        IsCoreRefusal system order bound e };
 
     fn from(refusal: ReplayRefusal) -> CoreRefusal {
         match refusal {
             ReplayRefusal::Order(fault) => CoreRefusal::Order(fault),
             ReplayRefusal::NoMemory => CoreRefusal::NoMemory,
+        }
+    }
+}
+
+impl Display for CoreRefusal {
+    fn fmt<W: Write>(&self, f: &mut Formatter<W>) -> fmt::Result {
+        match self {
+            CoreRefusal::Order(fault) => fault.fmt(f),
+            CoreRefusal::BoundBelow { bound, peak } => write!(f, "bound {bound} {peak}"),
+            CoreRefusal::NoMemory => f.write_str("no memory"),
         }
     }
 }

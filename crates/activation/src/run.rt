@@ -4,12 +4,13 @@ ghost use Rattle.activation.specs.declared.events.Phase.TheVariants.{Running as 
 ghost use Rattle.activation.specs.Machine.{IsSetting, phase_in, start_state, used_memory, booked_memory, AllDone};
 ghost use Rattle.activation.specs.Safe.{IsSafe};
 ghost use Rattle.activation.specs.Tables.{is_startable};
-ghost use Rattle.activation.specs.Schedule.{HoldsEach, task_entry, moment_after, first_moment, ComesNext, NoneDue, NoneActivates, NoneStarts};
+ghost use Rattle.activation.specs.Schedule.{HoldsEach, task_entry, moment_after, first_moment, ComesNext, NoneDue, NoneActivates};
+ghost use Rattle.activation.specs.Schedule.{NoneStarts};
 ghost use Rattle.activation.specs.Run.{event_count, IsRoom, IsNextDue, IsFirstStartable, run_tables};
 
+use crate::cores::Core;
 use crate::events::{Event, EventKind};
 use crate::laws::progress_law;
-use crate::cores::Core;
 use crate::places::fill_places;
 use crate::room::Room;
 use mp_system::laws::traversal_law;
@@ -110,7 +111,8 @@ impl Run {
     // The task that may start as soon as a worker is free, and stands first in the priority.
     fn first_startable(&self) -> Option<u32>
         ensures some { IfSome result (λ t. IsFirstStartable self.now.setting self.now.priority self.now.moment.state t) }
-        ensures none { IfNone result ((u : ℕ) → IsTask self.now.setting.system u → is_startable self.now.setting self.now.moment.state u ≡ false) }
+        ensures none { IfNone result ((u : ℕ) → IsTask self.now.setting.system u →
+            is_startable self.now.setting self.now.moment.state u ≡ false) }
     {
         self.core.keeps();
         traversal_law();

@@ -8,8 +8,8 @@ use crate::events::Event;
 use crate::laws::schedule_law;
 use crate::run::Run;
 
-/// What a simulated run was: the moment of its last event, or 0 without tasks, the greatest used and the greatest booked memory over all its
-/// states, the first one included, and its events.
+/// What a simulated run was: the moment of its last event, or 0 without tasks, the greatest used and the greatest booked memory over all
+/// its states, the first one included, and its events.
 #[derive(Drop)]
 pub struct Trace {
     pub makespan: u64,
@@ -51,8 +51,8 @@ fn run_all(run: Run, events: Vec<Event>) -> Trace
 /// places; then tasks are activated while one may be; then, while one may start, the one that stands first in the priority is started; then
 /// time moves to the least due finish. A started task is due its duration later. The run ends when every task is done.
 ///
-/// [`holds_each`](crate::holds_each) tests whether a priority holds each task once. The run takes no memory: [`Core::new`] took it. The time is
-/// logarithmic in the tasks for each event.
+/// [`holds_each`](crate::holds_each) tests whether a priority holds each task once. The run takes no memory: [`Core::new`] took it. The
+/// time is logarithmic in the tasks for each event and each item.
 pub fn simulate(core: Core, priority: &[u32]) -> Trace
     // no event has happened: the core is as `Core::new` made it
     requires start { core.state ≡ start_state core.setting }

@@ -2,17 +2,20 @@ ghost use Rattle.std.specs.Prelude.{◌≡◌, ℕ, false, IfOk};
 ghost use Rattle.mp_system.specs.Memory.{state_memory};
 
 use crate::NoMemory;
-use mp_system::laws::congruence;
-use mp_system::{Replay, System};
+use mp_system::System;
 use std::alloc::Global;
 
-/// The memory before any task has run.
-pub fn start_memory(alloc: Global, system: &System) -> Result<u64, NoMemory>
-    ensures { IfOk result (λ memory. memory ≡ state_memory system.now (λ _. false)) }
+/// The memory before any task has run: the items that no task produces.
+pub fn start_memory(system: &System) -> u64
+    ensures { result ≡ state_memory system.now (λ _. false) }
 {
-    congruence();
-    let replay = Replay::new(alloc, system)?;
-    Ok(replay.memory())
+    let mut memory: u64 = 0;
+    for item in system.items() {
+        if item.from.is_none() {
+            memory += item.size;
+        }
+    }
+    memory
 }
 
 /// The system again, in memory of its own.

@@ -31,8 +31,7 @@ loop-task-preserved c =
 pub returns : goal.returns
 returns c =
     let m = c.loop-task.invariant in
-    let end : length c.args.priority.now ≡ c.loop-task.task-index = omega (arith, c.loop-task.auto.task-index-end) in
-    (
+    let end : length c.args.priority.now ≡ c.loop-task.task-index = omega (arith, c.loop-task.auto.task-index-end) in (
       λ z. each_held m end (λ k w. search rules),
       λ each. let all = all_found m end each in search rules,
     )

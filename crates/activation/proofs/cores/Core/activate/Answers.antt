@@ -11,10 +11,9 @@ returns-clause-some c =
 pub invariant_of-self : goal.invariant_of-self
 invariant_of-self c =
     let a = c.self.invariant.0 in
-    let legal = may_activate a (omega (arith, a.safe.prefix)) c.index-task.ensures c.index-need.ensures c.if-self-need.false in
-    (
+    let legal = may_activate a (omega (arith, a.safe.prefix)) c.index-task.ensures c.index-need.ensures c.if-self-need.false in (
       activated_tables a (omega (arith, a.safe.prefix)) c.index-task.ensures c.index-need.ensures
-      (c.event_law.ensures.kept _ a.setting _ a.safe Activate _ legal) (c.event_law.ensures.change _ a.setting _ a.safe Activate _ legal),
+          (c.event_law.ensures.kept _ a.setting _ a.safe Activate _ legal) (c.event_law.ensures.change _ a.setting _ a.safe Activate _ legal),
       c.self.invariant.1,
     )
 

@@ -1,0 +1,201 @@
+//! A plain, slow simulator, straight from the rule: lists of tasks, and a look at every task for each event.
+
+use crate::{Event, EventKind, NoMemory, Trace};
+use mp_system::{Item, System, Task};
+use std::alloc::Global;
+
+/// What a run is given.
+#[derive(Clone, Copy)]
+pub struct Given<'a> {
+    pub system: &'a System,
+    pub order: &'a [u32],
+    pub bound: u64,
+    pub workers: u32,
+    pub priority: &'a [u32],
+}
+
+// A run between two events: each running task with the moment at which it is due.
+#[derive(Drop)]
+struct PlainRun {
+    time: u64,
+    activated: Vec<u32>,
+    running: Vec<(u32, u64)>,
+    done: Vec<u32>,
+}
+
+fn is_present(item: Item, done: &[u32]) -> bool {
+    item.from.is_none_or(|task| done.contains(&task))
+        && !item.to.is_some_and(|task| done.contains(&task))
+}
+
+fn task_of(system: &System, number: u32) -> Task {
+    for (i, task) in system.tasks().iter().enumerate() {
+        if i as u64 + 1 == u64::from(number) {
+            return *task;
+        }
+    }
+    Task {
+        extra: 0,
+        share: 0,
+        time: 0,
+    }
+}
+
+// What a task needs while it runs, beside the items that are there.
+fn need(system: &System, number: u32) -> u64 {
+    let task = task_of(system, number);
+    let mut sum = task.extra;
+    for item in system.items() {
+        if item.from == Some(number) {
+            sum = sum.saturating_add(item.size);
+        }
+    }
+    sum.saturating_sub(task.share)
+}
+
+impl PlainRun {
+    fn due(&self, task: u32) -> Option<u64> {
+        for (running, due) in &self.running {
+            if *running == task {
+                return Some(*due);
+            }
+        }
+        None
+    }
+
+    fn is_ready(&self, system: &System, task: u32) -> bool {
+        for item in system.items() {
+            if item.to == Some(task) && item.from.is_some_and(|from| !self.done.contains(&from)) {
+                return false;
+            }
+        }
+        true
+    }
+
+    // The items that are present, and what these tasks need.
+    fn memory(&self, system: &System, tasks: &[u32]) -> u64 {
+        let mut sum: u64 = 0;
+        for item in system.items() {
+            if is_present(*item, &self.done) {
+                sum = sum.saturating_add(item.size);
+            }
+        }
+        for task in tasks {
+            sum = sum.saturating_add(need(system, *task));
+        }
+        sum
+    }
+}
+
+impl PlainRun {
+    fn used(&self, alloc: Global, system: &System) -> Result<u64, NoMemory> {
+        let running: Vec<u32> = self.running.iter().map(|it| it.0).collect(alloc)?;
+        Ok(self.memory(system, &running))
+    }
+
+    fn booked(&self, alloc: Global, system: &System) -> Result<u64, NoMemory> {
+        let left: Vec<u32> = self
+            .activated
+            .iter()
+            .filter(|task| !self.done.contains(task))
+            .copied()
+            .collect(alloc)?;
+        Ok(self.memory(system, &left))
+    }
+
+    // The first task of the order that is due now.
+    fn next_due(&self, given: Given) -> Option<u32> {
+        given
+            .order
+            .iter()
+            .find(|task| self.due(**task).is_some_and(|due| due <= self.time))
+            .copied()
+    }
+
+    // The next task of the order, where its need fits.
+    fn next_fitting(&self, alloc: Global, given: Given) -> Result<Option<u32>, NoMemory> {
+        let Some(task) = given.order.get(self.activated.len()) else {
+            return Ok(None);
+        };
+        let after = self
+            .booked(alloc, given.system)?
+            .saturating_add(need(given.system, *task));
+        Ok(if after <= given.bound {
+            Some(*task)
+        } else {
+            None
+        })
+    }
+
+    fn may_start(&self, given: Given, task: u32) -> bool {
+        self.activated.contains(&task)
+            && !self.done.contains(&task)
+            && self.due(task).is_none()
+            && self.is_ready(given.system, task)
+            && (self.running.len() as u64) < u64::from(given.workers)
+    }
+
+    // The next event at this moment, if there is one.
+    fn step(&mut self, alloc: Global, given: Given) -> Result<Option<Event>, NoMemory> {
+        let time = self.time;
+        if let Some(task) = self.next_due(given) {
+            self.running.retain(|it| it.0 != task);
+            self.done.push(task)?;
+            return Ok(Some(Event {
+                time,
+                kind: EventKind::Finish,
+                task,
+            }));
+        }
+        if let Some(task) = self.next_fitting(alloc, given)? {
+            self.activated.push(task)?;
+            return Ok(Some(Event {
+                time,
+                kind: EventKind::Activate,
+                task,
+            }));
+        }
+        for task in given.priority {
+            if self.may_start(given, *task) {
+                let due = time.saturating_add(task_of(given.system, *task).time);
+                self.running.push((*task, due))?;
+                return Ok(Some(Event {
+                    time,
+                    kind: EventKind::Start,
+                    task: *task,
+                }));
+            }
+        }
+        Ok(None)
+    }
+}
+
+/// The run of a small system, which has a hundred events and moments at most.
+pub fn plain_run(alloc: Global, given: Given) -> Result<Trace, NoMemory> {
+    let mut run = PlainRun {
+        time: 0,
+        activated: Vec::new(alloc),
+        running: Vec::new(alloc),
+        done: Vec::new(alloc),
+    };
+    let mut events = Vec::new(alloc);
+    let mut used = run.used(alloc, given.system)?;
+    let mut booked = run.booked(alloc, given.system)?;
+    for _ in 0..100 {
+        if let Some(event) = run.step(alloc, given)? {
+            events.push(event)?;
+            used = used.max(run.used(alloc, given.system)?);
+            booked = booked.max(run.booked(alloc, given.system)?);
+        } else if let Some(due) = run.running.iter().map(|it| it.1).min() {
+            run.time = due;
+        } else {
+            break;
+        }
+    }
+    Ok(Trace {
+        makespan: run.time,
+        used,
+        booked,
+        events,
+    })
+}

@@ -1,0 +1,348 @@
+//! The worked rows: runs, refusals, and a core event by event.
+
+ghost use Rattle.std.specs.Prelude.{◌≡◌, ◌≤◌};
+ghost use Rattle.limits.specs.Limits.{most_workers};
+
+use crate::tests::plain::{Given, plain_run};
+use crate::tests::systems::{arrow, star, still, tree};
+use crate::{Core, CoreRefusal, Event, EventKind, Trace, holds_each, simulate};
+use mp_system::{OrderFault, OrderKind, System};
+use std::alloc::Global;
+use std::process::Abort;
+use std::rt::HostRuntime;
+use std::test::Fail;
+
+const ACTIVATE: EventKind = EventKind::Activate;
+
+const START: EventKind = EventKind::Start;
+
+const FINISH: EventKind = EventKind::Finish;
+
+// The simulated run.
+fn run(alloc: Global, given: Given) -> Result<Trace, Fail>
+    requires { (1 ≤ given.workers) × (given.workers ≤ most_workers) }
+{
+    let core = Core::new(alloc, given.system, given.order, given.bound, given.workers)?;
+    if !holds_each(alloc, given.system, given.priority)? {
+        return Err("a priority that does not hold each task once".into());
+    }
+    Ok(simulate(core, given.priority))
+}
+
+/// The simulated run, which is that of the plain simulator.
+pub fn compare(rt: &impl Abort, alloc: Global, given: Given) -> Result<Trace, Fail>
+    requires { (1 ≤ given.workers) × (given.workers ≤ most_workers) }
+{
+    let (trace, plain) = (run(alloc, given)?, plain_run(alloc, given)?);
+    assert_eq!(rt;
+        (trace.makespan, trace.used, trace.booked),
+        (plain.makespan, plain.used, plain.booked)
+    );
+    assert_eq!(rt; trace.events.as_slice(), plain.events.as_slice());
+    Ok(trace)
+}
+
+// A run's trace is this one; an event is its moment, its kind and its task.
+fn is_trace(trace: &Trace, numbers: (u64, u64, u64), events: &[(u64, EventKind, u32)]) -> bool {
+    if (trace.makespan, trace.used, trace.booked) != numbers {
+        return false;
+    }
+    if trace.events.len() != events.len() {
+        return false;
+    }
+    for (found, wanted) in trace.events.iter().zip(events.iter()) {
+        let (time, kind, task) = *wanted;
+        if *found != (Event { time, kind, task }) {
+            return false;
+        }
+    }
+    true
+}
+
+const TIGHT: [(u64, EventKind, u32); 15] = [
+    (0, ACTIVATE, 1),
+    (0, START, 1),
+    (1, FINISH, 1),
+    (1, ACTIVATE, 3),
+    (1, START, 3),
+    (2, FINISH, 3),
+    (2, ACTIVATE, 2),
+    (2, START, 2),
+    (3, FINISH, 2),
+    (3, ACTIVATE, 4),
+    (3, ACTIVATE, 5),
+    (3, START, 4),
+    (4, FINISH, 4),
+    (4, START, 5),
+    (5, FINISH, 5),
+];
+
+const WIDE: [(u64, EventKind, u32); 15] = [
+    (0, ACTIVATE, 1),
+    (0, ACTIVATE, 3),
+    (0, START, 1),
+    (0, START, 3),
+    (1, FINISH, 1),
+    (1, FINISH, 3),
+    (1, ACTIVATE, 2),
+    (1, ACTIVATE, 4),
+    (1, ACTIVATE, 5),
+    (1, START, 2),
+    (1, START, 4),
+    (2, FINISH, 2),
+    (2, FINISH, 4),
+    (2, START, 5),
+    (3, FINISH, 5),
+];
+
+const ENDLESS: [(u64, EventKind, u32); 15] = [
+    (0, ACTIVATE, 1),
+    (0, ACTIVATE, 3),
+    (0, ACTIVATE, 2),
+    (0, ACTIVATE, 4),
+    (0, ACTIVATE, 5),
+    (0, START, 1),
+    (0, START, 3),
+    (1, FINISH, 1),
+    (1, FINISH, 3),
+    (1, START, 2),
+    (1, START, 4),
+    (2, FINISH, 2),
+    (2, FINISH, 4),
+    (2, START, 5),
+    (3, FINISH, 5),
+];
+
+const RANKED: [(u64, EventKind, u32); 12] = [
+    (0, ACTIVATE, 1),
+    (0, ACTIVATE, 2),
+    (0, ACTIVATE, 3),
+    (0, ACTIVATE, 4),
+    (0, START, 3),
+    (1, FINISH, 3),
+    (1, START, 2),
+    (2, FINISH, 2),
+    (2, START, 1),
+    (3, FINISH, 1),
+    (3, START, 4),
+    (4, FINISH, 4),
+];
+
+const IN_PLACE: [(u64, EventKind, u32); 9] = [
+    (0, ACTIVATE, 1),
+    (0, START, 1),
+    (1, FINISH, 1),
+    (1, ACTIVATE, 2),
+    (1, START, 2),
+    (2, FINISH, 2),
+    (2, ACTIVATE, 3),
+    (2, START, 3),
+    (4, FINISH, 3),
+];
+
+// The tree's runs are along one order, which is the priority too.
+fn of_tree(tree: &System, bound: u64, workers: u32) -> Given<'_>
+    ensures { result.workers ≡ workers }
+{
+    Given {
+        system: tree,
+        order: &[1, 3, 2, 4, 5],
+        bound,
+        workers,
+        priority: &[1, 3, 2, 4, 5],
+    }
+}
+
+#[test]
+fn runs_of_a_tree(rt: HostRuntime) -> Result<(), Fail> {
+    let alloc = rt.alloc();
+    let tree = tree(alloc)?;
+    let trace = compare(&rt, alloc, of_tree(&tree, 11, 2))?;
+    assert!(rt; is_trace(&trace, (5, 11, 11), &TIGHT));
+    let trace = compare(&rt, alloc, of_tree(&tree, 22, 2))?;
+    assert!(rt; is_trace(&trace, (3, 20, 20), &WIDE));
+    let trace = compare(&rt, alloc, of_tree(&tree, u64::MAX, 2))?;
+    assert!(rt; is_trace(&trace, (3, 20, 30), &ENDLESS));
+    assert_eq!(rt; compare(&rt, alloc, of_tree(&tree, 22, 1))?.makespan, 5);
+    assert_eq!(rt; compare(&rt, alloc, of_tree(&tree, 22, 4096))?.makespan, 3);
+    Ok(())
+}
+
+#[test]
+fn runs_of_other_systems(rt: HostRuntime) -> Result<(), Fail> {
+    let alloc = rt.alloc();
+    let system = star(alloc)?;
+    let trace = compare(
+        &rt,
+        alloc,
+        Given {
+            system: &system,
+            order: &[1, 2, 3, 4],
+            bound: 6,
+            workers: 1,
+            priority: &[3, 2, 1, 4],
+        },
+    )?;
+    assert!(rt; is_trace(&trace, (4, 6, 6), &RANKED));
+    let system = arrow(alloc)?;
+    let trace = compare(
+        &rt,
+        alloc,
+        Given {
+            system: &system,
+            order: &[1, 2, 3],
+            bound: 4,
+            workers: 2,
+            priority: &[1, 2, 3],
+        },
+    )?;
+    assert!(rt; is_trace(&trace, (4, 4, 4), &IN_PLACE));
+    let system = still(alloc)?;
+    let trace = compare(
+        &rt,
+        alloc,
+        Given {
+            system: &system,
+            order: &[],
+            bound: 20,
+            workers: 1,
+            priority: &[],
+        },
+    )?;
+    assert!(rt; is_trace(&trace, (0, 20, 20), &[]));
+    Ok(())
+}
+
+fn refusal(alloc: Global, system: &System, order: &[u32], bound: u64) -> Option<CoreRefusal> {
+    Core::new(alloc, system, order, bound, 2).err()
+}
+
+const REFUSALS: [(&[u32], u64, Option<CoreRefusal>); 7] = [
+    (&[1, 3, 2, 4, 5], 11, None),
+    (
+        &[1, 3, 2, 4, 5],
+        10,
+        Some(CoreRefusal::BoundBelow {
+            bound: 10,
+            peak: 11,
+        }),
+    ),
+    (
+        &[1, 2, 3, 4, 5],
+        11,
+        Some(CoreRefusal::BoundBelow {
+            bound: 11,
+            peak: 15,
+        }),
+    ),
+    (
+        &[1, 1],
+        0,
+        Some(CoreRefusal::Order(OrderFault {
+            place: 2,
+            kind: OrderKind::Repeated,
+        })),
+    ),
+    (
+        &[9],
+        99,
+        Some(CoreRefusal::Order(OrderFault {
+            place: 1,
+            kind: OrderKind::Unknown,
+        })),
+    ),
+    (
+        &[1, 2, 3, 4],
+        99,
+        Some(CoreRefusal::Order(OrderFault {
+            place: 5,
+            kind: OrderKind::Missing,
+        })),
+    ),
+    (
+        &[2, 1, 3, 4, 5],
+        99,
+        Some(CoreRefusal::Order(OrderFault {
+            place: 1,
+            kind: OrderKind::TooEarly,
+        })),
+    ),
+];
+
+#[test]
+fn orders_and_bounds_that_are_refused(rt: HostRuntime) -> Result<(), Fail> {
+    let alloc = rt.alloc();
+    let tree = tree(alloc)?;
+    for (order, bound, answer) in REFUSALS {
+        assert_eq!(rt; refusal(alloc, &tree, order, bound), answer);
+    }
+    let arrow = arrow(alloc)?;
+    assert_eq!(rt;
+        refusal(alloc, &arrow, &[1, 2, 3], 3),
+        Some(CoreRefusal::BoundBelow { bound: 3, peak: 4 })
+    );
+    Ok(())
+}
+
+#[test]
+fn refusals_are_told(rt: HostRuntime) -> Result<(), Fail> {
+    let alloc = rt.alloc();
+    let fault = OrderFault {
+        place: 3,
+        kind: OrderKind::TooEarly,
+    };
+    let below = CoreRefusal::BoundBelow { bound: 7, peak: 9 };
+    for (refusal, words) in [
+        (CoreRefusal::Order(fault), "too-early at place 3"),
+        (below, "bound 7 9"),
+        (CoreRefusal::NoMemory, "no memory"),
+    ] {
+        assert_eq!(rt; format!(in alloc; "{refusal}")?.as_str(), words);
+    }
+    Ok(())
+}
+
+#[test]
+fn a_core_event_by_event(rt: HostRuntime) -> Result<(), Fail> {
+    let alloc = rt.alloc();
+    let mut core = Core::new(alloc, &tree(alloc)?, &[1, 3, 2, 4, 5], 11, 1)?;
+    assert_eq!(rt; core.activate(), Some(1));
+    assert_eq!(rt; core.activate(), None);
+    assert_eq!(rt; (core.used(), core.booked(), core.activated()), (0, 10, 1));
+    // a task, whether it starts, whether it finishes, and then used, booked and activated
+    let rows = [
+        (0, false, false, (0, 10, 1)),
+        (6, false, false, (0, 10, 1)),
+        (3, false, false, (0, 10, 1)),
+        (1, true, true, (1, 1, 1)),
+        (2, false, false, (1, 1, 1)),
+        (u32::MAX, false, false, (1, 1, 1)),
+    ];
+    for (task, starts, finishes, memory) in rows {
+        assert_eq!(rt; core.start(task), starts);
+        assert_eq!(rt; core.running().len(), usize::from(starts));
+        assert_eq!(rt; core.finish(task), finishes);
+        assert_eq!(rt; core.is_done(task), finishes);
+        assert_eq!(rt; (core.used(), core.booked(), core.activated()), memory);
+    }
+    Ok(())
+}
+
+// Priorities of the tree's tasks, and whether each holds every task once.
+const PRIORITIES: [(&[u32], bool); 6] = [
+    (&[1, 2, 3, 4, 5], true),
+    (&[5, 3, 1, 4, 2], true),
+    (&[1, 2, 3, 4], false),
+    (&[1, 2, 3, 4, 4], false),
+    (&[0, 1, 2, 3, 4, 5], false),
+    (&[1, 2, 3, 4, 5, 6], false),
+];
+
+#[test]
+fn priorities_that_hold_each_task_once(rt: HostRuntime) -> Result<(), Fail> {
+    let tree = tree(rt.alloc())?;
+    for (priority, each) in PRIORITIES {
+        assert_eq!(rt; holds_each(rt.alloc(), &tree, priority)?, each);
+    }
+    Ok(())
+}
