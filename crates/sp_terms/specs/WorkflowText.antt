@@ -55,7 +55,3 @@ text_of positions = text_in (list_any is_sharing positions) positions
 -- the text of version 2
 abbrev pub text2_of : List Position → List ℕ
 text2_of positions = text_in true positions
-
--- a report holds what it held before, and then the first bytes of a text
-abbrev pub HoldsPart : List ℕ → List ℕ → List ℕ → Type 0
-HoldsPart before text after = (n : ℕ) × (after ≡ before ++ take n text)
