@@ -8,7 +8,7 @@ use crate::request::Matrix;
 use assembly_tree::laws::counts_of_fill;
 use assembly_tree::{Assembly, amalgamate, fronts, supernodes};
 use column_counts::counts;
-use elim_tree::laws::{pattern_of_rows, renamed_pattern};
+use elim_tree::laws::{pattern_of_rows, renumbered_pattern};
 use elim_tree::{etree, postorder, renumber};
 use matrix_market::Pattern;
 use ordering::Perm;
@@ -36,7 +36,7 @@ pub fn front_tree(
     ensures { IfOk result (IsFrontTree (matrix_view matrix.now) pattern.now perm.now) }
 {
     pattern_of_rows();
-    renamed_pattern();
+    renumbered_pattern();
     counts_of_fill();
     let _order = pattern.order();
     let parents = etree(alloc, pattern, perm)?;

@@ -26,7 +26,7 @@ supernodes-requires c =
     (c.pattern_of_rows.ensures.pattern rows c.order-order.ensures.pattern) (c.pattern_of_rows.ensures.within rows c.order-order.ensures.pattern) c.in_ok-numbered.ensures.tree in
     new-counts rows c.args.perm.now c.in_ok-parents.parents c.in_ok-post.post c.in_ok-parents.ensures c.in_ok-post.ensures perm c.in_ok-numbered.numbered.parents c.deref.result.now
     c.in_ok-numbered.ensures.order tree (c.deref.ensures.value ∙ c.in_ok-counts.ensures)
-    (c.counts_of_fill.ensures (columns rows perm) (length perm) (c.renamed_pattern.ensures.pattern rows perm c.order-order.ensures.pattern) (c.renamed_pattern.ensures.within rows perm c.order-order.ensures.pattern))
+    (c.counts_of_fill.ensures (columns rows perm) (length perm) (c.renumbered_pattern.ensures.pattern rows perm c.order-order.ensures.pattern) (c.renumbered_pattern.ensures.within rows perm c.order-order.ensures.pattern))
 
 pub returns : goal.returns
 returns c =
