@@ -10,6 +10,7 @@ use Rattle.std.proofs.lemmas.List.Elements.{All-tail}
 use Rattle.std.proofs.lemmas.List.Folds.{list_all-append}
 use Rattle.std.proofs.lemmas.List.Sums.{sum_by-cons, sum_by-append}
 use Rattle.std.proofs.Math.Seq.{take-append_seam}
+use Rattle.mp_text.specs.declared.layout.Layout.{Layout}
 use Rattle.mp_text.specs.declared.layout.Layout.TheVariants.{Commented}
 use Rattle.mp_text.specs.Text.{Row, says_nothing, is_digit, number_of, number_from}
 use Rattle.mp_text.specs.Ahead.{rows_of_bytes}
@@ -28,7 +29,7 @@ abbrev pub AreNumbers : Type 0
 AreNumbers = (n : ℕ) → n < 2 ^ 64 → number_of (decimal n) ≡ Some n
 
 abbrev pub AreRows : Type 0
-AreRows = (hash : Bool) (lines : List (List (List ℕ))) → IsTrue (list_all (is_counted hash) lines) → rows_of_bytes hash (text_of_lines lines) ≡ numbered_from 1 lines
+AreRows = (layout : Layout) (lines : List (List (List ℕ))) → IsTrue (list_all (is_counted layout) lines) → rows_of_bytes layout (text_of_lines lines) ≡ numbered_from 1 lines
 
 -- ---- one line
 
@@ -328,7 +329,7 @@ module _ (numbers : AreNumbers) (are_tokens : AreTokens) (are_rows : AreRows) (w
 
   pub printed-reads : ReadsTree (text_in with_share nodes) nodes
   printed-reads =
-      let read : rows_of_bytes Commented (text_in with_share nodes) ≡ header ∷ counted ∷ (rows ++ last ∷ []) = are_rows true (lines_in with_share nodes) lines_counted ∙ rows_are in
+      let read : rows_of_bytes Commented (text_in with_share nodes) ≡ header ∷ counted ∷ (rows ++ last ∷ []) = are_rows Commented (lines_in with_share nodes) lines_counted ∙ rows_are in
       record {
         form = record {
           lines = subst (ArePassed tree_format) (sym read) passed;
