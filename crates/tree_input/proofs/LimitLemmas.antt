@@ -1,16 +1,17 @@
 -- The term of a tree is within the limits of terms.
 use Rattle.std.proofs.Common.{◌≡◌, ℕ, zero, suc, ◌-◌, ◌*◌, ◌≤◌, List, [], ◌∷◌, ◌++◌, length, refl, sym, subst, ap, ◌∙◌, arith, append_assoc}
-use Rattle.std.specs.List.{sum_by, range_with_len}
+use Rattle.std.specs.List.{All, sum_by, range_with_len}
 use Rattle.std.proofs.lemmas.List.{length-append}
+use Rattle.std.proofs.lemmas.List.Elements.{All-nil, All-cons, All-append}
 use Rattle.std.proofs.lemmas.List.Sums.{sum_by-append, sum_by-cons}
 use Rattle.std.proofs.lemmas.List.Sorted.{sum_by-IsPermutation}
 use Rattle.mp_system.specs.Renaming.{IsRenamed}
 use Rattle.sp_terms.specs.declared.position.Position.{Position}
-use Rattle.sp_terms.specs.declared.position.Position.TheVariants.{Hold}
+use Rattle.sp_terms.specs.declared.position.Position.TheVariants.{Hold, Par}
 use Rattle.sp_terms.specs.Term.{Term, Parts, no_parts, part, backward, first_memory, first_memory_of_parts, IsAllowed, AreAllowed}
 use Rattle.sp_terms.specs.SystemOfTerm.{system_of_term}
 use Rattle.sp_terms.specs.Postfix.{Denotes, at_task, postfix}
-use Rattle.sp_terms.specs.Values.{stack_from, top_of, term_of, added_size, added_tasks, AllWithin, Leaves, IsTerms}
+use Rattle.sp_terms.specs.Values.{stack_from, last_term, term_of, added_size, added_tasks, IsWithinLimits, Leaves, IsTerms}
 use Rattle.tree_input.specs.declared.node.Node.{Node}
 use Rattle.tree_input.specs.Tree.{IsNode, IsTree, IsNodeWithin, node_at, node_size, task_of, children_out, system_of_nodes}
 use Rattle.tree_input.specs.Forest.{Forest, no_trees, tree, roots_of, all_numbers, HasChildren, IsForestOf}
@@ -31,10 +32,13 @@ side-allowed (part t (part u us)) h = (omega arith, h)
 
 -- ---- what stands side by side
 
-beside-within : (n : ℕ) → AllWithin (beside_positions n)
-beside-within zero = (omega arith, tt)
-beside-within (suc zero) = tt
-beside-within (suc (suc n)) = (omega arith, tt)
+one-within : (p : Position) → IsWithinLimits p → All IsWithinLimits (p ∷ [])
+one-within p h = All-cons IsWithinLimits p [] h (All-nil IsWithinLimits)
+
+beside-within : (n : ℕ) → All IsWithinLimits (beside_positions n)
+beside-within zero = one-within (Hold 0) (omega arith)
+beside-within (suc zero) = All-nil IsWithinLimits
+beside-within (suc (suc n)) = one-within (Par (suc (suc n))) (omega arith)
 
 beside-sizes : (n : ℕ) → sum_by added_size (beside_positions n) ≡ 0
 beside-sizes zero = refl
@@ -51,21 +55,17 @@ beside-length zero = omega arith
 beside-length (suc zero) = omega arith
 beside-length (suc (suc n)) = omega arith
 
-within-append : (ps qs : List Position) → AllWithin ps → AllWithin qs → AllWithin (ps ++ qs)
-within-append [] qs h k = k
-within-append (p ∷ ps) qs h k = (h.0, within-append ps qs h.1 k)
-
 module _ (nodes : List Node) (is : IsTree nodes) where
   -- these positions are within the limits, and their sizes are those of the nodes
   record AreSums (ps : List Position) (vs : List ℕ) : Type 0 where
-    within : AllWithin ps
+    within : All IsWithinLimits ps
     sizes : sum_by added_size ps ≡ sum_by (λ v. node_size (node_at nodes v)) vs
     tasks : sum_by added_tasks ps ≡ length vs
     few : length ps ≤ 3 * length vs
 
   sums-append : (ps qs : List Position) (vs us : List ℕ) → AreSums ps vs → AreSums qs us → AreSums (ps ++ qs) (vs ++ us)
   sums-append ps qs vs us h k = record {
-    within = within-append ps qs h.within k.within;
+    within = All-append IsWithinLimits ps qs h.within k.within;
     sizes = omega (arith, sum_by-append added_size ps qs, sum_by-append (λ v. node_size (node_at nodes v)) vs us, h.sizes, k.sizes);
     tasks = omega (arith, sum_by-append added_tasks ps qs, length-append vs us, h.tasks, k.tasks);
     few = omega (arith, length-append ps qs, length-append vs us, h.few, k.few);
@@ -81,14 +81,14 @@ module _ (nodes : List Node) (is : IsTree nodes) where
       let y = at_task (task_of (node_at nodes v)) in
       let w = node-within v node in
       record {
-        within = within-append b (x ∷ (y ∷ [])) (beside-within n) (w.out, ((w.extra, w.time.0, w.time.1), tt));
+        within = All-append IsWithinLimits b (x ∷ (y ∷ [])) (beside-within n) (All-cons IsWithinLimits x (y ∷ []) w.out (one-within y (w.extra, w.time.0, w.time.1)));
         sizes = omega (arith, sum_by-append added_size b (x ∷ (y ∷ [])), beside-sizes n, sum_by-cons added_size x (y ∷ []), sum_by-cons added_size y [], sum_by-cons (λ u. node_size (node_at nodes u)) v []);
         tasks = omega (arith, sum_by-append added_tasks b (x ∷ (y ∷ [])), beside-tasks n, sum_by-cons added_tasks x (y ∷ []), sum_by-cons added_tasks y []);
         few = omega (arith, length-append b (x ∷ (y ∷ [])), beside-length n);
       }
 
   tree-sums : (p : ℕ) (f : Forest) → Hangs nodes p f → AreSums (tree_positions nodes f) (all_numbers f)
-  tree-sums p no_trees h = record { within = tt; sizes = refl; tasks = refl; few = omega arith }
+  tree-sums p no_trees h = record { within = All-nil IsWithinLimits; sizes = refl; tasks = refl; few = omega arith }
   tree-sums p (tree v cs ts) (child, below, beside) =
       let b = beside_positions (length (roots_of cs)) in
       let inner : AreSums ((tree_positions nodes cs ++ b) ++ own_positions nodes v) (all_numbers cs ++ v ∷ []) =
@@ -117,7 +117,7 @@ module _ (nodes : List Node) (is : IsTree nodes) where
     term-denotes = subst (λ (ps : List Position). Denotes ps (forest_term nodes f)) (term-positions nodes f) (form (forest_term nodes f))
 
     pub term-same : term_of (forest_positions nodes f) ≡ forest_term nodes f
-    term-same = ap (λ o. top_of (stack_from o)) term-denotes
+    term-same = ap (λ o. last_term (stack_from o)) term-denotes
 
     numbers-size : sum_by (λ v. node_size (node_at nodes v)) (all_numbers f) ≡ sum_by node_size nodes
     numbers-size = sym (sum_by-IsPermutation (λ v. node_size (node_at nodes v)) (all_numbers f) (range_with_len 1 (length nodes)) (forest-each nodes is f h)) ∙ sizes-all nodes
@@ -130,7 +130,7 @@ module _ (nodes : List Node) (is : IsTree nodes) where
         record {
           is = term-denotes;
           allowed = (side-allowed (tree_parts nodes f) (parts-allowed 0 f (forest-hangs nodes f h) h.below), tt);
-          within = within-append a b s.within (beside-within (length (roots_of f)));
+          within = All-append IsWithinLimits a b s.within (beside-within (length (roots_of f)));
           few = omega (arith, length-append a b, s.few, forest-length nodes is f h, is.few, beside-length (length (roots_of f)));
           few_tasks = omega (arith, sum_by-append added_tasks a b, s.tasks, forest-length nodes is f h, is.few, beside-tasks (length (roots_of f)));
           total = omega (arith, sum_by-append added_size a b, s.sizes, numbers-size, is.total, beside-sizes (length (roots_of f)));
