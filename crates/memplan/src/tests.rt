@@ -1,58 +1,151 @@
 //! The top call over files and a sink in memory.
 
-mod certified_plans;
+mod checks;
 mod faults;
-mod limits;
+mod large;
 mod matrices;
 mod meeting;
 mod plans;
-mod rows;
+mod replays;
 mod simulations;
-mod workflows;
+mod usage;
 
 use crate::{Status, run_words};
-use mp_outside::{MemFiles, MemSink, NoGate};
+use mp_outside::{Files, MemFiles, MemSink, NoGate};
 use std::alloc::{AllocError, Global};
+use std::process::Abort;
+use std::test::Fail;
 use std::thread::Threads;
 
-// The tree of five nodes.
-const FIVE: &str = "tree 1\nnodes 5\n2 1 9 1\n5 5 0 1\n4 1 9 1\n5 5 0 1\n0 0 0 1\nend\n";
+// Files by their names, with what they hold.
+type Texts = &'static [(&'static str, &'static str)];
 
-// The words as strings.
-fn words_of(alloc: Global, words: &[&str]) -> Result<Vec<String>, AllocError> {
-    let mut all = Vec::new(alloc);
-    for word in words {
-        all.push(String::from_str(alloc, word)?)?;
-    }
-    Ok(all)
+/// Runs that end alike over the same files.
+struct Case {
+    /// The words of each run, cut at blanks; `''` stands for an empty word.
+    runs: &'static [&'static str],
+    files: Texts,
+    status: Status,
+    /// All that each run writes.
+    text: &'static str,
 }
 
-// Files with an input under the name `t` and an order under the name `o`.
-fn files_of(alloc: Global, input: &[u8], order: &[u8]) -> Result<MemFiles, AllocError> {
+// ---- inputs that several tables share
+
+const FIVE: &str = "tree 1\nnodes 5\n2 1 9 1\n5 5 0 1\n4 1 9 1\n5 5 0 1\n0 0 0 1\nend\n";
+
+const ORDER: &str = "1 3 2 4 5\n";
+
+const PLAN: &str =
+    "plan 1\norder 5\n1\n3\n2\n4\n5\npeak 11\nclaims 4\n5 R 5 5\n10 R 5 5\n11 R 10 10\n13 R 10 0\nend\n";
+
+// One task with a block of its own, and one that needs nothing.
+const ONE: &str = "tree 1\nnodes 1\n0 7 2 1\nend\n";
+
+const NOTHING: &str = "tree 1\nnodes 1\n0 0 0 1\nend\n";
+
+// Three leaves of 2 below a root.
+const FOUR: &str = "tree 1\nnodes 4\n4 2 0 1\n4 2 0 1\n4 2 0 1\n0 0 0 1\nend\n";
+
+const ROOTS: &str = "tree 1\nnodes 2\n0 3 0 1\n0 4 1 1\nend\n";
+
+const NO_TASKS: &str = "workflow 1\ntasks 0\ndata 10\ndata 10\npar 2\nend\n";
+
+// Two branches of two tasks each.
+const BRANCHES: &str =
+    "workflow 1\ntasks 4\ndata 4\ndata 1\ntask 0 1\ndata 3\ntask 6 1\ndata 4\ndata 1\ntask 0 1\ndata 3\ntask 6 1\npar 2\nend\n";
+
+// A task that takes over all that it takes up.
+const SHARE: &str = "workflow 2\ntasks 1\ndata 4\ndata 3\ntask 2 4 1\nend\n";
+
+// Vertex 1 is joined to 2, 3 and 4.
+const ARROW: &str = "%%MatrixMarket matrix coordinate pattern symmetric\n4 4 3\n2 1\n3 1\n4 1\n";
+
+// An order of elimination that puts the middle of the arrow after two of its ends.
+const TURNED: &str = "2 3 1 4\n";
+
+// The grid of 2 by 2.
+const GRID: &str =
+    "%%MatrixMarket matrix coordinate pattern symmetric\n4 4 4\n2 1\n3 1\n4 2\n4 3\n";
+
+const EMPTY: &str = "%%MatrixMarket matrix coordinate pattern general\n2 2 0\n";
+
+// Checks of a plan by several numbers of workers.
+const CHECK_TREE: &[&str] = &[
+    "check --tree t --plan p",
+    "check --tree t --plan p --workers 1",
+    "check --tree t --plan p --workers 2",
+    "check --tree t --plan p --workers 3",
+    "check --tree t --plan p --workers 13",
+    "check --tree t --plan p --workers 4096",
+];
+
+// ---- runs
+
+fn files_of(alloc: Global, texts: &[(&str, &str)]) -> Result<MemFiles, AllocError> {
     let mut files = MemFiles::new(alloc)?;
-    files.put("t", input)?;
-    files.put("o", order)?;
+    for (name, text) in texts {
+        files.put(name, text.as_bytes())?;
+    }
     Ok(files)
 }
 
-// Runs `replay` on these files, of which `t` is the input by this option, into this sink.
-fn replay_input<R: Threads + Sync>(
+// The words of a run.
+fn words_of(alloc: Global, run: &str) -> Result<Vec<String>, AllocError> {
+    let mut words = Vec::new(alloc);
+    for word in run.split_whitespace() {
+        let word = if word == "''" { "" } else { word };
+        words.push(String::from_str(alloc, word)?)?;
+    }
+    Ok(words)
+}
+
+fn run_into<R: Threads + Sync, F: Files>(
     rt: &R,
     alloc: Global,
-    option: &str,
-    files: &mut MemFiles,
+    run: &str,
+    files: &mut F,
     sink: &mut MemSink,
 ) -> Result<Status, AllocError> {
-    let words = words_of(alloc, &["replay", option, "t", "--order", "o"])?;
+    let words = words_of(alloc, run)?;
     Ok(run_words(rt, alloc, &words, files, sink, &NoGate))
 }
 
-// The same for a tree.
-fn replay_into<R: Threads + Sync>(
+// Whether a run over these files ends with this status, and writes this text and no more.
+fn check_run<R: Threads + Sync + Abort, F: Files>(
     rt: &R,
     alloc: Global,
-    files: &mut MemFiles,
-    sink: &mut MemSink,
-) -> Result<Status, AllocError> {
-    replay_input(rt, alloc, "--tree", files, sink)
+    run: &str,
+    files: &mut F,
+    status: Status,
+    text: &str,
+) -> Result<(), AllocError> {
+    let mut sink = MemSink::new(alloc, 1000)?;
+    let ended = run_into(rt, alloc, run, files, &mut sink)?;
+    assert_eq!(rt; ended, status, "{run}: {text}");
+    assert_eq!(rt; sink.written(), text.as_bytes(), "{run}: {text}");
+    Ok(())
+}
+
+fn check_case<R: Threads + Sync + Abort>(
+    rt: &R,
+    alloc: Global,
+    case: &Case,
+) -> Result<(), AllocError> {
+    for run in case.runs {
+        let mut files = files_of(alloc, case.files)?;
+        check_run(rt, alloc, run, &mut files, case.status, case.text)?;
+    }
+    Ok(())
+}
+
+fn check_cases<R: Threads + Sync + Abort>(
+    rt: &R,
+    alloc: Global,
+    cases: &[Case],
+) -> Result<(), AllocError> {
+    for case in cases {
+        check_case(rt, alloc, case)?;
+    }
+    Ok(())
 }

@@ -1,98 +1,145 @@
-use super::{FIVE, files_of, replay_into};
-use crate::Status;
-use mp_outside::MemSink;
-use std::test::Fail;
+//! Loads and writes that fail, files that are not held, and sinks that are full.
 
-// Loads of a run without faults: the tree has 59 bytes and the order 10, in pieces of 3 bytes, and each file ends with a load
-// that gives nothing.
-const LOADS: u64 = 20 + 1 + 4 + 1;
+use super::simulations::TIGHT;
+use super::{ARROW, Case, FIVE, FOUR, ORDER, Texts, check_cases, check_run, files_of, run_into};
+use crate::Status::{self, Done, Format, ReadFault, WriteFault};
+use mp_outside::MemSink;
+use std::alloc::{AllocError, Global};
+use std::process::Abort;
+use std::test::Fail;
+use std::thread::Threads;
+
+const FILES: Texts = &[("t", FIVE), ("o", ORDER), ("p", "5 4 3 2 1\n")];
+
+const REPLAY: &str = "replay --tree t --order o";
+
+const SIMULATE: &str = "simulate --tree t --order o --priority p --bound 11 --workers 2";
+
+// ---- loads
+
+// Each load of so many, in pieces of so many bytes, fails in turn; a load after them is never made.
+fn check_loads<R: Threads + Sync + Abort>(
+    rt: &R,
+    alloc: Global,
+    run: &str,
+    piece: u64,
+    loads: u64,
+    text: &str,
+) -> Result<(), AllocError> {
+    for load in 1..=loads.saturating_add(1) {
+        let mut files = files_of(alloc, FILES)?;
+        files.piece(piece.max(1));
+        files.fail_at(load)?;
+        let (status, said) = if load <= loads {
+            (ReadFault, "")
+        } else {
+            (Done, text)
+        };
+        check_run(rt, alloc, run, &mut files, status, said)?;
+    }
+    Ok(())
+}
 
 #[test]
 fn each_load_fails_in_turn(rt: HostRuntime) -> Result<(), Fail> {
-    for call in 1..LOADS + 2 {
-        let mut files = files_of(rt.alloc(), FIVE.as_bytes(), b"1 3 2 4 5\n")?;
-        files.piece(3);
-        files.fail_at(call)?;
-        let mut sink = MemSink::new(rt.alloc(), 1000)?;
-        let ended = replay_into(&rt, rt.alloc(), &mut files, &mut sink)?;
-        // the call after the last is never made
-        let (status, text): (Status, &[u8]) = if call <= LOADS {
-            (Status::ReadFault, b"")
-        } else {
-            (Status::Done, b"peak 11\n")
-        };
-        assert_eq!(rt; ended, status, "load {call}");
-        assert_eq!(rt; sink.written(), text, "load {call}");
-    }
+    // the tree has 59 bytes, the order and the priority 10 each, and each file ends with a load that gives nothing
+    check_loads(&rt, rt.alloc(), REPLAY, 3, 20 + 1 + 4 + 1, "peak 11\n")?;
+    check_loads(&rt, rt.alloc(), SIMULATE, 5, 12 + 1 + 2 + 1 + 2 + 1, TIGHT)?;
     Ok(())
 }
 
-// Room, bytes a write, the write that fails (0: none), the status and what the sink then holds.
-const FAILING_WRITES: [(u64, u64, u64, Status, &str); 14] = [
-    (1000, 1, 1, Status::WriteFault, ""),
-    (1000, 1, 2, Status::WriteFault, "p"),
-    (1000, 1, 3, Status::WriteFault, "pe"),
-    (1000, 1, 4, Status::WriteFault, "pea"),
-    (1000, 1, 5, Status::WriteFault, "peak"),
-    (1000, 1, 6, Status::WriteFault, "peak "),
-    (1000, 1, 7, Status::WriteFault, "peak 1"),
-    (1000, 1, 8, Status::WriteFault, "peak 11"),
-    (1000, 1, 9, Status::Done, "peak 11\n"),
-    (1000, 5, 2, Status::WriteFault, "peak "),
-    (0, 1000, 0, Status::WriteFault, ""),
-    (5, 1000, 0, Status::WriteFault, "peak "),
-    (7, 3, 0, Status::WriteFault, "peak 11"),
-    (8, 3, 0, Status::Done, "peak 11\n"),
+// A refused file ends a run before a later one is loaded, and one that is not held ends it before a later one is judged.
+#[rattlefmt::skip]
+const NOT_HELD: &[Case] = &[
+    Case { runs: &["replay --tree t --order none"], files: &[("t", FIVE)], status: ReadFault, text: "" },
+    Case { runs: &["replay --tree t --order none", "replay --tree t --plan none", "check --tree t --plan none",
+            "simulate --tree t --order none --priority none --bound 0 --workers 1"],
+        files: &[("t", "tree 1\nnodes 0\n")], status: Format, text: "refused format tree count 2\n" },
+    Case { runs: &["replay --tree none --order o", "replay --tree none --plan o", "check --tree none --plan o",
+            "replay --workflow none --order o", "replay --matrix none --order o", "plan --tree none", "post --tree none",
+            "tree --matrix none"],
+        files: &[("o", "x")], status: ReadFault, text: "" },
+    Case { runs: &["tree --matrix m --perm none", "plan --matrix m --perm none", "post --matrix m --perm none"],
+        files: &[("m", ARROW)], status: ReadFault, text: "" },
+    Case { runs: &["tree --matrix m --perm none", "replay --matrix m --perm none --order none"],
+        files: &[("m", "")], status: Format, text: "refused format matrix banner 1\n" },
+    Case { runs: &["replay --matrix m --perm p --order none", "plan --matrix m --perm p", "tree --matrix m --perm p"],
+        files: &[("m", ARROW), ("p", "0\n")], status: Format, text: "refused format perm range 1\n" },
+    Case { runs: &["replay --matrix m --perm none --order o", "simulate --matrix m --perm none --order o --bound 0 --workers 1"],
+        files: &[("m", ARROW), ("o", "x")], status: ReadFault, text: "" },
+    Case { runs: &["simulate --tree t --order o --priority none --bound 0 --workers 1"],
+        files: &[("t", FOUR), ("o", "x\n")], status: Format, text: "refused format order number 1\n" },
+    Case { runs: &["simulate --tree t --order none --priority p --bound 0 --workers 1",
+            "simulate --tree t --order o --priority none --bound 0 --workers 1"],
+        files: &[("t", FOUR), ("o", "1 1\n"), ("p", "x")], status: ReadFault, text: "" },
 ];
+
+#[test]
+fn files_that_are_not_held(rt: HostRuntime) -> Result<(), Fail> {
+    check_cases(&rt, rt.alloc(), NOT_HELD)?;
+    Ok(())
+}
+
+// ---- writes
+
+// Each write of a text, in pieces of so many bytes, fails in turn; a write after them is never made.
+fn check_writes<R: Threads + Sync + Abort>(
+    rt: &R,
+    alloc: Global,
+    run: &str,
+    piece: usize,
+    text: &[u8],
+) -> Result<(), AllocError> {
+    let mut taken = 0usize;
+    for write in 1..=text.len().div_ceil(piece.max(1)).saturating_add(1) {
+        let mut files = files_of(alloc, FILES)?;
+        let mut sink = MemSink::new(alloc, 1000)?;
+        sink.piece(piece.max(1) as u64);
+        sink.fail_at(write as u64)?;
+        let status = if taken < text.len() { WriteFault } else { Done };
+        let ended = run_into(rt, alloc, run, &mut files, &mut sink)?;
+        assert_eq!(rt; ended, status, "{run}: write {write}");
+        assert_eq!(rt;
+            Some(sink.written()),
+            text.get(..taken),
+            "{run}: write {write}"
+        );
+        taken = taken.saturating_add(piece).min(text.len());
+    }
+    Ok(())
+}
 
 #[test]
 fn each_write_fails_in_turn(rt: HostRuntime) -> Result<(), Fail> {
-    for (room, piece, failing, status, text) in FAILING_WRITES {
-        let mut files = files_of(rt.alloc(), FIVE.as_bytes(), b"1 3 2 4 5\n")?;
-        let mut sink = MemSink::new(rt.alloc(), room)?;
-        sink.piece(piece);
-        sink.fail_at(failing)?;
-        let ended = replay_into(&rt, rt.alloc(), &mut files, &mut sink)?;
-        assert_eq!(rt;
-            ended,
-            status,
-            "room {room}, piece {piece}, failing {failing}"
-        );
-        assert_eq!(rt;
-            sink.written(),
-            text.as_bytes(),
-            "room {room}, piece {piece}, failing {failing}"
-        );
-    }
+    check_writes(&rt, rt.alloc(), REPLAY, 1, b"peak 11\n")?;
+    check_writes(&rt, rt.alloc(), REPLAY, 5, b"peak 11\n")?;
+    check_writes(&rt, rt.alloc(), SIMULATE, 10, TIGHT.as_bytes())?;
+    // a plan may be any of least peak: whether it is one is tested elsewhere
+    let mut files = files_of(rt.alloc(), FILES)?;
+    let mut plan = MemSink::new(rt.alloc(), 1000)?;
+    let ended = run_into(&rt, rt.alloc(), "plan --tree t", &mut files, &mut plan)?;
+    assert_eq!(rt; ended, Done);
+    check_writes(&rt, rt.alloc(), "plan --tree t", 1, plan.written())?;
     Ok(())
 }
 
-// The bytes of the tree of five nodes that are left, the status and the text.
-const CUT_TREES: [(usize, Status, &str); 10] = [
-    (0, Status::Format, "refused format tree no-end 1\n"),
-    (7, Status::Format, "refused format tree no-end 2\n"),
-    (15, Status::Format, "refused format tree no-end 3\n"),
-    (23, Status::Format, "refused format tree no-end 4\n"),
-    (31, Status::Format, "refused format tree no-end 5\n"),
-    (39, Status::Format, "refused format tree no-end 6\n"),
-    (47, Status::Format, "refused format tree no-end 7\n"),
-    (55, Status::Format, "refused format tree no-end 8\n"),
-    (58, Status::Done, "peak 11\n"),
-    (57, Status::Format, "refused format tree count 8\n"),
+// The room of a sink, the bytes that a write takes, the status and what the sink then holds.
+const FULL: [(u64, u64, Status, &str); 4] = [
+    (0, 1000, WriteFault, ""),
+    (5, 1000, WriteFault, "peak "),
+    (7, 3, WriteFault, "peak 11"),
+    (8, 3, Done, "peak 11\n"),
 ];
 
 #[test]
-fn a_tree_that_ends_early(rt: HostRuntime) -> Result<(), Fail> {
-    for (len, status, text) in CUT_TREES {
-        let mut files = files_of(
-            rt.alloc(),
-            FIVE.as_bytes().get(..len).unwrap_or(b""),
-            b"1 3 2 4 5\n",
-        )?;
-        let mut sink = MemSink::new(rt.alloc(), 1000)?;
-        let ended = replay_into(&rt, rt.alloc(), &mut files, &mut sink)?;
-        assert_eq!(rt; ended, status, "{len} bytes");
-        assert_eq!(rt; sink.written(), text.as_bytes(), "{len} bytes");
+fn sinks_that_are_full(rt: HostRuntime) -> Result<(), Fail> {
+    for (room, piece, status, text) in FULL {
+        let mut files = files_of(rt.alloc(), FILES)?;
+        let mut sink = MemSink::new(rt.alloc(), room)?;
+        sink.piece(piece);
+        let ended = run_into(&rt, rt.alloc(), REPLAY, &mut files, &mut sink)?;
+        assert_eq!(rt; ended, status, "room {room}");
+        assert_eq!(rt; sink.written(), text.as_bytes(), "room {room}");
     }
     Ok(())
 }

@@ -1,369 +1,146 @@
-use super::{FIVE, words_of};
-use crate::{Status, run_words};
-use mp_outside::{MemFiles, MemSink, NoGate};
+//! What `plan` prints goes to `check` and to `replay` over the same input.
+
+use super::{
+    ARROW, BRANCHES, EMPTY, FIVE, FOUR, GRID, NO_TASKS, NOTHING, ONE, ROOTS, SHARE, TURNED, Texts,
+    check_run, files_of, run_into,
+};
+use crate::Status::Done;
+use mp_outside::{MemFiles, MemSink};
 use std::alloc::{AllocError, Global};
+use std::process::Abort;
+use std::str;
 use std::test::Fail;
 use std::thread::Threads;
 
-const PLAN: &str =
-    "plan 1\norder 5\n1\n3\n2\n4\n5\npeak 11\nclaims 4\n5 R 5 5\n10 R 5 5\n11 R 10 10\n13 R 10 0\nend\n";
-
-const ONE: &str = "tree 1\nnodes 1\n0 7 2 1\nend\n";
-
-const NOTHING: &str = "tree 1\nnodes 1\n0 0 0 1\nend\n";
-
-const FOUR: &str = "tree 1\nnodes 4\n4 2 0 1\n4 2 0 1\n4 2 0 1\n0 0 0 1\nend\n";
-
-const ROOTS: &str = "tree 1\nnodes 2\n0 3 0 1\n0 4 1 1\nend\n";
-
-const NO_TASKS: &str = "workflow 1\ntasks 0\ndata 10\ndata 10\npar 2\nend\n";
-
-const BRANCHES: &str =
-    "workflow 1\ntasks 4\ndata 4\ndata 1\ntask 0 1\ndata 3\ntask 6 1\ndata 4\ndata 1\ntask 0 1\ndata 3\ntask 6 1\npar 2\nend\n";
-
-// The numbers of workers that every row is judged by.
-const WORKERS: [&str; 5] = ["1", "2", "3", "13", "4096"];
-
-// Files with an input under the name `t` and a plan under the name `p`.
-fn files_with(alloc: Global, input: &str, plan: &str) -> Result<MemFiles, AllocError> {
-    let mut files = MemFiles::new(alloc)?;
-    files.put("t", input.as_bytes())?;
-    files.put("p", plan.as_bytes())?;
-    Ok(files)
+// The peak that a plan states.
+fn peak_of(plan: &[u8]) -> Option<&str> {
+    let (_, from_peak) = str::from_utf8(plan).ok()?.split_once("\npeak ")?;
+    let (peak, _) = from_peak.split_once("\n")?;
+    Some(peak)
 }
 
-// The status and the text of a check of the plan `p` for the input `t`, by so many workers.
-fn checked<R: Threads + Sync>(
+// The plan of an input is accepted, and its order has the peak that it states: this one, where one is given.
+fn check_plan<R: Threads + Sync + Abort>(
     rt: &R,
     alloc: Global,
-    option: &str,
+    input: &str,
     files: &mut MemFiles,
-    workers: &str,
-) -> Result<(Status, MemSink), AllocError> {
-    let words = words_of(
+    expected: Option<&str>,
+) -> Result<(), AllocError> {
+    let run = format!(in alloc; "plan {input}")?;
+    let mut plan = MemSink::new(alloc, 100_000)?;
+    let ended = run_into(rt, alloc, &run, files, &mut plan)?;
+    assert_eq!(rt; ended, Done, "{input}");
+    let peak = peak_of(plan.written()).expect(rt, "a plan states its peak");
+    assert_eq!(rt; expected.unwrap_or(peak), peak, "{input}");
+    files.put("made", plan.written())?;
+    let run = format!(in alloc; "check {input} --plan made")?;
+    check_run(
+        rt,
         alloc,
-        &["check", option, "t", "--plan", "p", "--workers", workers],
+        &run,
+        files,
+        Done,
+        &format!(in alloc; "yes {peak}\n")?,
     )?;
-    let mut sink = MemSink::new(alloc, 100)?;
-    let status = run_words(rt, alloc, &words, files, &mut sink, &NoGate);
-    Ok((status, sink))
+    let run = format!(in alloc; "replay {input} --plan made")?;
+    check_run(
+        rt,
+        alloc,
+        &run,
+        files,
+        Done,
+        &format!(in alloc; "peak {peak}\n")?,
+    )
 }
 
-// Whether the check ends as expected, whatever the number of workers.
-fn is_judged<R: Threads + Sync>(
-    rt: &R,
-    alloc: Global,
-    option: &str,
-    input: &str,
-    plan: &str,
-    expected: (Status, &str),
-) -> Result<bool, AllocError> {
-    for workers in WORKERS {
-        let mut files = files_with(alloc, input, plan)?;
-        let (status, sink) = checked(rt, alloc, option, &mut files, workers)?;
-        if status != expected.0 || sink.written() != expected.1.as_bytes() {
-            return Ok(false);
-        }
-    }
-    Ok(true)
-}
+// ---- the worked rows
 
-// The option, the input, the plan, and what is said.
-const ACCEPTED: [(&str, &str, &str, &str); 7] = [
-    ("--tree", FIVE, PLAN, "yes 11\n"),
-    (
-        "--tree",
-        ONE,
-        "plan 1\norder 1\n1\npeak 9\nclaims 1\n3 R 8 7\nend\n",
-        "yes 9\n",
-    ),
-    (
-        "--tree",
-        NOTHING,
-        "plan 1\norder 1\n1\npeak 0\nclaims 2\n1 F -1 0\n3 F -1 0\nend\n",
-        "yes 0\n",
-    ),
-    (
-        "--tree",
-        FOUR,
-        "plan 1\norder 4\n1\n2\n3\n4\npeak 6\nclaims 1\n12 R 5 0\nend\n",
-        "yes 6\n",
-    ),
-    (
-        "--workflow",
-        NO_TASKS,
-        "plan 1\norder 0\npeak 20\nclaims 3\n1 F 9 10\n2 F 9 10\n3 F 19 20\nend\n",
-        "yes 20\n",
-    ),
-    (
-        "--workflow",
-        BRANCHES,
-        "plan 1\norder 4\n1\n3\n2\n4\npeak 13\nclaims 3\n5 R 9 3\n10 R 9 3\n11 R 12 6\nend\n",
-        "yes 13\n",
-    ),
-    (
-        "--tree",
-        ROOTS,
-        "plan 1\norder 2\n2\n1\npeak 7\nclaims 3\n3 R 2 3\n6 R 3 4\n7 R 6 7\nend\n",
-        "yes 7\n",
-    ),
+// An input, its files, and the least peak.
+#[rattlefmt::skip]
+const PEAKS: &[(&str, Texts, &str)] = &[
+    ("--tree t", &[("t", FIVE)], "11"),
+    ("--tree t", &[("t", ONE)], "9"),
+    ("--tree t", &[("t", NOTHING)], "0"),
+    ("--tree t", &[("t", FOUR)], "6"),
+    ("--tree t", &[("t", ROOTS)], "7"),
+    ("--workflow t", &[("t", NO_TASKS)], "20"),
+    ("--workflow t", &[("t", BRANCHES)], "13"),
+    ("--workflow t", &[("t", SHARE)], "5"),
+    ("--matrix t", &[("t", ARROW)], "10"),
+    ("--matrix t --perm q", &[("t", ARROW), ("q", TURNED)], "5"),
+    ("--matrix t --perm q --shape square", &[("t", ARROW), ("q", TURNED)], "6"),
+    ("--matrix t --perm q --amalgamate 1", &[("t", ARROW), ("q", TURNED)], "7"),
+    ("--matrix t --perm q --inplace yes", &[("t", ARROW), ("q", TURNED)], "4"),
+    ("--matrix t --perm q --inplace yes --shape square", &[("t", ARROW), ("q", TURNED)], "5"),
+    ("--matrix t", &[("t", GRID)], "9"),
+    ("--matrix t --inplace yes", &[("t", GRID)], "6"),
+    ("--matrix t", &[("t", EMPTY)], "1"),
 ];
 
 #[test]
-fn accepted_plans(rt: HostRuntime) -> Result<(), Fail> {
-    for (option, input, plan, said) in ACCEPTED {
-        assert!(rt; is_judged(&rt, rt.alloc(), option, input, plan, (Status::Done, said))?);
+fn plans_of_least_peak(rt: HostRuntime) -> Result<(), Fail> {
+    for (input, texts, peak) in PEAKS {
+        let mut files = files_of(rt.alloc(), texts)?;
+        check_plan(&rt, rt.alloc(), input, &mut files, Some(peak))?;
     }
     Ok(())
 }
 
-#[test]
-fn a_version_2_plan_of_a_workflow_with_shares(rt: HostRuntime) -> Result<(), Fail> {
-    let workflow = "workflow 2\ntasks 1\ndata 4\ndata 3\ntask 2 4 1\nend\n";
-    let plan = "plan 2\norder 1\n1\npriority 0\npeak 5\nclaims 1\n3 R 4 3\nend\n";
-    let said = (Status::Done, "yes 5\n");
-    assert!(rt; is_judged(&rt, rt.alloc(), "--workflow", workflow, plan, said)?);
-    Ok(())
+// ---- random inputs
+
+// A number below `below`, by a linear congruential generator.
+fn next(state: &mut u64, below: u64) -> u64 {
+    *state = state
+        .wrapping_mul(6364136223846793005)
+        .wrapping_add(1442695040888963407);
+    (*state >> 33) % below.max(1)
 }
 
-// A plan of the tree of five nodes, and the first objection to it.
-const OBJECTIONS: [(&str, &str); 9] = [
-    (
-        "plan 1\norder 5\n2\n1\n3\n4\n5\npeak 11\nclaims 4\n5 R 5 5\n10 R 5 5\n11 R 10 10\n13 R 10 0\nend\n",
-        "no order 1 too-early\n",
-    ),
-    (
-        "plan 1\norder 4\n1\n3\n2\n4\npeak 11\nclaims 4\n5 R 5 5\n10 R 5 5\n11 R 10 10\n13 R 10 0\nend\n",
-        "no order 5 missing\n",
-    ),
-    (
-        "plan 1\norder 5\n1\n3\n2\n4\n5\npeak 10\nclaims 4\n5 R 5 5\n10 R 5 5\n11 R 10 10\n13 R 10 0\nend\n",
-        "no peak 11 10\n",
-    ),
-    (
-        "plan 1\norder 5\n1\n2\n3\n4\n5\npeak 11\nclaims 4\n5 R 5 5\n10 R 5 5\n11 R 10 10\n13 R 10 0\nend\n",
-        "no peak 15 11\n",
-    ),
-    (
-        "plan 1\norder 5\n1\n3\n2\n4\n5\npeak 11\nclaims 3\n5 R 5 5\n10 R 5 5\n11 R 10 10\nend\n",
-        "no root 13\n",
-    ),
-    (
-        "plan 1\norder 5\n1\n3\n2\n4\n5\npeak 11\nclaims 0\nend\n",
-        "no root 13\n",
-    ),
-    (
-        "plan 1\norder 5\n1\n3\n2\n4\n5\npeak 11\nclaims 5\n5 R 5 5\n10 R 5 5\n11 R 10 10\n13 R 10 0\n99 R 0 0\nend\n",
-        "no claim 99 outside\n",
-    ),
-    // the lowest of two that fail
-    (
-        "plan 1\norder 5\n1\n3\n2\n4\n5\npeak 11\nclaims 5\n4 R 5 5\n5 R 5 5\n10 R 6 5\n11 R 10 10\n13 R 10 0\nend\n",
-        "no claim 4 data\n",
-    ),
-    (
-        "plan 1\norder 5\n1\n3\n2\n4\n5\npeak 11\nclaims 5\n5 R 6 5\n10 R 5 5\n11 R 10 10\n13 R 10 0\n99 R 0 0\nend\n",
-        "no claim 5 series\n",
-    ),
-];
-
-#[test]
-fn objections(rt: HostRuntime) -> Result<(), Fail> {
-    for (plan, said) in OBJECTIONS {
-        assert!(rt; is_judged(&rt, rt.alloc(), "--tree", FIVE, plan, (Status::No, said))?);
+// A random tree: the parent of a node is one of the few nodes after it, or none.
+fn random_tree(alloc: Global, state: &mut u64, nodes: u64) -> Result<String, Fail> {
+    let mut text = format!(in alloc; "tree 1\nnodes {nodes}\n")?;
+    for node in 1..=nodes {
+        let up = node.saturating_add(next(state, 12));
+        let parent = if node < up && up <= nodes { up } else { 0 };
+        let line = format!(in alloc; "{parent} {} {} 1\n", next(state, 40), next(state, 60))?;
+        text.push_str(&line)?;
     }
-    let lowered =
-        "plan 1\norder 4\n1\n3\n2\n4\npeak 13\nclaims 3\n5 R 8 3\n10 R 9 3\n11 R 12 6\nend\n";
-    let said = (Status::No, "no claim 11 par\n");
-    assert!(rt; is_judged(&rt, rt.alloc(), "--workflow", BRANCHES, lowered, said)?);
-    Ok(())
+    text.push_str("end\n")?;
+    Ok(text)
 }
 
-// The plan of the tree of five nodes with these four claims.
-fn with_claims(alloc: Global, claims: [&str; 4]) -> Result<String, AllocError> {
-    let mut plan = String::from_str(alloc, "plan 1\norder 5\n1\n3\n2\n4\n5\npeak 11\nclaims 4\n")?;
-    for claim in claims {
-        plan.push_str(claim)?;
-        plan.push_str("\n")?;
+// A random workflow: so many branches of a few tasks, side by side in pairs, with a task after each pair but the last.
+fn random_workflow(alloc: Global, state: &mut u64, branches: u64) -> Result<String, Fail> {
+    let mut body = format!(in alloc; "data {}\n", next(state, 40))?;
+    let mut tasks = 0u64;
+    for _ in 1..branches {
+        let size = next(state, 40);
+        let line = format!(in alloc;
+            "data {}\ndata {size}\ntask {} 1\npar 2\ndata {}\ntask {} 1\n",
+            next(state, 40),
+            next(state, 60),
+            next(state, 40),
+            next(state, 60)
+        )?;
+        body.push_str(&line)?;
+        tasks = tasks.saturating_add(2);
     }
-    plan.push_str("end\n")?;
-    Ok(plan)
-}
-
-// Which of the claims becomes what, and what is said then.
-const ALTERED: [(usize, &str, Status, &str); 14] = [
-    (0, "5 R 6 5", Status::No, "no claim 5 series\n"),
-    (0, "5 R 4 5", Status::No, "no claim 11 par\n"),
-    (0, "5 R 5 6", Status::No, "no claim 5 series\n"),
-    (0, "5 R 5 4", Status::No, "no claim 11 par\n"),
-    (0, "5 F 5 5", Status::No, "no claim 5 series\n"),
-    (2, "11 R 11 10", Status::No, "no claim 11 par\n"),
-    (2, "11 R 9 10", Status::No, "no claim 13 series\n"),
-    (2, "11 R 10 9", Status::Done, "yes 11\n"),
-    (2, "11 R 10 11", Status::No, "no claim 11 par\n"),
-    (2, "11 F 10 10", Status::No, "no claim 11 par\n"),
-    (3, "13 R 11 0", Status::No, "no claim 13 series\n"),
-    (3, "13 R 9 0", Status::No, "no root 13\n"),
-    (3, "13 R 10 1", Status::No, "no claim 13 series\n"),
-    (3, "13 F 10 0", Status::Done, "yes 11\n"),
-];
-
-#[test]
-fn altered_claims(rt: HostRuntime) -> Result<(), Fail> {
-    for (which, claim, status, said) in ALTERED {
-        let mut claims = ["5 R 5 5", "10 R 5 5", "11 R 10 10", "13 R 10 0"];
-        claims[which] = claim;
-        let plan = with_claims(rt.alloc(), claims)?;
-        assert!(rt; is_judged(&rt, rt.alloc(), "--tree", FIVE, &plan, (status, said))?);
-    }
-    Ok(())
-}
-
-const REFUSED: [(&str, Status, &str); 4] = [
-    (
-        "plan 2\norder 4\n1\n2\n3\n4\npriority 4\n3\n3\n1\n4\npeak 6\nclaims 0\nend\n",
-        Status::Format,
-        "refused format plan priority 9\n",
-    ),
-    (
-        "plan 1\norder 0\npeak 0\nclaims 4000002\n",
-        Status::Limit,
-        "refused limit plan positions\n",
-    ),
-    (
-        "plan 1\norder 0\npeak 0\nclaims 2\n5 R 5 5\n5 R 5 5\nend\n",
-        Status::Format,
-        "refused format plan claim 6\n",
-    ),
-    (
-        "plan 1\norder 1\nx\n",
-        Status::Format,
-        "refused format plan number 3\n",
-    ),
-];
-
-#[test]
-fn plan_files_that_are_refused(rt: HostRuntime) -> Result<(), Fail> {
-    for (plan, status, said) in REFUSED {
-        assert!(rt; is_judged(&rt, rt.alloc(), "--tree", FOUR, plan, (status, said))?);
-    }
-    Ok(())
-}
-
-// The first lines of a text.
-fn first_lines(text: &str, lines: usize) -> &str {
-    let mut left = lines;
-    for (i, byte) in text.as_bytes().iter().enumerate() {
-        if left == 0 {
-            return text.get(..i).unwrap_or(text);
-        }
-        if *byte == b'\n' {
-            left -= 1;
-        }
-    }
-    text
+    Ok(format!(in alloc; "workflow 1\ntasks {tasks}\n{body}end\n")?)
 }
 
 #[test]
-fn a_plan_that_is_cut_short(rt: HostRuntime) -> Result<(), Fail> {
-    let refusals = [
-        "refused format plan no-end 1\n",
-        "refused format plan no-end 2\n",
-        "refused format plan no-end 3\n",
-        "refused format plan no-end 4\n",
-        "refused format plan no-end 5\n",
-        "refused format plan no-end 6\n",
-        "refused format plan no-end 7\n",
-        "refused format plan no-end 8\n",
-        "refused format plan no-end 9\n",
-        "refused format plan no-end 10\n",
-        "refused format plan no-end 11\n",
-        "refused format plan no-end 12\n",
-        "refused format plan no-end 13\n",
-        "refused format plan no-end 14\n",
-    ];
-    for (lines, refusal) in refusals.iter().enumerate() {
-        let cut = first_lines(PLAN, lines);
-        let said = (Status::Format, *refusal);
-        assert!(rt; is_judged(&rt, rt.alloc(), "--tree", FIVE, cut, said)?);
-    }
-    Ok(())
-}
-
-// Replays the order of the plan `p` over the input `t`.
-fn replayed<R: Threads + Sync>(
-    rt: &R,
-    alloc: Global,
-    input: &str,
-    plan: &str,
-) -> Result<(Status, MemSink), AllocError> {
-    let mut files = files_with(alloc, input, plan)?;
-    let words = words_of(alloc, &["replay", "--tree", "t", "--plan", "p"])?;
-    let mut sink = MemSink::new(alloc, 100)?;
-    let status = run_words(rt, alloc, &words, &mut files, &mut sink, &NoGate);
-    Ok((status, sink))
-}
-
-const REPLAYS: [(&str, &str, Status, &str); 4] = [
-    (FIVE, PLAN, Status::Done, "peak 11\n"),
-    // neither the stated peak nor the claims are judged
-    (
-        FIVE,
-        "plan 1\norder 5\n1\n2\n3\n4\n5\npeak 11\nclaims 0\nend\n",
-        Status::Done,
-        "peak 15\n",
-    ),
-    (FOUR, PLAN, Status::No, "no order 5 unknown\n"),
-    (
-        FIVE,
-        "plan 3\n",
-        Status::Format,
-        "refused format plan header 1\n",
-    ),
-];
-
-#[test]
-fn replays_of_plans(rt: HostRuntime) -> Result<(), Fail> {
-    for (input, plan, expected, text) in REPLAYS {
-        let (status, sink) = replayed(&rt, rt.alloc(), input, plan)?;
-        assert!(rt; status == expected);
-        assert!(rt; sink.written() == text.as_bytes());
-    }
-    Ok(())
-}
-
-const USAGE: [&[&str]; 12] = [
-    &["check", "--tree", "t"],
-    &["check", "--plan", "p"],
-    &["check", "--tree", "t", "--workflow", "w", "--plan", "p"],
-    &["check", "--tree", "t", "--plan", "p", "--workers", "0"],
-    &["check", "--tree", "t", "--plan", "p", "--workers", "4097"],
-    &[
-        "check",
-        "--tree",
-        "t",
-        "--plan",
-        "p",
-        "--workers",
-        "18446744073709551617",
-    ],
-    &["check", "--tree", "t", "--plan", "p", "--workers", "x"],
-    &["check", "--tree", "t", "--plan", "p", "--order", "o"],
-    &["check", "--tree", "t", "--plan", "p", "--plan", "p"],
-    &["replay", "--tree", "t", "--plan", "p", "--order", "o"],
-    &["replay", "--tree", "t", "--plan", "p", "--workers", "1"],
-    &["post", "--tree", "t", "--plan", "p"],
-];
-
-#[test]
-fn words_of_a_check_that_are_usage(rt: HostRuntime) -> Result<(), Fail> {
-    for row in USAGE {
-        let words = words_of(rt.alloc(), row)?;
-        let mut files = files_with(rt.alloc(), FIVE, PLAN)?;
-        let mut sink = MemSink::new(rt.alloc(), 100)?;
-        let status = run_words(&rt, rt.alloc(), &words, &mut files, &mut sink, &NoGate);
-        assert!(rt; status == Status::Usage);
-        assert!(rt; sink.written().is_empty());
+fn plans_of_random_trees_and_workflows(rt: HostRuntime) -> Result<(), Fail> {
+    let mut state = 11;
+    for _ in 0..20 {
+        let mut files = MemFiles::new(rt.alloc())?;
+        files.put("t", random_tree(rt.alloc(), &mut state, 300)?.as_bytes())?;
+        files.put(
+            "w",
+            random_workflow(rt.alloc(), &mut state, 150)?.as_bytes(),
+        )?;
+        check_plan(&rt, rt.alloc(), "--tree t", &mut files, None)?;
+        check_plan(&rt, rt.alloc(), "--workflow w", &mut files, None)?;
     }
     Ok(())
 }

@@ -1,506 +1,181 @@
 //! Runs on several workers within a bound.
 
-use super::{FIVE, words_of};
-use crate::{Status, run_words};
-use mp_outside::{MemFiles, MemSink, NoGate};
-use std::alloc::{AllocError, Global};
+use super::{ARROW, BRANCHES, Case, FIVE, FOUR, NO_TASKS, ORDER, TURNED, Texts, check_cases};
+use crate::Status::{Bound, Done, Format, No};
 use std::test::Fail;
-use std::thread::Threads;
-
-// Three leaves of 2 below a root.
-const FOUR: &str = "tree 1\nnodes 4\n4 2 0 1\n4 2 0 1\n4 2 0 1\n0 0 0 1\nend\n";
-
-const NO_TASKS: &str = "workflow 1\ntasks 0\ndata 10\ndata 10\npar 2\nend\n";
-
-// The arrow: vertex 1 is joined to 2, 3 and 4.
-const ARROW: &str = "%%MatrixMarket matrix coordinate pattern symmetric\n4 4 3\n2 1\n3 1\n4 1\n";
 
 // The tree of five nodes within its peak: one leaf after the other.
-const TIGHT: &str =
-    "makespan 5\nused 11\nbooked 11\nevents 15\n0 activate 1\n0 start 1\n1 finish 1\n1 activate 3\n1 start 3\n2 finish 3\n2 activate 2\n2 start 2\n3 finish 2\n3 activate 4\n3 activate 5\n3 start 4\n4 finish 4\n4 start 5\n5 finish 5\nend\n";
+pub const TIGHT: &str =
+    "makespan 5\nused 11\nbooked 11\nevents 15\n0 activate 1\n0 start 1\n1 finish 1\n1 activate 3\n1 start 3\n2 finish 3\n\
+        2 activate 2\n2 start 2\n3 finish 2\n3 activate 4\n3 activate 5\n3 start 4\n4 finish 4\n4 start 5\n5 finish 5\nend\n";
 
 // The same within twice that: both leaves at once.
 const WIDE: &str =
-    "makespan 3\nused 20\nbooked 20\nevents 15\n0 activate 1\n0 activate 3\n0 start 1\n0 start 3\n1 finish 1\n1 finish 3\n1 activate 2\n1 activate 4\n1 activate 5\n1 start 2\n1 start 4\n2 finish 2\n2 finish 4\n2 start 5\n3 finish 5\nend\n";
+    "makespan 3\nused 20\nbooked 20\nevents 15\n0 activate 1\n0 activate 3\n0 start 1\n0 start 3\n1 finish 1\n1 finish 3\n\
+        1 activate 2\n1 activate 4\n1 activate 5\n1 start 2\n1 start 4\n2 finish 2\n2 finish 4\n2 start 5\n3 finish 5\nend\n";
 
 // The same by one worker.
 const ALONE: &str =
-    "makespan 5\nused 11\nbooked 21\nevents 15\n0 activate 1\n0 activate 3\n0 start 1\n1 finish 1\n1 activate 2\n1 activate 4\n1 activate 5\n1 start 3\n2 finish 3\n2 start 2\n3 finish 2\n3 start 4\n4 finish 4\n4 start 5\n5 finish 5\nend\n";
+    "makespan 5\nused 11\nbooked 21\nevents 15\n0 activate 1\n0 activate 3\n0 start 1\n1 finish 1\n1 activate 2\n1 activate 4\n\
+        1 activate 5\n1 start 3\n2 finish 3\n2 start 2\n3 finish 2\n3 start 4\n4 finish 4\n4 start 5\n5 finish 5\nend\n";
 
 // All that it needs may be booked at once.
 const UNBOUNDED: &str =
-    "makespan 3\nused 20\nbooked 30\nevents 15\n0 activate 1\n0 activate 3\n0 activate 2\n0 activate 4\n0 activate 5\n0 start 1\n0 start 3\n1 finish 1\n1 finish 3\n1 start 2\n1 start 4\n2 finish 2\n2 finish 4\n2 start 5\n3 finish 5\nend\n";
+    "makespan 3\nused 20\nbooked 30\nevents 15\n0 activate 1\n0 activate 3\n0 activate 2\n0 activate 4\n0 activate 5\n\
+        0 start 1\n0 start 3\n1 finish 1\n1 finish 3\n1 start 2\n1 start 4\n2 finish 2\n2 finish 4\n2 start 5\n3 finish 5\nend\n";
 
-// The tree of four nodes with the priority 3 2 1 4, and with its order as the priority.
-const RANKED: &str =
-    "makespan 4\nused 6\nbooked 6\nevents 12\n0 activate 1\n0 activate 2\n0 activate 3\n0 activate 4\n0 start 3\n1 finish 3\n1 start 2\n2 finish 2\n2 start 1\n3 finish 1\n3 start 4\n4 finish 4\nend\n";
+const FIVE_FILES: Texts = &[("t", FIVE), ("o", ORDER)];
 
-const UNRANKED: &str =
-    "makespan 4\nused 6\nbooked 6\nevents 12\n0 activate 1\n0 activate 2\n0 activate 3\n0 activate 4\n0 start 1\n1 finish 1\n1 start 2\n2 finish 2\n2 start 3\n3 finish 3\n3 start 4\n4 finish 4\nend\n";
+#[rattlefmt::skip]
+const TREES: &[Case] = &[
+    Case { runs: &[
+            "simulate --tree t --order o --bound 11 --workers 1",
+            "simulate --tree t --order o --bound 11 --workers 2",
+            "simulate --tree t --order o --bound 11 --workers 4096",
+        ], files: FIVE_FILES, status: Done, text: TIGHT },
+    Case { runs: &["simulate --tree t --order o --bound 22 --workers 2"], files: FIVE_FILES, status: Done, text: WIDE },
+    Case { runs: &["simulate --tree t --order o --bound 22 --workers 1"], files: FIVE_FILES, status: Done, text: ALONE },
+    Case { runs: &["simulate --tree t --order o --bound 18446744073709551615 --workers 2"],
+        files: FIVE_FILES, status: Done, text: UNBOUNDED },
+    Case { runs: &["simulate --tree t --order o --bound 10 --workers 2"],
+        files: FIVE_FILES, status: Bound, text: "refused bound 10 11\n" },
+    Case { runs: &["simulate --tree t --order o --bound 0 --workers 4096"],
+        files: FIVE_FILES, status: Bound, text: "refused bound 0 11\n" },
+];
+
+// Orders that are no traversal; the bound may be too small besides.
+#[rattlefmt::skip]
+const ORDERS: &[Case] = &[
+    Case { runs: &["simulate --tree t --order o --bound 100 --workers 2", "simulate --tree t --order o --bound 0 --workers 2"],
+        files: &[("t", FIVE), ("o", "1 2 3 4\n")], status: No, text: "no order 5 missing\n" },
+    Case { runs: &["simulate --tree t --order o --bound 10 --workers 2"],
+        files: &[("t", FIVE), ("o", "2 1 3 4 5\n")], status: No, text: "no order 1 too-early\n" },
+    Case { runs: &["simulate --tree t --order o --bound 10 --workers 2"],
+        files: &[("t", FIVE), ("o", "1 1\n")], status: No, text: "no order 2 repeated\n" },
+    Case { runs: &["simulate --tree t --order o --bound 10 --workers 2"],
+        files: &[("t", FIVE), ("o", "9\n")], status: No, text: "no order 1 unknown\n" },
+];
 
 const NOTHING_RUN: &str = "makespan 0\nused 20\nbooked 20\nevents 0\nend\n";
 
-const ARROW_RUN: &str =
-    "makespan 4\nused 4\nbooked 4\nevents 9\n0 activate 1\n0 start 1\n1 finish 1\n1 activate 2\n1 start 2\n2 finish 2\n2 activate 3\n2 start 3\n4 finish 3\nend\n";
+// The two branches one after the other, within the peak of that order; the second task of a branch books 9.
+const IN_TURN: &str =
+    "makespan 4\nused 14\nbooked 14\nevents 12\n0 activate 1\n0 start 1\n1 finish 1\n1 activate 2\n1 start 2\n2 finish 2\n\
+        2 activate 3\n2 start 3\n3 finish 3\n3 activate 4\n3 start 4\n4 finish 4\nend\n";
 
-// The order or the plan of a run, the bound and the workers.
-#[derive(Clone, Copy)]
-struct Run<'a> {
-    source: &'a str,
-    order: &'a str,
-    bound: &'a str,
-    workers: &'a str,
-}
+// Both side by side.
+const ABREAST: &str =
+    "makespan 2\nused 20\nbooked 28\nevents 12\n0 activate 1\n0 activate 2\n0 activate 3\n0 activate 4\n0 start 1\n0 start 3\n\
+        1 finish 1\n1 finish 3\n1 start 2\n1 start 4\n2 finish 2\n2 finish 4\nend\n";
 
-// A run along an order file.
-fn along<'a>(order: &'a str, bound: &'a str, workers: &'a str) -> Run<'a> {
-    Run {
-        source: "--order",
-        order,
-        bound,
-        workers,
-    }
-}
+// One worker, to whom all are booked.
+const IN_TURN_BOOKED: &str =
+    "makespan 4\nused 14\nbooked 28\nevents 12\n0 activate 1\n0 activate 2\n0 activate 3\n0 activate 4\n0 start 1\n1 finish 1\n\
+        1 start 2\n2 finish 2\n2 start 3\n3 finish 3\n3 start 4\n4 finish 4\nend\n";
 
-// A run along a plan, of a bound of 6 and one worker.
-fn planned(plan: &str) -> Run<'_> {
-    Run {
-        source: "--plan",
-        order: plan,
-        bound: "6",
-        workers: "1",
-    }
-}
+// The first tasks of both at once, then the second ones in turn.
+const BY_STEPS: &str =
+    "makespan 3\nused 13\nbooked 13\nevents 12\n0 activate 1\n0 activate 3\n0 start 1\n0 start 3\n1 finish 1\n1 finish 3\n\
+        1 activate 2\n1 start 2\n2 finish 2\n2 activate 4\n2 start 4\n3 finish 4\nend\n";
 
-// Files with an input under the name `t`, and an order or a plan under `o`.
-fn files_with(alloc: Global, input: &str, order: &str) -> Result<MemFiles, AllocError> {
-    let mut files = MemFiles::new(alloc)?;
-    files.put("t", input.as_bytes())?;
-    files.put("o", order.as_bytes())?;
-    Ok(files)
-}
+const BRANCH_FILES: Texts = &[("t", BRANCHES), ("o", "1 2 3 4\n")];
 
-// Whether these words over these files end with this status and text.
-fn is_said<R: Threads + Sync>(
-    rt: &R,
-    alloc: Global,
-    files: &mut MemFiles,
-    words: &[&str],
-    expected: (Status, &str),
-) -> Result<bool, AllocError> {
-    let words = words_of(alloc, words)?;
-    let mut sink = MemSink::new(alloc, 1000)?;
-    let status = run_words(rt, alloc, &words, files, &mut sink, &NoGate);
-    Ok(status == expected.0 && sink.written() == expected.1.as_bytes())
-}
-
-// Whether a run of an input ends as expected.
-fn is_run<R: Threads + Sync>(
-    rt: &R,
-    alloc: Global,
-    option: &str,
-    input: &str,
-    run: Run<'_>,
-    expected: (Status, &str),
-) -> Result<bool, AllocError> {
-    let mut files = files_with(alloc, input, run.order)?;
-    let words = [
-        "simulate",
-        option,
-        "t",
-        run.source,
-        "o",
-        "--bound",
-        run.bound,
-        "--workers",
-        run.workers,
-    ];
-    is_said(rt, alloc, &mut files, &words, expected)
-}
-
-// The same with a priority file.
-fn is_ranked<R: Threads + Sync>(
-    rt: &R,
-    alloc: Global,
-    run: Run<'_>,
-    priority: &str,
-    expected: (Status, &str),
-) -> Result<bool, AllocError> {
-    let mut files = files_with(alloc, FOUR, run.order)?;
-    files.put("p", priority.as_bytes())?;
-    let words = [
-        "simulate",
-        "--priority",
-        "p",
-        "--tree",
-        "t",
-        run.source,
-        "o",
-        "--workers",
-        run.workers,
-        "--bound",
-        run.bound,
-    ];
-    is_said(rt, alloc, &mut files, &words, expected)
-}
-
-#[test]
-fn runs_of_trees(rt: HostRuntime) -> Result<(), Fail> {
-    // the bound, the workers, the status and the text
-    let rows: [(&str, &str, Status, &str); 8] = [
-        ("11", "2", Status::Done, TIGHT),
-        ("11", "1", Status::Done, TIGHT),
-        ("11", "4096", Status::Done, TIGHT),
-        ("22", "2", Status::Done, WIDE),
-        ("22", "1", Status::Done, ALONE),
-        ("18446744073709551615", "2", Status::Done, UNBOUNDED),
-        ("10", "2", Status::Bound, "refused bound 10 11\n"),
-        ("0", "4096", Status::Bound, "refused bound 0 11\n"),
-    ];
-    for (bound, workers, status, text) in rows {
-        let run = along("1 3 2 4 5\n", bound, workers);
-        let said = is_run(&rt, rt.alloc(), "--tree", FIVE, run, (status, text))?;
-        assert!(rt; said, "bound {bound}, workers {workers}");
-    }
-    Ok(())
-}
-
-#[test]
-fn runs_of_a_workflow_without_tasks(rt: HostRuntime) -> Result<(), Fail> {
-    let within = (Status::Done, NOTHING_RUN);
-    let below = (Status::Bound, "refused bound 19 20\n");
-    let option = "--workflow";
-    assert!(rt;
-        is_run(
-            &rt,
-            rt.alloc(),
-            option,
-            NO_TASKS,
-            along("", "20", "1"),
-            within
-        )?
-    );
-    assert!(rt;
-        is_run(
-            &rt,
-            rt.alloc(),
-            option,
-            NO_TASKS,
-            along("", "19", "1"),
-            below
-        )?
-    );
-    Ok(())
-}
-
-#[test]
-fn orders_that_are_no_traversal(rt: HostRuntime) -> Result<(), Fail> {
-    // an order, the bound, which may be too small besides, and the text
-    let rows: [(&str, &str, &str); 5] = [
-        ("1 2 3 4\n", "100", "no order 5 missing\n"),
-        ("1 2 3 4\n", "0", "no order 5 missing\n"),
-        ("2 1 3 4 5\n", "10", "no order 1 too-early\n"),
-        ("1 1\n", "10", "no order 2 repeated\n"),
-        ("9\n", "10", "no order 1 unknown\n"),
-    ];
-    for (order, bound, text) in rows {
-        let run = along(order, bound, "2");
-        assert!(rt;
-            is_run(&rt, rt.alloc(), "--tree", FIVE, run, (Status::No, text))?,
-            "{order}"
-        );
-    }
-    Ok(())
-}
-
-#[test]
-fn priorities(rt: HostRuntime) -> Result<(), Fail> {
-    let ranked_plan =
-        "plan 2\norder 4\n1\n2\n3\n4\npriority 4\n3\n2\n1\n4\npeak 6\nclaims 0\nend\n";
-    let unranked_plan = "plan 2\norder 4\n1\n2\n3\n4\npriority 0\npeak 6\nclaims 0\nend\n";
-    let old_plan = "plan 1\norder 4\n1\n2\n3\n4\npeak 6\nclaims 0\nend\n";
-    let listed = along("1 2 3 4\n", "6", "1");
-    let by_order = (Status::Done, UNRANKED);
-    let by_rank = (Status::Done, RANKED);
-    // without a file
-    assert!(rt; is_run(&rt, rt.alloc(), "--tree", FOUR, listed, by_order)?);
-    assert!(rt;
-        is_run(
-            &rt,
-            rt.alloc(),
-            "--tree",
-            FOUR,
-            planned(ranked_plan),
-            by_rank
-        )?
-    );
-    assert!(rt;
-        is_run(
-            &rt,
-            rt.alloc(),
-            "--tree",
-            FOUR,
-            planned(unranked_plan),
-            by_order
-        )?
-    );
-    assert!(rt; is_run(&rt, rt.alloc(), "--tree", FOUR, planned(old_plan), by_order)?);
-    // a file comes before the order, and before the plan's own
-    assert!(rt; is_ranked(&rt, rt.alloc(), listed, "3 2\n1 4\n", by_rank)?);
-    assert!(rt; is_ranked(&rt, rt.alloc(), planned(old_plan), "3 2 1 4\n", by_rank)?);
-    assert!(rt; is_ranked(&rt, rt.alloc(), planned(ranked_plan), "1 2 3 4\n", by_order)?);
-    Ok(())
-}
-
-#[test]
-fn priorities_that_are_refused(rt: HostRuntime) -> Result<(), Fail> {
-    // a priority of the tree of four nodes, the order, and the text
-    let rows: [(&str, &str, &str); 9] = [
-        (
-            "1 2\n0 3\n",
-            "1 2 3 4\n",
-            "refused format priority range 2\n",
-        ),
-        (
-            "1 2 3 5\n",
-            "1 2 3 4\n",
-            "refused format priority range 1\n",
-        ),
-        (
-            "3\n2\n3\n4\n",
-            "1 2 3 4\n",
-            "refused format priority repeated 3\n",
-        ),
-        ("3 2 1\n", "1 2 3 4\n", "refused format priority count 2\n"),
-        (
-            "3 2 1 4\n4\n",
-            "1 2 3 4\n",
-            "refused format priority count 2\n",
-        ),
-        (
-            "3 2 x 4\n",
-            "1 2 3 4\n",
-            "refused format priority number 1\n",
-        ),
-        // it ranks the tasks of the tree, however long the order is, and comes before what the order is no traversal for
-        ("2 1\n", "1 2\n", "refused format priority count 2\n"),
-        (
-            "3 2 1 4 5\n",
-            "1 2 3 4 5\n",
-            "refused format priority count 1\n",
-        ),
-        // the order comes before it
-        ("x\n", "x\n", "refused format order number 1\n"),
-    ];
-    for (priority, order, text) in rows {
-        let run = along(order, "0", "1");
-        let said = is_ranked(&rt, rt.alloc(), run, priority, (Status::Format, text))?;
-        assert!(rt; said, "{priority}");
-    }
-    let run = planned(
-        "plan 2\norder 4\n1\n2\n3\n4\npriority 4\n3\n3\n1\n4\npeak 6\nclaims 0\nend\n",
-    );
-    let refused = (Status::Format, "refused format plan priority 9\n");
-    assert!(rt; is_run(&rt, rt.alloc(), "--tree", FOUR, run, refused)?);
-    Ok(())
-}
-
-#[test]
-fn a_front_assembled_in_the_place_of_a_block(rt: HostRuntime) -> Result<(), Fail> {
-    // the bound, the status and the text
-    let rows: [(&str, Status, &str); 2] = [
-        ("4", Status::Done, ARROW_RUN),
-        ("3", Status::Bound, "refused bound 3 4\n"),
-    ];
-    for (bound, status, text) in rows {
-        let mut files = files_with(rt.alloc(), ARROW, "1 2 3\n")?;
-        files.put("q", b"2 3 1 4\n")?;
-        let words = [
-            "simulate",
-            "--matrix",
-            "t",
-            "--perm",
-            "q",
-            "--inplace",
-            "yes",
-            "--order",
-            "o",
-            "--bound",
-            bound,
-            "--workers",
-            "2",
-        ];
-        let said = is_said(&rt, rt.alloc(), &mut files, &words, (status, text))?;
-        assert!(rt; said, "bound {bound}");
-    }
-    Ok(())
-}
-
-#[test]
-fn words_of_a_run_that_are_usage(rt: HostRuntime) -> Result<(), Fail> {
-    // what stands beside the tree; without fault that is `--order o --bound 11 --workers 2`
-    let rows: [&[&str]; 16] = [
-        &["--order", "o", "--workers", "2"],
-        &["--order", "o", "--bound", "11"],
-        &["--order", "o", "--bound", "11", "--workers", "0"],
-        &["--order", "o", "--bound", "11", "--workers", "4097"],
-        &["--order", "o", "--bound", "11", "--workers", "two"],
-        &[
-            "--order",
-            "o",
-            "--bound",
-            "18446744073709551616",
-            "--workers",
-            "2",
-        ],
-        &["--order", "o", "--bound", "1.5", "--workers", "2"],
-        &["--order", "o", "--bound", "-1", "--workers", "2"],
-        &["--bound", "11", "--workers", "2"],
-        &[
-            "--order",
-            "o",
-            "--plan",
-            "o",
-            "--bound",
-            "11",
-            "--workers",
-            "2",
-        ],
-        &[
-            "--order",
-            "o",
-            "--bound",
-            "11",
-            "--workers",
-            "2",
-            "--workflow",
-            "t",
-        ],
-        &[
-            "--order",
-            "o",
-            "--bound",
-            "11",
-            "--workers",
-            "2",
-            "--bound",
-            "11",
-        ],
-        &[
-            "--order",
-            "o",
-            "--bound",
-            "11",
-            "--workers",
-            "2",
-            "--priority",
-        ],
-        &[
-            "--order",
-            "o",
-            "--bound",
-            "11",
-            "--workers",
-            "2",
-            "--priority",
-            "",
-        ],
-        &[
-            "--order",
-            "o",
-            "--bound",
-            "11",
-            "--workers",
-            "2",
-            "--inplace",
-            "yes",
-        ],
-        &[
-            "--order",
-            "o",
-            "--bound",
-            "11",
-            "--workers",
-            "2",
-            "--print",
-            "text",
-        ],
-    ];
-    for row in rows {
-        let mut words = words_of(rt.alloc(), &["simulate", "--tree", "t"])?;
-        for word in row {
-            words.push(String::from_str(rt.alloc(), word)?)?;
-        }
-        let mut files = files_with(rt.alloc(), FIVE, "1 3 2 4 5\n")?;
-        let mut sink = MemSink::new(rt.alloc(), 1000)?;
-        let status = run_words(&rt, rt.alloc(), &words, &mut files, &mut sink, &NoGate);
-        assert!(rt; status == Status::Usage);
-        assert!(rt; sink.written().is_empty());
-    }
-    Ok(())
-}
-
-// The words of a run of the tree of five nodes with a priority file.
-const RUN_WORDS: [&str; 11] = [
-    "simulate",
-    "--tree",
-    "t",
-    "--order",
-    "o",
-    "--priority",
-    "p",
-    "--bound",
-    "11",
-    "--workers",
-    "2",
+#[rattlefmt::skip]
+const WORKFLOWS: &[Case] = &[
+    Case { runs: &["simulate --workflow t --order o --bound 20 --workers 1"],
+        files: &[("t", NO_TASKS), ("o", "")], status: Done, text: NOTHING_RUN },
+    Case { runs: &["simulate --workflow t --order o --bound 19 --workers 1"],
+        files: &[("t", NO_TASKS), ("o", "")], status: Bound, text: "refused bound 19 20\n" },
+    Case { runs: &["simulate --workflow t --order o --bound 14 --workers 1", "simulate --workflow t --order o --bound 14 --workers 2"],
+        files: BRANCH_FILES, status: Done, text: IN_TURN },
+    Case { runs: &["simulate --workflow t --order o --bound 28 --workers 2"], files: BRANCH_FILES, status: Done, text: ABREAST },
+    Case { runs: &["simulate --workflow t --order o --bound 28 --workers 1"], files: BRANCH_FILES, status: Done, text: IN_TURN_BOOKED },
+    Case { runs: &["simulate --workflow t --order o --bound 13 --workers 2"],
+        files: &[("t", BRANCHES), ("o", "1 3 2 4\n")], status: Done, text: BY_STEPS },
+    Case { runs: &["simulate --workflow t --order o --bound 13 --workers 2"],
+        files: BRANCH_FILES, status: Bound, text: "refused bound 13 14\n" },
 ];
 
-fn five_files(alloc: Global) -> Result<MemFiles, AllocError> {
-    let mut files = files_with(alloc, FIVE, "1 3 2 4 5\n")?;
-    files.put("p", b"5 4 3 2 1\n")?;
-    Ok(files)
-}
+// The tree of four nodes with the priority 3 2 1 4, and with its order as the priority.
+const RANKED: &str =
+    "makespan 4\nused 6\nbooked 6\nevents 12\n0 activate 1\n0 activate 2\n0 activate 3\n0 activate 4\n0 start 3\n1 finish 3\n\
+        1 start 2\n2 finish 2\n2 start 1\n3 finish 1\n3 start 4\n4 finish 4\nend\n";
+
+const UNRANKED: &str =
+    "makespan 4\nused 6\nbooked 6\nevents 12\n0 activate 1\n0 activate 2\n0 activate 3\n0 activate 4\n0 start 1\n1 finish 1\n\
+        1 start 2\n2 finish 2\n2 start 3\n3 finish 3\n3 start 4\n4 finish 4\nend\n";
+
+const RANKED_PLAN: &str =
+    "plan 2\norder 4\n1\n2\n3\n4\npriority 4\n3\n2\n1\n4\npeak 6\nclaims 0\nend\n";
+
+const UNRANKED_PLAN: &str = "plan 2\norder 4\n1\n2\n3\n4\npriority 0\npeak 6\nclaims 0\nend\n";
+
+const OLD_PLAN: &str = "plan 1\norder 4\n1\n2\n3\n4\npeak 6\nclaims 0\nend\n";
+
+const BY_PLAN: &[&str] = &["simulate --tree t --plan o --bound 6 --workers 1"];
+
+const BY_PLAN_AND_FILE: &[&str] = &[
+    "simulate --priority p --tree t --plan o --workers 1 --bound 6",
+];
+
+// A file comes before the order, and before the plan's own.
+#[rattlefmt::skip]
+const PRIORITIES: &[Case] = &[
+    Case { runs: &["simulate --tree t --order o --bound 6 --workers 1"],
+        files: &[("t", FOUR), ("o", "1 2 3 4\n")], status: Done, text: UNRANKED },
+    Case { runs: BY_PLAN, files: &[("t", FOUR), ("o", RANKED_PLAN)], status: Done, text: RANKED },
+    Case { runs: BY_PLAN, files: &[("t", FOUR), ("o", UNRANKED_PLAN)], status: Done, text: UNRANKED },
+    Case { runs: BY_PLAN, files: &[("t", FOUR), ("o", OLD_PLAN)], status: Done, text: UNRANKED },
+    Case { runs: &["simulate --priority p --tree t --order o --workers 1 --bound 6"],
+        files: &[("t", FOUR), ("o", "1 2 3 4\n"), ("p", "3 2\n1 4\n")], status: Done, text: RANKED },
+    Case { runs: BY_PLAN_AND_FILE, files: &[("t", FOUR), ("o", OLD_PLAN), ("p", "3 2 1 4\n")], status: Done, text: RANKED },
+    Case { runs: BY_PLAN_AND_FILE, files: &[("t", FOUR), ("o", RANKED_PLAN), ("p", "1 2 3 4\n")], status: Done, text: UNRANKED },
+    // in the plan
+    Case { runs: BY_PLAN, status: Format, text: "refused format plan priority 9\n",
+        files: &[("t", FOUR), ("o", "plan 2\norder 4\n1\n2\n3\n4\npriority 4\n3\n3\n1\n4\npeak 6\nclaims 0\nend\n")] },
+];
+
+const UNBOUND: &[&str] = &["simulate --priority p --tree t --order o --workers 1 --bound 0"];
+
+// Priorities that are refused. They rank the tasks of the tree, however long the order is; the order's format comes before them, and
+// what it is no traversal for after them.
+#[rattlefmt::skip]
+const REFUSED: &[Case] = &[
+    Case { runs: UNBOUND, status: Format, text: "refused format priority range 2\n",
+        files: &[("t", FOUR), ("o", "1 2 3 4\n"), ("p", "1 2\n0 3\n")] },
+    Case { runs: UNBOUND, status: Format, text: "refused format priority range 1\n",
+        files: &[("t", FOUR), ("o", "1 2 3 4\n"), ("p", "1 2 3 5\n")] },
+    Case { runs: UNBOUND, status: Format, text: "refused format priority repeated 3\n",
+        files: &[("t", FOUR), ("o", "1 2 3 4\n"), ("p", "3\n2\n3\n4\n")] },
+    Case { runs: UNBOUND, status: Format, text: "refused format priority count 2\n",
+        files: &[("t", FOUR), ("o", "1 2 3 4\n"), ("p", "3 2 1\n")] },
+    Case { runs: UNBOUND, status: Format, text: "refused format priority count 2\n",
+        files: &[("t", FOUR), ("o", "1 2 3 4\n"), ("p", "3 2 1 4\n4\n")] },
+    Case { runs: UNBOUND, status: Format, text: "refused format priority number 1\n",
+        files: &[("t", FOUR), ("o", "1 2 3 4\n"), ("p", "3 2 x 4\n")] },
+    Case { runs: UNBOUND, status: Format, text: "refused format priority count 2\n",
+        files: &[("t", FOUR), ("o", "1 2\n"), ("p", "2 1\n")] },
+    Case { runs: UNBOUND, status: Format, text: "refused format priority count 1\n",
+        files: &[("t", FOUR), ("o", "1 2 3 4 5\n"), ("p", "3 2 1 4 5\n")] },
+    Case { runs: UNBOUND, files: &[("t", FOUR), ("o", "x\n"), ("p", "x\n")], status: Format, text: "refused format order number 1\n" },
+];
+
+const ARROW_FILES: Texts = &[("t", ARROW), ("o", "1 2 3\n"), ("q", TURNED)];
+
+// A front that is assembled in the place of a block.
+#[rattlefmt::skip]
+const FRONTS: &[Case] = &[
+    Case { runs: &["simulate --matrix t --perm q --inplace yes --order o --bound 4 --workers 2"], files: ARROW_FILES, status: Done,
+        text: "makespan 4\nused 4\nbooked 4\nevents 9\n0 activate 1\n0 start 1\n1 finish 1\n1 activate 2\n1 start 2\n\
+            2 finish 2\n2 activate 3\n2 start 3\n4 finish 3\nend\n" },
+    Case { runs: &["simulate --matrix t --perm q --inplace yes --order o --bound 3 --workers 2"], files: ARROW_FILES, status: Bound,
+        text: "refused bound 3 4\n" },
+];
 
 #[test]
-fn each_write_of_a_run_fails_in_turn(rt: HostRuntime) -> Result<(), Fail> {
-    // its report has 213 bytes, which are written 10 at a time
-    for call in 1..24 {
-        let mut files = five_files(rt.alloc())?;
-        let mut sink = MemSink::new(rt.alloc(), 1000)?;
-        sink.piece(10);
-        sink.fail_at(call)?;
-        let words = words_of(rt.alloc(), &RUN_WORDS)?;
-        let ended = run_words(&rt, rt.alloc(), &words, &mut files, &mut sink, &NoGate);
-        let (status, text) = if call <= 22 {
-            let before = call as usize * 10 - 10;
-            (Status::WriteFault, TIGHT.get(..before).unwrap_or("?"))
-        } else {
-            (Status::Done, TIGHT)
-        };
-        assert_eq!(rt; ended, status, "write {call}");
-        assert_eq!(rt; sink.written(), text.as_bytes(), "write {call}");
-    }
-    Ok(())
-}
-
-#[test]
-fn each_load_of_a_run_fails_in_turn(rt: HostRuntime) -> Result<(), Fail> {
-    // the tree has 59 bytes, the order and the priority 10 each, in pieces of 5 bytes, and each file ends with a load that gives nothing
-    let loads = 12 + 1 + 2 + 1 + 2 + 1;
-    for call in 1..loads + 2 {
-        let mut files = five_files(rt.alloc())?;
-        files.piece(5);
-        files.fail_at(call)?;
-        let mut sink = MemSink::new(rt.alloc(), 1000)?;
-        let words = words_of(rt.alloc(), &RUN_WORDS)?;
-        let ended = run_words(&rt, rt.alloc(), &words, &mut files, &mut sink, &NoGate);
-        let (status, text) = if call <= loads {
-            (Status::ReadFault, "")
-        } else {
-            (Status::Done, TIGHT)
-        };
-        assert_eq!(rt; ended, status, "load {call}");
-        assert_eq!(rt; sink.written(), text.as_bytes(), "load {call}");
+fn simulations(rt: HostRuntime) -> Result<(), Fail> {
+    for cases in [TREES, ORDERS, WORKFLOWS, PRIORITIES, REFUSED, FRONTS] {
+        check_cases(&rt, rt.alloc(), cases)?;
     }
     Ok(())
 }

@@ -1,0 +1,142 @@
+//! Limits, and inputs near them, which are generated.
+
+use super::{FIVE, check_run};
+use crate::Status::{self, Done, Limit, No};
+use mp_outside::{Failed, Files, MemFiles};
+use std::alloc::{AllocError, Global};
+use std::process::Abort;
+use std::test::Fail;
+use std::thread::Threads;
+
+// A file of so many zeros under every name.
+#[derive(Drop)]
+struct Zeros(u64);
+
+impl Files for Zeros {
+    ghost use Rattle.std.specs.Prelude.{None};
+
+    ghost bytes_of = { λ _ _. None };
+
+    ghost faults_of = { λ _ _. 0 };
+
+    fn load(&mut self, _name: &str, place: u64, buf: &mut [u8]) -> Result<u64, Failed> {
+        Ok(self.0.saturating_sub(place).min(buf.len() as u64))
+    }
+}
+
+#[test]
+fn a_file_of_too_many_bytes(rt: HostRuntime) -> Result<(), Fail> {
+    let (run, text) = ("replay --tree t --order o", "refused limit tree bytes\n");
+    check_run(&rt, rt.alloc(), run, &mut Zeros(268_435_457), Limit, text)?;
+    Ok(())
+}
+
+// A text of a head, so many lines, and a tail; where a first number is given, each line begins with its number.
+struct Lines {
+    head: &'static str,
+    first: Option<u64>,
+    line: &'static str,
+    count: u64,
+    tail: &'static str,
+}
+
+fn text_of(alloc: Global, lines: &Lines) -> Result<String, AllocError> {
+    let mut text = String::from_str(alloc, lines.head)?;
+    for place in 0..lines.count {
+        if let Some(first) = lines.first {
+            text.push_str(&format!(in alloc; "{}", first.saturating_add(place))?)?;
+        }
+        text.push_str(lines.line)?;
+    }
+    text.push_str(lines.tail)?;
+    Ok(text)
+}
+
+// A run over files that are generated, its status and its text.
+struct Row {
+    run: &'static str,
+    files: &'static [(&'static str, Lines)],
+    status: Status,
+    text: &'static str,
+}
+
+const OF_TREE: &str = "replay --tree t --order o";
+
+const OF_FLOW: &str = "replay --workflow t --order o";
+
+#[rattlefmt::skip]
+const NOTHING: Lines = Lines { head: "", first: None, line: "", count: 0, tail: "" };
+
+#[rattlefmt::skip]
+const FIVE_NODES: Lines = Lines { head: FIVE, first: None, line: "", count: 0, tail: "" };
+
+// A root over 524,288 leaves of the greatest sizes, but for the root's line.
+const STAR: &str = "tree 1\nnodes 524289\n";
+
+const LEAF: &str = "524289 1099511627776 1099511627776 1\n";
+
+#[rattlefmt::skip]
+const ALL: Lines = Lines { head: "", first: Some(1), line: "\n", count: 524_289, tail: "" };
+
+const ITEMS: &str = "workflow 1\ntasks 0\n";
+
+const GREATEST: &str = "data 1099511627776\n";
+
+#[rattlefmt::skip]
+const TREES: &[Row] = &[
+    // sizes of 2^60 together, and one more
+    Row { run: OF_TREE, status: Done, text: "peak 576461851815051264\n", files: &[
+        ("t", Lines { head: STAR, first: None, line: LEAF, count: 524_288, tail: "0 0 0 1\nend\n" }), ("o", ALL)] },
+    Row { run: OF_TREE, status: Limit, text: "refused limit tree total\n", files: &[
+        ("t", Lines { head: STAR, first: None, line: LEAF, count: 524_288, tail: "0 0 1 1\nend\n" }), ("o", ALL)] },
+    // the most numbers of an order, and one more
+    Row { run: OF_TREE, status: No, text: "no order 2 repeated\n", files: &[
+        ("t", FIVE_NODES), ("o", Lines { head: "", first: None, line: "1\n", count: 1_000_000, tail: "" })] },
+    Row { run: OF_TREE, status: Limit, text: "refused limit order tasks\n", files: &[
+        ("t", FIVE_NODES), ("o", Lines { head: "", first: None, line: "1\n", count: 1_000_001, tail: "" })] },
+    // vertex 1 is joined to all others, so the fill has about 2 * 10^10 pairs
+    Row { run: "tree --matrix m", status: Done, text: "tree 1\nnodes 1\n0 0 20000100000 200000\nend\n", files: &[
+        ("m", Lines { head: "%%MatrixMarket matrix coordinate pattern symmetric\n200000 200000 199999\n",
+            first: Some(2), line: " 1\n", count: 199_999, tail: "" })] },
+];
+
+#[rattlefmt::skip]
+const WORKFLOWS: &[Row] = &[
+    // sizes of 2^60 together, and one more
+    Row { run: OF_FLOW, status: Done, text: "peak 1152921504606846976\n", files: &[
+        ("t", Lines { head: ITEMS, first: None, line: GREATEST, count: 1_048_576, tail: "par 1048576\nend\n" }), ("o", NOTHING)] },
+    Row { run: OF_FLOW, status: Limit, text: "refused limit workflow total\n", files: &[
+        ("t", Lines { head: ITEMS, first: None, line: GREATEST, count: 1_048_576, tail: "data 1\nend\n" }), ("o", NOTHING)] },
+    // the most positions, and one more
+    Row { run: OF_FLOW, status: Done, text: "peak 0\n", files: &[
+        ("t", Lines { head: ITEMS, first: None, line: "data 0\n", count: 4_000_000, tail: "par 4000000\nend\n" }), ("o", NOTHING)] },
+    Row { run: OF_FLOW, status: Limit, text: "refused limit workflow positions\n", files: &[
+        ("t", Lines { head: ITEMS, first: None, line: "data 0\n", count: 4_000_001, tail: "par 4000001\nend\n" }), ("o", NOTHING)] },
+];
+
+fn check_rows<R: Threads + Sync + Abort>(
+    rt: &R,
+    alloc: Global,
+    rows: &[Row],
+) -> Result<(), AllocError> {
+    for row in rows {
+        let mut files = MemFiles::new(alloc)?;
+        for (name, lines) in row.files {
+            files.put(name, text_of(alloc, lines)?.as_bytes())?;
+        }
+        check_run(rt, alloc, row.run, &mut files, row.status, row.text)?;
+    }
+    Ok(())
+}
+
+#[test]
+fn trees_at_the_limits(rt: HostRuntime) -> Result<(), Fail> {
+    check_rows(&rt, rt.alloc(), TREES)?;
+    Ok(())
+}
+
+#[test]
+fn workflows_at_the_limits(rt: HostRuntime) -> Result<(), Fail> {
+    check_rows(&rt, rt.alloc(), WORKFLOWS)?;
+    Ok(())
+}

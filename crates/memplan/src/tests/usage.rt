@@ -1,0 +1,104 @@
+//! Words that ask for nothing.
+
+use super::{ARROW, Case, FIVE, ORDER, PLAN, TURNED, check_cases};
+use crate::Status::Usage;
+use std::test::Fail;
+
+const REPLAY: &[&str] = &[
+    "",
+    "replay",
+    "replay --tree t",
+    "replay --order o",
+    "replay --tree t --order",
+    "replay --tree t --tree t",
+    "replay --tree t --order o --order o",
+    "replay --tree t --order o --bound 1",
+    "replay --tree t --order o more",
+    "replay --tree '' --order o",
+    "replay --tree -t --order o",
+    "replay --tree=t --order=o",
+    "replay tree t order o",
+    "Replay --tree t --order o",
+    "--tree t replay --order o",
+    "order --tree t",
+    "replay --tree t --workflow t --order o",
+    "replay --workflow t",
+];
+
+const MATRIX: &[&str] = &[
+    "tree",
+    "tree --tree m",
+    "tree --matrix m --tree m",
+    "tree --matrix m --order o",
+    "tree --matrix m --perm p --ordering natural",
+    "tree --matrix m --ordering mindeg",
+    "tree --matrix m --shape round",
+    "tree --matrix m --inplace maybe",
+    "tree --matrix m --amalgamate 1099511627777",
+    "tree --matrix m --amalgamate x",
+    "tree --perm p",
+    "replay --tree m --order o --shape square",
+    "post --workflow m",
+    "post --tree m --matrix m",
+];
+
+const PLANNING: &[&str] = &[
+    "plan",
+    "plan --tree",
+    "plan --tree t --workflow w",
+    "plan --tree t --order o",
+    "plan --tree t --plan p",
+    "plan --tree t --workers 1",
+    "plan --tree t --shape square",
+    "plan --matrix t --perm q --ordering natural",
+];
+
+const CHECK: &[&str] = &[
+    "check --tree t",
+    "check --plan p",
+    "check --tree t --workflow w --plan p",
+    "check --tree t --plan p --workers 0",
+    "check --tree t --plan p --workers 4097",
+    "check --tree t --plan p --workers 18446744073709551617",
+    "check --tree t --plan p --workers x",
+    "check --tree t --plan p --order o",
+    "check --tree t --plan p --plan p",
+    "replay --tree t --plan p --order o",
+    "replay --tree t --plan p --workers 1",
+    "post --tree t --plan p",
+];
+
+// Without fault: `simulate --tree t --order o --bound 11 --workers 2`.
+const SIMULATE: &[&str] = &[
+    "simulate --tree t --order o --workers 2",
+    "simulate --tree t --order o --bound 11",
+    "simulate --tree t --order o --bound 11 --workers 0",
+    "simulate --tree t --order o --bound 11 --workers 4097",
+    "simulate --tree t --order o --bound 11 --workers two",
+    "simulate --tree t --order o --bound 18446744073709551616 --workers 2",
+    "simulate --tree t --order o --bound 1.5 --workers 2",
+    "simulate --tree t --order o --bound -1 --workers 2",
+    "simulate --tree t --bound 11 --workers 2",
+    "simulate --tree t --order o --plan o --bound 11 --workers 2",
+    "simulate --tree t --order o --bound 11 --workers 2 --workflow t",
+    "simulate --tree t --order o --bound 11 --workers 2 --bound 11",
+    "simulate --tree t --order o --bound 11 --workers 2 --priority",
+    "simulate --tree t --order o --bound 11 --workers 2 --priority ''",
+    "simulate --tree t --order o --bound 11 --workers 2 --inplace yes",
+    "simulate --tree t --order o --bound 11 --workers 2 --print text",
+];
+
+#[rattlefmt::skip]
+const USAGE: &[Case] = &[
+    Case { runs: REPLAY, files: &[("t", FIVE), ("o", "1 3 2 4 5")], status: Usage, text: "" },
+    Case { runs: MATRIX, files: &[("m", ARROW), ("p", TURNED), ("o", "1 2 3\n")], status: Usage, text: "" },
+    Case { runs: PLANNING, files: &[("t", FIVE)], status: Usage, text: "" },
+    Case { runs: CHECK, files: &[("t", FIVE), ("p", PLAN)], status: Usage, text: "" },
+    Case { runs: SIMULATE, files: &[("t", FIVE), ("o", ORDER)], status: Usage, text: "" },
+];
+
+#[test]
+fn words_without_a_request(rt: HostRuntime) -> Result<(), Fail> {
+    check_cases(&rt, rt.alloc(), USAGE)?;
+    Ok(())
+}
