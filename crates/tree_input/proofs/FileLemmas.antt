@@ -1,13 +1,13 @@
 -- Of a tree file: it is read or refused, never both, as one tree or with one refusal.
-use Rattle.std.proofs.Common.{◌≡◌, ℕ, zero, suc, ◌+◌, ◌<◌, ◌≤◌, true, leb, List, ◌⊎◌, inl, inr, length, refl, sym, ap, subst, ◌∙◌, arith}
+use Rattle.std.proofs.Common.{◌≡◌, ℕ, zero, suc, ◌+◌, ◌<◌, ◌≤◌, leb, List, ◌⊎◌, inl, inr, length, refl, sym, ap, subst, ◌∙◌, arith}
 use Rattle.std.proofs.lemmas.Bool.{cases_eq, cases_Bool, leb-true, leb-false}
 use Rattle.mp_text.specs.declared.layout.Layout.TheVariants.{Commented}
 use Rattle.mp_text.specs.declared.refusals.Refusal.{Refusal}
 use Rattle.mp_text.specs.Text.{Row}
 use Rattle.mp_text.specs.Ahead.{rows_of_bytes, past_of_bytes}
-use Rattle.mp_text.specs.Grammar.{Format, IsWellFormed, Refuses}
+use Rattle.mp_text.specs.Grammar.{Format, IsWellFormed, Refuses, fault_at}
 use Rattle.tree_input.specs.Tree.{IsNode, LeadsToRoot, HasShare, IsTree, ancestor, node_at, children_out}
-use Rattle.tree_input.specs.TreeFile.{tree_format, nodes_stated, IsFirstWithout, ReadsTree, RefusesCycle, RefusesShare, RefusesTree, line_stating, fault_at}
+use Rattle.tree_input.specs.TreeFile.{tree_format, nodes_stated, IsFirstWithout, ReadsTree, RefusesCycle, RefusesShare, RefusesTree, line_stating}
 use Rattle.tree_input.specs.declared.node.Node.{Node}
 use Rattle.tree_input.specs.declared.node.TreeKind.{TreeKind}
 use Rattle.tree_input.specs.declared.node.TreeKind.TheVariants as kinds

@@ -1,4 +1,3 @@
-pub mod Steps
 pub mod AscentLemmas
 pub mod ShareLemmas
 pub mod FormLemmas
@@ -6,7 +5,6 @@ pub mod StatedLemmas
 pub mod FileLemmas
 pub mod ItemLemmas
 pub mod SystemLemmas
-pub mod PrintingLemmas
 pub mod PrintedLemmas
 pub mod CountLemmas
 pub mod ForestLemmas

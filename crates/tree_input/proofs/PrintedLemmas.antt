@@ -1,118 +1,122 @@
 -- A printed tree is read as it was.
-use Rattle.std.proofs.Common.{◌≡◌, ℕ, zero, suc, ◌+◌, ◌-◌, ◌^◌, ◌<◌, ◌≤◌, Bool, true, false, not, eqb, leb, ltb, List, [], ◌∷◌, ◌++◌, ◌⊎◌, inl, inr, length, get_or, take, map, refl, sym, ap, subst, ◌∙◌, arith, Some, None}
+use Rattle.std.proofs.Common.{◌≡◌, ℕ, zero, suc, ◌+◌, ◌-◌, ◌^◌, ◌<◌, ◌≤◌, Bool, true, false, not, eqb, ltb, cond, List, [], ◌∷◌, ◌++◌, ◌⊎◌, inl, inr, length, get_or, take, map, refl, sym, ap, subst, ◌∙◌, arith, Some, None}
 use Rattle.std.specs.Bool.{IsTrue}
 use Rattle.std.specs.Fmt.{decimal}
 use Rattle.std.specs.List.{All, sum_by, list_all}
-use Rattle.std.proofs.lemmas.Bool.{and_parts, and_from, and_right, or_from, leb-true, le-leb, lt-ltb, le-ltb, ne_eqb, eq-eqb, eqb-true, not-false, or_parts}
+use Rattle.std.proofs.lemmas.Bool.{and_from, and_right, le-leb, lt-ltb, le-ltb, ne_eqb, eq-eqb, eqb-true, not-false, or_parts}
 use Rattle.std.proofs.lemmas.List.{length-map, length_push, get_or_default}
 use Rattle.std.proofs.Common.{length-append}
-use Rattle.std.proofs.lemmas.List.Elements.{All-tail}
+use Rattle.std.proofs.lemmas.List.Elements.{All-nil, All-cons, All-tail}
 use Rattle.std.proofs.lemmas.List.Folds.{list_all-append}
 use Rattle.std.proofs.lemmas.List.Sums.{sum_by-cons, sum_by-append}
 use Rattle.std.proofs.Math.Seq.{take-append_seam}
+use Rattle.limits.specs.Limits.{most_tasks, most_size, most_time, most_total}
 use Rattle.mp_text.specs.declared.layout.Layout.{Layout}
 use Rattle.mp_text.specs.declared.layout.Layout.TheVariants.{Commented}
-use Rattle.mp_text.specs.Text.{Row, says_nothing, is_digit, number_of, number_from}
+use Rattle.mp_text.specs.declared.words.Version.{Version}
+use Rattle.mp_text.specs.declared.words.Version.TheVariants.{One, Two}
+use Rattle.mp_text.specs.Text.{Row, number_of, numbers_of}
+use Rattle.mp_text.specs.Words.{after_word, version_of}
 use Rattle.mp_text.specs.Ahead.{rows_of_bytes}
 use Rattle.mp_text.specs.Grammar.{first_failure, ArePassed}
-use Rattle.mp_text.specs.Report.{is_counted, numbered_from, text_of_lines}
-use Rattle.tree_input.specs.Fields.{number_at, share_at, fields_stated}
+use Rattle.mp_text.specs.Report.{is_token, is_counted, numbered_from, text_of_lines}
 use Rattle.tree_input.specs.Tree.{IsTree, IsNodeWithin, node_size, node_at}
-use Rattle.tree_input.specs.TreeFile.{tree_format, header_tests, has_shares, count_tests, count_stated, node_tests, node_of, total_of, last_tests, is_end, is_complete, nodes_stated, tree_line_tests, ReadsTree}
-use Rattle.tree_input.specs.TreeText.{header_line, count_line, share_tokens, node_line, end_line, lines_in, text_in, has_share, text_of, text2_of}
+use Rattle.tree_input.specs.TreeFile.{tree_format, header_tests, version_stated, count_tests, count_stated, fields_of, node_tests, node_of, total_of, last_tests, is_end, is_complete, nodes_stated, tree_line_tests, ReadsTree}
+use Rattle.tree_input.specs.TreeText.{node_numbers, node_line, header_line, count_line, end_line, lines_in, text_in, has_share, version_for, text_of, text2_of}
 use Rattle.tree_input.specs.declared.node.Node.{Node}
-use Rattle.tree_input.proofs.PrintingLemmas.{AreTokens, node_line-tokens}
 
--- ---- what the laws of printed numbers and files say
-
-abbrev pub AreNumbers : Type 0
-AreNumbers = (n : ℕ) → n < 2 ^ 64 → number_of (decimal n) ≡ Some n
-
-abbrev pub AreRows : Type 0
-AreRows = (layout : Layout) (lines : List (List (List ℕ))) → IsTrue (list_all (is_counted layout) lines) → rows_of_bytes layout (text_of_lines lines) ≡ numbered_from 1 lines
+-- what the laws of printed numbers and files say
+pub record AreLaws : Type 0 where
+  pub token : (n : ℕ) → n < 2 ^ 64 → IsTrue (is_token (decimal n))
+  pub value : (n : ℕ) → n < 2 ^ 64 → number_of (decimal n) ≡ Some n
+  pub values : (ns : List ℕ) → All (λ n. n < 2 ^ 64) ns → numbers_of (map decimal ns) ≡ Some ns
+  pub counted : (layout : Layout) (n : ℕ) (tokens : List (List ℕ)) → n < 2 ^ 64 → IsTrue (list_all is_token tokens) → IsTrue (is_counted layout (decimal n ∷ tokens))
+  pub rows : (layout : Layout) (lines : List (List (List ℕ))) → IsTrue (list_all (is_counted layout) lines) → rows_of_bytes layout (text_of_lines lines) ≡ numbered_from 1 lines
+  pub parts : (n : ℕ) (xs ys : List (List (List ℕ))) → numbered_from n (xs ++ ys) ≡ numbered_from n xs ++ numbered_from (n + length xs) ys
+  pub count : (n : ℕ) (lines : List (List (List ℕ))) → length (numbered_from n lines) ≡ length lines
 
 -- ---- one line
 
+abbrev AreSmall : List ℕ → Type 0
+AreSmall ns = All (λ n. n < 2 ^ 64) ns
+
 -- what is printed of a node is the node
-record IsPrintable (with_share : Bool) (node : Node) : Type 0 where
-  parent : node.parent < 2 ^ 64
-  out : node.out < 2 ^ 64
-  extra : node.extra < 2 ^ 64
-  share : node.share < 2 ^ 64
-  time : node.time < 2 ^ 64
-  unshared : with_share ≡ false → node.share ≡ 0
+record IsPrintable (version : Version) (node : Node) : Type 0 where
+  numbers : AreSmall (node_numbers version node)
+  unshared : version ≡ One → node.share ≡ 0
 
-fields_are : AreNumbers → (with_share : Bool) (node : Node) → IsPrintable with_share node
-    → fields_stated with_share (node_line with_share node) ≡ Some (record { parent = node.parent; out = node.out; extra = node.extra; share = node.share; time = node.time })
-unfolding fields_stated number_at share_at
-fields_are are true node fits = rw (are node.parent fits.parent, are node.out fits.out, are node.extra fits.extra, are node.share fits.share, are node.time fits.time) refl
-fields_are are false node fits = rw (are node.parent fits.parent, are node.out fits.out, are node.extra fits.extra, are node.time fits.time, fits.unshared refl) refl
+small_three : (a b c : ℕ) (ns : List ℕ) → a < 2 ^ 64 → b < 2 ^ 64 → c < 2 ^ 64 → AreSmall ns → AreSmall (a ∷ b ∷ c ∷ ns)
+small_three a b c ns one two three rest =
+    let small : ℕ → Type 0 = λ n. n < 2 ^ 64 in
+    All-cons small a (b ∷ c ∷ ns) one (All-cons small b (c ∷ ns) two (All-cons small c ns three rest))
 
-not_end : (with_share : Bool) (number : ℕ) (node : Node) → is_end (record { number = number; tokens = node_line with_share node }) ≡ false
-not_end with_share number node = and_right _ _ refl
+small_numbers : (version : Version) (node : Node) → node.parent < 2 ^ 64 → node.out < 2 ^ 64 → node.extra < 2 ^ 64 → node.share < 2 ^ 64 → node.time < 2 ^ 64 → AreSmall (node_numbers version node)
+small_numbers One node parent out extra share time =
+    let small : ℕ → Type 0 = λ n. n < 2 ^ 64 in
+    small_three node.parent node.out node.extra (node.time ∷ []) parent out extra (All-cons small node.time [] time (All-nil small))
+small_numbers Two node parent out extra share time =
+    let small : ℕ → Type 0 = λ n. n < 2 ^ 64 in
+    small_three node.parent node.out node.extra (node.share ∷ node.time ∷ []) parent out extra
+    (All-cons small node.share (node.time ∷ []) share (All-cons small node.time [] time (All-nil small)))
 
--- a token that spells a number begins no comment
-no_comment : (token : List ℕ) (tokens : List (List ℕ)) (n : ℕ) → number_of token ≡ Some n → says_nothing Commented (token ∷ tokens) ≡ false
-unfolding number_of number_from
-no_comment [] tokens n e = refl
-no_comment (b ∷ bs) tokens n e = go (is_digit b) refl where
-  go : (t : Bool) → is_digit b ≡ t → says_nothing Commented ((b ∷ bs) ∷ tokens) ≡ false
-  go true digit =
-      let low : 48 ≤ b = leb-true 48 b (and_parts (leb 48 b) (leb b 57) digit).0 in
-      or_from _ _ (ne_eqb b 37 (λ same. omega arith)) (ne_eqb b 35 (λ same. omega arith))
-  go false other = absurd (cc (rw other at e))
+fields_are : AreLaws → (version : Version) (node : Node) → IsPrintable version node
+    → fields_of version (numbers_of (node_line version node)) ≡ Some (record { parent = node.parent; out = node.out; extra = node.extra; share = node.share; time = node.time })
+fields_are laws One node fits =
+    ap (fields_of One) (laws.values (node_numbers One node) fits.numbers)
+    ∙ ap (λ (n : ℕ). Some (record { parent = node.parent; out = node.out; extra = node.extra; share = n; time = node.time })) (sym (fits.unshared refl))
+fields_are laws Two node fits = ap (fields_of Two) (laws.values (node_numbers Two node) fits.numbers)
 
-node-counted : AreNumbers → AreTokens → (with_share : Bool) (node : Node) → IsPrintable with_share node → is_counted Commented (node_line with_share node) ≡ true
-node-counted are tokens with_share node fits =
-    and_from _ _ (node_line-tokens tokens with_share node fits.parent fits.out fits.extra fits.share fits.time)
-    (ap not (no_comment (decimal node.parent) (decimal node.out ∷ decimal node.extra ∷ (share_tokens with_share node.share ++ decimal node.time ∷ [])) node.parent (are node.parent fits.parent)))
+not_end : (version : Version) (number : ℕ) (node : Node) → is_end (record { number = number; tokens = node_line version node }) ≡ false
+not_end One number node = and_right _ _ refl
+not_end Two number node = and_right _ _ refl
+
+all_tokens : AreLaws → (ns : List ℕ) → AreSmall ns → list_all is_token (map decimal ns) ≡ true
+all_tokens laws [] small = refl
+all_tokens laws (n ∷ ns) small = and_from _ _ (laws.token n (small 0 n (omega arith))) (all_tokens laws ns (All-tail (λ m. m < 2 ^ 64) n ns small))
+
+all_counted : AreLaws → (n : ℕ) (ns : List ℕ) → AreSmall (n ∷ ns) → is_counted Commented (map decimal (n ∷ ns)) ≡ true
+all_counted laws n ns small = laws.counted Commented n (map decimal ns) (small 0 n (omega arith)) (all_tokens laws ns (All-tail (λ m. m < 2 ^ 64) n ns small))
+
+node-counted : AreLaws → (version : Version) (node : Node) → IsPrintable version node → is_counted Commented (node_line version node) ≡ true
+node-counted laws One node fits = all_counted laws node.parent (node.out ∷ node.extra ∷ node.time ∷ []) fits.numbers
+node-counted laws Two node fits = all_counted laws node.parent (node.out ∷ node.extra ∷ node.share ∷ node.time ∷ []) fits.numbers
 
 -- ---- rows
 
-numbered-append : (n : ℕ) (xs ys : List (List (List ℕ))) → numbered_from n (xs ++ ys) ≡ numbered_from n xs ++ numbered_from (n + length xs) ys
-numbered-append n [] ys = let same : n ≡ n + 0 = omega arith in ap (λ (m : ℕ). numbered_from m ys) same
-numbered-append n (x ∷ xs) ys =
-    let same : n + 1 + length xs ≡ n + length (x ∷ xs) = omega arith in
-    ap (λ (rows : List Row). record { number = n; tokens = x } ∷ rows) (numbered-append (n + 1) xs ys ∙ ap (λ (m : ℕ). numbered_from (n + 1) xs ++ numbered_from m ys) same)
+node_rows : Version → ℕ → List Node → List Row
+node_rows version n nodes = numbered_from n (map (node_line version) nodes)
 
-length-numbered : (n : ℕ) (lines : List (List (List ℕ))) → length (numbered_from n lines) ≡ length lines
-length-numbered n [] = refl
-length-numbered n (line ∷ lines) = ap suc (length-numbered (n + 1) lines)
-
-node_rows : Bool → ℕ → List Node → List Row
-node_rows with_share n nodes = numbered_from n (map (node_line with_share) nodes)
-
-nodes_of-rows : AreNumbers → (with_share : Bool) (n : ℕ) (nodes : List Node) → All (IsPrintable with_share) nodes → map (node_of with_share) (node_rows with_share n nodes) ≡ nodes
+nodes_of-rows : AreLaws → (version : Version) (n : ℕ) (nodes : List Node) → All (IsPrintable version) nodes → map (node_of version) (node_rows version n nodes) ≡ nodes
 unfolding node_rows
-nodes_of-rows are with_share n [] fit = refl
-nodes_of-rows are with_share n (node ∷ nodes) fit =
-    rw (fields_are are with_share node (fit 0 node (omega arith))) (ap (λ (ns : List Node). node ∷ ns) (nodes_of-rows are with_share (n + 1) nodes (All-tail (IsPrintable with_share) node nodes fit)))
+nodes_of-rows laws version n [] fit = refl
+nodes_of-rows laws version n (node ∷ nodes) fit =
+    rw (fields_are laws version node (fit 0 node (omega arith))) (ap (λ (ns : List Node). node ∷ ns) (nodes_of-rows laws version (n + 1) nodes (All-tail (IsPrintable version) node nodes fit)))
 
 cons_same : {X : Type 0} (x y : X) (xs ys : List X) → x ≡ y → xs ≡ ys → x ∷ xs ≡ y ∷ ys
 cons_same x y xs ys e f = cc
 
 -- a split of the rows at one of them is a split of the nodes
-record IsNodeSplit (with_share : Bool) (n : ℕ) (nodes : List Node) (before : List Row) (row : Row) : Type 0 where
+record IsNodeSplit (version : Version) (n : ℕ) (nodes : List Node) (before : List Row) (row : Row) : Type 0 where
   first : List Node
   node : Node
   rest : List Node
   number : ℕ
   nodes_are : nodes ≡ first ++ node ∷ rest
-  row_is : row ≡ record { number = number; tokens = node_line with_share node }
-  before_is : before ≡ node_rows with_share n first
+  row_is : row ≡ record { number = number; tokens = node_line version node }
+  before_is : before ≡ node_rows version n first
 
-node_split : (with_share : Bool) (n : ℕ) (nodes : List Node) (before : List Row) (row : Row) (after : List Row) → node_rows with_share n nodes ≡ before ++ row ∷ after → IsNodeSplit with_share n nodes before row
+node_split : (version : Version) (n : ℕ) (nodes : List Node) (before : List Row) (row : Row) (after : List Row) → node_rows version n nodes ≡ before ++ row ∷ after → IsNodeSplit version n nodes before row
 unfolding node_rows
-node_split with_share n [] [] row after e = absurd cc
-node_split with_share n [] (b ∷ before) row after e = absurd cc
-node_split with_share n (node ∷ nodes) [] row after e =
-    let first : record { number = n; tokens = node_line with_share node } ≡ row = cc in
+node_split version n [] [] row after e = absurd cc
+node_split version n [] (b ∷ before) row after e = absurd cc
+node_split version n (node ∷ nodes) [] row after e =
+    let first : record { number = n; tokens = node_line version node } ≡ row = cc in
     record { first = []; node = node; rest = nodes; number = n; nodes_are = refl; row_is = sym first; before_is = refl }
-node_split with_share n (node ∷ nodes) (b ∷ before) row after e =
-    let head : record { number = n; tokens = node_line with_share node } ≡ b = cc in
-    let tail : node_rows with_share (n + 1) nodes ≡ before ++ row ∷ after = cc in
-    let more = node_split with_share (n + 1) nodes before row after tail in
-    let here : Row = record { number = n; tokens = node_line with_share node } in
+node_split version n (node ∷ nodes) (b ∷ before) row after e =
+    let head : record { number = n; tokens = node_line version node } ≡ b = cc in
+    let tail : node_rows version (n + 1) nodes ≡ before ++ row ∷ after = cc in
+    let more = node_split version (n + 1) nodes before row after tail in
+    let here : Row = record { number = n; tokens = node_line version node } in
     record {
       first = node ∷ more.first;
       node = more.node;
@@ -120,7 +124,7 @@ node_split with_share n (node ∷ nodes) (b ∷ before) row after e =
       number = more.number;
       nodes_are = cons_same node node nodes (more.first ++ more.node ∷ more.rest) refl more.nodes_are;
       row_is = more.row_is;
-      before_is = cons_same b here before (node_rows with_share (n + 1) more.first) (sym head) more.before_is;
+      before_is = cons_same b here before (node_rows version (n + 1) more.first) (sym head) more.before_is;
     }
 
 All-first : {X : Type 0} (P : X → Type 0) (xs ys : List X) → All P (xs ++ ys) → All P xs
@@ -132,58 +136,58 @@ All-at : {X : Type 0} (P : X → Type 0) (xs : List X) (y : X) (ys : List X) →
 All-at P [] y ys all = all zero y (omega arith)
 All-at P (x ∷ xs) y ys all = All-at P xs y ys (All-tail P x (xs ++ y ∷ ys) all)
 
-total_of-rows : AreNumbers → (with_share : Bool) (n : ℕ) (nodes : List Node) → All (IsPrintable with_share) nodes → total_of with_share (node_rows with_share n nodes) ≡ sum_by node_size nodes
+total_of-rows : AreLaws → (version : Version) (n : ℕ) (nodes : List Node) → All (IsPrintable version) nodes → total_of version (node_rows version n nodes) ≡ sum_by node_size nodes
 unfolding node_rows
-total_of-rows are with_share n [] fit = refl
-total_of-rows are with_share n (node ∷ nodes) fit =
-    let size : Row → ℕ = λ row. node_size (node_of with_share row) in
-    let row : Row = record { number = n; tokens = node_line with_share node } in
-    let here : size row ≡ node_size node = rw (fields_are are with_share node (fit 0 node (omega arith))) refl in
-    omega (arith, sum_by-cons size row (node_rows with_share (n + 1) nodes), sum_by-cons node_size node nodes, here, total_of-rows are with_share (n + 1) nodes (All-tail (IsPrintable with_share) node nodes fit))
+total_of-rows laws version n [] fit = refl
+total_of-rows laws version n (node ∷ nodes) fit =
+    let size : Row → ℕ = λ row. node_size (node_of version row) in
+    let row : Row = record { number = n; tokens = node_line version node } in
+    let here : size row ≡ node_size node = rw (fields_are laws version node (fit 0 node (omega arith))) refl in
+    omega (arith, sum_by-cons size row (node_rows version (n + 1) nodes), sum_by-cons node_size node nodes, here, total_of-rows laws version (n + 1) nodes (All-tail (IsPrintable version) node nodes fit))
 
 -- ---- tests of the lines
 
-node_passes : AreNumbers → (with_share : Bool) (count total number : ℕ) (node : Node) → IsPrintable with_share node → node.parent ≤ count → node.out ≤ 2 ^ 40 → node.extra ≤ 2 ^ 40 → 1 ≤ node.time → node.time ≤ 2 ^ 40
-    → total + node.out + node.extra ≤ 2 ^ 60 → first_failure (node_tests with_share count total (record { number = number; tokens = node_line with_share node })) ≡ None
-node_passes are with_share count total number node fits parent out extra some time sums =
+node_passes : AreLaws → (version : Version) (count total number : ℕ) (node : Node) → IsPrintable version node → node.parent ≤ count → node.out ≤ most_size → node.extra ≤ most_size → 1 ≤ node.time → node.time ≤ most_time
+    → total + node.out + node.extra ≤ most_total → first_failure (node_tests version count total (record { number = number; tokens = node_line version node })) ≡ None
+node_passes laws version count total number node fits parent out extra some time sums =
     let positive : eqb node.time 0 ≡ false = ne_eqb node.time 0 (λ z. omega arith) in
     rw (
-      not_end with_share number node,
-      fields_are are with_share node fits,
+      not_end version number node,
+      fields_are laws version node fits,
       positive,
       le-leb node.parent count parent,
-      le-leb node.out (2 ^ 40) out,
-      le-leb node.extra (2 ^ 40) extra,
-      le-leb node.time (2 ^ 40) time,
-      le-leb (total + node.out + node.extra) (2 ^ 60) sums,
+      le-leb node.out most_size out,
+      le-leb node.extra most_size extra,
+      le-leb node.time most_time time,
+      le-leb (total + node.out + node.extra) most_total sums,
     ) refl
 
 count_row : ℕ → Row
 count_row count = record { number = 2; tokens = count_line count }
 
-count_passes : AreNumbers → (count : ℕ) → 1 ≤ count → count ≤ 1000000 → first_failure (count_tests (count_row count)) ≡ None
-unfolding count_row
-count_passes are count some few =
-    let number = are count (omega arith) in
+count_passes : AreLaws → (count : ℕ) → 1 ≤ count → count ≤ most_tasks → first_failure (count_tests (count_row count)) ≡ None
+unfolding count_row after_word
+count_passes laws count some few =
+    let number = laws.value count (omega arith) in
     let positive : eqb count 0 ≡ false = ne_eqb count 0 (λ z. omega arith) in
-    rw (number, positive, le-leb count 1000000 few) refl
+    rw (number, positive, le-leb count most_tasks few) refl
 
-count_is : AreNumbers → (count : ℕ) → count ≤ 1000000 → count_stated (count_row count) ≡ count
-unfolding count_row
-count_is are count few = rw (are count (omega arith)) refl
+count_is : AreLaws → (count : ℕ) → count ≤ most_tasks → count_stated (count_row count) ≡ count
+unfolding count_row after_word
+count_is laws count few = rw (laws.value count (omega arith)) refl
 
-header_row : Bool → Row
-header_row with_share = record { number = 1; tokens = header_line with_share }
+header_row : Version → Row
+header_row version = record { number = 1; tokens = header_line version }
 
-header_passes : (with_share : Bool) → first_failure (header_tests (header_row with_share)) ≡ None
-unfolding header_row
-header_passes true = refl
-header_passes false = refl
+header_passes : (version : Version) → first_failure (header_tests (header_row version)) ≡ None
+unfolding header_row version_of after_word
+header_passes One = refl
+header_passes Two = refl
 
-header_is : (with_share : Bool) → has_shares (header_row with_share) ≡ with_share
-unfolding header_row
-header_is true = refl
-header_is false = refl
+header_is : (version : Version) → version_stated (header_row version) ≡ version
+unfolding header_row version_of after_word
+header_is One = refl
+header_is Two = refl
 
 -- ---- all lines
 
@@ -207,7 +211,7 @@ Passes before row = first_failure (tree_line_tests before row) ≡ None
 -- a header, a count, as many node lines and an end pass, where each does
 module _ (header counted last : Row) (rows : List Row) (whole : length rows ≡ count_stated counted)
     (header_ok : first_failure (header_tests header) ≡ None) (count_ok : first_failure (count_tests counted) ≡ None)
-    (rows_ok : (before after : List Row) (row : Row) → rows ≡ before ++ row ∷ after → first_failure (node_tests (has_shares header) (count_stated counted) (total_of (has_shares header) before) row) ≡ None)
+    (rows_ok : (before after : List Row) (row : Row) → rows ≡ before ++ row ∷ after → first_failure (node_tests (version_stated header) (count_stated counted) (total_of (version_stated header) before) row) ≡ None)
     (last_ok : first_failure (last_tests last) ≡ None) where
   at_last : Passes (header ∷ counted ∷ rows) last
   unfolding Passes
@@ -241,8 +245,8 @@ module _ (header counted last : Row) (rows : List Row) (whole : length rows ≡ 
 
 -- ---- the whole file
 
-module _ (numbers : AreNumbers) (are_tokens : AreTokens) (are_rows : AreRows) (with_share : Bool) (nodes : List Node) (tree : IsTree nodes) (unshared : with_share ≡ false → All (λ node. node.share ≡ 0) nodes) where
-  printable : All (IsPrintable with_share) nodes
+module _ (laws : AreLaws) (version : Version) (nodes : List Node) (tree : IsTree nodes) (unshared : version ≡ One → All (λ node. node.share ≡ 0) nodes) where
+  printable : All (IsPrintable version) nodes
   printable i d lt =
       let within = tree.each i d lt in
       let e : Node = record { parent = 0; out = 0; extra = 0; share = 0; time = 0 } in
@@ -252,55 +256,52 @@ module _ (numbers : AreNumbers) (are_tokens : AreTokens) (are_rows : AreRows) (w
       let at : node_at nodes (i + 1) ≡ node = ap (λ (k : ℕ). get_or nodes k e) place ∙ get_or_default nodes i e d lt in
       let small : node.share ≤ node.extra + node.out = subst (λ (n : Node). n.share ≤ n.extra + n.out) at share in
       record {
-        parent = omega (arith, within.parent, tree.few);
-        out = omega (arith, within.out);
-        extra = omega (arith, within.extra);
-        share = omega (arith, small, within.out, within.extra);
-        time = omega (arith, within.time.1);
+        numbers = small_numbers version node (omega (arith, within.parent, tree.few)) (omega (arith, within.out)) (omega (arith, within.extra))
+            (omega (arith, small, within.out, within.extra)) (omega (arith, within.time.1));
         unshared = λ e. unshared e i d lt;
       }
 
   -- the rows
   abbrev header : Row
-  header = header_row with_share
+  header = header_row version
 
   abbrev counted : Row
   counted = count_row (length nodes)
 
   abbrev rows : List Row
-  rows = node_rows with_share 3 nodes
+  rows = node_rows version 3 nodes
 
   abbrev last : Row
-  last = record { number = 3 + length (map (node_line with_share) nodes); tokens = end_line }
+  last = record { number = 3 + length (map (node_line version) nodes); tokens = end_line }
 
-  rows_are : numbered_from 1 (lines_in with_share nodes) ≡ header ∷ counted ∷ (rows ++ last ∷ [])
+  rows_are : numbered_from 1 (lines_in version nodes) ≡ header ∷ counted ∷ (rows ++ last ∷ [])
   unfolding header_row count_row node_rows
-  rows_are = ap (λ (rs : List Row). header_row with_share ∷ count_row (length nodes) ∷ rs) (numbered-append 3 (map (node_line with_share) nodes) (end_line ∷ []))
+  rows_are = ap (λ (rs : List Row). header_row version ∷ count_row (length nodes) ∷ rs) (laws.parts 3 (map (node_line version) nodes) (end_line ∷ []))
 
   counted_is : count_stated counted ≡ length nodes
-  counted_is = count_is numbers (length nodes) tree.few
+  counted_is = count_is laws (length nodes) tree.few
 
   rows_len : length rows ≡ length nodes
   unfolding node_rows
-  rows_len = length-numbered 3 (map (node_line with_share) nodes) ∙ length-map nodes (node_line with_share)
+  rows_len = laws.count 3 (map (node_line version) nodes) ∙ length-map nodes (node_line version)
 
-  node_ok : (before after : List Row) (row : Row) → rows ≡ before ++ row ∷ after → first_failure (node_tests with_share (length nodes) (total_of with_share before) row) ≡ None
+  node_ok : (before after : List Row) (row : Row) → rows ≡ before ++ row ∷ after → first_failure (node_tests version (length nodes) (total_of version before) row) ≡ None
   node_ok before after row e =
-      let split = node_split with_share 3 nodes before row after e in
+      let split = node_split version 3 nodes before row after e in
       let within = All-at (IsNodeWithin nodes) split.first split.node split.rest (subst (All (IsNodeWithin nodes)) split.nodes_are tree.each) in
-      let fits = All-at (IsPrintable with_share) split.first split.node split.rest (subst (All (IsPrintable with_share)) split.nodes_are printable) in
-      let first = All-first (IsPrintable with_share) split.first (split.node ∷ split.rest) (subst (All (IsPrintable with_share)) split.nodes_are printable) in
-      let total : total_of with_share before ≡ sum_by node_size split.first = ap (total_of with_share) split.before_is ∙ total_of-rows numbers with_share 3 split.first first in
+      let fits = All-at (IsPrintable version) split.first split.node split.rest (subst (All (IsPrintable version)) split.nodes_are printable) in
+      let first = All-first (IsPrintable version) split.first (split.node ∷ split.rest) (subst (All (IsPrintable version)) split.nodes_are printable) in
+      let total : total_of version before ≡ sum_by node_size split.first = ap (total_of version) split.before_is ∙ total_of-rows laws version 3 split.first first in
       let sums : sum_by node_size nodes ≡ sum_by node_size split.first + sum_by node_size (split.node ∷ split.rest) = ap (sum_by node_size) split.nodes_are ∙ sum_by-append node_size split.first (split.node ∷ split.rest) in
-      let small : total_of with_share before + split.node.out + split.node.extra ≤ 2 ^ 60 = omega (arith, total, sums, sum_by-cons node_size split.node split.rest, tree.total) in
-      subst (λ (r : Row). first_failure (node_tests with_share (length nodes) (total_of with_share before) r) ≡ None) (sym split.row_is)
-      (node_passes numbers with_share (length nodes) (total_of with_share before) split.number split.node fits within.parent within.out within.extra within.time.0 within.time.1 small)
+      let small : total_of version before + split.node.out + split.node.extra ≤ most_total = omega (arith, total, sums, sum_by-cons node_size split.node split.rest, tree.total) in
+      subst (λ (r : Row). first_failure (node_tests version (length nodes) (total_of version before) r) ≡ None) (sym split.row_is)
+      (node_passes laws version (length nodes) (total_of version before) split.number split.node fits within.parent within.out within.extra within.time.0 within.time.1 small)
 
-  rows_ok : (before after : List Row) (row : Row) → rows ≡ before ++ row ∷ after → first_failure (node_tests (has_shares header) (count_stated counted) (total_of (has_shares header) before) row) ≡ None
-  rows_ok before after row e = rw (header_is with_share, counted_is) (node_ok before after row e)
+  rows_ok : (before after : List Row) (row : Row) → rows ≡ before ++ row ∷ after → first_failure (node_tests (version_stated header) (count_stated counted) (total_of (version_stated header) before) row) ≡ None
+  rows_ok before after row e = rw (header_is version, counted_is) (node_ok before after row e)
 
   passed : ArePassed tree_format (header ∷ counted ∷ (rows ++ last ∷ []))
-  passed = all_passed header counted last rows (rows_len ∙ sym counted_is) (header_passes with_share) (count_passes numbers (length nodes) tree.some tree.few) rows_ok refl
+  passed = all_passed header counted last rows (rows_len ∙ sym counted_is) (header_passes version) (count_passes laws (length nodes) tree.some tree.few) rows_ok refl
 
   whole : is_complete (header ∷ counted ∷ (rows ++ last ∷ [])) ≡ true
   whole = eq-eqb _ _ (omega (arith, length_push rows last, rows_len, counted_is))
@@ -308,28 +309,28 @@ module _ (numbers : AreNumbers) (are_tokens : AreTokens) (are_rows : AreRows) (w
   stated : nodes_stated (header ∷ counted ∷ (rows ++ last ∷ [])) ≡ nodes
   stated =
       let cut : take (count_stated counted) (rows ++ last ∷ []) ≡ rows = ap (λ (n : ℕ). take n (rows ++ last ∷ [])) (counted_is ∙ sym rows_len) ∙ take-append_seam rows (last ∷ []) in
-      ap (λ (b : Bool). map (node_of b) (take (count_stated counted) (rows ++ last ∷ []))) (header_is with_share) ∙ ap (map (node_of with_share)) cut ∙ nodes_of-rows numbers with_share 3 nodes printable
+      ap (λ (v : Version). map (node_of v) (take (count_stated counted) (rows ++ last ∷ []))) (header_is version) ∙ ap (map (node_of version)) cut ∙ nodes_of-rows laws version 3 nodes printable
 
   -- the lines count
-  nodes_counted : (ns : List Node) → All (IsPrintable with_share) ns → list_all (is_counted Commented) (map (node_line with_share) ns) ≡ true
+  nodes_counted : (ns : List Node) → All (IsPrintable version) ns → list_all (is_counted Commented) (map (node_line version) ns) ≡ true
   nodes_counted [] fit = refl
-  nodes_counted (n ∷ ns) fit = and_from _ _ (node-counted numbers are_tokens with_share n (fit 0 n (omega arith))) (nodes_counted ns (All-tail (IsPrintable with_share) n ns fit))
+  nodes_counted (n ∷ ns) fit = and_from _ _ (node-counted laws version n (fit 0 n (omega arith))) (nodes_counted ns (All-tail (IsPrintable version) n ns fit))
 
-  header_counted : (b : Bool) → is_counted Commented (header_line b) ≡ true
-  header_counted true = refl
-  header_counted false = refl
+  header_counted : (v : Version) → is_counted Commented (header_line v) ≡ true
+  header_counted One = refl
+  header_counted Two = refl
 
   count_counted : is_counted Commented (count_line (length nodes)) ≡ true
-  count_counted = rw (are_tokens (length nodes) (omega (arith, tree.few))) refl
+  count_counted = rw (laws.token (length nodes) (omega (arith, tree.few))) refl
 
-  lines_counted : list_all (is_counted Commented) (lines_in with_share nodes) ≡ true
+  lines_counted : list_all (is_counted Commented) (lines_in version nodes) ≡ true
   lines_counted =
-      and_from _ _ (header_counted with_share) (and_from _ _ count_counted
-      (list_all-append (is_counted Commented) (map (node_line with_share) nodes) (end_line ∷ []) ∙ and_from _ _ (nodes_counted nodes printable) refl))
+      and_from _ _ (header_counted version) (and_from _ _ count_counted
+      (list_all-append (is_counted Commented) (map (node_line version) nodes) (end_line ∷ []) ∙ and_from _ _ (nodes_counted nodes printable) refl))
 
-  pub printed-reads : ReadsTree (text_in with_share nodes) nodes
+  pub printed-reads : ReadsTree (text_in version nodes) nodes
   printed-reads =
-      let read : rows_of_bytes Commented (text_in with_share nodes) ≡ header ∷ counted ∷ (rows ++ last ∷ []) = are_rows Commented (lines_in with_share nodes) lines_counted ∙ rows_are in
+      let read : rows_of_bytes Commented (text_in version nodes) ≡ header ∷ counted ∷ (rows ++ last ∷ []) = laws.rows Commented (lines_in version nodes) lines_counted ∙ rows_are in
       record {
         form = record {
           lines = subst (ArePassed tree_format) (sym read) passed;
@@ -347,8 +348,13 @@ no_share [] none i d lt = absurd (omega arith)
 no_share (n ∷ ns) none zero d lt = eqb-true n.share 0 (not-false _ (or_parts (not (eqb n.share 0)) (has_share ns) none).0)
 no_share (n ∷ ns) none (suc i) d lt = no_share ns (or_parts (not (eqb n.share 0)) (has_share ns) none).1 i d (omega arith)
 
-pub text_of-reads : AreNumbers → AreTokens → AreRows → (nodes : List Node) → IsTree nodes → ReadsTree (text_of nodes) nodes
-text_of-reads numbers are_tokens are_rows nodes tree = printed-reads numbers are_tokens are_rows (has_share nodes) nodes tree (λ none. no_share nodes none)
+-- version 1 is taken only where no node has a share
+one_unshared : (b : Bool) (nodes : List Node) → has_share nodes ≡ b → cond b Two One ≡ One → All (λ node. node.share ≡ 0) nodes
+one_unshared true nodes e is = absurd cc
+one_unshared false nodes e is = no_share nodes e
 
-pub text2_of-reads : AreNumbers → AreTokens → AreRows → (nodes : List Node) → IsTree nodes → ReadsTree (text2_of nodes) nodes
-text2_of-reads numbers are_tokens are_rows nodes tree = printed-reads numbers are_tokens are_rows true nodes tree (λ never. absurd cc)
+pub text_of-reads : AreLaws → (nodes : List Node) → IsTree nodes → ReadsTree (text_of nodes) nodes
+text_of-reads laws nodes tree = printed-reads laws (version_for nodes) nodes tree (one_unshared (has_share nodes) nodes refl)
+
+pub text2_of-reads : AreLaws → (nodes : List Node) → IsTree nodes → ReadsTree (text2_of nodes) nodes
+text2_of-reads laws nodes tree = printed-reads laws Two nodes tree (λ never. absurd cc)

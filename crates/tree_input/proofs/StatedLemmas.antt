@@ -7,7 +7,7 @@ use Rattle.mp_text.specs.declared.layout.Layout.TheVariants.{Commented}
 use Rattle.mp_text.specs.Text.{Row}
 use Rattle.mp_text.specs.Ahead.{rows_of_bytes, past_of_bytes}
 use Rattle.mp_text.specs.Grammar.{IsWellFormed}
-use Rattle.tree_input.specs.TreeFile.{tree_format, count_stated, node_of, has_shares, nodes_stated, line_stating, is_complete}
+use Rattle.tree_input.specs.TreeFile.{tree_format, count_stated, node_of, version_stated, nodes_stated, line_stating, is_complete}
 use Rattle.tree_input.specs.Reader.{ReaderState, TookNodes, staged_took, took}
 use Rattle.tree_input.specs.Stated.{AreStated}
 use Rattle.tree_input.specs.declared.stage.Stage.{Stage}
@@ -18,9 +18,9 @@ module _ (header counted last : Row) (rows : List Row) (whole : length rows ≡ 
   all : List Row
   all = header ∷ counted ∷ (rows ++ last ∷ [])
 
-  stated_is : nodes_stated all ≡ map (node_of (has_shares header)) rows
+  stated_is : nodes_stated all ≡ map (node_of (version_stated header)) rows
   unfolding all
-  stated_is = ap (map (node_of (has_shares header))) (ap (λ (n : ℕ). take n (rows ++ last ∷ [])) (sym whole) ∙ take-append_seam rows (last ∷ []))
+  stated_is = ap (map (node_of (version_stated header))) (ap (λ (n : ℕ). take n (rows ++ last ∷ [])) (sym whole) ∙ take-append_seam rows (last ∷ []))
 
   line_is : (v : ℕ) → 1 ≤ v → v ≤ length rows → get_or (map (λ (r : Row). r.number) rows) (v - 1) 0 ≡ line_stating all v
   unfolding all
@@ -38,7 +38,7 @@ module _ (header counted last : Row) (rows : List Row) (whole : length rows ≡ 
       let within = well_formed_within (rows_of_bytes Commented bytes) (past_of_bytes bytes) form in
       let nodes_are : s.nodes ≡ nodes_stated (rows_of_bytes Commented bytes) = taken.nodes ∙ sym (ap nodes_stated rows_are ∙ stated_is) in
       let kept : AreWithin s.nodes = subst AreWithin (sym nodes_are) within in
-      let len : length s.nodes ≡ length rows = ap length taken.nodes ∙ length-map rows (node_of (has_shares header)) in
+      let len : length s.nodes ≡ length rows = ap length taken.nodes ∙ length-map rows (node_of (version_stated header)) in
       record {
         form = form;
         nodes_are = nodes_are;

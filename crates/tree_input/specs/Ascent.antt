@@ -1,4 +1,5 @@
--- Ways up from a node, as the search for a cycle marks them. The definitions are those of this code; no public clause names them.
+-- No public clause names this.
+-- Ways up from a node, as the search for a cycle marks them.
 use Rattle.std.specs.Prelude.{◌≡◌, ◌≢◌, ◌==◌, ℕ, suc, ◌+◌, ◌-◌, ◌≤◌, List, length, count_by, slice_index_or, ◌⊎◌}
 use Rattle.tree_input.specs.Tree.{ancestor}
 use Rattle.tree_input.specs.declared.node.Node.{Node}

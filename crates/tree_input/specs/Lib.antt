@@ -1,4 +1,3 @@
-pub mod Fields
 pub mod Tree
 pub mod Forest
 pub mod TreeTerm

@@ -1,48 +1,52 @@
--- What the reader of tree files does with a line, from what it keeps of the lines before. No public clause names this: the format
--- itself stands in TreeFile.antt.
-use Rattle.std.specs.Prelude.{◌≡◌, ℕ, ◌+◌, ◌^◌, ◌≤◌, Bool, false, nat_lt, List, [], ◌∷◌, ◌++◌, length, map, if◌then◌else◌, Result, Ok, Err}
+-- No public clause names this.
+-- What the reader of tree files does with a line, from what it keeps of the lines before. The format itself stands in TreeFile.antt.
+use Rattle.std.specs.Prelude.{◌≡◌, ℕ, ◌+◌, ◌≤◌, nat_lt, List, [], ◌∷◌, ◌++◌, length, map, if◌then◌else◌, Result, Ok, Err}
+use Rattle.limits.specs.Limits.{most_tasks, most_total}
 use Rattle.mp_text.specs.declared.refusals.Refusal.{Refusal}
 use Rattle.mp_text.specs.Text.{Row}
+use Rattle.mp_text.specs.declared.words.Version.{Version}
+use Rattle.mp_text.specs.declared.words.Version.TheVariants.{One}
+use Rattle.mp_text.specs.Grammar.{fault, fault_at}
 use Rattle.mp_text.specs.Reading.{tested}
 use Rattle.tree_input.specs.Tree.{node_size}
-use Rattle.tree_input.specs.TreeFile.{fault, fault_at, header_tests, has_shares, count_tests, count_stated, node_tests, node_of, total_of, last_tests}
+use Rattle.tree_input.specs.TreeFile.{header_tests, version_stated, count_tests, count_stated, node_tests, node_of, total_of, last_tests}
 use Rattle.tree_input.specs.declared.node.Node.{Node}
 use Rattle.tree_input.specs.declared.node.TreeKind.{TreeKind}
 use Rattle.tree_input.specs.declared.node.TreeKind.TheVariants as kinds
 use Rattle.tree_input.specs.declared.stage.Stage.{Stage}
 use Rattle.tree_input.specs.declared.stage.Stage.TheVariants as stages
 
--- what the reader keeps: what comes next, whether nodes have shares, their stated number, the nodes with the numbers of
+-- what the reader keeps: what comes next, the version, their stated number, the nodes with the numbers of
 -- their lines, and the sum of their sizes
 pub record ReaderState : Type 0 where
   pub stage : Stage
-  pub with_share : Bool
+  pub version : Version
   pub count : ℕ
   pub nodes : List Node
   pub lines : List ℕ
   pub total : ℕ
 
 abbrev pub start : ReaderState
-start = record { stage = stages.Header; with_share = false; count = 0; nodes = []; lines = []; total = 0 }
+start = record { stage = stages.Header; version = One; count = 0; nodes = []; lines = []; total = 0 }
 
 -- bounds that the code relies on
 pub record IsReaderState (s : ReaderState) : Type 0 where
-  pub few : s.count ≤ 1000000
-  pub small : s.total ≤ 2 ^ 60
+  pub few : s.count ≤ most_tasks
+  pub small : s.total ≤ most_total
 
 abbrev pub with_node : ReaderState → Row → ReaderState
 with_node s row =
-    record s { nodes = s.nodes ++ node_of s.with_share row ∷ []; lines = s.lines ++ row.number ∷ []; total = s.total + node_size (node_of s.with_share row) }
+    record s { nodes = s.nodes ++ node_of s.version row ∷ []; lines = s.lines ++ row.number ∷ []; total = s.total + node_size (node_of s.version row) }
 
 -- a line where nodes are read: one more of them, or the end after the last
 abbrev pub body_step : ReaderState → Row → Result ReaderState (Refusal TreeKind)
 body_step s row =
     if nat_lt (length s.nodes) s.count
-    then tested (node_tests s.with_share s.count s.total row) (with_node s row)
+    then tested (node_tests s.version s.count s.total row) (with_node s row)
     else tested (last_tests row) (record s { stage = stages.Ended })
 
 abbrev pub staged_step : Stage → ReaderState → Row → Result ReaderState (Refusal TreeKind)
-staged_step stages.Header s row = tested (header_tests row) (record s { stage = stages.Count; with_share = has_shares row })
+staged_step stages.Header s row = tested (header_tests row) (record s { stage = stages.Count; version = version_stated row })
 staged_step stages.Count s row = tested (count_tests row) (record s { stage = stages.Nodes; count = count_stated row })
 staged_step stages.Nodes s row = body_step s row
 staged_step stages.Ended s row = Err (fault kinds.Count row)
@@ -61,11 +65,11 @@ tree_end s past = staged_end s.stage s past
 
 -- the reader stands where nodes are read, after a header, a count and these node lines
 pub record TookNodes (s : ReaderState) (header counted : Row) (rows : List Row) : Type 0 where
-  pub with_share : s.with_share ≡ has_shares header
+  pub version : s.version ≡ version_stated header
   pub count : s.count ≡ count_stated counted
-  pub nodes : s.nodes ≡ map (node_of (has_shares header)) rows
+  pub nodes : s.nodes ≡ map (node_of (version_stated header)) rows
   pub lines : s.lines ≡ map (λ row. row.number) rows
-  pub total : s.total ≡ total_of (has_shares header) rows
+  pub total : s.total ≡ total_of (version_stated header) rows
   pub within : length rows ≤ count_stated counted
 
 -- the reader has taken nothing of the nodes yet
@@ -77,7 +81,7 @@ pub record IsFresh (s : ReaderState) : Type 0 where
 pub record TookHeader (s : ReaderState) (rows : List Row) : Type 0 where
   pub header : Row
   pub rows_are : rows ≡ header ∷ []
-  pub with_share : s.with_share ≡ has_shares header
+  pub version : s.version ≡ version_stated header
   pub fresh : IsFresh s
 
 pub record TookSome (s : ReaderState) (rows : List Row) : Type 0 where

@@ -1,3 +1,4 @@
+-- No public clause names this.
 -- What the reader of tree files does is what the tests of the format say: the two laws of its `impl Reader`. An `impl` takes the proofs
 -- of its laws from specs/, so they stand here and not in proofs/.
 use Rattle.std.specs.Prelude.{◌≡◌, ◌==◌, ℕ, ◌+◌, ◌<◌, Bool, true, false, nat_lt, List, ◌∷◌, ◌++◌, [], length, refl, Err}
@@ -6,11 +7,11 @@ use Rattle.std.proofs.lemmas.List.{map_push, length-map, length_push}
 use Rattle.std.proofs.lemmas.List.Sums.{sum_by_push}
 use Rattle.std.proofs.lemmas.Bool.{ltb-true, ltb-false, le-ltb, ne_eqb}
 use Rattle.mp_text.specs.Text.{Row}
-use Rattle.mp_text.specs.Grammar.{Test, ArePassed}
+use Rattle.mp_text.specs.Grammar.{Test, ArePassed, fault}
 use Rattle.mp_text.specs.Reading.{Follows, tested}
 use Rattle.mp_text.specs.ReadingLaws.{tested-follows}
 use Rattle.tree_input.specs.Tree.{node_size}
-use Rattle.tree_input.specs.TreeFile.{tree_format, tree_line_tests, tree_end_tests, header_tests, has_shares, count_tests, count_stated, node_tests, node_of, total_of, last_tests, body_tests, is_complete, fault}
+use Rattle.tree_input.specs.TreeFile.{tree_format, tree_line_tests, tree_end_tests, header_tests, version_stated, count_tests, count_stated, node_tests, node_of, total_of, last_tests, body_tests, is_complete}
 use Rattle.tree_input.specs.Reader.{ReaderState, IsFresh, TookNodes, staged_step, staged_end, staged_took, body_step, with_node, tree_step, tree_end, took}
 use Rattle.tree_input.specs.declared.node.TreeKind.{TreeKind}
 use Rattle.tree_input.specs.declared.node.TreeKind.TheVariants as kinds
@@ -23,23 +24,23 @@ IsNext : (rows : List Row) (next : ReaderState) → Type 0
 IsNext rows next = took next rows × (tree_format ≡ tree_format)
 
 at_header : (s : ReaderState) (row : Row) → IsFresh s →
-    Follows (header_tests row) (IsNext (row ∷ [])) (tested (header_tests row) (record s { stage = stages.Count; with_share = has_shares row }))
+    Follows (header_tests row) (IsNext (row ∷ [])) (tested (header_tests row) (record s { stage = stages.Count; version = version_stated row }))
 unfolding IsNext
 at_header s row fresh = tested-follows (header_tests row) _ _ (λ _. (
-  record { header = row; rows_are = refl; with_share = refl; fresh = record { nodes = fresh.nodes; lines = fresh.lines; total = fresh.total } },
+  record { header = row; rows_are = refl; version = refl; fresh = record { nodes = fresh.nodes; lines = fresh.lines; total = fresh.total } },
   refl,
 ))
 
-at_count : (s : ReaderState) (header row : Row) → s.with_share ≡ has_shares header → IsFresh s →
+at_count : (s : ReaderState) (header row : Row) → s.version ≡ version_stated header → IsFresh s →
     Follows (count_tests row) (IsNext (header ∷ row ∷ [])) (tested (count_tests row) (record s { stage = stages.Nodes; count = count_stated row }))
 unfolding IsNext
-at_count s header row with_share fresh = tested-follows (count_tests row) _ _ (λ _. (
+at_count s header row version fresh = tested-follows (count_tests row) _ _ (λ _. (
   record {
     header = header;
     counted = row;
     node_rows = [];
     rows_are = refl;
-    nodes = record { with_share = with_share; count = refl; nodes = fresh.nodes; lines = fresh.lines; total = fresh.total; within = omega arith };
+    nodes = record { version = version; count = refl; nodes = fresh.nodes; lines = fresh.lines; total = fresh.total; within = omega arith };
   },
   refl,
 ))
@@ -48,21 +49,21 @@ at_count s header row with_share fresh = tested-follows (count_tests row) _ _ (�
 more_nodes : (s : ReaderState) (header counted row : Row) (rows : List Row) → TookNodes s header counted rows → length rows < count_stated counted →
     TookNodes (with_node s row) header counted (rows ++ row ∷ [])
 more_nodes s header counted row rows taken lt = record {
-  with_share = taken.with_share;
+  version = taken.version;
   count = taken.count;
-  nodes = rw (taken.with_share, taken.nodes) (sym (map_push (node_of (has_shares header)) rows row));
+  nodes = rw (taken.version, taken.nodes) (sym (map_push (node_of (version_stated header)) rows row));
   lines = rw taken.lines (sym (map_push (λ (r : Row). r.number) rows row));
-  total = rw (taken.with_share, taken.total) (sym (sum_by_push (λ (r : Row). node_size (node_of (has_shares header) r)) rows row));
+  total = rw (taken.version, taken.total) (sym (sum_by_push (λ (r : Row). node_size (node_of (version_stated header) r)) rows row));
   within = omega (arith, length_push rows row);
 }
 
 at_node : (s : ReaderState) (header counted row : Row) (rows : List Row) → s.stage ≡ stages.Nodes → TookNodes s header counted rows → length rows < count_stated counted →
-    Follows (node_tests (has_shares header) (count_stated counted) (total_of (has_shares header) rows) row) (IsNext (header ∷ counted ∷ (rows ++ row ∷ [])))
-    (tested (node_tests s.with_share s.count s.total row) (with_node s row))
+    Follows (node_tests (version_stated header) (count_stated counted) (total_of (version_stated header) rows) row) (IsNext (header ∷ counted ∷ (rows ++ row ∷ [])))
+    (tested (node_tests s.version s.count s.total row) (with_node s row))
 unfolding IsNext
 at_node s header counted row rows stage taken lt =
-    let tests = node_tests (has_shares header) (count_stated counted) (total_of (has_shares header) rows) row in
-    let same : node_tests s.with_share s.count s.total row ≡ tests = rw (taken.with_share, taken.count, taken.total) refl in
+    let tests = node_tests (version_stated header) (count_stated counted) (total_of (version_stated header) rows) row in
+    let same : node_tests s.version s.count s.total row ≡ tests = rw (taken.version, taken.count, taken.total) refl in
     subst (λ (ts : List (Test TreeKind)). Follows tests (IsNext (header ∷ counted ∷ (rows ++ row ∷ []))) (tested ts (with_node s row))) (sym same)
     (tested-follows tests (with_node s row) (IsNext (header ∷ counted ∷ (rows ++ row ∷ []))) (λ _. (
       subst (λ (st : Stage). staged_took st (with_node s row) (header ∷ counted ∷ (rows ++ row ∷ []))) (sym stage)
@@ -80,23 +81,23 @@ at_last s header counted row rows taken whole = tested-follows (last_tests row) 
     node_rows = rows;
     last = row;
     rows_are = refl;
-    nodes = record { with_share = taken.with_share; count = taken.count; nodes = taken.nodes; lines = taken.lines; total = taken.total; within = taken.within };
+    nodes = record { version = taken.version; count = taken.count; nodes = taken.nodes; lines = taken.lines; total = taken.total; within = taken.within };
     whole = whole;
   },
   refl,
 ))
 
 at_body : (s : ReaderState) (header counted row : Row) (rows : List Row) → s.stage ≡ stages.Nodes → TookNodes s header counted rows →
-    Follows (body_tests (has_shares header) (count_stated counted) rows row) (IsNext (header ∷ counted ∷ (rows ++ row ∷ []))) (body_step s row)
+    Follows (body_tests (version_stated header) (count_stated counted) rows row) (IsNext (header ∷ counted ∷ (rows ++ row ∷ []))) (body_step s row)
 at_body s header counted row rows stage taken = go (nat_lt (length rows) (count_stated counted)) refl where
   long : length s.nodes ≡ length rows
-  long = ap length taken.nodes ∙ length-map rows (node_of (has_shares header))
+  long = ap length taken.nodes ∙ length-map rows (node_of (version_stated header))
 
   same : nat_lt (length s.nodes) s.count ≡ nat_lt (length rows) (count_stated counted)
   same = rw (long, taken.count) refl
 
   go : (b : Bool) → nat_lt (length rows) (count_stated counted) ≡ b →
-      Follows (body_tests (has_shares header) (count_stated counted) rows row) (IsNext (header ∷ counted ∷ (rows ++ row ∷ []))) (body_step s row)
+      Follows (body_tests (version_stated header) (count_stated counted) rows row) (IsNext (header ∷ counted ∷ (rows ++ row ∷ []))) (body_step s row)
   go true e = rw (same, e) (at_node s header counted row rows stage taken (ltb-true _ _ e))
   go false e =
       let whole : length rows ≡ count_stated counted = omega (arith, ltb-false (length rows) (count_stated counted) e, taken.within) in
@@ -105,7 +106,7 @@ at_body s header counted row rows stage taken = go (nat_lt (length rows) (count_
 
 -- after the last line
 at_end : (s : ReaderState) (header counted last row : Row) (rows : List Row) → length rows ≡ count_stated counted → (P : ReaderState → Type 0) →
-    Follows (body_tests (has_shares header) (count_stated counted) (rows ++ last ∷ []) row) P (Err (fault kinds.Count row))
+    Follows (body_tests (version_stated header) (count_stated counted) (rows ++ last ∷ []) row) P (Err (fault kinds.Count row))
 at_end s header counted last row rows whole P =
     let past : nat_lt (length (rows ++ last ∷ [])) (count_stated counted) ≡ false = le-ltb _ _ (omega (arith, length_push rows last)) in
     let other : (length (rows ++ last ∷ []) == count_stated counted) ≡ false = ne_eqb _ _ (omega (arith, length_push rows last)) in
@@ -116,7 +117,7 @@ staged_step_follows : (stage : Stage) (s : ReaderState) (before : List Row) (row
 staged_step_follows stages.Header s before row e taken =
     subst (λ (rows : List Row). Follows (tree_line_tests rows row) (IsNext (rows ++ row ∷ [])) (staged_step stages.Header s row)) (sym taken.0) (at_header s row taken.1)
 staged_step_follows stages.Count s before row e taken =
-    subst (λ (rows : List Row). Follows (tree_line_tests rows row) (IsNext (rows ++ row ∷ [])) (staged_step stages.Count s row)) (sym taken.rows_are) (at_count s taken.header row taken.with_share taken.fresh)
+    subst (λ (rows : List Row). Follows (tree_line_tests rows row) (IsNext (rows ++ row ∷ [])) (staged_step stages.Count s row)) (sym taken.rows_are) (at_count s taken.header row taken.version taken.fresh)
 staged_step_follows stages.Nodes s before row e taken =
     subst (λ (rows : List Row). Follows (tree_line_tests rows row) (IsNext (rows ++ row ∷ [])) (staged_step stages.Nodes s row)) (sym taken.rows_are) (at_body s taken.header taken.counted row taken.node_rows e taken.nodes)
 staged_step_follows stages.Ended s before row e taken =

@@ -1,7 +1,9 @@
--- What is known of the nodes that the lines of a tree file state, before their parents and shares are judged. No public clause names
--- this: the format itself stands in TreeFile.antt.
-use Rattle.std.specs.Prelude.{◌≡◌, ℕ, ◌-◌, ◌^◌, ◌≤◌, true, All, List, length, slice_index_or}
+-- No public clause names this.
+-- What is known of the nodes that the lines of a tree file state, before their parents and shares are judged. The format itself
+-- stands in TreeFile.antt.
+use Rattle.std.specs.Prelude.{◌≡◌, ℕ, ◌-◌, ◌≤◌, All, List, length, slice_index_or}
 use Rattle.std.specs.List.{sum_by}
+use Rattle.limits.specs.Limits.{most_tasks, most_total}
 use Rattle.mp_text.specs.declared.layout.Layout.TheVariants.{Commented}
 use Rattle.mp_text.specs.Ahead.{rows_of_bytes, past_of_bytes}
 use Rattle.mp_text.specs.Grammar.{IsWellFormed}
@@ -15,6 +17,6 @@ pub record AreStated (bytes : List ℕ) (nodes : List Node) (lines : List ℕ) :
   pub lines_are : (v : ℕ) → IsNode nodes v → slice_index_or lines (v - 1) 0 ≡ line_stating (rows_of_bytes Commented bytes) v
   pub lines_len : length lines ≡ length nodes
   pub some : 1 ≤ length nodes
-  pub few : length nodes ≤ 1000000
+  pub few : length nodes ≤ most_tasks
   pub each : All (IsNodeWithin nodes) nodes
-  pub total : sum_by node_size nodes ≤ 2 ^ 60
+  pub total : sum_by node_size nodes ≤ most_total

@@ -1,6 +1,7 @@
 -- Trees of nodes (assembly trees: Liu 1986, On the storage requirement in the out-of-core multifrontal method), and the system of a tree.
-use Rattle.std.specs.Prelude.{◌≡◌, ◌==◌, ℕ, zero, suc, ◌+◌, ◌-◌, ◌^◌, ◌≤◌, if◌then◌else◌, Some, None, All, List, [], ◌∷◌, length, map, slice_index_or}
+use Rattle.std.specs.Prelude.{◌≡◌, ◌==◌, ℕ, zero, suc, ◌+◌, ◌-◌, ◌≤◌, if◌then◌else◌, Some, None, All, List, [], ◌∷◌, length, map, slice_index_or}
 use Rattle.std.specs.List.{sum_by}
+use Rattle.limits.specs.Limits.{most_tasks, most_size, most_time, most_total}
 use Rattle.mp_system.specs.declared.system.Task.{Task}
 use Rattle.mp_system.specs.declared.system.Item.{Item}
 use Rattle.mp_system.specs.System.{TaskSystem}
@@ -42,9 +43,9 @@ HasShare nodes v = ((node_at nodes v).share ≤ children_out nodes v) × ((node_
 -- what each node keeps to
 pub record IsNodeWithin (nodes : List Node) (node : Node) : Type 0 where
   pub parent : node.parent ≤ length nodes
-  pub out : node.out ≤ 2 ^ 40
-  pub extra : node.extra ≤ 2 ^ 40
-  pub time : (1 ≤ node.time) × (node.time ≤ 2 ^ 40)
+  pub out : node.out ≤ most_size
+  pub extra : node.extra ≤ most_size
+  pub time : (1 ≤ node.time) × (node.time ≤ most_time)
 
 abbrev pub node_size : Node → ℕ
 node_size node = node.out + node.extra
@@ -53,9 +54,9 @@ node_size node = node.out + node.extra
 -- together at most 2^60, and shares that fit
 pub record IsTree (nodes : List Node) : Type 0 where
   pub some : 1 ≤ length nodes
-  pub few : length nodes ≤ 1000000
+  pub few : length nodes ≤ most_tasks
   pub each : All (IsNodeWithin nodes) nodes
-  pub total : sum_by node_size nodes ≤ 2 ^ 60
+  pub total : sum_by node_size nodes ≤ most_total
   pub roots : (v : ℕ) → IsNode nodes v → LeadsToRoot nodes v
   pub shares : (v : ℕ) → IsNode nodes v → HasShare nodes v
 

@@ -1,55 +1,49 @@
 -- Tree files of version 1, and of version 2, whose nodes have a share: what a file reads as, and what it is refused with. They are this
 -- project's own format.
-use Rattle.std.specs.Prelude.{◌≡◌, ◌==◌, ℕ, ◌+◌, ◌^◌, ◌<◌, ◌≤◌, Bool, true, false, ◌&&◌, ◌||◌, not, nat_lt, nat_le, is_some, unwrap_or, List, [], ◌∷◌, length, map, take, codes, if◌then◌else◌, slice_index_or, ◌⊎◌}
+use Rattle.std.specs.Prelude.{◌≡◌, ◌==◌, ℕ, ◌+◌, ◌<◌, ◌≤◌, Bool, false, ◌&&◌, not, nat_lt, nat_le, is_some, unwrap_or, Option, Some, None, List, [], ◌∷◌, length, map, take, codes, if◌then◌else◌, slice_index_or, ◌⊎◌}
 use Rattle.std.specs.List.{sum_by}
+use Rattle.std.specs.Option.{option_and_then}
 use Rattle.std.specs.Str.{bytes_eq}
 use Rattle.std.specs.Cmp.Lexicographic.{pointwise}
+use Rattle.limits.specs.Limits.{most_tasks, most_size, most_time, most_total}
 use Rattle.limits.specs.declared.name.LimitName.TheVariants as limits
 use Rattle.mp_text.specs.declared.layout.Layout.TheVariants.{Commented}
 use Rattle.mp_text.specs.declared.refusals.Refusal.{Refusal}
 use Rattle.mp_text.specs.declared.refusals.Refusal.TheVariants as refusals
-use Rattle.mp_text.specs.Text.{Row, number_of}
+use Rattle.mp_text.specs.Text.{Row, number_of, numbers_of}
+use Rattle.mp_text.specs.declared.words.Version.{Version}
+use Rattle.mp_text.specs.declared.words.Version.TheVariants.{One, Two}
+use Rattle.mp_text.specs.Words.{after_word, version_of}
 use Rattle.mp_text.specs.Ahead.{rows_of_bytes, past_of_bytes}
-use Rattle.mp_text.specs.Grammar.{Test, test, Format, IsWellFormed, Refuses}
-use Rattle.tree_input.specs.Fields.{Fields, fields_stated}
+use Rattle.mp_text.specs.Grammar.{Test, test, Format, IsWellFormed, Refuses, fault, fault_at}
+use Rattle.tree_input.specs.declared.fields.NodeFields.{NodeFields}
 use Rattle.tree_input.specs.Tree.{IsNode, LeadsToRoot, HasShare, node_size}
 use Rattle.tree_input.specs.declared.node.Node.{Node}
 use Rattle.tree_input.specs.declared.node.TreeKind.{TreeKind}
 use Rattle.tree_input.specs.declared.node.TreeKind.TheVariants as kinds
 
-abbrev pub fault_at : ℕ → TreeKind → Refusal TreeKind
-fault_at line kind = refusals.Format (record { line = line; kind = kind })
-
-abbrev pub fault : TreeKind → Row → Refusal TreeKind
-fault kind row = fault_at row.number kind
-
--- the token at a place, counted from 0
-abbrev pub token_at : ℕ → Row → List ℕ
-token_at place row = slice_index_or row.tokens place []
-
 -- ---- line 1: `tree 1` or `tree 2`
 
-abbrev pub is_header : List ℕ → Row → Bool
-is_header version row = pointwise bytes_eq row.tokens (codes "tree" ∷ version ∷ [])
-
 abbrev pub header_tests : Row → List (Test TreeKind)
-header_tests row = test (is_header (codes "1") row || is_header (codes "2") row) (fault kinds.Header row) ∷ []
+header_tests row = test (is_some (version_of (codes "tree") row.tokens)) (fault kinds.Header row) ∷ []
 
--- whether the node lines have a share: those of version 2 do
-abbrev pub has_shares : Row → Bool
-has_shares header = is_header (codes "2") header
+abbrev pub version_stated : Row → Version
+version_stated header = unwrap_or (version_of (codes "tree") header.tokens) One
 
 -- ---- line 2: `nodes N`
 
+abbrev pub count_number : Row → Option ℕ
+count_number row = option_and_then number_of (after_word (codes "nodes") row.tokens)
+
 abbrev pub count_stated : Row → ℕ
-count_stated row = unwrap_or (number_of (token_at 1 row)) 0
+count_stated row = unwrap_or (count_number row) 0
 
 abbrev pub count_tests : Row → List (Test TreeKind)
 count_tests row =
-    test ((length row.tokens == 2) && bytes_eq (token_at 0 row) (codes "nodes")) (fault kinds.Header row)
-    ∷ test (is_some (number_of (token_at 1 row))) (fault kinds.Number row)
+    test (is_some (after_word (codes "nodes") row.tokens)) (fault kinds.Header row)
+    ∷ test (is_some (count_number row)) (fault kinds.Number row)
     ∷ test (not (count_stated row == 0)) (fault kinds.Count row)
-    ∷ test (nat_le (count_stated row) 1000000) (refusals.Limit limits.Tasks)
+    ∷ test (nat_le (count_stated row) most_tasks) (refusals.Limit limits.Tasks)
     ∷ []
 
 -- ---- a node line: `parent out extra time`, in version 2 `parent out extra share time`
@@ -57,27 +51,34 @@ count_tests row =
 abbrev pub is_end : Row → Bool
 is_end row = pointwise bytes_eq row.tokens (codes "end" ∷ [])
 
-abbrev pub fields_of : Bool → Row → Fields
-fields_of with_share row =
-    unwrap_or (fields_stated with_share row.tokens) (record { parent = 0; out = 0; extra = 0; share = 0; time = 0 })
+-- the fields of a line that has just so many tokens, all of them numbers
+abbrev pub fields_of : Version → Option (List ℕ) → Option NodeFields
+fields_of One (Some (parent ∷ out ∷ extra ∷ time ∷ [])) = Some (record { parent = parent; out = out; extra = extra; share = 0; time = time })
+fields_of Two (Some (parent ∷ out ∷ extra ∷ share ∷ time ∷ [])) =
+    Some (record { parent = parent; out = out; extra = extra; share = share; time = time })
+fields_of _ _ = None
 
-abbrev pub node_of : Bool → Row → Node
-node_of with_share row =
-    let f = fields_of with_share row in record { parent = f.parent; out = f.out; extra = f.extra; share = f.share; time = f.time }
+abbrev pub fields_stated : Version → Row → Option NodeFields
+fields_stated version row = fields_of version (numbers_of row.tokens)
+
+abbrev pub node_of : Version → Row → Node
+node_of version row =
+    let f = unwrap_or (fields_stated version row) (record { parent = 0; out = 0; extra = 0; share = 0; time = 0 }) in
+    record { parent = f.parent; out = f.out; extra = f.extra; share = f.share; time = f.time }
 
 -- with the number of nodes and the sum of all sizes of the node lines before
-abbrev pub node_tests : Bool → ℕ → ℕ → Row → List (Test TreeKind)
-node_tests with_share count total row =
+abbrev pub node_tests : Version → ℕ → ℕ → Row → List (Test TreeKind)
+node_tests version count total row =
     test (not (is_end row)) (fault kinds.Count row)
-    ∷ test (is_some (fields_stated with_share row.tokens) && not ((fields_of with_share row).time == 0)) (fault kinds.Number row)
-    ∷ test (nat_le (fields_of with_share row).parent count) (fault kinds.Parent row)
-    ∷ test (nat_le (fields_of with_share row).out (2 ^ 40) && nat_le (fields_of with_share row).extra (2 ^ 40)) (refusals.Limit limits.Size)
-    ∷ test (nat_le (fields_of with_share row).time (2 ^ 40)) (refusals.Limit limits.Time)
-    ∷ test (nat_le (total + (fields_of with_share row).out + (fields_of with_share row).extra) (2 ^ 60)) (refusals.Limit limits.Total)
+    ∷ test (is_some (fields_stated version row) && not ((node_of version row).time == 0)) (fault kinds.Number row)
+    ∷ test (nat_le (node_of version row).parent count) (fault kinds.Parent row)
+    ∷ test (nat_le (node_of version row).out most_size && nat_le (node_of version row).extra most_size) (refusals.Limit limits.Size)
+    ∷ test (nat_le (node_of version row).time most_time) (refusals.Limit limits.Time)
+    ∷ test (nat_le (total + (node_of version row).out + (node_of version row).extra) most_total) (refusals.Limit limits.Total)
     ∷ []
 
-abbrev pub total_of : Bool → List Row → ℕ
-total_of with_share rows = sum_by (λ row. node_size (node_of with_share row)) rows
+abbrev pub total_of : Version → List Row → ℕ
+total_of version rows = sum_by (λ row. node_size (node_of version row)) rows
 
 -- ---- the lines after the second: N nodes, then `end`, then none
 
@@ -87,16 +88,16 @@ last_tests row = test (is_end row) (fault kinds.Count row) ∷ []
 abbrev pub further_tests : Row → List (Test TreeKind)
 further_tests row = test false (fault kinds.Count row) ∷ []
 
-abbrev pub body_tests : Bool → ℕ → List Row → Row → List (Test TreeKind)
-body_tests with_share count nodes row =
-    if nat_lt (length nodes) count then node_tests with_share count (total_of with_share nodes) row
+abbrev pub body_tests : Version → ℕ → List Row → Row → List (Test TreeKind)
+body_tests version count nodes row =
+    if nat_lt (length nodes) count then node_tests version count (total_of version nodes) row
     else (if length nodes == count then last_tests row
     else further_tests row)
 
 abbrev pub tree_line_tests : List Row → Row → List (Test TreeKind)
 tree_line_tests [] row = header_tests row
 tree_line_tests (header ∷ []) row = count_tests row
-tree_line_tests (header ∷ count ∷ nodes) row = body_tests (has_shares header) (count_stated count) nodes row
+tree_line_tests (header ∷ count ∷ nodes) row = body_tests (version_stated header) (count_stated count) nodes row
 
 -- whether no line is missing
 abbrev pub is_complete : List Row → Bool
@@ -114,7 +115,7 @@ tree_format = record { line_tests = tree_line_tests; end_tests = tree_end_tests 
 abbrev pub nodes_stated : List Row → List Node
 nodes_stated [] = []
 nodes_stated (header ∷ []) = []
-nodes_stated (header ∷ count ∷ rows) = map (node_of (has_shares header)) (take (count_stated count) rows)
+nodes_stated (header ∷ count ∷ rows) = map (node_of (version_stated header)) (take (count_stated count) rows)
 
 -- the number of the line that states node v
 abbrev pub line_stating : List Row → ℕ → ℕ

@@ -1,11 +1,12 @@
 //! The children of each node.
 
 ghost use Rattle.std.specs.Prelude.{◌≤◌, ◌<◌, ℕ, length, IfOk, slice_index_or};
+ghost use Rattle.limits.specs.Limits.{most_tasks};
 ghost use Rattle.tree_input.specs.declared.node.Node.{Node};
 ghost use Rattle.tree_input.specs.Chains.{AreChains};
 
+use crate::NoMemory;
 use crate::node::Node;
-use crate::printing::NoMemory;
 use std::alloc::Global;
 
 /// For each node the chain of its children, in rising number. Place 0 stands above the roots, and 0 ends a chain.
@@ -22,7 +23,7 @@ pub struct Chains {
 impl Chains {
     /// The chains of all nodes, made from the last node to the first.
     pub fn new(alloc: Global, nodes: &[Node]) -> Result<Chains, NoMemory>
-        requires few { length nodes.now ≤ 1000000 }
+        requires few { length nodes.now ≤ most_tasks }
         requires parents { (i : ℕ) (d : Node) → i < length nodes.now → (slice_index_or nodes.now i d).parent ≤ length nodes.now }
         ensures { IfOk result (λ c. AreChains nodes.now c.heads.items c.nexts.items c.counts.items) }
     {

@@ -23,7 +23,11 @@ mod tree;
 
 pub use names::Names;
 pub use node::{Node, TreeKind};
-pub use printing::{NoMemory, print_tree, print_tree_2};
+pub use printing::{print_tree, print_tree_2};
+use std::alloc::AllocError;
 pub use system::system_of_tree;
 pub use term::{Named, terms_of_tree};
 pub use tree::{Tree, read_tree};
+
+/// Want of memory: an allocation was refused.
+pub type NoMemory = AllocError;

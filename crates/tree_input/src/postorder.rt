@@ -6,8 +6,8 @@ ghost use Rattle.tree_input.specs.Tree.{IsTree};
 ghost use Rattle.tree_input.specs.Forest.{Forest, IsForestOf, all_numbers};
 ghost use Rattle.tree_input.specs.Chains.{IsChain, AreChains};
 
+use crate::NoMemory;
 use crate::chains::Chains;
-use crate::printing::NoMemory;
 use std::alloc::Global;
 
 // Appends the numbers of a chain.

@@ -1,10 +1,10 @@
 ghost use Rattle.std.specs.Prelude.{◌≡◌, [], IfOk, IfErr, MatchResult};
 ghost use Rattle.mp_text.specs.Ahead.{row, rows_of_bytes, past_of_bytes};
 
-use crate::lines::{count_on, fault, header_on, last_on, node_on};
+use crate::lines::{count_on, header_on, last_on, node_on};
 use crate::node::{Node, TreeKind};
 use crate::stage::Stage;
-use mp_text::{Line, Reader, Refusal};
+use mp_text::{Line, Reader, Refusal, Version, fault};
 use std::alloc::Global;
 use std::marker::Model;
 
@@ -12,7 +12,7 @@ use std::marker::Model;
 #[derive(Drop)]
 pub struct TreeReader {
     stage: Stage,
-    with_share: bool,
+    version: Version,
     count: u64,
     pub nodes: Vec<Node>,
     pub lines: Vec<u64>,
@@ -24,11 +24,11 @@ impl Model for TreeReader {
 
     ghost Value = { ReaderState };
 
-    ghost view = { λ s. record { stage = s.stage; with_share = s.with_share; count = s.count; nodes = s.nodes.items; lines = s.lines.items; total = s.total } };
+    ghost view = { λ s. record { stage = s.stage; version = s.version; count = s.count; nodes = s.nodes.items; lines = s.lines.items; total = s.total } };
 
     ghost use Rattle.tree_input.specs.Reader.{IsReaderState};
 
-    ghost invariant = { λ s. IsReaderState (record { stage = s.stage; with_share = s.with_share; count = s.count; nodes = s.nodes.items; lines = s.lines.items; total = s.total }) };
+    ghost invariant = { λ s. IsReaderState (record { stage = s.stage; version = s.version; count = s.count; nodes = s.nodes.items; lines = s.lines.items; total = s.total }) };
 }
 
 impl TreeReader {
@@ -43,7 +43,7 @@ impl TreeReader {
     {
         TreeReader {
             stage: Stage::Header,
-            with_share: false,
+            version: Version::One,
             count: 0,
             nodes: Vec::new(alloc),
             lines: Vec::new(alloc),
@@ -53,9 +53,9 @@ impl TreeReader {
 
     // Takes a node line.
     fn node_line(&mut self, line: Line<'_>) -> Result<(), Refusal<TreeKind>>
-        ensures { let r = row line.entry.number line.entry.text.now in Steps (tested (node_tests self.old.with_share self.old.count self.old.total r) (with_node self.old r)) result self.new }
+        ensures { let r = row line.entry.number line.entry.text.now in Steps (tested (node_tests self.old.version self.old.count self.old.total r) (with_node self.old r)) result self.new }
     {
-        let node = node_on(self.with_share, self.count, self.total, line)?;
+        let node = node_on(self.version, self.count, self.total, line)?;
         self.lines.push(line.number)?;
         self.nodes.push(node)?;
         self.total += node.out + node.extra;
@@ -102,7 +102,7 @@ impl Reader for TreeReader {
     fn line(&mut self, line: Line<'_>) -> Result<(), Refusal<TreeKind>> {
         match self.stage {
             Stage::Header => {
-                self.with_share = header_on(line)?;
+                self.version = header_on(line)?;
                 self.stage = Stage::Count;
                 Ok(())
             }

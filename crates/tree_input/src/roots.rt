@@ -1,13 +1,15 @@
 //! Whether the parents of all nodes lead to a root: each node is marked once, on the first way up that passes it.
 
 ghost use Rattle.std.specs.Prelude.{◌≡◌, ◌≢◌, ◌≤◌, ◌<◌, ◌-◌, ◌+◌, ℕ, length, IfOk, MatchOption, MatchBool, slice_index_or, ◌⊎◌};
+ghost use Rattle.limits.specs.Limits.{most_tasks};
 ghost use Rattle.tree_input.specs.declared.node.Node.{Node};
 ghost use Rattle.tree_input.specs.Tree.{IsNode, LeadsToRoot};
 ghost use Rattle.tree_input.specs.TreeFile.{IsFirstWithout};
 ghost use Rattle.tree_input.specs.Ascent.{IsAscent};
 
+use crate::NoMemory;
 use crate::node::Node;
-use std::alloc::{AllocError, Global};
+use std::alloc::Global;
 
 // Goes up from a node over nodes without a mark, and marks each; answers where it stops.
 fn mark_up(nodes: &[Node], marks: &mut [u32], from: u32) -> u32
@@ -36,7 +38,7 @@ fn comes_back(marks: &[u32], from: u32, stop: u32) -> bool
 }
 
 fn first_cycle_by(nodes: &[Node], marks: &mut [u32]) -> Option<u32>
-    requires few { length nodes.now ≤ 1000000 }
+    requires few { length nodes.now ≤ most_tasks }
     requires len { length marks.old ≡ length nodes.now }
     requires none { (w : ℕ) → slice_index_or marks.old w 0 ≡ 0 }
     requires parents { (i : ℕ) (d : Node) → i < length nodes.now → (slice_index_or nodes.now i d).parent ≤ length nodes.now }
@@ -57,8 +59,8 @@ fn first_cycle_by(nodes: &[Node], marks: &mut [u32]) -> Option<u32>
 }
 
 /// The lowest node whose parents lead to no root, if there is one. Near linear in the nodes.
-pub fn first_cycle(alloc: Global, nodes: &[Node]) -> Result<Option<u32>, AllocError>
-    requires few { length nodes.now ≤ 1000000 }
+pub fn first_cycle(alloc: Global, nodes: &[Node]) -> Result<Option<u32>, NoMemory>
+    requires few { length nodes.now ≤ most_tasks }
     requires parents { (i : ℕ) (d : Node) → i < length nodes.now → (slice_index_or nodes.now i d).parent ≤ length nodes.now }
     ensures { IfOk result (λ found. MatchOption found
         ((v : ℕ) → IsNode nodes.now v → LeadsToRoot nodes.now v)

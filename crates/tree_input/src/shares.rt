@@ -2,17 +2,19 @@
 
 ghost use Rattle.std.specs.Prelude.{◌≡◌, ◌≤◌, ◌<◌, ◌-◌, ◌+◌, ◌^◌, ◌↔◌, ℕ, length, vec_len, IfOk, IsTrue, MatchOption, slice_index_or};
 ghost use Rattle.std.specs.List.{sum_by};
+ghost use Rattle.limits.specs.Limits.{most_tasks, most_total};
 ghost use Rattle.tree_input.specs.declared.node.Node.{Node};
 ghost use Rattle.tree_input.specs.Tree.{IsNode, HasShare, children_out, node_size};
 ghost use Rattle.tree_input.specs.TreeFile.{IsFirstWithout};
 
+use crate::NoMemory;
 use crate::node::Node;
-use std::alloc::{AllocError, Global};
+use std::alloc::Global;
 
 // For each node the outs of its children, together.
-fn children_outs(alloc: Global, nodes: &[Node]) -> Result<Vec<u64>, AllocError>
+fn children_outs(alloc: Global, nodes: &[Node]) -> Result<Vec<u64>, NoMemory>
     requires parents { (i : ℕ) (d : Node) → i < length nodes.now → (slice_index_or nodes.now i d).parent ≤ length nodes.now }
-    requires total { sum_by node_size nodes.now ≤ 2 ^ 60 }
+    requires total { sum_by node_size nodes.now ≤ most_total }
     ensures len { IfOk result (λ outs. vec_len outs ≡ length nodes.now) }
     ensures sums { IfOk result (λ outs. (v : ℕ) → IsNode nodes.now v → slice_index_or outs.items (v - 1) 0 ≡ children_out nodes.now v) }
 {
@@ -34,9 +36,9 @@ fn fits(node: Node, below: u64) -> bool
 }
 
 fn first_unfit(nodes: &[Node], outs: &[u64]) -> Option<u32>
-    requires few { length nodes.now ≤ 1000000 }
+    requires few { length nodes.now ≤ most_tasks }
     requires len { length outs.now ≡ length nodes.now }
-    requires total { sum_by node_size nodes.now ≤ 2 ^ 60 }
+    requires total { sum_by node_size nodes.now ≤ most_total }
     requires sums { (v : ℕ) → IsNode nodes.now v → slice_index_or outs.now (v - 1) 0 ≡ children_out nodes.now v }
     ensures { MatchOption result
         ((v : ℕ) → IsNode nodes.now v → HasShare nodes.now v)
@@ -51,10 +53,10 @@ fn first_unfit(nodes: &[Node], outs: &[u64]) -> Option<u32>
 }
 
 /// The lowest node whose share does not fit, if there is one.
-pub fn first_unfit_share(alloc: Global, nodes: &[Node]) -> Result<Option<u32>, AllocError>
-    requires few { length nodes.now ≤ 1000000 }
+pub fn first_unfit_share(alloc: Global, nodes: &[Node]) -> Result<Option<u32>, NoMemory>
+    requires few { length nodes.now ≤ most_tasks }
     requires parents { (i : ℕ) (d : Node) → i < length nodes.now → (slice_index_or nodes.now i d).parent ≤ length nodes.now }
-    requires total { sum_by node_size nodes.now ≤ 2 ^ 60 }
+    requires total { sum_by node_size nodes.now ≤ most_total }
     ensures { IfOk result (λ found. MatchOption found
         ((v : ℕ) → IsNode nodes.now v → HasShare nodes.now v)
         (λ v. IsFirstWithout (HasShare nodes.now) nodes.now v)) }

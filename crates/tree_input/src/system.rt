@@ -1,8 +1,9 @@
 ghost use Rattle.std.specs.Prelude.{◌≡◌, ◌≤◌, ◌+◌, ◌==◌, ℕ, length, IfOk, map, take, Some, None, if◌then◌else◌};
+ghost use Rattle.limits.specs.Limits.{most_tasks};
 ghost use Rattle.tree_input.specs.Tree.{system_of_nodes, task_of, item_of, items_from};
 
+use crate::NoMemory;
 use crate::node::Node;
-use crate::printing::NoMemory;
 use crate::tree::Tree;
 use mp_system::{Item, System, Task};
 use std::alloc::Global;
@@ -32,7 +33,7 @@ fn consumer_of(node: &Node) -> Option<u32>
 }
 
 fn items_of(alloc: Global, nodes: &[Node]) -> Result<Vec<Item>, NoMemory>
-    requires { length nodes.now ≤ 1000000 }
+    requires { length nodes.now ≤ most_tasks }
     ensures { IfOk result (λ v. v.items ≡ items_from 1 nodes.now) }
 {
     let mut items = Vec::with_capacity(alloc, nodes.len())?;

@@ -11,12 +11,11 @@ ghost use Rattle.tree_input.specs.TreeTerm.{forest_positions, beside_positions};
 ghost use Rattle.tree_input.specs.Chains.{positions_of};
 
 use crate::chains::Chains;
-use crate::laws;
 use crate::names::Names;
 use crate::node::Node;
 use crate::postorder::postorder;
-use crate::printing::NoMemory;
 use crate::tree::Tree;
+use crate::{NoMemory, laws};
 use sp_terms::{Position, Terms};
 use std::alloc::Global;
 

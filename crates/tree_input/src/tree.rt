@@ -1,13 +1,13 @@
 ghost use Rattle.std.specs.Prelude.{◌≡◌, ◌≤◌, ◌-◌, ℕ, length, IfOk, IfErr, MatchResult, slice_index_or};
-ghost use Rattle.tree_input.specs.TreeFile.{ReadsTree, IsTreeRefusal, fault_at};
+ghost use Rattle.mp_text.specs.Grammar.{fault_at};
+ghost use Rattle.tree_input.specs.TreeFile.{ReadsTree, IsTreeRefusal};
 ghost use Rattle.tree_input.specs.Stated.{AreStated};
 
-use crate::lines::fault;
 use crate::node::{Node, TreeKind};
 use crate::reader::TreeReader;
 use crate::roots::first_cycle;
 use crate::shares::first_unfit_share;
-use mp_text::{Layout, Refusal, read_with};
+use mp_text::{Layout, Refusal, fault, read_with};
 use std::alloc::Global;
 use std::marker::Model;
 
