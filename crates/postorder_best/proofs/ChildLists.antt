@@ -1,55 +1,88 @@
--- The rows of children are exact.
-use Rattle.std.proofs.Common.{◌≡◌, ◌≢◌, ◌∙◌, ◌↔◌, inl, inr, sym, ap, subst, ℕ, zero, suc, ◌+◌, ◌<◌, List, [], ◌∷◌, ◌++◌, arith, refl, eq-eqb}
-use Rattle.std.proofs.lemmas.Bool.{cases_eq, ne_eqb}
+-- The rows of children as they are grouped.
+use Rattle.std.proofs.Common.{◌≡◌, ◌∙◌, ◌↔◌, inl, inr, sym, ap, subst, ℕ, zero, suc, ◌+◌, ◌<◌, ◌≤◌, Bool, true, false, eqb, eq-eqb, eqb-true, List, [], ◌∷◌, map, length, get_or, arith}
+use Rattle.std.specs.Prelude.{All}
+use Rattle.std.specs.List.{filter, range_with_len}
+use Rattle.std.proofs.lemmas.Bool.{cases_Bool, cases_lt}
+use Rattle.std.proofs.lemmas.List.{length-map, get_or-map, get_or_past}
+use Rattle.std.proofs.lemmas.List.Elements.{All-map, All-weaker}
+use Rattle.row_table.specs.Rows.{row_at, numbers_with}
+use Rattle.tree_input.specs.declared.node.Node.{Node}
+use Rattle.tree_input.specs.Tree.{IsTree, IsNodeWithin, parent_of}
 use Rattle.postorder_best.specs.Postorder.{Member}
-use Rattle.postorder_best.specs.Rows.{Once, children_below}
-use Rattle.postorder_best.proofs.Places.{member_left, member_right, member_parts}
-use Rattle.postorder_best.proofs.Least.{once_last, nil_right}
+use Rattle.postorder_best.specs.Rows.{Once, AreRows, parent_in}
+use Rattle.postorder_best.proofs.TreeLinks.{no_node, parent_at, forest_of}
 
-pub below_same : (parent : ℕ → ℕ) (r m : ℕ) → 0 < m → parent m ≡ r → children_below parent r (m + 1) ≡ children_below parent r m ++ m ∷ []
-below_same parent r zero pos e = absurd (omega arith)
-below_same parent r (suc m) pos e = let s : suc m + 1 ≡ suc (suc m) = omega arith in ap (children_below parent r) s ∙ rw (eq-eqb (parent (suc m)) r e) refl
+-- ---- what passes a test, and ranges
 
-pub below_other : (parent : ℕ → ℕ) (r m : ℕ) → 0 < m → parent m ≢ r → children_below parent r (m + 1) ≡ children_below parent r m
-below_other parent r zero pos ne = absurd (omega arith)
-below_other parent r (suc m) pos ne = let s : suc m + 1 ≡ suc (suc m) = omega arith in ap (children_below parent r) s ∙ rw (ne_eqb (parent (suc m)) r ne) (nil_right (children_below parent r (suc m)))
-
-pub members_below : (parent : ℕ → ℕ) (r m c : ℕ) → Member c (children_below parent r m) ↔ ((0 < c) × (c < m) × (parent c ≡ r))
-members_below parent r zero c = (λ h. absurd h, λ h. let l = h.1 in absurd (omega arith))
-members_below parent r (suc zero) c = (λ h. absurd h, λ h. let l = h.1 in let p = h.0 in absurd (omega arith))
-members_below parent r (suc (suc m)) c =
-    let rec = members_below parent r (suc m) c in
-    elim (cases_eq (parent (suc m)) r) [
-      | inl e ↦ (
-          let is : children_below parent r (suc (suc m)) ≡ children_below parent r (suc m) ++ suc m ∷ [] = rw (eq-eqb (parent (suc m)) r e) refl in (
-            (λ h. elim (member_parts c (children_below parent r (suc m)) (suc m ∷ []) (subst (λ (xs : List ℕ). Member c xs) is h)) [
-              | inl a ↦ (let b = rec.0 a in let l = b.1 in (b.0, omega arith, b.2))
-              | inr b ↦ elim b [ inl q ↦ (omega arith, omega arith, ap parent q ∙ e) | inr z ↦ absurd z ]
-            ]),
-            (λ h. subst (λ (xs : List ℕ). Member c xs) (sym is) (elim (cases_eq c (suc m)) [
-              | inl q ↦ member_right c (children_below parent r (suc m)) (suc m ∷ []) (inl q)
-              | inr ne ↦ (let l = h.1 in member_left c (children_below parent r (suc m)) (suc m ∷ []) (rec.1 (h.0, omega arith, h.2)))
-            ])),
-          )
-          )
-      | inr ne ↦ (
-          let is : children_below parent r (suc (suc m)) ≡ children_below parent r (suc m) = rw (ne_eqb (parent (suc m)) r ne) (nil_right (children_below parent r (suc m))) in (
-            (λ h. let b = rec.0 (subst (λ (xs : List ℕ). Member c xs) is h) in let l = b.1 in (b.0, omega arith, b.2)),
-            (λ h. subst (λ (xs : List ℕ). Member c xs) (sym is) (let l = h.1 in rec.1 (h.0, (let q : c ≢ suc m = λ q. ne (ap parent (sym q) ∙ h.2) in omega arith), h.2))),
-          )
-          )
+member_filter : (test : ℕ → Bool) (xs : List ℕ) (c : ℕ) → Member c (filter test xs) ↔ (Member c xs × (test c ≡ true))
+member_filter test [] c = (λ m. absurd m, λ h. h.0)
+member_filter test (x ∷ xs) c =
+    let rest = member_filter test xs c in
+    elim (cases_Bool (test x)) [
+      | inl passes ↦ rw passes (
+        (λ m. elim m [ inl e ↦ (inl e, ap test e ∙ passes) | inr q ↦ (inr (rest.0 q).0, (rest.0 q).1) ]),
+        (λ h. elim h.0 [ inl e ↦ inl e | inr q ↦ inr (rest.1 (q, h.1)) ]),
+      )
+      | inr fails ↦ rw fails (
+        (λ m. (inr (rest.0 m).0, (rest.0 m).1)),
+        (λ h. elim h.0 [ inl e ↦ absurd (let clash : true ≡ false = sym h.1 ∙ ap test e ∙ fails in cc) | inr q ↦ rest.1 (q, h.1) ]),
+      )
     ]
 
-pub once_below : (parent : ℕ → ℕ) (r m : ℕ) → Once (children_below parent r m)
-once_below parent r zero = tt
-once_below parent r (suc zero) = tt
-once_below parent r (suc (suc m)) = elim (cases_eq (parent (suc m)) r) [
-  | inl e ↦ (
-      let is : children_below parent r (suc (suc m)) ≡ children_below parent r (suc m) ++ suc m ∷ [] = rw (eq-eqb (parent (suc m)) r e) refl in
-      subst Once (sym is) (once_last (children_below parent r (suc m)) (suc m) (once_below parent r (suc m)) (λ h. let b = (members_below parent r (suc m) (suc m)).0 h in let l = b.1 in omega arith))
-      )
-  | inr ne ↦ (
-      let is : children_below parent r (suc (suc m)) ≡ children_below parent r (suc m) = rw (ne_eqb (parent (suc m)) r ne) (nil_right (children_below parent r (suc m))) in
-      subst Once (sym is) (once_below parent r (suc m))
-      )
+once_filter : (test : ℕ → Bool) (xs : List ℕ) → Once xs → Once (filter test xs)
+once_filter test [] once = tt
+once_filter test (x ∷ xs) once = elim (cases_Bool (test x)) [
+  | inl passes ↦ rw passes ((λ m. once.0 ((member_filter test xs x).0 m).0), once_filter test xs once.1)
+  | inr fails ↦ rw fails (once_filter test xs once.1)
 ]
+
+member_range : (a n c : ℕ) → Member c (range_with_len a n) ↔ ((a ≤ c) × (c < a + n))
+member_range a zero c = (λ m. absurd m, λ h. let low = h.0 in let high = h.1 in absurd (omega arith))
+member_range a (suc n) c =
+    let rest = member_range (a + 1) n c in (
+      (λ m. elim m [ inl e ↦ (omega arith, omega arith) | inr q ↦ (let h = rest.0 q in let low = h.0 in let high = h.1 in (omega arith, omega arith)) ]),
+      (λ h. let low = h.0 in let high = h.1 in elim (cases_lt a c) [ inl l ↦ inr (rest.1 (omega arith, omega arith)) | inr g ↦ inl (omega arith) ]),
+    )
+
+once_range : (a n : ℕ) → Once (range_with_len a n)
+once_range a zero = tt
+once_range a (suc n) = ((λ m. let low = ((member_range (a + 1) n a).0 m).0 in omega arith), once_range (a + 1) n)
+
+-- ---- rows
+
+abbrev pub NumbersLaw : Type 0
+NumbersLaw =
+    (keys : List ℕ) (first k : ℕ) (test : ℕ → Bool) → ((i : ℕ) → i < length keys → test (first + i) ≡ eqb (get_or keys i 0) k)
+    → filter test (range_with_len first (length keys)) ≡ numbers_with keys first k
+
+module _ (nodes : List Node) (t : IsTree nodes) where
+  pub parents_within : All (λ key. key < length nodes + 1) (map parent_in nodes)
+  parents_within = All-map (λ key. key < length nodes + 1) parent_in nodes (All-weaker (IsNodeWithin nodes) (λ node. node.parent < length nodes + 1) (λ node has. let low = has.parent in omega arith) nodes t.each)
+
+  children_are : NumbersLaw → (x : ℕ) → filter (λ v. eqb (parent_of nodes v) x) (range_with_len 1 (length nodes)) ≡ numbers_with (map parent_in nodes) 1 x
+  children_are law x =
+      ap (λ n. filter (λ v. eqb (parent_of nodes v) x) (range_with_len 1 n)) (sym (length-map nodes parent_in))
+      ∙ law (map parent_in nodes) 1 x (λ v. eqb (parent_of nodes v) x) (λ i lt.
+      ap (λ p. eqb p x) (parent_at nodes (1 + i) i (omega arith) ∙ sym (get_or-map parent_in nodes i no_node 0 (let e = length-map nodes parent_in in omega arith))))
+
+  pub grouped_rows : NumbersLaw → (rows : List (List ℕ)) → length rows ≡ length nodes + 1
+      → ((x : ℕ) → x < length nodes + 1 → row_at rows x ≡ numbers_with (map parent_in nodes) 1 x) → AreRows nodes rows
+  grouped_rows law rows len rows_are =
+      let is = λ (x : ℕ) (l : x < length nodes + 1). rows_are x l ∙ sym (children_are law x) in
+      record {
+        len = len;
+        members = λ x c. elim (cases_lt x (length nodes + 1)) [
+          | inl l ↦ (
+              let f = member_filter (λ v. eqb (parent_of nodes v) x) (range_with_len 1 (length nodes)) c in
+              let r = member_range 1 (length nodes) c in (
+                (λ m. let h = f.0 (subst (λ (xs : List ℕ). Member c xs) (is x l) m) in let b = r.0 h.0 in let low = b.0 in let high = b.1 in ((omega arith, omega arith), eqb-true (parent_of nodes c) x h.1)),
+                (λ h. let low = h.0.0 in let high = h.0.1 in subst (λ (xs : List ℕ). Member c xs) (sym (is x l)) (f.1 (r.1 (omega arith, omega arith), eq-eqb (parent_of nodes c) x h.1))),
+              )
+              )
+          | inr g ↦ (
+            (λ m. absurd (subst (λ (xs : List ℕ). Member c xs) (get_or_past rows x [] (omega arith)) m)),
+            (λ h. let up = (forest_of nodes t).inside c h.0 in let e = h.1 in absurd (omega arith)),
+          )
+        ];
+        once = λ x l. subst Once (sym (is x l)) (once_filter (λ v. eqb (parent_of nodes v) x) (range_with_len 1 (length nodes)) (once_range 1 (length nodes)));
+      }

@@ -1,12 +1,13 @@
 -- Each forest has a listing, and it is no longer than the forest has nodes.
-use Rattle.std.proofs.Common.{◌≡◌, ◌≢◌, ◌↔◌, ◌⊎◌, inl, inr, sym, subst, ℕ, zero, suc, ◌<◌, ◌≤◌, Bool, true, false, List, [], ◌∷◌, ◌++◌, length, arith, refl}
+use Rattle.std.proofs.Common.{◌≡◌, ◌≢◌, ◌↔◌, ◌⊎◌, ◌∙◌, inl, inr, sym, ap, subst, ℕ, zero, suc, ◌+◌, ◌<◌, ◌≤◌, Bool, true, false, List, [], ◌∷◌, ◌++◌, length, arith, refl}
 use Rattle.std.proofs.lemmas.Bool.{cases_eq, cases_lt}
 use Rattle.postorder_best.specs.BestPostorder.{Listed, node, ListedAll, none, more}
 use Rattle.postorder_best.specs.Postorder.{Member, IsUnder, self, step}
-use Rattle.postorder_best.specs.Rows.{Once}
+use Rattle.postorder_best.specs.Rows.{Once, sum_out}
 use Rattle.postorder_best.proofs.Forest.{IsNode, Rooted, top, raise, IsForest, total, bit, stands}
-use Rattle.postorder_best.proofs.Spans.{under_trans, sum_out}
-use Rattle.postorder_best.proofs.Listings.{no_cycle}
+use Rattle.postorder_best.proofs.Spans.{under_trans}
+use Rattle.postorder_best.proofs.Places.{member_parts}
+use Rattle.postorder_best.proofs.Listings.{no_cycle, row_of, all_members, all_once, one_once}
 use Rattle.postorder_best.proofs.Least.{sum_stands}
 
 never_zero : {parent : ℕ → ℕ} (y x : ℕ) → y ≡ 0 → x ≢ 0 → IsUnder parent y x → ⊥
@@ -27,6 +28,14 @@ under_or {parent} x (raise {x = y} pos r) = elim (cases_eq y x) [
 pub totals_below : (a b : ℕ → ℕ) (n : ℕ) → ((v : ℕ) → v < n → a v ≤ b v) → total a n ≤ total b n
 totals_below a b zero each = omega arith
 totals_below a b (suc m) each = let h = each m (omega arith) in let r = totals_below a b m (λ v l. each v (omega arith)) in omega arith
+
+bit-le : (b : Bool) (size : ℕ) → bit b size ≤ size
+bit-le true size = omega arith
+bit-le false size = omega arith
+
+sum_append : (f : ℕ → ℕ) (xs ys : List ℕ) → sum_out f (xs ++ ys) ≡ sum_out f xs + sum_out f ys
+sum_append f [] ys = omega arith
+sum_append f (x ∷ xs) ys = let r = sum_append f xs ys in omega arith
 
 totals_less : (a b : ℕ → ℕ) (n x : ℕ) → x < n → ((v : ℕ) → v < n → a v ≤ b v) → a x < b x → total a n < total b n
 totals_less a b zero x l each lt = absurd (omega arith)
@@ -113,3 +122,72 @@ module _ (n : ℕ) (parent : ℕ → ℕ) (kids : ℕ → List ℕ) (forest : Is
 
   pub has_listing : (o : List ℕ) × ListedAll kids (kids 0) o
   has_listing = each_listed (kids 0) (λ c k. let h = (exact 0 forest.some c).0 k in is_listed (suc (weight c)) c h.0.1 (omega arith))
+
+  -- ---- what the nodes of a subtree come to
+
+  module _ (size : ℕ → ℕ) where
+    -- the sizes of x and of the nodes below it, so many levels deep
+    heavy : ℕ → ℕ → ℕ
+    heavy zero x = 0
+    heavy (suc m) x = size x + sum_out (heavy m) (kids x)
+
+    mutual
+      unfolding heavy
+
+      heavy_one : (m x : ℕ) (o : List ℕ) → Listed kids x o → x < n → weight x < m → heavy m x ≡ sum_out size o
+      heavy_one zero x o listed l w = absurd (omega arith)
+      heavy_one (suc m) x o (node {x = y} {o = p} all) l w =
+          let below = heavy_all (λ c. m) (kids y) p all (λ c k. let h = (exact y l c).0 k in let lt = lighter y c l h.0 h.1 in (h.0.1, omega arith)) in
+          let parts = sum_append size p (y ∷ []) in
+          omega arith
+
+      heavy_all : (f : ℕ → ℕ) (cs o : List ℕ) → ListedAll kids cs o → ((c : ℕ) → Member c cs → (c < n) × (weight c < f c)) → sum_out (λ c. heavy (f c) c) cs ≡ sum_out size o
+      heavy_all f cs o none each = refl
+      heavy_all f cs o (more {c = c} {cs = ds} {o = p} {os = q} first others) each =
+          let here = each c (inl refl) in
+          let one = heavy_one (f c) c p first here.0 here.1 in
+          let rest = heavy_all f ds q others (λ d m. each d (inr m)) in
+          let parts = sum_append size p q in
+          omega arith
+
+    pub whole : ℕ → ℕ
+    whole x = heavy (suc (weight x)) x
+
+    children_listed : (x : ℕ) → x < n → (o : List ℕ) × ListedAll kids (kids x) o
+    children_listed x l = each_listed (kids x) (λ c k. let h = (exact x l c).0 k in is_listed (suc (weight c)) c h.0.1 (omega arith))
+
+    pub whole_row : (x : ℕ) → x < n → whole x ≡ size x + sum_out whole (kids x)
+    unfolding whole heavy
+    whole_row x l =
+        let o = children_listed x l in
+        let one = heavy_all (λ c. weight x) (kids x) o.0 o.1 (λ c k. let h = (exact x l c).0 k in (h.0.1, lighter x c l h.0 h.1)) in
+        let two = heavy_all (λ c. suc (weight c)) (kids x) o.0 o.1 (λ c k. let h = (exact x l c).0 k in (h.0.1, omega arith)) in
+        omega arith
+
+    pub whole_past : (x : ℕ) → kids x ≡ [] → whole x ≡ size x
+    unfolding whole heavy
+    whole_past x none_here = let e = ap (sum_out (heavy (weight x))) none_here in omega arith
+
+    pub whole_low : ((x : ℕ) → x < n → Once (kids x)) → size 0 ≡ 0 → (x : ℕ) → x < n → whole x ≤ total size n
+    unfolding whole
+    whole_low once zero_size x l =
+        let o = children_listed x l in
+        let row = row_of n parent kids forest exact once x l in
+        let is : whole x ≡ size x + sum_out size o.0 = whole_row x l ∙ (let e = heavy_all (λ c. suc (weight c)) (kids x) o.0 o.1 (λ c k. let h = (exact x l c).0 k in (h.0.1, omega arith)) in ap (λ s. size x + s) e) in
+        let low = λ (y : ℕ) (m : Member y o.0). ((all_members n parent kids forest exact once x (kids x) o.0 o.1 l row y).0 m).0 in
+        let all = all_once n parent kids forest exact once x (kids x) o.0 o.1 l row in
+        elim (cases_eq x 0) [
+          | inl e ↦ (
+              let s = sum_stands size n o.0 all low in
+              let b = totals_below (λ v. bit (stands v o.0) (size v)) size n (λ v k. bit-le (stands v o.0) (size v)) in
+              let z = ap size e in
+              omega arith
+              )
+          | inr ne ↦ (
+              let whole_list = one_once n parent kids forest exact once x (o.0 ++ x ∷ []) (node {x = x} {o = o.0} o.1) (omega arith, l) in
+              let s = sum_stands size n (o.0 ++ x ∷ []) whole_list (λ y m. elim (member_parts y o.0 (x ∷ []) m) [ inl a ↦ low y a | inr b ↦ elim b [ inl q ↦ (let k = l in omega arith) | inr z ↦ absurd z ] ]) in
+              let b = totals_below (λ v. bit (stands v (o.0 ++ x ∷ [])) (size v)) size n (λ v k. bit-le (stands v (o.0 ++ x ∷ [])) (size v)) in
+              let parts = sum_append size o.0 (x ∷ []) in
+              omega arith
+              )
+        ]

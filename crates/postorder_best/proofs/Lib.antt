@@ -7,7 +7,6 @@ pub mod Steps
 pub mod Least
 pub mod Counting
 pub mod RowLemmas
-pub mod RowWrites
 pub mod PeakLemmas
 pub mod Emitting
 pub mod Listings

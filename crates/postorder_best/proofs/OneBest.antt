@@ -3,7 +3,7 @@ use Rattle.std.proofs.Common.{◌≡◌, ◌∙◌, ◌⊎◌, ◌↔◌, inl, i
 use Rattle.tree_input.specs.declared.node.Node.{Node}
 use Rattle.tree_input.specs.Tree.{IsTree, parent_of}
 use Rattle.postorder_best.specs.Postorder.{Member}
-use Rattle.postorder_best.specs.BestPostorder.{Child, out_at, need_at, row_peak, children_of, ComesBefore, ComesBeforeAll, IsBestRow, Listed, node, ListedAll, none, more, IsBestAt, IsBestPostorder}
+use Rattle.postorder_best.specs.BestPostorder.{Child, out_at, need_at, row_peak, subtrees_of, ComesBefore, ComesBeforeAll, IsBestRow, Listed, node, ListedAll, none, more, IsBestAt, IsBestPostorder}
 use Rattle.postorder_best.proofs.Forest.{IsNode}
 use Rattle.postorder_best.proofs.Exists.{weight, lighter}
 use Rattle.postorder_best.proofs.TreeLinks.{forest_of}
@@ -53,7 +53,7 @@ same_row p out (x ∷ xs) (y ∷ ys) bx by to from =
     (λ c m. elim (from c (inr m)) [ inl e ↦ absurd (oy.0 (subst (λ v. Member v ys) (e ∙ heads) m)) | inr r ↦ r ]) in
     ap₂ (λ v (vs : List ℕ). v ∷ vs) heads tails
 
-same_children : (p q out : ℕ → ℕ) (cs : List ℕ) → ((c : ℕ) → Member c cs → p c ≡ q c) → children_of p out cs ≡ children_of q out cs
+same_children : (p q out : ℕ → ℕ) (cs : List ℕ) → ((c : ℕ) → Member c cs → p c ≡ q c) → subtrees_of p out cs ≡ subtrees_of q out cs
 same_children p q out [] same = refl
 same_children p q out (c ∷ cs) same = ap₂ (λ v (xs : List Child). record { peak = v; out = out c } ∷ xs) (same c (inl refl)) (same_children p q out cs (λ d m. same d (inr m)))
 
@@ -98,7 +98,7 @@ module _ (nodes : List Node) (tree : IsTree nodes) (p q : ℕ → ℕ) (row othe
       let rows : row x ≡ other x = same_row q (out_at nodes) (row x) (other x) (row_along p q (out_at nodes) (row x) below a.in_order) b.in_order
       (λ c k. (b.children c).1 ((a.children c).0 k)) (λ c k. (a.children c).1 ((b.children c).0 k)) in (
         rows,
-        a.reaches ∙ ap (row_peak (need_at nodes x)) (same_children p q (out_at nodes) (row x) below ∙ ap (children_of q (out_at nodes)) rows) ∙ sym b.reaches,
+        a.reaches ∙ ap (row_peak (need_at nodes x)) (same_children p q (out_at nodes) (row x) below ∙ ap (subtrees_of q (out_at nodes)) rows) ∙ sym b.reaches,
       )
 
   same_rows : (x : ℕ) → x ≤ length nodes → row x ≡ other x

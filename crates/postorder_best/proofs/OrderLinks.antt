@@ -77,10 +77,10 @@ module _ (nodes : List Node) where
             omega arith;
       }
 
-  pub to_public : (order : List ℕ) → IsPostorder (length nodes + 1) (parent_of nodes) order → public.IsPostorder nodes order
+  pub to_public : (order : List ℕ) → IsPostorder (length nodes + 1) (parent_of nodes) order → public.IsTreePostorder nodes order
   to_public order p = record { traversal = to_system order p.traversal; together = λ x node. p.together x (inner x node) }
 
-  pub from_public : (order : List ℕ) → public.IsPostorder nodes order → IsPostorder (length nodes + 1) (parent_of nodes) order
+  pub from_public : (order : List ℕ) → public.IsTreePostorder nodes order → IsPostorder (length nodes + 1) (parent_of nodes) order
   from_public order p = record { traversal = from_system order p.traversal; together = λ x node. p.together x (outer x node) }
 
   pub member_node : (order : List ℕ) → IsTraversal (length nodes + 1) (parent_of nodes) order → (v : ℕ) → Member v order → tree.IsNode nodes v

@@ -1,9 +1,10 @@
 -- A tree of nodes as a forest by functions of numbers, and the memory of its system.
-use Rattle.std.proofs.Common.{◌≡◌, ◌≢◌, ◌∙◌, ◌⊎◌, inl, inr, sym, ap, ap₂, subst, ℕ, zero, suc, ◌+◌, ◌-◌, ◌^◌, ◌<◌, ◌≤◌, Bool, true, false, not, ◌&&◌, ◌||◌, eqb, eq-eqb, eqb-true, List, [], ◌∷◌, ◌++◌, length, get_or, arith, refl}
+use Rattle.std.proofs.Common.{◌≡◌, ◌≢◌, ◌∙◌, inl, inr, sym, ap, ap₂, subst, ℕ, zero, suc, ◌+◌, ◌-◌, ◌<◌, ◌≤◌, Bool, true, false, not, ◌&&◌, ◌||◌, eqb, eq-eqb, eqb-true, List, [], ◌∷◌, ◌++◌, length, get_or, arith, refl}
 use Rattle.std.specs.List.{sum_by, list_all}
-use Rattle.std.proofs.lemmas.Bool.{cases_eq, cases_lt, ne_eqb}
+use Rattle.std.proofs.lemmas.Bool.{cases_eq, ne_eqb}
 use Rattle.std.proofs.lemmas.List.{get_or_past}
 use Rattle.std.proofs.lemmas.List.Sums.{sum_by-cons}
+use Rattle.limits.specs.Limits.{most_total}
 use Rattle.mp_system.specs.declared.system.Item.{Item}
 use Rattle.mp_system.specs.System.{size_if, is_input, need_of}
 use Rattle.mp_system.specs.Memory.{is_present, is_produced, is_ready, stands_in, state_memory}
@@ -196,20 +197,31 @@ forest_of nodes t = record {
 
 -- ---- sizes
 
-outs_least : (nodes : List Node) → sum_by (λ (m : Node). m.out) nodes ≤ sum_by node_size nodes
-outs_least [] = omega arith
-outs_least (m ∷ ms) =
-    let a = sum_by-cons (λ (m : Node). m.out) m ms in
-    let b = sum_by-cons node_size m ms in
-    let r = outs_least ms in
-    omega arith
+-- the size of a node, its extra included; there is none above the roots
+abbrev pub size_at : List Node → ℕ → ℕ
+size_at nodes zero = 0
+size_at nodes (suc i) = node_size (node_at nodes (suc i))
 
-pub total_out : (nodes : List Node) → IsTree nodes → total (out_at nodes) (length nodes + 1) ≤ 2 ^ 60
-total_out nodes t =
-    let e = total_nodes (out_at nodes) (λ (m : Node). m.out) nodes refl (λ k i e lt. sym (out_is nodes k i e)) in
-    let a = outs_least nodes in
+size_is : (nodes : List Node) (k i : ℕ) → k ≡ i + 1 → size_at nodes k ≡ node_size (get_or nodes i no_node)
+size_is nodes zero i e = absurd (omega arith)
+size_is nodes (suc j) i e = ap node_size (node_is nodes (suc j) i e)
+
+pub total_size : (nodes : List Node) → IsTree nodes → total (size_at nodes) (length nodes + 1) ≤ most_total
+total_size nodes t =
+    let e = total_nodes (size_at nodes) node_size nodes refl (λ k i e lt. sym (size_is nodes k i e)) in
     let b = t.total in
     omega arith
+
+pub out-le-size : (nodes : List Node) (x : ℕ) → out_at nodes x ≤ size_at nodes x
+out-le-size nodes zero = omega arith
+out-le-size nodes (suc i) = omega arith
+
+pub need-le-size : (nodes : List Node) (x : ℕ) → need_at nodes x ≤ size_at nodes x
+need-le-size nodes zero = omega arith
+need-le-size nodes (suc i) = omega arith
+
+pub size-past : (nodes : List Node) (x : ℕ) → length nodes < x → size_at nodes x ≡ 0
+size-past nodes x past = size_is nodes x (x - 1) (omega arith) ∙ ap node_size (get_or_past nodes (x - 1) no_node (omega arith))
 
 pub total_children : (nodes : List Node) (x : ℕ) → children_out nodes x ≡ total (λ w. bit (eqb x (parent_of nodes w)) (out_at nodes w)) (length nodes + 1)
 total_children nodes x = total_nodes (λ w. bit (eqb x (parent_of nodes w)) (out_at nodes w)) (out_below x) nodes (zero_bit (eqb x 0) 0 refl)
@@ -220,18 +232,3 @@ total_children nodes x = total_nodes (λ w. bit (eqb x (parent_of nodes w)) (out
       | inl e ↦ rw (eq-eqb m.parent x e, eq-eqb x m.parent (sym e)) refl
       | inr ne ↦ rw (ne_eqb m.parent x ne, ne_eqb x m.parent (λ q. ne (sym q))) refl
     ]
-
-pub need_low : (nodes : List Node) → IsTree nodes → (v : ℕ) → need_at nodes v ≤ 2 ^ 41
-need_low nodes t v = elim (cases_eq v 0) [
-  | inl z ↦ (let e = ap (need_at nodes) z in omega arith)
-  | inr ne ↦ (
-      let e = need_is nodes v (v - 1) (omega arith) in
-      elim (inside (v - 1)) [ inl l ↦ (let w = t.each (v - 1) no_node l in let a = w.extra in let b = w.out in omega arith) | inr g ↦ (let p = past (v - 1) g in omega arith) ]
-      )
-]
-  where
-    inside : (i : ℕ) → (i < length nodes) ⊎ (length nodes ≤ i)
-    inside i = cases_lt i (length nodes)
-
-    past : (i : ℕ) → length nodes ≤ i → ((get_or nodes i no_node).extra ≡ 0) × ((get_or nodes i no_node).out ≡ 0)
-    past i g = let e = get_or_past nodes i no_node g in (ap (λ (m : Node). m.extra) e, ap (λ (m : Node). m.out) e)

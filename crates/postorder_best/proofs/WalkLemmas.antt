@@ -1,25 +1,17 @@
 -- Rows that are exact can be walked.
-use Rattle.std.proofs.Common.{◌≡◌, ◌↔◌, sym, subst, ℕ, ◌<◌, ◌≤◌, List, [], ◌∷◌, length, arith, refl}
+use Rattle.std.proofs.Common.{◌≡◌, ◌↔◌, ℕ, ◌<◌, ◌≤◌, List, [], ◌∷◌, length, arith, refl}
 use Rattle.std.proofs.lemmas.List.{length-append}
 use Rattle.postorder_best.specs.BestPostorder.{ListedAll}
 use Rattle.postorder_best.specs.Postorder.{Member}
-use Rattle.postorder_best.specs.Rows.{Once, Emits, children_below}
+use Rattle.postorder_best.specs.Rows.{Once, Emits}
 use Rattle.postorder_best.proofs.Forest.{IsNode, IsForest}
 use Rattle.postorder_best.proofs.Listings.{all_members, all_once, row_of}
 use Rattle.postorder_best.proofs.Exists.{has_listing, few_once}
 use Rattle.postorder_best.proofs.Emitting.{back, emits_listing}
-use Rattle.postorder_best.proofs.ChildLists.{members_below}
 
 back_length : (xs : List ℕ) → length (back xs) ≡ length xs
 back_length [] = refl
 back_length (x ∷ xs) = let r = back_length xs in let a = length-append (back xs) (x ∷ []) in omega arith
-
-pub exact_rows : (n : ℕ) (parent : ℕ → ℕ) (kids : ℕ → List ℕ) → ((y : ℕ) → kids y ≡ children_below parent y n) → (x c : ℕ) → Member c (kids x) ↔ (IsNode n c × (parent c ≡ x))
-exact_rows n parent kids rows x c =
-    let b = members_below parent x n c in (
-      (λ m. let h = b.0 (subst (λ (xs : List ℕ). Member c xs) (rows x) m) in ((h.0, h.1), h.2)),
-      (λ h. subst (λ (xs : List ℕ). Member c xs) (sym (rows x)) (b.1 (h.0.0, h.0.1, h.1))),
-    )
 
 pub walk_ready : (n : ℕ) (parent : ℕ → ℕ) (kids : ℕ → List ℕ) (forest : IsForest n parent) → ((x : ℕ) → x < n → (c : ℕ) → Member c (kids x) ↔ (IsNode n c × (parent c ≡ x)))
     → ((x : ℕ) → x < n → Once (kids x)) → (o : List ℕ) × ListedAll kids (kids 0) o × Emits n kids (kids 0) (back o) × (length (back o) ≤ n)

@@ -25,8 +25,9 @@ abbrev pub row_peak : ℕ → List Child → ℕ
 row_peak need [] = need
 row_peak need (c ∷ cs) = max (c.peak) (c.out + row_peak need cs)
 
-abbrev pub children_of : (ℕ → ℕ) → (ℕ → ℕ) → List ℕ → List Child
-children_of peak out = map (λ c. record { peak = peak c; out = out c })
+-- the subtrees of these children
+abbrev pub subtrees_of : (ℕ → ℕ) → (ℕ → ℕ) → List ℕ → List Child
+subtrees_of peak out = map (λ c. record { peak = peak c; out = out c })
 
 -- a comes before b: its peak minus its out is greater, or as great and its number is lower
 abbrev pub ComesBefore : (ℕ → ℕ) → (ℕ → ℕ) → ℕ → ℕ → Type 0
@@ -47,7 +48,7 @@ IsBestRow peak out (a ∷ cs) = ComesBeforeAll peak out a cs × IsBestRow peak o
 pub record IsBestAt (nodes : List Node) (peak : ℕ → ℕ) (row : ℕ → List ℕ) (x : ℕ) : Type 0 where
   pub children : (c : ℕ) → Member c (row x) ↔ (IsNode nodes c × (parent_of nodes c ≡ x))
   pub in_order : IsBestRow peak (out_at nodes) (row x)
-  pub reaches : peak x ≡ row_peak (need_at nodes x) (children_of peak (out_at nodes) (row x))
+  pub reaches : peak x ≡ row_peak (need_at nodes x) (subtrees_of peak (out_at nodes) (row x))
 
 -- what rows of children list: the subtree of each in turn, and after its children a node
 mutual

@@ -24,6 +24,6 @@ pub record StandsTogether (parent : ℕ → ℕ) (order : List ℕ) (x : ℕ) : 
   pub exact : (y : ℕ) → Member y block ↔ (Member y order × IsUnder parent y x)
 
 -- a postorder of the tree
-pub record IsPostorder (nodes : List Node) (order : List ℕ) : Type 0 where
+pub record IsTreePostorder (nodes : List Node) (order : List ℕ) : Type 0 where
   pub traversal : IsTraversal (system_of_nodes nodes) order
   pub together : (x : ℕ) → IsNode nodes x → StandsTogether (parent_of nodes) order x

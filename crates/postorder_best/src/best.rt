@@ -1,19 +1,19 @@
 ghost use Rattle.std.specs.Prelude.{◌≡◌, ◌≤◌, ℕ, List, IfOk, OnOk};
 ghost use Rattle.mp_system.specs.Memory.{peak_of};
 ghost use Rattle.tree_input.specs.Tree.{IsTree, system_of_nodes};
-ghost use Rattle.postorder_best.specs.Postorder.{IsPostorder};
+ghost use Rattle.postorder_best.specs.Postorder.{IsTreePostorder};
 ghost use Rattle.postorder_best.specs.BestPostorder.{IsBestPostorder, ListedAll};
-ghost use Rattle.postorder_best.specs.Rows.{AreRows, IsBest, row_at};
+ghost use Rattle.row_table.specs.Rows.{row_at};
+ghost use Rattle.postorder_best.specs.Rows.{AreRows, IsBest};
 
+use crate::NoMemory;
 use crate::children::children_rows;
 use crate::peaks::fill_peaks;
 use crate::tables::{needs_table, outs_table};
 use crate::walking::listing;
-use std::alloc::{AllocError, Global};
+use row_table::RowTable;
+use std::alloc::Global;
 use tree_input::{Node, Tree, laws};
-
-/// No memory was found for what a call had to keep.
-pub type NoMemory = AllocError;
 
 /// A postorder of a tree: the numbers of its nodes, from 1, and the peak of their replay.
 #[derive(Drop)]
@@ -24,7 +24,7 @@ pub struct Post {
 
 // Puts each row of children in the best order, and gives the peak of the whole. A row is sorted once those of its children are: their
 // peaks are known then.
-fn sort_rows(alloc: Global, nodes: &[Node], rows: &mut [Vec<u32>]) -> Result<u64, NoMemory>
+fn sort_rows(alloc: Global, nodes: &[Node], rows: &mut RowTable) -> Result<u64, NoMemory>
     requires tree { IsTree nodes.now }
     requires rows { AreRows nodes.now rows.old }
     ensures rows { OnOk result (AreRows nodes.now rows.new) }
@@ -36,9 +36,9 @@ fn sort_rows(alloc: Global, nodes: &[Node], rows: &mut [Vec<u32>]) -> Result<u64
     let needs = needs_table(alloc, nodes)?;
     let mut upward = listing(alloc, rows)?;
     upward.push(0)?;
-    let mut peaks: Vec<u128> = vec![in alloc; 0; rows.len()]?;
-    fill_peaks(rows, &upward, &mut peaks, &outs, &needs);
-    Ok(peaks[0] as u64)
+    let mut peaks: Vec<u64> = vec![in alloc; 0; rows.len()]?;
+    fill_peaks(alloc, rows, &upward, &mut peaks, &outs, &needs)?;
+    Ok(peaks[0])
 }
 
 /// The best postorder of a tree: children and roots by falling subtree peak minus subtree out, a tie to the lower number. Liu 1986.
@@ -47,11 +47,11 @@ pub fn best_postorder(alloc: Global, tree: &Tree) -> Result<Post, NoMemory>
     // the order is the best postorder of the definition
     ensures best { IfOk result (λ post. IsBestPostorder tree.now post.order.items) }
     // it is a traversal of the tree's system in which the tasks of every subtree stand together
-    ensures postorder { IfOk result (λ post. IsPostorder tree.now post.order.items) }
+    ensures postorder { IfOk result (λ post. IsTreePostorder tree.now post.order.items) }
     // its peak is that of its replay
     ensures peak { IfOk result (λ post. post.peak ≡ peak_of (system_of_nodes tree.now) post.order.items) }
     // no postorder has a lower one
-    ensures least { IfOk result (λ post. (other : List ℕ) → IsPostorder tree.now other →
+    ensures least { IfOk result (λ post. (other : List ℕ) → IsTreePostorder tree.now other →
         post.peak ≤ peak_of (system_of_nodes tree.now) other) }
 {
     let nodes = tree.nodes();

@@ -1,55 +1,26 @@
-ghost use Rattle.std.specs.Prelude.{◌≡◌, ◌≢◌, ◌≤◌, ◌<◌, ◌+◌, ◌++◌, ◌∷◌, [], ℕ, length, slice_index_or, IfOk, OnOk};
-ghost use Rattle.tree_input.specs.declared.node.Node.{Node};
-ghost use Rattle.tree_input.specs.Tree.{parent_of};
-ghost use Rattle.postorder_best.specs.Rows.{row_at, children_below};
+ghost use Rattle.std.specs.Prelude.{◌≡◌, map, IfOk};
+ghost use Rattle.tree_input.specs.Tree.{IsTree};
+ghost use Rattle.postorder_best.specs.Rows.{AreRows, parent_in};
 
-use std::alloc::{AllocError, Global};
+use crate::NoMemory;
+use row_table::RowTable;
+use row_table::laws::numbers_law;
+use std::alloc::Global;
 use tree_input::Node;
 
-fn empty_rows(alloc: Global, count: usize) -> Result<Vec<Vec<u32>>, AllocError>
-    ensures len { IfOk result (λ rows. length rows.items ≡ count) }
-    ensures empty { IfOk result (λ rows. (y : ℕ) → row_at rows.items y ≡ []) }
+// The parent of each node.
+fn parents(alloc: Global, nodes: &[Node]) -> Result<Vec<u32>, NoMemory>
+    ensures { IfOk result (λ parents. parents.items ≡ map parent_in nodes.now) }
 {
-    let mut rows = Vec::with_capacity(alloc, count)?;
-    for _ in 0..count {
-        rows.push(Vec::new(alloc))?;
-    }
-    Ok(rows)
-}
-
-// Puts a node at the end of a row.
-fn push_at(rows: &mut [Vec<u32>], row: usize, node: u32) -> Result<(), AllocError>
-    requires { row < length rows.old }
-    ensures pushed { OnOk result (row_at rows.new row ≡ row_at rows.old row ++ node ∷ []) }
-    ensures others { (y : ℕ) → y ≢ row → row_at rows.new y ≡ row_at rows.old y }
-{
-    rows[row].push(node)?;
-    Ok(())
-}
-
-// Puts each node at the end of its parent's row.
-fn fill_rows(rows: &mut [Vec<u32>], nodes: &[Node]) -> Result<(), AllocError>
-    requires len { length rows.old ≡ length nodes.now + 1 }
-    requires few { length nodes.now ≤ 1000000 }
-    requires parents { (i : ℕ) (d : Node) → i < length nodes.now → (slice_index_or nodes.now i d).parent ≤ length nodes.now }
-    requires empty { (y : ℕ) → row_at rows.old y ≡ [] }
-    ensures { OnOk result ((y : ℕ) → row_at rows.new y ≡ children_below (parent_of nodes.now) y (length nodes.now + 1)) }
-{
-    for i in 0..nodes.len() {
-        push_at(rows, nodes[i].parent as usize, i as u32 + 1)?;
-    }
-    Ok(())
+    nodes.iter().map(|node| node.parent).collect(alloc)
 }
 
 /// The children of each node in rising number; row 0 has the roots.
-pub fn children_rows(alloc: Global, nodes: &[Node]) -> Result<Vec<Vec<u32>>, AllocError>
-    requires few { length nodes.now ≤ 1000000 }
-    requires parents { (i : ℕ) (d : Node) → i < length nodes.now → (slice_index_or nodes.now i d).parent ≤ length nodes.now }
-    ensures len { IfOk result (λ rows. length rows.items ≡ length nodes.now + 1) }
-    ensures rows { IfOk result (λ rows. (y : ℕ) →
-        row_at rows.items y ≡ children_below (parent_of nodes.now) y (length nodes.now + 1)) }
+pub fn children_rows(alloc: Global, nodes: &[Node]) -> Result<RowTable, NoMemory>
+    requires { IsTree nodes.now }
+    ensures { IfOk result (λ rows. AreRows nodes.now rows) }
 {
-    let mut rows = empty_rows(alloc, nodes.len() + 1)?;
-    fill_rows(&mut rows, nodes)?;
-    Ok(rows)
+    numbers_law();
+    let parents = parents(alloc, nodes)?;
+    RowTable::group(alloc, &parents, nodes.len() as u32 + 1, 1)
 }

@@ -4,7 +4,7 @@ ghost use Rattle.std.specs.Prelude.{◌≡◌, ◌≤◌, ℕ, List, length};
 ghost use Rattle.mp_system.specs.Memory.{peak_of};
 ghost use Rattle.tree_input.specs.declared.node.Node.{Node};
 ghost use Rattle.tree_input.specs.Tree.{IsNode, IsTree, system_of_nodes};
-ghost use Rattle.postorder_best.specs.Postorder.{IsPostorder};
+ghost use Rattle.postorder_best.specs.Postorder.{IsTreePostorder};
 ghost use Rattle.postorder_best.specs.BestPostorder.{IsBestAt, IsBestPostorder, Listed};
 
 use tree_input::laws as tree_laws;
@@ -25,8 +25,8 @@ pub fn subtree_alone()
 
 /// The best postorder of a tree is one of its postorders, and none has a lower peak. Liu 1986.
 pub fn best_is_least()
-    ensures postorder { (nodes : List Node) (order : List ℕ) → IsTree nodes → IsBestPostorder nodes order → IsPostorder nodes order }
-    ensures least { (nodes : List Node) (order other : List ℕ) → IsTree nodes → IsBestPostorder nodes order → IsPostorder nodes other →
+    ensures postorder { (nodes : List Node) (order : List ℕ) → IsTree nodes → IsBestPostorder nodes order → IsTreePostorder nodes order }
+    ensures least { (nodes : List Node) (order other : List ℕ) → IsTree nodes → IsBestPostorder nodes order → IsTreePostorder nodes other →
         peak_of (system_of_nodes nodes) order ≤ peak_of (system_of_nodes nodes) other }
 {
     tree_laws::tree_system();

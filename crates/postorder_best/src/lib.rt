@@ -6,9 +6,14 @@ mod best;
 mod children;
 pub mod laws;
 mod peaks;
+mod sorting;
 mod tables;
 #[cfg(test)]
 mod tests;
 mod walking;
 
-pub use best::{NoMemory, Post, best_postorder};
+pub use best::{Post, best_postorder};
+use std::alloc::AllocError;
+
+/// Want of memory: an allocation was refused.
+pub type NoMemory = AllocError;

@@ -2,11 +2,12 @@ ghost use Rattle.std.specs.Prelude.{◌≡◌, ◌+◌, ℕ, length, slice_index
 ghost use Rattle.tree_input.specs.Tree.{IsTree};
 ghost use Rattle.postorder_best.specs.BestPostorder.{out_at, need_at};
 
-use std::alloc::{AllocError, Global};
+use crate::NoMemory;
+use std::alloc::Global;
 use tree_input::Node;
 
 /// What each node leaves; place 0, above the roots, has 0.
-pub fn outs_table(alloc: Global, nodes: &[Node]) -> Result<Vec<u64>, AllocError>
+pub fn outs_table(alloc: Global, nodes: &[Node]) -> Result<Vec<u64>, NoMemory>
     ensures len { IfOk result (λ outs. length outs.items ≡ length nodes.now + 1) }
     ensures values { IfOk result (λ outs. (x : ℕ) → slice_index outs.items x ≡ out_at nodes.now x) }
 {
@@ -19,7 +20,7 @@ pub fn outs_table(alloc: Global, nodes: &[Node]) -> Result<Vec<u64>, AllocError>
 }
 
 /// What each node needs while it runs, beside the blocks of its children; place 0, above the roots, has 0.
-pub fn needs_table(alloc: Global, nodes: &[Node]) -> Result<Vec<u64>, AllocError>
+pub fn needs_table(alloc: Global, nodes: &[Node]) -> Result<Vec<u64>, NoMemory>
     requires { IsTree nodes.now }
     ensures len { IfOk result (λ needs. length needs.items ≡ length nodes.now + 1) }
     ensures values { IfOk result (λ needs. (x : ℕ) → slice_index needs.items x ≡ need_at nodes.now x) }

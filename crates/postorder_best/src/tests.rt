@@ -1,4 +1,4 @@
-use crate::{Post, best_postorder, laws};
+use crate::{Post, best_postorder};
 use mp_system::replay;
 use std::alloc::Global;
 use std::test::Fail;
@@ -72,9 +72,6 @@ const ORDERS_AND_PEAKS: [(&str, &[u8], &[u32], u64); 10] = [
 
 #[test]
 fn orders_and_peaks(rt: HostRuntime) -> Result<(), Fail> {
-    laws::one_best_postorder();
-    laws::subtree_alone();
-    laws::best_is_least();
     for (name, text, order, peak) in ORDERS_AND_PEAKS {
         let (post, replayed) = post(rt.alloc(), text)?;
         assert_eq!(rt; post.order.as_slice(), order, "{name}");

@@ -22,26 +22,13 @@ fill_peaks-requires-clause-moderate c =
     (λ x. ap (λ (xs : List ℕ). get_or xs x 0) c.deref-2.ensures.value ∙ c.in_ok-outs.ensures.values x)
     (λ x. ap (λ (xs : List ℕ). get_or xs x 0) c.deref-3.ensures.value ∙ c.in_ok-needs.ensures.values x)
 
-pub overflow_cast-result : goal.overflow_cast-result
-overflow_cast-result c =
-    let sorted = after_sort c.args.nodes.now c.args.rows.now c.fill_peaks.new.rows c.in_ok-upward.upward.items c.deref.result.now c.deref-2.result.now c.deref-3.result.now c.fill_peaks.new.peaks
-    c.requires.tree (c.tree_system.ensures.need c.args.nodes.now) c.requires.rows c.in_ok-upward.ensures (c.deref.ensures.value ∙ c.in_ok-push.ensures.items)
-    (λ x. ap (λ (xs : List ℕ). get_or xs x 0) c.deref-2.ensures.value ∙ c.in_ok-outs.ensures.values x)
-    (λ x. ap (λ (xs : List ℕ). get_or xs x 0) c.deref-3.ensures.value ∙ c.in_ok-needs.ensures.values x)
-    c.fill_peaks.auto.rows c.fill_peaks.ensures.members c.fill_peaks.ensures.done in
-    let low = sorted.low in
-    let long : length c.fill_peaks.new.peaks ≡ c.in_ok-peaks.peaks.len = c.fill_peaks.auto.peaks ∙ c.deref_mut.ensures.len in
-    let some : 0 < length c.fill_peaks.new.peaks = omega (arith, c.in_ok-peaks.ensures.len, c.requires.rows.len) in
-    let is = first_of_table c.in_ok-peaks.peaks c.fill_peaks.new.peaks _ c.index.result.now long some c.index.ensures in
-    record { fits = omega arith }
-
 pub returns : goal.returns
 returns c =
     let sorted = after_sort c.args.nodes.now c.args.rows.now c.fill_peaks.new.rows c.in_ok-upward.upward.items c.deref.result.now c.deref-2.result.now c.deref-3.result.now c.fill_peaks.new.peaks
     c.requires.tree (c.tree_system.ensures.need c.args.nodes.now) c.requires.rows c.in_ok-upward.ensures (c.deref.ensures.value ∙ c.in_ok-push.ensures.items)
     (λ x. ap (λ (xs : List ℕ). get_or xs x 0) c.deref-2.ensures.value ∙ c.in_ok-outs.ensures.values x)
     (λ x. ap (λ (xs : List ℕ). get_or xs x 0) c.deref-3.ensures.value ∙ c.in_ok-needs.ensures.values x)
-    c.fill_peaks.auto.rows c.fill_peaks.ensures.members c.fill_peaks.ensures.done in
+    c.in_ok-fill_peaks.ensures.len c.in_ok-fill_peaks.ensures.members c.in_ok-fill_peaks.ensures.done in
     let long : length c.fill_peaks.new.peaks ≡ c.in_ok-peaks.peaks.len = c.fill_peaks.auto.peaks ∙ c.deref_mut.ensures.len in
     let some : 0 < length c.fill_peaks.new.peaks = omega (arith, c.in_ok-peaks.ensures.len, c.requires.rows.len) in
     let is = first_of_table c.in_ok-peaks.peaks c.fill_peaks.new.peaks _ c.index.result.now long some c.index.ensures in

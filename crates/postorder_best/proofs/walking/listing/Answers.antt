@@ -1,6 +1,6 @@
 use Rattle.std.proofs.Common.{◌≡◌, ◌∙◌, arith, sym, subst, ap, ℕ, List, reverse}
 use Rattle.std.proofs.lemmas.List.{length-reverse, reverse-reverse}
-use Rattle.postorder_best.specs.Rows.{row_at}
+use Rattle.row_table.specs.Rows.{row_at}
 use Rattle.postorder_best.specs.BestPostorder.{ListedAll}
 use Rattle.postorder_best.proofs.walking.listing.Goals as goal
 

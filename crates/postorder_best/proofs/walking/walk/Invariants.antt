@@ -1,5 +1,6 @@
 use Rattle.std.proofs.Common.{◌≡◌, ◌-◌, ◌^◌, ◌++◌, ℕ, List, length}
-use Rattle.postorder_best.specs.Rows.{row_at, Emits}
+use Rattle.row_table.specs.Rows.{row_at}
+use Rattle.postorder_best.specs.Rows.{Emits}
 use Rattle.postorder_best.proofs.walking.walk.Given as goal
 
 abbrev pub invariant-loop-x : goal.invariant-loop-x
