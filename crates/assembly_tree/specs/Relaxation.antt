@@ -16,6 +16,7 @@ enlarged goes width supers k s = record (super_at supers s) {
 abbrev pub number_among : (ℕ → Bool) → ℕ → ℕ
 number_among goes s = count_by (λ t. not (goes t)) (range_with_len 1 s)
 
+-- what merging supernodes of old into their parents yields
 pub record IsRelaxed (zeros : ℕ) (old new : AssemblyTree) : Type 0 where
   -- whether a supernode goes into its parent, and how many columns it has by then
   pub goes : ℕ → Bool
@@ -33,6 +34,7 @@ pub record IsRelaxed (zeros : ℕ) (old new : AssemblyTree) : Type 0 where
   -- those that stay are numbered in their old order
   pub supers :
       let n = length old.supers in
-      let kept = λ (s : ℕ). record (enlarged goes width old.supers n s) { parent = number_among goes (home ((super_at old.supers s).parent)) } in
+      let parent = λ (s : ℕ). number_among goes (home ((super_at old.supers s).parent)) in
+      let kept = λ (s : ℕ). record (enlarged goes width old.supers n s) { parent = parent s } in
       new.supers ≡ map kept (filter (λ s. not (goes s)) (range_with_len 1 n))
   pub nodes : new.nodes ≡ map (λ s. number_among goes (home s)) old.nodes

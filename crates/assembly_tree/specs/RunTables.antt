@@ -11,7 +11,8 @@ use Rattle.assembly_tree.specs.Supernodes.{count_at, Continues, first_of, last_o
 -- of the columns above `done`, the least child of each column; 0 where it has none. Column 0 has a place too
 pub record AreFirstChildren (parents children : List ℕ) (done : ℕ) : Type 0 where
   pub len : length children ≡ length parents + 1
-  pub least : (c : ℕ) → IsVertex (length parents) c → done < c → let first = slice_index children (parent_at parents c) in (1 ≤ first) × (first ≤ c)
+  pub least : (c : ℕ) → IsVertex (length parents) c → done < c → let first = slice_index children (parent_at parents c) in
+      (1 ≤ first) × (first ≤ c)
   pub child : (p : ℕ) → 0 < p → p ≤ length parents → let first = slice_index children p in
       0 < first → IsVertex (length parents) first × (parent_at parents first ≡ p)
 

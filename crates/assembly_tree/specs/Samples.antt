@@ -1,6 +1,6 @@
 -- No public clause names this.
 -- Worked examples: the arrow, whose vertex 1 is joined to 2, 3 and 4, in two orders, and the grid of 2 by 2.
-use Rattle.std.specs.Prelude.{◌≡◌, ℕ, true, false, [], ◌∷◌, refl, map}
+use Rattle.std.specs.Prelude.{◌≡◌, ℕ, true, false, nat_lt, [], ◌∷◌, refl, map}
 use Rattle.std.specs.List.{range_with_len}
 use Rattle.tree_input.specs.declared.node.Node.{Node}
 use Rattle.assembly_tree.specs.declared.assembly.Super.{Super}
@@ -9,6 +9,7 @@ use Rattle.assembly_tree.specs.Assembly.{AssemblyTree}
 use Rattle.assembly_tree.specs.Supernodes.{first_of, last_of}
 use Rattle.assembly_tree.specs.Amalgamation.{amalgamated}
 use Rattle.assembly_tree.specs.Fronts.{fronts_of}
+use Rattle.assembly_tree.specs.Relaxation.{enlarged, number_among}
 
 abbrev pub supernode : ℕ → ℕ → ℕ → Super
 supernode columns rest parent = record { columns = columns; rest = rest; parent = parent }
@@ -58,3 +59,12 @@ grid_fronts = refl
 pub chain_amalgamated : amalgamated 2 (record { supers = supernode 1 1 2 ∷ supernode 1 1 3 ∷ supernode 1 0 0 ∷ []; nodes = 1 ∷ 2 ∷ 3 ∷ [] })
     ≡ record { supers = supernode 3 0 0 ∷ []; nodes = 1 ∷ 1 ∷ 1 ∷ [] }
 chain_amalgamated = refl
+
+-- told without the visits: the first two go, the second with two columns
+pub chain_enlarged :
+    map (enlarged (λ s. nat_lt s 3) (λ s. s) (supernode 1 1 2 ∷ supernode 1 1 3 ∷ supernode 1 0 0 ∷ []) 3) (range_with_len 1 3)
+    ≡ supernode 1 1 2 ∷ supernode 2 1 3 ∷ supernode 3 0 0 ∷ []
+chain_enlarged = refl
+
+pub chain_number : number_among (λ s. nat_lt s 3) 3 ≡ 1
+chain_number = refl
