@@ -2,12 +2,12 @@
 -- shortest way up are distinct.
 use Rattle.std.proofs.Common.{◌≡◌, ◌≢◌, ℕ, zero, suc, ◌+◌, ◌-◌, ◌<◌, ◌≤◌, ◌⊎◌, inl, inr, Bool, true, false, eqb, List, [], ◌∷◌, length, get_or, refl, sym, ap, subst, ◌∙◌, arith}
 use Rattle.std.specs.List.{All, IsDistinct, list_any}
-use Rattle.std.proofs.lemmas.Bool.{cases_eq, cases_Bool, ne_eqb, eqb-true}
+use Rattle.std.proofs.lemmas.Bool.{cases_eq, ne_eqb, eqb-true}
 use Rattle.std.proofs.lemmas.Map.Keys.{IsDistinct-from_apart}
 use Rattle.std.proofs.lemmas.Map.Steps.{length-le_from_distinct_below}
 use Rattle.tree_input.specs.declared.node.Node.{Node}
 use Rattle.tree_input.specs.Tree.{IsNode, parent_of, ancestor, LeadsToRoot}
-use Rattle.tree_input.proofs.AscentLemmas.{ancestor-one, ancestor-none, ancestor-add, ancestor-zero, no_root, leads_to_root}
+use Rattle.tree_input.proofs.AscentLemmas.{ancestor-one, ancestor-none, ancestor-add, no_root, leads_to_root}
 
 module _ (nodes : List Node) (parents : All (λ node. node.parent ≤ length nodes) nodes) where
   -- the first nodes on the way up

@@ -16,8 +16,6 @@ mod stage;
 mod system;
 mod term;
 #[cfg(test)]
-mod term_tests;
-#[cfg(test)]
 mod tests;
 mod tree;
 

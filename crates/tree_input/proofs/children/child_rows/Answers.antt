@@ -1,7 +1,7 @@
-use Rattle.std.proofs.Common.{◌∙◌, ap, ◌+◌, ◌<◌, ◌≤◌, List, ℕ, length, arith, map}
+use Rattle.std.proofs.Common.{◌∙◌, ap, ◌+◌, ◌<◌, List, ℕ, length, arith, map}
 use Rattle.std.proofs.lemmas.List.Elements.{All-same}
 use Rattle.row_table.specs.Rows.{numbers_with}
-use Rattle.tree_input.specs.Children.{AreChildren, parent_in}
+use Rattle.tree_input.specs.Children.{parent_in}
 use Rattle.tree_input.proofs.ChildLemmas.{parents_within, rows-children}
 use Rattle.tree_input.proofs.children.child_rows.Goals as goal
 
