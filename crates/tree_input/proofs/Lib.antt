@@ -1,4 +1,5 @@
 pub mod AscentLemmas
+pub mod RootLemmas
 pub mod ShareLemmas
 pub mod FormLemmas
 pub mod StatedLemmas
@@ -11,6 +12,6 @@ pub mod ForestLemmas
 pub mod RangeLemmas
 pub mod TermLemmas
 pub mod LimitLemmas
-pub mod ChainLemmas
+pub mod ChildLemmas
 pub mod OrderLemmas
 pub mod PositionLemmas

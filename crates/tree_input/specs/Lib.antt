@@ -4,8 +4,9 @@ pub mod TreeTerm
 pub mod TreeFile
 pub mod TreeText
 pub mod Ascent
-pub mod Chains
+pub mod Children
 pub mod Stated
 pub mod Reader
 pub mod ReaderLaws
 pub mod Samples
+pub mod Kinds

@@ -1,6 +1,6 @@
 //! Laws of trees and tree files: what holds of each, without a call.
 
-ghost use Rattle.std.specs.Prelude.{◌≡◌, ◌⊎◌, ◌+◌, ◌-◌, ℕ, List, length, IsPermutation};
+ghost use Rattle.std.specs.Prelude.{◌≡◌, ◌⊎◌, ◌+◌, ◌-◌, ◌≤◌, ℕ, All, List, length, IsPermutation};
 ghost use Rattle.std.specs.List.{range_with_len};
 ghost use Rattle.mp_text.specs.declared.refusals.Refusal.{Refusal};
 ghost use Rattle.mp_system.specs.System.{IsSystem, inputs_of, outputs_of, need_of};
@@ -9,7 +9,7 @@ ghost use Rattle.sp_terms.specs.SystemOfTerm.{system_of_term};
 ghost use Rattle.sp_terms.specs.Values.{IsTerms, term_of};
 ghost use Rattle.tree_input.specs.declared.node.Node.{Node};
 ghost use Rattle.tree_input.specs.declared.node.TreeKind.{TreeKind};
-ghost use Rattle.tree_input.specs.Tree.{IsNode, IsTree, node_at, children_out, system_of_nodes};
+ghost use Rattle.tree_input.specs.Tree.{IsNode, IsTree, LeadsToRoot, ancestor, node_at, children_out, system_of_nodes};
 ghost use Rattle.tree_input.specs.Forest.{Forest, IsForestOf, all_numbers};
 ghost use Rattle.tree_input.specs.TreeTerm.{forest_positions};
 ghost use Rattle.tree_input.specs.TreeFile.{ReadsTree, RefusesTree};
@@ -44,6 +44,13 @@ pub fn printed_tree()
 /// What a file is read as is a tree within the limits.
 pub fn read_is_tree()
     ensures { (bytes : List ℕ) (nodes : List Node) → ReadsTree bytes nodes → IsTree nodes }
+{}
+
+/// Where each parent is a node or 0, a node leads to a root exactly where some number of steps leads above a root.
+pub fn root_law()
+    ensures some { (nodes : List Node) (v : ℕ) → LeadsToRoot nodes v → (k : ℕ) × (ancestor nodes k v ≡ 0) }
+    ensures steps { (nodes : List Node) (v k : ℕ) → All (λ node. node.parent ≤ length nodes) nodes → IsNode nodes v →
+        ancestor nodes k v ≡ 0 → LeadsToRoot nodes v }
 {}
 
 /// The system of a tree is within the limits of systems. A task consumes what its children leave, produces the out of its node, and

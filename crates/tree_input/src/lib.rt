@@ -1,7 +1,7 @@
 //! Trees of nodes, tree files of versions 1 and 2, the system and the term of a tree.
 #![tactic(auto)]
 
-mod chains;
+mod children;
 mod fields;
 pub mod laws;
 mod lines;
@@ -15,8 +15,6 @@ mod shares;
 mod stage;
 mod system;
 mod term;
-#[cfg(test)]
-mod term_tests;
 #[cfg(test)]
 mod tests;
 mod tree;

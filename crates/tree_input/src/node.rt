@@ -1,3 +1,8 @@
+ghost use Rattle.std.specs.Prelude.{◌≡◌};
+ghost use Rattle.tree_input.specs.Kinds.{word_of};
+
+use std::fmt::{self, Display, Formatter, Write};
+
 /// A node of a tree: a front and its contribution block.
 ///
 /// Sizes are in the unit that the file's author chose, at most 2^40 each.
@@ -19,7 +24,7 @@ pub struct Node {
 #[derive(Clone, Copy, Debug, PartialEq, Eq)]
 pub enum TreeKind {
     /// Line 1 is not `tree 1` or `tree 2`, or line 2 not `nodes` and one word.
-    Header,
+    Header = 1,
     /// A word is no number, there are too few or too many of them, or a time is 0.
     Number,
     /// A parent is greater than the number of nodes.
@@ -32,4 +37,27 @@ pub enum TreeKind {
     NoEnd,
     /// A share is greater than the blocks of the children, or than the node's extra and block.
     Share,
+}
+
+impl TreeKind {
+    /// The word for it in reports.
+    pub fn word(self) -> &'static str
+        ensures { result.now ≡ word_of self }
+    {
+        match self {
+            TreeKind::Header => "header",
+            TreeKind::Number => "number",
+            TreeKind::Parent => "parent",
+            TreeKind::Cycle => "cycle",
+            TreeKind::Count => "count",
+            TreeKind::NoEnd => "no-end",
+            TreeKind::Share => "share",
+        }
+    }
+}
+
+impl Display for TreeKind {
+    fn fmt<W: Write>(&self, f: &mut Formatter<W>) -> fmt::Result {
+        f.write_str(self.word())
+    }
 }

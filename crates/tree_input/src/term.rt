@@ -1,21 +1,23 @@
 //! The term of a tree.
 
-ghost use Rattle.std.specs.Prelude.{◌≡◌, ◌≤◌, ◌<◌, ◌++◌, ℕ, List, IfOk, OnOk, length, slice_index_or};
+ghost use Rattle.std.specs.Prelude.{◌≡◌, ◌≤◌, ◌<◌, ◌++◌, ◌^◌, IfOk, OnOk, length};
 ghost use Rattle.std.specs.List.{All};
+ghost use Rattle.limits.specs.Limits.{most_tasks};
 ghost use Rattle.mp_system.specs.Renaming.{IsRenamed};
 ghost use Rattle.sp_terms.specs.SystemOfTerm.{system_of_term};
 ghost use Rattle.sp_terms.specs.Values.{term_of};
 ghost use Rattle.tree_input.specs.Tree.{IsNode, system_of_nodes};
-ghost use Rattle.tree_input.specs.Forest.{Forest, IsForestOf, all_numbers};
+ghost use Rattle.tree_input.specs.Forest.{Forest, IsForestOf, all_numbers, children_of};
 ghost use Rattle.tree_input.specs.TreeTerm.{forest_positions, beside_positions};
-ghost use Rattle.tree_input.specs.Chains.{positions_of};
+ghost use Rattle.tree_input.specs.Children.{AreChildren, positions_of};
 
-use crate::chains::Chains;
+use crate::children::child_rows;
 use crate::names::Names;
 use crate::node::Node;
 use crate::postorder::postorder;
 use crate::tree::Tree;
 use crate::{NoMemory, laws};
+use row_table::RowTable;
 use sp_terms::{Position, Terms};
 use std::alloc::Global;
 
@@ -28,33 +30,35 @@ pub struct Named {
 }
 
 // Sets so many terms side by side.
-fn push_beside(found: &mut Vec<Position>, count: u32) -> Result<(), NoMemory>
+fn push_beside(found: &mut Vec<Position>, count: usize) -> Result<(), NoMemory>
+    requires { count < 2 ^ 32 }
     ensures { OnOk result (found.new.items ≡ found.old.items ++ beside_positions count) }
 {
     if count == 0 {
         found.push(Position::Hold(0))?;
     } else if count > 1 {
-        found.push(Position::Par(count))?;
+        found.push(Position::Par(count as u32))?;
     }
     Ok(())
 }
 
-// The positions of the nodes in postorder, from the number of children of each; the roots are counted at 0.
+// The positions of the nodes in postorder.
 fn positions(
     alloc: Global,
     nodes: &[Node],
     names: &[u32],
-    counts: &[u32],
+    children: &RowTable,
 ) -> Result<Vec<Position>, NoMemory>
+    requires few { length nodes.now ≤ most_tasks }
     requires names { All (IsNode nodes.now) names.now }
-    requires counts { length nodes.now < length counts.now }
+    requires children { AreChildren nodes.now children.now }
     ensures { IfOk result (λ found. found.items ≡
-        positions_of nodes.now counts.now names.now ++ beside_positions (slice_index_or counts.now 0 0)) }
+        positions_of nodes.now names.now ++ beside_positions (length (children_of nodes.now 0))) }
 {
     let mut found: Vec<Position> = Vec::new(alloc);
     for v in names {
         let node = nodes[*v as usize - 1];
-        push_beside(&mut found, counts[*v as usize])?;
+        push_beside(&mut found, children.row(*v).len())?;
         found.push(Position::Hold(node.out))?;
         found.push(Position::Task {
             extra: node.extra,
@@ -62,7 +66,7 @@ fn positions(
             time: node.time,
         })?;
     }
-    push_beside(&mut found, counts[0])?;
+    push_beside(&mut found, children.row(0).len())?;
     Ok(found)
 }
 
@@ -79,9 +83,9 @@ pub fn terms_of_tree(alloc: Global, tree: &Tree) -> Result<Named, NoMemory>
     laws::forest_law();
     laws::tree_term();
     let nodes = tree.nodes();
-    let children = Chains::new(alloc, nodes)?;
+    let children = child_rows(alloc, nodes)?;
     let names = postorder(alloc, &children)?;
-    let positions = positions(alloc, nodes, &names, &children.counts)?;
+    let positions = positions(alloc, nodes, &names, &children)?;
     Ok(Named {
         terms: Terms::new(positions),
         names: Names::new(names),

@@ -1,13 +1,14 @@
 use Rattle.std.proofs.Common.{◌-◌, List, length}
+use Rattle.limits.specs.Limits.{most_tasks}
 use Rattle.tree_input.specs.declared.node.Node.{Node}
 use Rattle.tree_input.specs.Tree.{IsTree}
 use Rattle.tree_input.specs.Forest.{Forest, IsForestOf}
-use Rattle.tree_input.specs.Chains.{AreChains}
+use Rattle.tree_input.specs.Children.{AreChildren}
 use Rattle.tree_input.proofs.OrderLemmas.{IsWalk}
 use Rattle.tree_input.proofs.postorder.postorder.Given as goal
 
 abbrev pub invariant-loop-v : goal.invariant-loop-v
-invariant-loop-v l = (nodes : List Node) (f : Forest) → IsTree nodes → IsForestOf nodes f → AreChains nodes l.children.heads.items l.children.nexts.items l.children.counts.items → IsWalk nodes f l.pending.items l.found.items
+invariant-loop-v l = (nodes : List Node) (f : Forest) → IsTree nodes → IsForestOf nodes f → AreChildren nodes l.children → IsWalk nodes f l.pending.items l.found.items
 
 abbrev pub decreases-loop-v : goal.decreases-loop-v
-decreases-loop-v l = 1000000 - length l.found.items
+decreases-loop-v l = most_tasks - length l.found.items

@@ -6,36 +6,36 @@ use Rattle.sp_terms.specs.Values.{IsTerms, term_of}
 use Rattle.tree_input.specs.declared.node.Node.{Node}
 use Rattle.tree_input.specs.Tree.{system_of_nodes}
 use Rattle.tree_input.specs.Forest.{all_numbers}
-use Rattle.tree_input.specs.Chains.{AreChains}
+use Rattle.tree_input.specs.Children.{AreChildren}
 use Rattle.tree_input.proofs.PositionLemmas.{flat-read}
 use Rattle.tree_input.proofs.term.terms_of_tree.Goals as goal
 
-pub new-requires-2 : goal.new-requires-2
-new-requires-2 c =
+pub new-requires : goal.new-requires
+new-requires c =
     let nodes = c.args.tree.now in
     let is = c.nodes-nodes.ensures.tree in
     let f = c.forest_law.ensures.some nodes is in
-    let chains = subst (λ (z : List Node). AreChains z c.in_ok-children.children.heads.items c.in_ok-children.children.nexts.items c.in_ok-children.children.counts.items) c.nodes-nodes.ensures.value c.in_ok-children.ensures in
-    let names = c.in_ok-names.ensures nodes f.0 is f.1 chains in
-    let positions = flat-read nodes _ _ _ _ _ _ _ _ f.0 c.nodes-nodes.ensures.value c.in_ok-children.ensures c.deref-2.ensures.value c.deref.ensures.value f.1 names c.in_ok-positions.ensures in
+    let rows = subst (λ (z : List Node). AreChildren z c.in_ok-children.children) c.nodes-nodes.ensures.value c.in_ok-children.ensures in
+    let names = c.in_ok-names.ensures nodes f.0 is f.1 rows in
+    let positions = flat-read nodes _ _ _ _ f.0 c.nodes-nodes.ensures.value c.deref.ensures.value f.1 names c.in_ok-positions.ensures in
     subst (λ (z : List Position). IsTerms z) (sym positions) (c.tree_term.ensures.terms nodes f.0 is f.1)
 
 pub returns-clause-positions : goal.returns-clause-positions
 returns-clause-positions c = λ f h.
     let nodes = c.args.tree.now in
     let is = c.nodes-nodes.ensures.tree in
-    let chains = subst (λ (z : List Node). AreChains z c.in_ok-children.children.heads.items c.in_ok-children.children.nexts.items c.in_ok-children.children.counts.items) c.nodes-nodes.ensures.value c.in_ok-children.ensures in
-    let names = c.in_ok-names.ensures nodes f is h chains in
-    let positions = flat-read nodes _ _ _ _ _ _ _ _ f c.nodes-nodes.ensures.value c.in_ok-children.ensures c.deref-2.ensures.value c.deref.ensures.value h names c.in_ok-positions.ensures in
-    (c.new-2.ensures ∙ positions, c.new-3.ensures ∙ names)
+    let rows = subst (λ (z : List Node). AreChildren z c.in_ok-children.children) c.nodes-nodes.ensures.value c.in_ok-children.ensures in
+    let names = c.in_ok-names.ensures nodes f is h rows in
+    let positions = flat-read nodes _ _ _ _ f c.nodes-nodes.ensures.value c.deref.ensures.value h names c.in_ok-positions.ensures in
+    (c.new.ensures ∙ positions, c.new-2.ensures ∙ names)
 
 pub returns-clause-system : goal.returns-clause-system
 returns-clause-system c =
     let nodes = c.args.tree.now in
     let is = c.nodes-nodes.ensures.tree in
     let f = c.forest_law.ensures.some nodes is in
-    let chains = subst (λ (z : List Node). AreChains z c.in_ok-children.children.heads.items c.in_ok-children.children.nexts.items c.in_ok-children.children.counts.items) c.nodes-nodes.ensures.value c.in_ok-children.ensures in
-    let names = c.in_ok-names.ensures nodes f.0 is f.1 chains in
-    let positions = flat-read nodes _ _ _ _ _ _ _ _ f.0 c.nodes-nodes.ensures.value c.in_ok-children.ensures c.deref-2.ensures.value c.deref.ensures.value f.1 names c.in_ok-positions.ensures in
-    subst (λ (z : List ℕ). IsRenamed z (system_of_term (term_of c.new-2.result)) (system_of_nodes nodes)) (sym (c.new-3.ensures ∙ names))
-    (subst (λ (z : List Position). IsRenamed (all_numbers f.0) (system_of_term (term_of z)) (system_of_nodes nodes)) (sym (c.new-2.ensures ∙ positions)) (c.tree_term.ensures.system nodes f.0 is f.1))
+    let rows = subst (λ (z : List Node). AreChildren z c.in_ok-children.children) c.nodes-nodes.ensures.value c.in_ok-children.ensures in
+    let names = c.in_ok-names.ensures nodes f.0 is f.1 rows in
+    let positions = flat-read nodes _ _ _ _ f.0 c.nodes-nodes.ensures.value c.deref.ensures.value f.1 names c.in_ok-positions.ensures in
+    subst (λ (z : List ℕ). IsRenamed z (system_of_term (term_of c.new.result)) (system_of_nodes nodes)) (sym (c.new-2.ensures ∙ names))
+    (subst (λ (z : List Position). IsRenamed (all_numbers f.0) (system_of_term (term_of z)) (system_of_nodes nodes)) (sym (c.new.ensures ∙ positions)) (c.tree_term.ensures.system nodes f.0 is f.1))

@@ -1,4 +1,4 @@
-use crate::{Names, laws, read_tree, system_of_tree, terms_of_tree};
+use crate::{Names, read_tree, system_of_tree, terms_of_tree};
 use mp_system::replay;
 use mp_text::Report;
 use sp_terms::{Position, system_of};
@@ -28,8 +28,6 @@ fn renamed(alloc: Global, names: &Names, order: &[u32]) -> Result<Vec<u32>, Fail
 #[test]
 fn terms_and_names(rt: HostRuntime) -> Result<(), Fail> {
     let alloc = rt.alloc();
-    laws::forest_law();
-    laws::tree_term();
     let rows: [(&str, &[u8], &[Position], &[u32]); 7] = [
         (
             "five nodes, two like branches",
