@@ -108,6 +108,8 @@ impl Side {
         ensures first { MatchOption result
             ((self.new ≡ self.old) × StartsAbove most (profile self.old))
             (λ s. (self.old ≡ s ∷ self.new) × (s.up ≤ most)) }
+        // what holds of every side
+        ensures side { IsSide (profile self.old) }
     {
         match self.segments.first_key_value() {
             Some((up, _)) if *up <= most => self.take_first(),

@@ -1,21 +1,16 @@
 -- A series in numbers: one side is a part's, and the other goes over the near part and the hill.
-use Rattle.std.proofs.Common.{◌≡◌, ℕ, ◌+◌, ◌-◌, ◌<◌, ◌≤◌, ◌⊎◌, inl, inr, max, min, true, false, nat_le, refl, sym, subst, ap, arith, ◌∙◌, List, [], ◌∷◌}
+use Rattle.std.proofs.Common.{◌≡◌, ℕ, ◌+◌, ◌-◌, ◌<◌, ◌≤◌, max, min, true, false, nat_le, refl, subst, ap, arith, ◌∙◌, List}
 use Rattle.std.specs.Prelude.{if◌then◌else◌, nat_lt}
 use Rattle.std.proofs.lemmas.Bool.Decides.{nat_tests}
-use Rattle.mp_system.specs.declared.system.Task.{Task}
 use Rattle.side_laws.specs.Appending.{cross_hill}
 use Rattle.side_laws.specs.Segments.{Segment, net_sum, lowest, top}
-use Rattle.hill_valley.specs.Sides.{run_profile}
-use Rattle.sp_terms.specs.Term.{Direction, forward, backward}
-use Rattle.cut_laws.specs.Cuts.{Cut, cut_first, cut_second, series_cut, over_task, front_peak, back_peak, top_of, lowest_of}
+use Rattle.hill_valley.specs.Side.{run_profile}
+use Rattle.sp_terms.specs.Term.{forward, backward}
+use Rattle.cut_laws.specs.Cuts.{Cut, cut_first, cut_second, series_cut, over_task, front_peak, back_peak}
+use Rattle.cut_laws.specs.Tops.{MeetsAtLeast}
 use Rattle.plan_claims.specs.Below.{LawsBelow}
 use Rattle.plan_claims.specs.Crossings.{LeadsOver}
 use Rattle.plan_claims.proofs.Sides.{lowest_end}
-
--- both sides lead down to the least memory
-pub record Meets (c : Cut) : Type 0 where
-  pub front : net_sum (run_profile c.front) + c.least ≡ c.initial
-  pub back : net_sum (run_profile c.back) + c.least ≡ c.fin
 
 module _ (laws : LawsBelow) (start mid hill next low : ℕ) (near between far : List Segment)
     (room : net_sum near + low ≡ start) (wide : low ≤ mid) (enough : next ≤ hill) (falls : next ≤ low + net_sum far) (room' : net_sum far ≤ next) where
@@ -23,26 +18,26 @@ module _ (laws : LawsBelow) (start mid hill next low : ℕ) (near between far : 
   crossed_top =
       let peak : ℕ = max (top mid between) hill in
       let at : start - net_sum near ≡ low = omega arith in
-      let high : low ≤ peak = omega (arith, laws.above mid between) in
+      let high : low ≤ peak = omega (arith, laws.sides.above mid between) in
       subst (λ (n : ℕ). top start (cross_hill n peak next far near) ≡ max (top start near) (max peak (top next far))) at
-      (laws.crossing_top start peak next far near (omega arith) (omega arith) (omega arith) (omega arith) room')
+      (laws.sides.crossing_top start peak next far near (omega arith) (omega arith) (omega arith) (omega arith) room')
 
   crossed_lowest : (limit : ℕ) → lowest limit start (cross_hill low (max (top mid between) hill) next far near)
       ≡ (if nat_lt (max (top start near) (max (top mid between) hill)) limit then min low (lowest limit next far) else lowest limit start near)
   crossed_lowest limit =
       let peak : ℕ = max (top mid between) hill in
       let at : start - net_sum near ≡ low = omega arith in
-      let high : low ≤ peak = omega (arith, laws.above mid between) in
+      let high : low ≤ peak = omega (arith, laws.sides.above mid between) in
       subst (λ (n : ℕ). lowest limit start (cross_hill n peak next far near) ≡ (if nat_lt (max (top start near) peak) limit then min n (lowest limit next far) else lowest limit start near)) at
-      (laws.crossing_lowest limit start peak next far near (omega arith) (omega arith) (omega arith) room')
+      (laws.sides.crossing_lowest limit start peak next far near (omega arith) (omega arith) (omega arith) room')
 
   near_end : (limit : ℕ) → top start near < limit → lowest limit start near ≡ low
   near_end limit h = lowest_end laws limit start near h ∙ omega arith
 
-module _ (laws : LawsBelow) (a b : Cut) (task hill : ℕ) (ma : Meets a) (mb : Meets b) (after : a.fin ≤ hill) (before : b.initial ≤ hill) where
+module _ (laws : LawsBelow) (a b : Cut) (task hill : ℕ) (ma : MeetsAtLeast a) (mb : MeetsAtLeast b) (after : a.fin ≤ hill) (before : b.initial ≤ hill) where
   pub first_over : a.least ≤ b.least → LeadsOver backward b a (cut_first a task hill b) hill
   first_over le =
-      let e = laws.profile_crossing b.least (max (front_peak b) hill) a.fin (over_task b.front task) a.back b.back in
+      let e = laws.sides.profile_crossing b.least (max (front_peak b) hill) a.fin (over_task b.front task) a.back b.back in
       let fa = ma.back in
       let fb = mb.front in
       record {
@@ -55,7 +50,7 @@ module _ (laws : LawsBelow) (a b : Cut) (task hill : ℕ) (ma : Meets a) (mb : M
 
   pub second_over : b.least < a.least → LeadsOver forward a b (cut_second a task hill b) hill
   second_over le =
-      let e = laws.profile_crossing a.least (max (back_peak a) hill) b.initial (over_task a.back task) b.front a.front in
+      let e = laws.sides.profile_crossing a.least (max (back_peak a) hill) b.initial (over_task a.back task) b.front a.front in
       let fb = mb.front in
       let fa = ma.back in
       record {

@@ -1,39 +1,40 @@
 -- What is wanted of the two parts of a series meets the rules of a series.
-use Rattle.std.proofs.Common.{◌≡◌, ℕ, ◌+◌, ◌-◌, ◌<◌, ◌≤◌, ◌⊎◌, inl, inr, refl, sym, subst, ap, arith, ◌∙◌, List, [], ◌∷◌, ◌++◌, append_assoc, Option, Some, None}
-use Rattle.std.specs.Prelude.{pos, ◌-ℤ◌, ℤ}
+use Rattle.std.proofs.Common.{◌≡◌, ℕ, ◌≤◌, inl, inr, refl, sym, subst, ap, arith, ◌∙◌, List, [], ◌∷◌, ◌++◌, append_assoc, Option, Some, None}
+use Rattle.std.specs.Prelude.{pos, ◌-ℤ◌}
 use Rattle.std.proofs.lemmas.Int.{ints}
 use Rattle.mp_system.specs.declared.system.Task.{Task}
-use Rattle.sp_terms.specs.Term.{Term, hold, series, par, Direction, forward, backward, least_of, hill_of, initial_of, final_of, IsAllowed}
+use Rattle.sp_terms.specs.Term.{Term, hold, series, par, Direction, forward, backward, least_of, hill_of, IsAllowed}
 use Rattle.sp_term_laws.specs.Moves.{other}
 use Rattle.claim_rules.specs.Claims.{Claim}
-use Rattle.claim_rules.specs.Rules.{MeetsData, MeetsSeries, first_is_stuck, first_is_closed, hill_is_above, last_is_stuck, first_of, last_of, Has}
+use Rattle.claim_rules.specs.Rules.{MeetsData, MeetsSeries, first_is_stuck, first_is_closed, hill_is_above, last_is_stuck, passed_first, passed_last}
 use Rattle.plan_text.specs.declared.claim.Dir.{Dir}
 use Rattle.plan_text.specs.declared.claim.Dir.TheVariants.{F, R}
 use Rattle.plan_text.specs.Plan.{direction_of}
 use Rattle.cut_laws.specs.Cuts.{Cut, hold_cut, cut_first, cut_second, top_of, lowest_of}
 use Rattle.plan_claims.specs.declared.notes.Note.{Note}
-use Rattle.plan_claims.specs.declared.notes.Note.TheVariants.{Data, Series, Par}
+use Rattle.plan_claims.specs.declared.notes.Note.TheVariants.{Data, Series}
 use Rattle.plan_claims.specs.declared.notes.SeriesNote.{SeriesNote}
 use Rattle.plan_claims.specs.declared.notes.Wanted.{Wanted}
 use Rattle.plan_claims.specs.Below.{LawsBelow}
 use Rattle.plan_claims.specs.Crossings.{LeadsOver, IsObstacle, far_stuck, near_stuck, near_closed, hill_above, last_stuck, AreHandedOver}
 use Rattle.plan_claims.specs.Notes.{IsCrossing, IsSeriesNote, IsNote, cut_at, unnamed}
 use Rattle.plan_claims.specs.Wants.{Shows, ShowsIf, AreHanded, claim_if, claim_of_wanted}
-use Rattle.plan_claims.proofs.Crossed.{Meets, first_over, second_over, is_first, is_second}
+use Rattle.cut_laws.specs.Tops.{MeetsAtLeast}
+use Rattle.plan_claims.proofs.Crossed.{first_over, second_over, is_first, is_second}
 
 module _ (a : Term) (v : Task) (b : Term) (d : Direction) (near : Cut) (w : Wanted) (p q : Option Wanted) (cp cq : Option Claim)
-    (first : first_of d cp cq ≡ claim_if p) (last : last_of d cp cq ≡ claim_if q) (turned : first_of (other d) cp cq ≡ claim_if q) (low : least_of (first_of d a b) ≡ near.least) where
-  is_low : direction_of w.dir ≡ d → w.low ≤ near.least → w.low ≤ least_of (first_of (direction_of w.dir) a b)
-  is_low e h = subst (λ (c : Direction). w.low ≤ least_of (first_of c a b)) (sym e) (omega arith)
+    (first : passed_first d cp cq ≡ claim_if p) (last : passed_last d cp cq ≡ claim_if q) (turned : passed_first (other d) cp cq ≡ claim_if q) (low : least_of (passed_first d a b) ≡ near.least) where
+  is_low : direction_of w.dir ≡ d → w.low ≤ near.least → w.low ≤ least_of (passed_first (direction_of w.dir) a b)
+  is_low e h = subst (λ (c : Direction). w.low ≤ least_of (passed_first c a b)) (sym e) (omega arith)
 
   met : IsObstacle d near (hill_of a v b) w p q → MeetsSeries a v b cp cq (claim_of_wanted w)
-  met (far_stuck e ep eq) = first_is_stuck (claim_of_wanted w, ap (λ (c : Direction). first_of c cp cq) e ∙ turned ∙ ap claim_if eq, refl, refl, omega arith)
-  met (near_stuck e ep eq) = first_is_stuck (claim_of_wanted w, ap (λ (c : Direction). first_of c cp cq) e ∙ first ∙ ap claim_if ep, refl, refl, omega arith)
+  met (far_stuck e ep eq) = first_is_stuck (claim_of_wanted w, ap (λ (c : Direction). passed_first c cp cq) e ∙ turned ∙ ap claim_if eq, refl, refl, omega arith)
+  met (near_stuck e ep eq) = first_is_stuck (claim_of_wanted w, ap (λ (c : Direction). passed_first c cp cq) e ∙ first ∙ ap claim_if ep, refl, refl, omega arith)
   met (near_closed e h u ep eq t s) =
-      first_is_closed (claim_of_wanted u, ap (λ (c : Direction). first_of c cp cq) e ∙ first ∙ ap claim_if ep, t ∙ ap other (sym e), ap (λ (n : ℕ). pos n -ℤ pos 1) s, omega arith) (is_low e h)
+      first_is_closed (claim_of_wanted u, ap (λ (c : Direction). passed_first c cp cq) e ∙ first ∙ ap claim_if ep, t ∙ ap other (sym e), ap (λ (n : ℕ). pos n -ℤ pos 1) s, omega arith) (is_low e h)
   met (hill_above e h ep eq le) = hill_is_above (omega (arith, ints)) (is_low e h)
   met (last_stuck e h u ep eq t s le) =
-      last_is_stuck (claim_of_wanted u, ap (λ (c : Direction). last_of c cp cq) e ∙ last ∙ ap claim_if eq, t ∙ sym e, ap (λ (n : ℕ). pos n -ℤ pos 1) s, le) (is_low e h)
+      last_is_stuck (claim_of_wanted u, ap (λ (c : Direction). passed_last c cp cq) e ∙ last ∙ ap claim_if eq, t ∙ sym e, ap (λ (n : ℕ). pos n -ℤ pos 1) s, le) (is_low e h)
 
 -- the same for what may not be wanted
 pub lifted : (t : Term) (o : Option Wanted) (w : Wanted) (ws : List (Option Wanted)) → o ≡ Some w → (Shows (cut_at t) w → AreHanded t (Some w) ws) → ShowsIf (cut_at t) o → AreHanded t o ws
@@ -46,7 +47,7 @@ no_dir e = absurd (apart e)
     apart e = cc
 
 module _ (laws : LawsBelow) where
-  pub meets : (t : Term) → IsAllowed t → Meets (cut_at t)
+  pub meets : (t : Term) → IsAllowed t → MeetsAtLeast (cut_at t)
   meets t h = let s = laws.stands t (unnamed t) h in record { front = s.front_net; back = s.back_net }
 
   module _ (a : Term) (v : Task) (b : Term) (allowed : IsAllowed (series a v b)) (n : SeriesNote) (w : Wanted) where

@@ -1,11 +1,11 @@
 -- Loops over segments and over parts, from what is left of them.
-use Rattle.std.proofs.Common.{◌≡◌, ℕ, suc, ◌+◌, ◌-◌, ◌<◌, ◌≤◌, refl, sym, subst, ap, arith, ◌∙◌, List, [], ◌∷◌, ◌++◌, drop, length, get_or, append_assoc, append-nil, Option, None}
+use Rattle.std.proofs.Common.{◌≡◌, ℕ, ◌+◌, ◌-◌, ◌<◌, ◌≤◌, sym, ap, arith, ◌∙◌, List, [], ◌∷◌, ◌++◌, drop, length, get_or, append_assoc, append-nil, Option, None}
 use Rattle.std.proofs.lemmas.Bool.Decides.{nat_tests}
 use Rattle.std.proofs.lemmas.List.{at_drop_more, at_drop_all}
 use Rattle.std.specs.Prelude.{if◌then◌else◌}
-use Rattle.side_laws.specs.Segments.{Segment, lowest}
+use Rattle.side_laws.specs.Segments.{lowest}
 use Rattle.hill_valley.specs.declared.side.Seg.{Seg}
-use Rattle.hill_valley.specs.Sides.{profile}
+use Rattle.hill_valley.specs.Side.{profile}
 use Rattle.sp_terms.specs.Term.{Direction}
 use Rattle.plan_text.specs.Plan.{direction_of}
 use Rattle.plan_claims.specs.declared.notes.PartNote.{PartNote}

@@ -1,20 +1,20 @@
 -- What is wanted of the near part of a series and of the far one.
-use Rattle.std.proofs.Common.{◌≡◌, ℕ, suc, ◌+◌, ◌-◌, ◌<◌, ◌≤◌, ◌⊎◌, inl, inr, max, min, refl, sym, subst, ap, arith, ◌∙◌, List, Option, Some, None}
+use Rattle.std.proofs.Common.{◌≡◌, ℕ, ◌+◌, ◌<◌, ◌≤◌, inl, inr, max, min, refl, sym, subst, ap, arith, ◌∙◌, Some, None}
 use Rattle.std.specs.Prelude.{if◌then◌else◌, nat_lt}
 use Rattle.std.proofs.lemmas.Bool.Decides.{nat_tests}
 use Rattle.side_laws.specs.Segments.{lowest}
-use Rattle.hill_valley.specs.Sides.{profile, run_profile}
-use Rattle.sp_terms.specs.Term.{Direction, forward, backward}
+use Rattle.hill_valley.specs.Side.{profile, run_profile}
+use Rattle.sp_terms.specs.Term.{Direction}
 use Rattle.sp_term_laws.specs.Moves.{other}
 use Rattle.plan_text.specs.declared.claim.Dir.{Dir}
 use Rattle.plan_text.specs.Plan.{direction_of}
-use Rattle.cut_laws.specs.Cuts.{Cut, top_of, lowest_of, start_of, side_of}
+use Rattle.cut_laws.specs.Cuts.{Cut, top_of, lowest_of, side_of}
 use Rattle.plan_claims.specs.declared.notes.SeriesNote.{SeriesNote}
 use Rattle.plan_claims.specs.declared.notes.Wanted.{Wanted}
 use Rattle.plan_claims.specs.Below.{LawsBelow}
-use Rattle.plan_claims.specs.Crossings.{LeadsOver, IsObstacle, far_stuck, near_stuck, near_closed, hill_above, last_stuck, AreHandedOver}
+use Rattle.plan_claims.specs.Crossings.{LeadsOver, far_stuck, near_stuck, near_closed, hill_above, last_stuck, AreHandedOver}
 use Rattle.plan_claims.specs.Notes.{IsCrossing}
-use Rattle.plan_claims.specs.Wants.{Shows, ShowsIf}
+use Rattle.plan_claims.specs.Wants.{Shows}
 use Rattle.plan_claims.proofs.Sides.{lowest_of_first, lt_or_le}
 
 stuck : (limit m l a b z : ℕ) → z ≡ (if nat_lt (max m l) limit then a else b) → limit ≤ max m l → z ≡ b

@@ -1,22 +1,24 @@
 -- What is wanted of parts side by side meets their rule.
-use Rattle.std.proofs.Common.{◌≡◌, ℕ, zero, suc, ◌+◌, ◌-◌, ◌<◌, ◌≤◌, ◌⊎◌, inl, inr, Bool, true, false, refl, sym, subst, ap, arith, ◌∙◌, List, [], ◌∷◌, ◌++◌, map, Vec, Global, Option, Some, None}
-use Rattle.std.specs.Prelude.{ℤ, pos, ◌-ℤ◌, ◌≤ℤ◌, if◌then◌else◌, nat_le}
+use Rattle.std.proofs.Common.{◌≡◌, ℕ, ◌+◌, ◌-◌, ◌<◌, ◌≤◌, ◌⊎◌, inl, inr, Bool, true, false, refl, sym, subst, ap, arith, ◌∙◌, List, [], ◌∷◌, ◌++◌, map, Vec, Global, Option, Some, None}
+use Rattle.std.specs.Prelude.{ℤ, pos, ◌-ℤ◌, ◌≤ℤ◌, if◌then◌else◌}
 use Rattle.std.proofs.lemmas.Bool.Decides.{nat_tests}
 use Rattle.std.proofs.lemmas.Int.{ints}
-use Rattle.side_laws.specs.Segments.{Segment, net_sum, lowest, top, Passes, IsRising}
+use Rattle.std.specs.List.{sum_by}
+use Rattle.std.proofs.lemmas.List.Sums.{sum_by-cons}
+use Rattle.side_laws.specs.Segments.{Segment, net_sum, lowest, IsRising}
 use Rattle.side_laws.specs.Merging.{merge_segments, AllRising}
 use Rattle.side_laws.specs.Levels.{level_sum, AllStart, EachStuck, AreLevels}
-use Rattle.hill_valley.specs.Sides.{run_profile, profile}
+use Rattle.hill_valley.specs.Side.{run_profile, profile}
 use Rattle.segment_merge.specs.Merging.{run_profiles}
 use Rattle.sp_terms.specs.Places.{list_of_parts}
 use Rattle.sp_terms.specs.Term.{Term, hold, series, par, Parts, no_parts, part, count, Direction, forward, backward, least_of, IsAllowed, AreAllowed}
 use Rattle.claim_rules.specs.Claims.{Claim}
-use Rattle.claim_rules.specs.Rules.{MeetsPar, SomeClaim, HasRoom, HaveRoom, value_in, values_in, is_same}
+use Rattle.claim_rules.specs.Rules.{SomeClaim, HasRoom, HaveRoom, value_in, values_in}
 use Rattle.plan_text.specs.Plan.{direction_of}
-use Rattle.cut_laws.specs.Cuts.{Cut, par_cut, fronts, backs, sum_initial, sum_fin, side_of, start_of, top_of, lowest_of}
+use Rattle.cut_laws.specs.Cuts.{Cut, par_cut, fronts, backs, side_of, start_of, top_of}
 use Rattle.cut_laws.specs.TermCuts.{cuts_of_parts}
 use Rattle.cut_laws.specs.Tops.{SomeReaches}
-use Rattle.cut_laws.specs.Wanted.{starts, sides}
+use Rattle.cut_laws.specs.Cuts.{starts, sides}
 use Rattle.plan_claims.specs.declared.notes.Note.{Note}
 use Rattle.plan_claims.specs.declared.notes.Note.TheVariants.{Par}
 use Rattle.plan_claims.specs.declared.notes.PartNote.{PartNote}
@@ -24,7 +26,7 @@ use Rattle.plan_claims.specs.declared.notes.Wanted.{Wanted}
 use Rattle.plan_claims.specs.Below.{LawsBelow}
 use Rattle.plan_claims.specs.Levels.{level_below, noted_start, noted_side, noted_top, noted_level, left_over, wanted_at, wanted_each}
 use Rattle.plan_claims.specs.Notes.{IsNote, IsPartNote, ArePartNotes, unread, cut_at, unnamed, unnamed_parts}
-use Rattle.plan_claims.specs.Wants.{Shows, ShowsIf, AllShow, AreHanded, claim_if, claim_of_wanted, none_each}
+use Rattle.plan_claims.specs.Wants.{Shows, ShowsIf, AllShow, AreHanded, claim_if, none_each}
 use Rattle.plan_claims.proofs.Sides.{lt_or_le, lowest_end, taken_below}
 
 abbrev cuts : Parts → List Cut
@@ -53,16 +55,16 @@ sides_backward [] = refl
 sides_backward (c ∷ cs) = ap (λ (l : List (List Segment)). run_profile c.back ∷ l) (sides_backward cs)
 
 side_par : LawsBelow → (d : Direction) (cs : List Cut) → run_profile (side_of d (par_cut cs)) ≡ merge_segments (sides d cs)
-side_par laws forward cs = laws.profile_merge (fronts cs) ∙ ap merge_segments (sides_forward cs)
-side_par laws backward cs = laws.profile_merge (backs cs) ∙ ap merge_segments (sides_backward cs)
+side_par laws forward cs = laws.sides.profile_merge (fronts cs) ∙ ap merge_segments (sides_forward cs)
+side_par laws backward cs = laws.sides.profile_merge (backs cs) ∙ ap merge_segments (sides_backward cs)
 
-start_initial : (cs : List Cut) → sum_initial cs ≡ level_sum (starts forward cs)
+start_initial : (cs : List Cut) → sum_by (λ c. c.initial) cs ≡ level_sum (starts forward cs)
 start_initial [] = refl
-start_initial (c ∷ cs) = omega (arith, start_initial cs)
+start_initial (c ∷ cs) = omega (arith, start_initial cs, sum_by-cons (λ (x : Cut). x.initial) c cs)
 
-start_fin : (cs : List Cut) → sum_fin cs ≡ level_sum (starts backward cs)
+start_fin : (cs : List Cut) → sum_by (λ c. c.fin) cs ≡ level_sum (starts backward cs)
 start_fin [] = refl
-start_fin (c ∷ cs) = omega (arith, start_fin cs)
+start_fin (c ∷ cs) = omega (arith, start_fin cs, sum_by-cons (λ (x : Cut). x.fin) c cs)
 
 pub start_par : (d : Direction) (cs : List Cut) → start_of d (par_cut cs) ≡ level_sum (starts d cs)
 start_par forward cs = start_initial cs
@@ -302,8 +304,8 @@ module _ (laws : LawsBelow) (w : Wanted) where
       inl (omega (
         arith,
         s.0,
-        (laws.between (w.limit - (w.low - l)) (start_of dw (cut_at t)) (run_profile (side_of dw (cut_at t)))).1,
-        laws.above (start_of dw (cut_at t)) (run_profile (side_of dw (cut_at t))),
+        (laws.sides.between (w.limit - (w.low - l)) (start_of dw (cut_at t)) (run_profile (side_of dw (cut_at t)))).1,
+        laws.sides.above (start_of dw (cut_at t)) (run_profile (side_of dw (cut_at t))),
       ))
 
   lowest_start : (limit level : ℕ) (ss : List Segment) → limit ≤ level → lowest limit level ss ≡ level
@@ -316,7 +318,7 @@ module _ (laws : LawsBelow) (w : Wanted) where
       let cs : List Cut = cuts ts in
       let start : ℕ = level_sum (starts dw cs) in
       let all : List Segment = merge_segments (sides dw cs) in
-      let x : (ls : List ℕ) × AreLevels w.limit 0 (starts dw cs) (sides dw cs) ls = laws.levels w.limit 0 (starts dw cs) (sides dw cs) (all_rise laws dw ts allowed.1) (all_start laws dw ts allowed.1) in
+      let x : (ls : List ℕ) × AreLevels w.limit 0 (starts dw cs) (sides dw cs) ls = laws.sides.levels w.limit 0 (starts dw cs) (sides dw cs) (all_rise laws dw ts allowed.1) (all_start laws dw ts allowed.1) in
       let ls : List ℕ = x.0 in
       let whole : Shows (par_cut cs) w = subst (λ (l : List Cut). Shows (par_cut l) w) (cuts_same ts) s in
       let zero_less : w.limit - 0 ≡ w.limit = omega arith in

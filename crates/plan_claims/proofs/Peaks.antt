@@ -1,14 +1,13 @@
 -- The peaks of a term's cut are within the sum of its sizes and extras.
-use Rattle.std.proofs.Common.{◌≡◌, ℕ, ◌+◌, ◌-◌, ◌<◌, ◌≤◌, ◌⊎◌, inl, inr, max, refl, sym, subst, ap, arith, ◌∙◌, List, [], ◌∷◌, map}
+use Rattle.std.proofs.Common.{◌+◌, ◌≤◌, inl, inr, ap, arith, List, map}
 use Rattle.mp_system.specs.declared.system.Task.{Task}
 use Rattle.sp_terms.specs.Places.{list_of_parts}
 use Rattle.sp_terms.specs.Term.{Term, hold, series, par, Parts, no_parts, part, Direction, forward, backward, hill_of, IsAllowed, AreAllowed}
 use Rattle.cut_laws.specs.Cuts.{Cut, par_cut, top_of, start_of}
 use Rattle.cut_laws.specs.Tops.{tops}
 use Rattle.plan_claims.specs.Below.{LawsBelow}
-use Rattle.plan_claims.specs.Crossings.{LeadsOver}
 use Rattle.plan_claims.specs.Notes.{cut_at, unnamed}
-use Rattle.plan_claims.specs.Rows.{total_of, total_of_parts}
+use Rattle.sp_cuts.specs.Stacks.{total_of, total_of_parts}
 use Rattle.plan_claims.proofs.Crossed.{first_over, second_over, is_first, is_second}
 use Rattle.plan_claims.proofs.Handed.{meets}
 use Rattle.plan_claims.proofs.Parted.{cuts_same, all_rise, all_start}
@@ -16,8 +15,8 @@ use Rattle.plan_claims.proofs.Sides.{lt_or_le}
 
 module _ (laws : LawsBelow) where
   pub start_below : (d : Direction) (c : Cut) → start_of d c ≤ top_of d c
-  start_below forward c = laws.above c.initial _
-  start_below backward c = laws.above c.fin _
+  start_below forward c = laws.sides.above c.initial _
+  start_below backward c = laws.sides.above c.fin _
 
   record Small (t : Term) : Type 0 where
     front : top_of forward (cut_at t) ≤ total_of t

@@ -1,7 +1,6 @@
 -- The lowest level of a side: from its first segments, and from how far the limit is above it.
 use Rattle.std.proofs.Common.{◌≡◌, ℕ, suc, ◌+◌, ◌-◌, ◌<◌, ◌≤◌, ◌⊎◌, inl, inr, refl, sym, subst, ap, arith, ◌∙◌, List, [], ◌∷◌, ◌++◌}
 use Rattle.std.proofs.lemmas.Bool.Decides.{nat_tests}
-use Rattle.side_laws.specs.Laws.{LowestBetween}
 use Rattle.side_laws.specs.Segments.{Segment, net_sum, lowest, top}
 use Rattle.plan_claims.specs.Below.{LawsBelow}
 use Rattle.plan_claims.specs.Levels.{level_below}
@@ -24,7 +23,7 @@ leave over level s ss h = grind (arith, nat_tests)
 
 module _ (laws : LawsBelow) where
   below_start : (limit level : ℕ) (ss : List Segment) → lowest limit level ss ≤ level
-  below_start limit level ss = (laws.between limit level ss).1
+  below_start limit level ss = (laws.sides.between limit level ss).1
 
   -- a segment is taken exactly where it goes up by less than the limit is above the lowest level
   pub taken_below : (limit level : ℕ) (ss : List Segment) → lowest limit level ss ≡ level_below (limit - lowest limit level ss) level ss
@@ -63,4 +62,4 @@ module _ (laws : LawsBelow) where
       first_lowest limit stop level first h.rest h.ends (subst (λ (l : List Segment). stop ≤ suc (lowest limit level l)) e le) ∙ ap (lowest limit level) (sym e)
 
   pub lowest_end : (limit level : ℕ) (ss : List Segment) → top level ss < limit → lowest limit level ss ≡ level - net_sum ss
-  lowest_end limit level ss h = laws.after_all limit level ss (((laws.passes limit level ss).0 h).1)
+  lowest_end limit level ss h = laws.sides.after_all limit level ss (((laws.sides.passes limit level ss).0 h).1)

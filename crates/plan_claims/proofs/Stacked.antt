@@ -1,21 +1,23 @@
 -- The entries on the stack, and what a position makes of them.
-use Rattle.std.proofs.Common.{◌≡◌, ℕ, zero, suc, ◌+◌, ◌-◌, ◌<◌, ◌≤◌, ◌^◌, max, min, ◌⊎◌, inl, inr, Bool, true, false, not, ◌==◌, if◌then◌else◌, refl, sym, subst, ap, arith, ◌∙◌, List, [], ◌∷◌, ◌++◌, append_assoc, append-nil, get_or, length, map, take, drop, length-drop, take-append-drop, length-append}
+use Rattle.std.proofs.Common.{◌≡◌, ℕ, suc, ◌+◌, ◌-◌, ◌<◌, ◌≤◌, ◌^◌, min, ◌⊎◌, inl, inr, Bool, true, false, not, ◌==◌, if◌then◌else◌, refl, sym, subst, ap, arith, ◌∙◌, List, [], ◌∷◌, ◌++◌, append_assoc, append-nil, get_or, length, map, take, drop, length-drop, take-append-drop, length-append}
 use Rattle.std.proofs.lemmas.Bool.Decides.{nat_tests}
 use Rattle.std.specs.Prelude.{slice_index_or}
-use Rattle.std.proofs.lemmas.List.{map-append}
+use Rattle.std.specs.List.{sum_by}
+use Rattle.std.proofs.lemmas.List.{map-append, length-map}
+use Rattle.std.proofs.lemmas.List.Sums.{sum_by-append, sum_by-cons}
 use Rattle.mp_system.specs.declared.system.Task.{Task}
 use Rattle.side_laws.specs.Segments.{top}
 use Rattle.hill_valley.specs.Ropes.{Extends}
-use Rattle.hill_valley.specs.Sides.{profile}
+use Rattle.hill_valley.specs.Side.{profile}
 use Rattle.sp_terms.specs.declared.position.Position.{Position}
 use Rattle.sp_terms.specs.declared.position.Position.TheVariants.{Hold, Par}
 use Rattle.sp_terms.specs.declared.position.Position.TheVariants as at
 use Rattle.sp_terms.specs.Values.{IsTerms, term_of, term_at}
-use Rattle.sp_terms.specs.Places.{parts_of, list_of_parts, IsTermAt}
+use Rattle.sp_terms.specs.Places.{list_of_parts, IsTermAt}
 use Rattle.sp_terms.specs.Term.{Term, hold, series, par, Parts, no_parts, part, count, forward, backward, initial_of, final_of, hill_of, IsAllowed, AreAllowed}
 use Rattle.cut_laws.specs.Cuts.{Cut, hold_cut, series_cut, par_cut, front_peak, back_peak, top_of}
 use Rattle.sp_cuts.specs.declared.parts.Part.{Part}
-use Rattle.sp_cuts.specs.Parts.{cut_of, cuts_of, IsPart, AreParts, sum_of_peaks}
+use Rattle.sp_cuts.specs.Parts.{cut_of, cuts_of, IsPart, AreParts, hill_between, CanJoin}
 use Rattle.plan_claims.specs.declared.entries.Entry.{Entry}
 use Rattle.plan_claims.specs.declared.notes.Note.{Note}
 use Rattle.plan_claims.specs.declared.notes.Note.TheVariants.{Data, Series}
@@ -25,7 +27,8 @@ use Rattle.plan_claims.specs.Below.{LawsBelow}
 use Rattle.plan_claims.specs.Entries.{IsEntry, AreEntries, entry_cuts, entry_peaks, IsSeriesOf, IsNotedPart}
 use Rattle.plan_claims.specs.Noted.{IsReady, IsDone, AreNotes, AreNotesOf, first_terms}
 use Rattle.plan_claims.specs.Notes.{IsSeriesNote, IsPartNote, ArePartNotes, unread, cut_at, unnamed}
-use Rattle.plan_claims.specs.Rows.{total_of, total_of_parts, row_of, IsNext}
+use Rattle.sp_cuts.specs.Stacks.{total_of, total_of_parts}
+use Rattle.plan_claims.specs.Rows.{row_of}
 use Rattle.plan_claims.proofs.Parted.{cuts_same}
 use Rattle.plan_claims.proofs.Peaks.{top_within}
 use Rattle.plan_claims.proofs.Standing.{next_at, row_whole}
@@ -34,8 +37,7 @@ use Rattle.plan_claims.proofs.Walking.{notes_snoc}
 -- ---- entries in a row
 
 pub cuts_append : (lists : List (List ℕ)) (a b : List Entry) → entry_cuts lists (a ++ b) ≡ entry_cuts lists a ++ entry_cuts lists b
-cuts_append lists [] b = refl
-cuts_append lists (e ∷ a) b = ap (λ (l : List Cut). cut_of lists e.part ∷ l) (cuts_append lists a b)
+cuts_append lists a b = map-append (λ (e : Entry). cut_of lists e.part) a b
 
 pub entries_append : (lists : List (List ℕ)) (a b : List Entry) → AreEntries lists a → AreEntries lists b → AreEntries lists (a ++ b)
 entries_append lists [] b h k = k
@@ -46,12 +48,10 @@ entries_split lists [] b h = (tt, h)
 entries_split lists (e ∷ a) b h = let r = entries_split lists a b h.1 in ((h.0, r.0), r.1)
 
 cuts_length : (lists : List (List ℕ)) (a : List Entry) → length (entry_cuts lists a) ≡ length a
-cuts_length lists [] = refl
-cuts_length lists (e ∷ a) = ap suc (cuts_length lists a)
+cuts_length lists a = length-map a (λ (e : Entry). cut_of lists e.part)
 
 map_length : (xs : List Term) → length (map cut_at xs) ≡ length xs
-map_length [] = refl
-map_length (t ∷ xs) = ap suc (map_length xs)
+map_length xs = length-map xs cut_at
 
 split_cuts : (a b c d : List Cut) → length a ≡ length c → a ++ b ≡ c ++ d → (a ≡ c) × (b ≡ d)
 split_cuts [] b [] d n e = (refl, e)
@@ -96,11 +96,8 @@ module _ (laws : LawsBelow) where
       let b = top_within laws backward t a in
       let ef : front_peak (cut_of lists e.part) ≡ top_of forward (cut_at t) = ap front_peak is in
       let eb : back_peak (cut_of lists e.part) ≡ top_of backward (cut_at t) = ap back_peak is in
-      let p : e.part.peak ≡ max (front_peak (cut_of lists e.part)) (back_peak (cut_of lists e.part)) = tops lists e h in
+      let p = h.is_part.peak in
       omega arith
-    where
-      tops : (lists : List (List ℕ)) (e : Entry) → IsEntry lists e → e.part.peak ≡ max (front_peak (cut_of lists e.part)) (back_peak (cut_of lists e.part))
-      tops lists e h = rw (laws.profile lists e.part.front, laws.profile lists e.part.back) h.is_part.peak
 
 -- ---- the two on top
 
@@ -141,14 +138,8 @@ module _ (laws : LawsBelow) where
     second_top = two_apart.2
 
     -- what note_series asks
-    pub record Fits (extra share : ℕ) : Type 0 where
-      pub inputs : share ≤ ea.part.fin
-      pub outputs : share ≤ extra + eb.part.initial
-      pub hill : ea.part.fin + ((extra + eb.part.initial) - share) ≤ 2 ^ 60
-      pub extra_fits : extra ≤ 2 ^ 60
-
-    pub fits : (a : Term) (v : Task) (b : Term) (extra share : ℕ) → v.extra ≡ extra → v.share ≡ share → IsReady r0 items (series a v b) → Fits extra share
-    fits a v b extra share ex sh r =
+    pub fits : (a : Term) (v : Task) (b : Term) → IsReady r0 items (series a v b) → CanJoin ea.part v eb.part
+    fits a v b r =
         let t = two_tops r0 items mid low ea eb r.before a b e f r.cuts in
         let pa = peak_within laws r0 ea a first_top t.first_is r.allowed.2 in
         let pb = peak_within laws r0 eb b second_top t.second_is r.allowed.3 in
@@ -159,23 +150,21 @@ module _ (laws : LawsBelow) where
         let i = r.allowed.0 in
         let o = r.allowed.1 in
         let w = r.within in
-        record { inputs = omega arith; outputs = omega arith; hill = omega arith; extra_fits = omega arith }
+        record { inputs = omega arith; outputs = omega arith; hill = omega arith }
 
-    pub task_done : (r1 : List (List ℕ)) (extra share : ℕ) (made : Entry) (note : SeriesNote) (items' : List Entry) → Extends r0 r1
-        → IsSeriesOf r1 (cut_of r0 ea.part) (cut_of r0 eb.part) (ea.part.fin + ((extra + eb.part.initial) - share)) made note → items' ≡ low ++ made ∷ []
-        → (a : Term) (v : Task) (b : Term) → v.extra ≡ extra → v.share ≡ share → IsAllowed (series a v b) → IsDone r0 r1 items items' (series a v b) (Series note)
-    task_done r1 extra share made note items' kept s is a v b ex sh allowed before h =
+    pub task_done : (r1 : List (List ℕ)) (v : Task) (made : Entry) (note : SeriesNote) (items' : List Entry) → Extends r0 r1
+        → IsSeriesOf r1 (cut_of r0 ea.part) (cut_of r0 eb.part) (hill_between ea.part v eb.part) made note → items' ≡ low ++ made ∷ []
+        → (a b : Term) → IsAllowed (series a v b) → IsDone r0 r1 items items' (series a v b) (Series note)
+    task_done r1 v made note items' kept s is a b allowed before h =
         let t = two_tops r0 items mid low ea eb before a b e f h in
         let fa : ea.part.fin ≡ final_of a = ap (λ (c : Cut). c.fin) t.first_is ∙ (laws.stands a (unnamed a) allowed.2).final in
         let ib : eb.part.initial ≡ initial_of b = ap (λ (c : Cut). c.initial) t.second_is ∙ (laws.stands b (unnamed b) allowed.3).initial in
-        let hill : ea.part.fin + ((extra + eb.part.initial) - share) ≡ hill_of a v b = omega arith in
+        let own : ℕ = hill_between ea.part v eb.part in
+        let hill : own ≡ hill_of a v b = omega arith in
         let cut : cut_of r1 made.part ≡ series_cut (cut_at a) 0 (hill_of a v b) (cut_at b) =
-        s.cut ∙ ap (λ (c : Cut). series_cut c 0 (ea.part.fin + ((extra + eb.part.initial) - share)) (cut_of r0 eb.part)) t.first_is
-        ∙ ap (series_cut (cut_at a) 0 (ea.part.fin + ((extra + eb.part.initial) - share))) t.second_is ∙ ap (λ (n : ℕ). series_cut (cut_at a) 0 n (cut_at b)) hill in
-        let n1 : IsSeriesNote (cut_at a) (cut_of r0 eb.part) (ea.part.fin + ((extra + eb.part.initial) - share)) note =
-        subst (λ (c : Cut). IsSeriesNote c (cut_of r0 eb.part) (ea.part.fin + ((extra + eb.part.initial) - share)) note) t.first_is s.note in
-        let n2 : IsSeriesNote (cut_at a) (cut_at b) (ea.part.fin + ((extra + eb.part.initial) - share)) note =
-        subst (λ (c : Cut). IsSeriesNote (cut_at a) c (ea.part.fin + ((extra + eb.part.initial) - share)) note) t.second_is n1 in
+        s.cut ∙ ap (λ (c : Cut). series_cut c 0 own (cut_of r0 eb.part)) t.first_is ∙ ap (series_cut (cut_at a) 0 own) t.second_is ∙ ap (λ (n : ℕ). series_cut (cut_at a) 0 n (cut_at b)) hill in
+        let n1 : IsSeriesNote (cut_at a) (cut_of r0 eb.part) own note = subst (λ (c : Cut). IsSeriesNote c (cut_of r0 eb.part) own note) t.first_is s.note in
+        let n2 : IsSeriesNote (cut_at a) (cut_at b) own note = subst (λ (c : Cut). IsSeriesNote (cut_at a) c own note) t.second_is n1 in
         (one_cut laws r0 r1 low made items' kept two_apart.0 is before (series a v b) t.low_is cut, subst (λ (n : ℕ). IsSeriesNote (cut_at a) (cut_at b) n note) hill n2)
 
     pub task_entries : (r1 : List (List ℕ)) (made : Entry) (items' : List Entry) → Extends r0 r1 → IsEntry r1 made → items' ≡ low ++ made ∷ [] → AreEntries r1 items'
@@ -231,7 +220,7 @@ module _ (laws : LawsBelow) (r0 : List (List ℕ)) (items low top : List Entry) 
   peaks_below (x ∷ es) (part t ts) h e a =
       let p = peak_within laws r0 x t h.0 (head_same e) a.0 in
       let r = peaks_below es ts h.1 (tail_same e) a.1 in
-      omega arith
+      omega (arith, sum_by-cons (λ (y : Entry). y.part.peak) x es)
     where
       head_same : {x y : Cut} {xs ys : List Cut} → ◌≡◌ {A = List Cut} (x ∷ xs) (y ∷ ys) → x ≡ y
       head_same e = cc
@@ -270,8 +259,8 @@ many_there r0 items ts many r n =
 pub par_entry : LawsBelow → (lists : List (List ℕ)) (e : Entry) → IsPart lists e.part → e.front_top ≡ top e.part.initial (profile e.part.front) → e.back_top ≡ top e.part.fin (profile e.part.back) → IsEntry lists e
 par_entry laws lists e h f b = record {
   is_part = h;
-  front_is = f ∙ ap (top e.part.initial) (sym (laws.profile lists e.part.front));
-  back_is = b ∙ ap (top e.part.fin) (sym (laws.profile lists e.part.back));
+  front_is = f ∙ ap (top e.part.initial) (sym (laws.sides.runs.profile lists e.part.front));
+  back_is = b ∙ ap (top e.part.fin) (sym (laws.sides.runs.profile lists e.part.back));
 }
 
 -- ---- the parts of a par, one after another
@@ -281,7 +270,7 @@ pub record Gathering (r0 : List (List ℕ)) (all : List Entry) (r : List (List �
   pub whole : all ≡ done ++ rest
   pub parts : AreParts r ps
   pub cuts : cuts_of r ps ≡ entry_cuts r0 done
-  pub peaks : sum_of_peaks ps ≡ entry_peaks done
+  pub peaks : sum_by (λ p. p.peak) ps ≡ entry_peaks done
   pub notes : ArePartNotes (entry_cuts r0 done) ns
   pub one : unread ns + min left 1 ≤ 1
   pub kept : Extends r0 r
@@ -291,16 +280,7 @@ parts_append r [] b h k = k
 parts_append r (p ∷ a) b h k = (h.0, parts_append r a b h.1 k)
 
 part_cuts_append : (r : List (List ℕ)) (a b : List Part) → cuts_of r (a ++ b) ≡ cuts_of r a ++ cuts_of r b
-part_cuts_append r [] b = refl
-part_cuts_append r (p ∷ a) b = ap (λ (l : List Cut). cut_of r p ∷ l) (part_cuts_append r a b)
-
-part_peaks_append : (a b : List Part) → sum_of_peaks (a ++ b) ≡ sum_of_peaks a + sum_of_peaks b
-part_peaks_append [] b = omega arith
-part_peaks_append (p ∷ a) b = omega (arith, part_peaks_append a b)
-
-peaks_append : (a b : List Entry) → entry_peaks (a ++ b) ≡ entry_peaks a + entry_peaks b
-peaks_append [] b = omega arith
-peaks_append (e ∷ a) b = omega (arith, peaks_append a b)
+part_cuts_append r a b = map-append (cut_of r) a b
 
 notes_append : (a b : List Cut) (x y : List PartNote) → ArePartNotes a x → ArePartNotes b y → ArePartNotes (a ++ b) (x ++ y)
 notes_append [] b [] y h k = k
@@ -320,7 +300,7 @@ module _ (laws : LawsBelow) (r0 : List (List ℕ)) (all : List Entry) where
   pub gathering_starts : (ps : List Part) (ns : List PartNote) (left : ℕ) → ps ≡ [] → ns ≡ [] → Gathering r0 all r0 all ps ns left
   gathering_starts ps ns left e f =
       subst (λ (l : List Part). Gathering r0 all r0 all l ns left) (sym e) (subst (λ (l : List PartNote). Gathering r0 all r0 all [] l left) (sym f)
-      (record { done = []; whole = refl; parts = tt; cuts = refl; peaks = refl; notes = tt; one = omega arith; kept = laws.itself r0 }))
+      (record { done = []; whole = refl; parts = tt; cuts = refl; peaks = refl; notes = tt; one = omega arith; kept = laws.sides.runs.itself r0 }))
 
   module _ (r : List (List ℕ)) (e : Entry) (rest : List Entry) (ps : List Part) (ns : List PartNote) (left : ℕ) (h : AreEntries r0 all) (g : Gathering r0 all r (e ∷ rest) ps ns left) where
     entry_was : IsEntry r0 e
@@ -340,11 +320,11 @@ module _ (laws : LawsBelow) (r0 : List (List ℕ)) (all : List Entry) where
           whole = g.whole ∙ sym (append_assoc g.done (e ∷ []) rest);
           parts = parts_append r' ps (p ∷ []) stay.0 (x.is_part, tt);
           cuts = part_cuts_append r' ps (p ∷ []) ∙ ap (λ (l : List Cut). l ++ cut_of r' p ∷ []) (stay.1 ∙ g.cuts) ∙ ap (λ (c : Cut). entry_cuts r0 g.done ++ c ∷ []) (x.cut ∙ same) ∙ sym (cuts_append r0 g.done (e ∷ []));
-          peaks = omega (arith, part_peaks_append ps (p ∷ []), peaks_append g.done (e ∷ []), g.peaks, x.peak);
+          peaks = omega (arith, sum_by-append (λ (q : Part). q.peak) ps (p ∷ []), sum_by-append (λ (y : Entry). y.part.peak) g.done (e ∷ []), g.peaks, x.peak);
           notes = subst (λ (l : List Cut). ArePartNotes l (ns ++ n ∷ [])) (sym (cuts_append r0 g.done (e ∷ [])))
               (notes_append (entry_cuts r0 g.done) (cut_of r0 e.part ∷ []) ns (n ∷ []) g.notes (subst (λ (c : Cut). IsPartNote c n) same x.note, tt));
           one = counted (read_or_not read);
-          kept = laws.on r0 r r' g.kept kept;
+          kept = laws.sides.runs.on r0 r r' g.kept kept;
         }))
       where
         if_true : (b : Bool) (x y : ℕ) → b ≡ true → (if b then x else y) ≡ x
@@ -388,11 +368,11 @@ hold_fits lists items position size e r =
     y.within
 
 pub task_ready : (lists : List (List ℕ)) (items : List Entry) (position : Position) (extra share time : ℕ) → position ≡ at.Task extra share time → Ready lists items position
-    → (a : Term) × (v : Task) × (b : Term) × (v.extra ≡ extra) × (v.share ≡ share) × IsReady lists items (series a v b)
+    → (a : Term) × (b : Term) × IsReady lists items (series a (record { extra = extra; share = share; time = time }) b)
 task_ready lists items position extra share time e r =
     let x = ready_at lists items position (at.Task extra share time) e r in
     let (a, b, is) = x.1 in
-    (a, record { extra = extra; share = share; time = time }, b, refl, refl, subst (IsReady lists items) is x.2)
+    (a, b, subst (IsReady lists items) is x.2)
 
 pub par_ready : (lists : List (List ℕ)) (items : List Entry) (position : Position) (many : ℕ) → position ≡ Par many → Ready lists items position → (ts : Parts) × (count ts ≡ many) × IsReady lists items (par ts)
 par_ready lists items position many e r =
@@ -401,13 +381,11 @@ par_ready lists items position many e r =
     (ts, n, subst (IsReady lists items) is x.2)
 
 module _ (r0 r1 : List (List ℕ)) (items items' : List Entry) (position : Position) (note : Note) where
-  pub task_at : (extra share time : ℕ) → position ≡ at.Task extra share time
-      → ((a : Term) (v : Task) (b : Term) → v.extra ≡ extra → v.share ≡ share → IsAllowed (series a v b) → IsDone r0 r1 items items' (series a v b) note)
-      → (t : Term) → IsTermAt position t → IsAllowed t → IsDone r0 r1 items items' t note
+  pub task_at : (extra share time : ℕ) → position ≡ at.Task extra share time → let v : Task = record { extra = extra; share = share; time = time } in
+      ((a b : Term) → IsAllowed (series a v b) → IsDone r0 r1 items items' (series a v b) note) → (t : Term) → IsTermAt position t → IsAllowed t → IsDone r0 r1 items items' t note
   task_at extra share time e f t own allowed =
       let (a, b, is) = subst (λ (x : Position). IsTermAt x t) e own in
-      let v : Task = record { extra = extra; share = share; time = time } in
-      subst (λ (u : Term). IsDone r0 r1 items items' u note) (sym is) (f a v b refl refl (subst IsAllowed is allowed))
+      subst (λ (u : Term). IsDone r0 r1 items items' u note) (sym is) (f a b (subst IsAllowed is allowed))
 
   pub par_at : (many : ℕ) → position ≡ Par many → ((ts : Parts) → count ts ≡ many → IsAllowed (par ts) → IsDone r0 r1 items items' (par ts) note)
       → (t : Term) → IsTermAt position t → IsAllowed t → IsDone r0 r1 items items' t note
@@ -417,13 +395,13 @@ module _ (r0 r1 : List (List ℕ)) (items items' : List Entry) (position : Posit
 
 module _ (laws : LawsBelow) (r0 : List (List ℕ)) (items items' : List Entry) (position : Position) (size : ℕ) (made : Entry) (e : position ≡ Hold size) (h : AreEntries r0 items) (is : items' ≡ items ++ made ∷ []) where
   pub hold_entries : IsEntry r0 made → AreEntries r0 items'
-  hold_entries one = one_more laws r0 r0 items made items' (laws.itself r0) h is one
+  hold_entries one = one_more laws r0 r0 items made items' (laws.sides.runs.itself r0) h is one
 
   pub hold_done : cut_of r0 made.part ≡ hold_cut size → (t : Term) → IsTermAt position t → IsAllowed t → IsDone r0 r0 items items' t Data
   hold_done cut t own allowed =
       let x : t ≡ hold size = subst (λ (p : Position). IsTermAt p t) e own in
       subst (λ (u : Term). IsDone r0 r0 items items' u Data) (sym x)
-      (λ before k. (one_cut laws r0 r0 items made items' (laws.itself r0) h is before (hold size) (k ∙ ap (map cut_at) (append-nil before)) cut, tt))
+      (λ before k. (one_cut laws r0 r0 items made items' (laws.sides.runs.itself r0) h is before (hold size) (k ∙ ap (map cut_at) (append-nil before)) cut, tt))
 
 -- ---- along the positions
 

@@ -1,19 +1,18 @@
 -- The rows of terms that the first positions leave.
-use Rattle.std.proofs.Common.{◌≡◌, ℕ, zero, suc, ◌+◌, ◌-◌, ◌<◌, ◌≤◌, ◌^◌, refl, sym, subst, ap, arith, ◌∙◌, List, [], ◌∷◌, ◌++◌, append_assoc, append-nil, take, length, reverse, get_or, Option, Some, None}
-use Rattle.std.specs.Prelude.{option_and_then, slice_index_or}
+use Rattle.std.proofs.Common.{◌≡◌, ℕ, zero, suc, ◌+◌, ◌<◌, ◌≤◌, refl, sym, subst, ap, arith, ◌∙◌, List, [], ◌∷◌, ◌++◌, take, length, reverse, get_or, Option, Some, None}
+use Rattle.std.specs.Prelude.{option_and_then}
 use Rattle.std.specs.List.{sum_by}
 use Rattle.std.proofs.lemmas.Grind.{common_steps}
-use Rattle.std.proofs.lemmas.List.{reverse-append}
 use Rattle.std.proofs.lemmas.List.Sums.{sum_by-cons}
-use Rattle.mp_system.specs.declared.system.Task.{Task}
 use Rattle.sp_terms.specs.declared.position.Position.{Position}
 use Rattle.sp_terms.specs.declared.position.Position.TheVariants.{Hold, Par}
 use Rattle.sp_terms.specs.declared.position.Position.TheVariants as at
-use Rattle.sp_terms.specs.Places.{parts_of, list_of_parts, IsTermAt, ends_after}
+use Rattle.sp_terms.specs.Places.{parts_of, list_of_parts, IsTermAt, positions_after}
 use Rattle.sp_terms.specs.Postfix.{gather, push, push_all}
 use Rattle.sp_terms.specs.Term.{Term, hold, series, par, Parts, no_parts, part, count, width_of, width_of_parts, IsAllowed, AreAllowed}
-use Rattle.sp_terms.specs.Values.{IsTerms, AllAllowed, added_size, stack_from, stack_of, term_of, term_at, top_of}
-use Rattle.plan_claims.specs.Rows.{total_of, total_of_parts, row_of, IsNext}
+use Rattle.sp_terms.specs.Values.{IsTerms, AllAllowed, added_size, last_term, stack_from, stack_of, term_of, term_at}
+use Rattle.sp_cuts.specs.Stacks.{total_of, total_of_parts}
+use Rattle.plan_claims.specs.Rows.{row_of, IsNext}
 
 some_same : {A : Type 0} {x y : A} → Some x ≡ Some y → x ≡ y
 some_same e = cc
@@ -196,7 +195,7 @@ next_at ps i p a lt here =
     ap (λ (l : List Position). push_all l []) (take_more ps i p lt here) ∙ push_all_append (take i ps) (p ∷ []) [] mid before ∙ ap (option_and_then (push_all [])) f in
     let stack0 : stack_of (take i ps) ≡ mid = ap stack_from before in
     let stack1 : stack_of (take (suc i) ps) ≡ x.t ∷ x.rest = ap stack_from now ∙ x.is in
-    let term : term_at ps i ≡ x.t = ap top_of stack1 in
+    let term : term_at ps i ≡ x.t = ap last_term stack1 in
     let ok : AllAllowed (x.t ∷ x.rest) = subst AllAllowed x.is (rest.allowed a.allowed) in
     let y : IsNext p x.t (row_of ps i) (row_of ps (suc i)) =
     record {
@@ -246,10 +245,10 @@ row_width_is ps (suc i) a h =
 pub row_width_before : (before : List Term) (t : Term) → row_width (before ++ t ∷ []) ≡ row_width before + width_of t
 row_width_before before t = row_width_append before (t ∷ []) ∙ omega arith
 
-pub ends_append : (n : ℕ) (a b : List Term) → ends_after n (a ++ b) ≡ ends_after n a ++ ends_after (n + row_width a) b
-ends_append n [] b = ap (λ (m : ℕ). ends_after m b) (omega arith)
-ends_append n (t ∷ a) b = ap (λ (l : List ℕ). (n + width_of t) ∷ l) (ends_append (n + width_of t) a b ∙ ap (λ (m : ℕ). ends_after (n + width_of t) a ++ ends_after m b) (omega arith))
+pub ends_append : (n : ℕ) (a b : List Term) → positions_after n (a ++ b) ≡ positions_after n a ++ positions_after (n + row_width a) b
+ends_append n [] b = ap (λ (m : ℕ). positions_after m b) (omega arith)
+ends_append n (t ∷ a) b = ap (λ (l : List ℕ). (n + width_of t) ∷ l) (ends_append (n + width_of t) a b ∙ ap (λ (m : ℕ). positions_after (n + width_of t) a ++ positions_after m b) (omega arith))
 
-pub ends_length : (n : ℕ) (a : List Term) → length (ends_after n a) ≡ length a
+pub ends_length : (n : ℕ) (a : List Term) → length (positions_after n a) ≡ length a
 ends_length n [] = refl
 ends_length n (t ∷ a) = ap suc (ends_length (n + width_of t) a)

@@ -1,13 +1,12 @@
 -- A side taken apart from its first segment on, and put together again from the last of those on.
-use Rattle.std.proofs.Common.{◌≡◌, ℕ, zero, suc, ◌+◌, ◌-◌, ◌*◌, ◌<◌, ◌≤◌, ◌^◌, ◌⊎◌, inl, inr, true, refl, sym, subst, ap, arith, ◌∙◌, List, [], ◌∷◌, ◌++◌, append_assoc, append-nil, drop, length, get_or}
-use Rattle.std.specs.Ordering.{nat_cmp, match_ordering}
+use Rattle.std.proofs.Common.{◌≡◌, ℕ, zero, suc, ◌+◌, ◌-◌, ◌<◌, ◌≤◌, ◌^◌, ◌⊎◌, inl, inr, true, refl, sym, subst, ap, arith, ◌∙◌, List, [], ◌∷◌, ◌++◌, append_assoc, drop, length, get_or}
 use Rattle.std.proofs.lemmas.Bool.Decides.{nat_tests}
 use Rattle.std.proofs.lemmas.List.{drop_more, drop_at}
 use Rattle.std.proofs.lemmas.Grind.{common_steps}
 use Rattle.side_laws.specs.Segments.{Segment, net_sum, IsRising, StartsAbove}
 use Rattle.hill_valley.specs.declared.side.Seg.{Seg}
-use Rattle.hill_valley.specs.Ropes.{list_of, IsRope, Extends}
-use Rattle.hill_valley.specs.Sides.{numbers, profile, IsSide, AllUpsWithin, HaveRopes, Run, run_of, runs_of, run_profile, insert_run}
+use Rattle.hill_valley.specs.Ropes.{IsRope, Extends}
+use Rattle.hill_valley.specs.Side.{numbers, profile, IsSide, AllUpsWithin, HaveRopes, Run, run_of, runs_of, run_profile, insert_run}
 use Rattle.plan_claims.specs.Below.{LawsBelow}
 use Rattle.plan_claims.specs.Notes.{AreFirst}
 
@@ -92,12 +91,12 @@ module _ (laws : LawsBelow) (lists0 : List (List ℕ)) (first rest : List Seg) w
       record {
         told = ap (runs_of lists0) (sym d);
         ropes = subst (HaveRopes lists0) d (tail_drop lists0 left (first ++ rest) t).ropes;
-        kept = laws.itself lists0;
+        kept = laws.sides.runs.itself lists0;
         few = omega arith;
       }
 
   same_profile : (lists : List (List ℕ)) (side other : List Seg) → runs_of lists side ≡ runs_of lists0 other → profile side ≡ profile other
-  same_profile lists side other e = sym (laws.profile lists side) ∙ ap run_profile e ∙ laws.profile lists0 other
+  same_profile lists side other e = sym (laws.sides.runs.profile lists side) ∙ ap run_profile e ∙ laws.sides.runs.profile lists0 other
 
   module _ (whole : IsTail lists0 (first ++ rest)) (lists : List (List ℕ)) (side : List Seg) (left left' : ℕ) (seg d : Seg)
       (p : Putting lists0 first rest lists side left) (less : left' + 1 ≡ left) (here : seg ≡ get_or first left' d) where
@@ -116,7 +115,7 @@ module _ (laws : LawsBelow) (lists0 : List (List ℕ)) (first rest : List Seg) w
     tail = subst (IsTail lists0) before (tail_drop lists0 left' (first ++ rest) whole)
 
     pub put_rope : IsRope lists seg.tasks
-    put_rope = (laws.rope lists0 lists seg.tasks tail.ropes.0 p.kept).0
+    put_rope = (laws.sides.runs.rope lists0 lists seg.tasks tail.ropes.0 p.kept).0
 
     pub put_up : seg.up ≤ 2 ^ 60
     put_up = tail.ups.0
@@ -125,19 +124,19 @@ module _ (laws : LawsBelow) (lists0 : List (List ℕ)) (first rest : List Seg) w
     put_net = let n = tail.net in let e = ap net_sum (same_profile lists side (drop left (first ++ rest)) p.told) in omega arith
 
     same_run : run_of lists seg ≡ run_of lists0 seg
-    same_run = ap (λ (l : List ℕ). record { up = seg.up; net = seg.net; tasks = l }) (laws.rope lists0 lists seg.tasks tail.ropes.0 p.kept).1
+    same_run = ap (λ (l : List ℕ). record { up = seg.up; net = seg.net; tasks = l }) (laws.sides.runs.rope lists0 lists seg.tasks tail.ropes.0 p.kept).1
 
     pub put_on : (lists' : List (List ℕ)) (side' : List Seg) → runs_of lists' side' ≡ insert_run true (run_of lists seg) (runs_of lists side) → HaveRopes lists' side' → Extends lists lists'
         → Putting lists0 first rest lists' side' left'
     put_on lists' side' put ropes kept =
         let above : StartsAbove seg.up (run_profile (runs_of lists side)) =
-        subst (StartsAbove seg.up) (sym (laws.profile lists side ∙ same_profile lists side (drop left (first ++ rest)) p.told)) tail.rises.0 in
+        subst (StartsAbove seg.up) (sym (laws.sides.runs.profile lists side ∙ same_profile lists side (drop left (first ++ rest)) p.told)) tail.rises.0 in
         let told : insert_run true (run_of lists seg) (runs_of lists side) ≡ runs_of lists0 (seg ∷ drop left (first ++ rest)) =
         insert_below (run_of lists seg) (runs_of lists side) above ∙ ap (λ (r : Run). r ∷ runs_of lists side) same_run ∙ ap (λ (l : List Run). run_of lists0 seg ∷ l) p.told in
         record {
           told = put ∙ told ∙ ap (runs_of lists0) (sym before);
           ropes = ropes;
-          kept = laws.on lists0 lists lists' p.kept kept;
+          kept = laws.sides.runs.on lists0 lists lists' p.kept kept;
           few = let f = at in omega arith;
         }
 

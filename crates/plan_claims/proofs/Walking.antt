@@ -1,15 +1,14 @@
 -- One step of the walk from the last position down.
-use Rattle.std.proofs.Common.{◌≡◌, ◌==◌, ℕ, zero, suc, ◌+◌, ◌-◌, ◌<◌, ◌≤◌, ◌^◌, ◌⊎◌, inl, inr, true, false, refl, sym, subst, ap, arith, ◌∙◌, List, [], ◌∷◌, ◌++◌, length, reverse, map, Option, Some, None}
-use Rattle.std.specs.Prelude.{pos, negsuc, ◌-ℤ◌, ℤ, All, unsigned_abs, if◌then◌else◌, IfSome}
+use Rattle.std.proofs.Common.{◌≡◌, ℕ, zero, suc, ◌+◌, ◌-◌, ◌<◌, ◌≤◌, ◌^◌, ◌⊎◌, inl, inr, refl, sym, subst, ap, arith, ◌∙◌, List, [], ◌∷◌, ◌++◌, length, reverse, map, Option, Some, None}
+use Rattle.std.specs.Prelude.{pos, ◌-ℤ◌, ℤ, All, unsigned_abs, IfSome}
 use Rattle.std.proofs.lemmas.Bool.Decides.{nat_tests}
 use Rattle.std.proofs.lemmas.Grind.{common_steps}
 use Rattle.std.proofs.lemmas.Int.{ints}
 use Rattle.std.proofs.lemmas.List.{map-append}
 use Rattle.std.proofs.lemmas.List.Elements.{All-nil, All-cons}
-use Rattle.side_laws.specs.Segments.{lowest}
-use Rattle.hill_valley.specs.Sides.{run_profile}
+use Rattle.hill_valley.specs.Side.{run_profile}
 use Rattle.sp_terms.specs.declared.position.Position.{Position}
-use Rattle.sp_terms.specs.Places.{parts_of, ends_after, term_of_position, part_positions}
+use Rattle.sp_terms.specs.Places.{parts_of, positions_after, part_positions}
 use Rattle.sp_terms.specs.Term.{Term, Direction, width_of, IsAllowed}
 use Rattle.sp_terms.specs.Values.{IsTerms, term_of, term_at}
 use Rattle.claim_rules.specs.Claims.{Claim as RuleClaim}
@@ -17,16 +16,16 @@ use Rattle.claim_rules.specs.Placed.{MeetsAt}
 use Rattle.claim_rules.specs.Rules.{MeetsRule}
 use Rattle.plan_text.specs.declared.claim.Claim.{Claim}
 use Rattle.plan_text.specs.Plan.{claim_at, claim_of, IsClaimWithin, RiseFrom, direction_of}
-use Rattle.claim_check.specs.Judged.{Passes}
-use Rattle.cut_laws.specs.Cuts.{Cut, top_of, lowest_of, start_of, side_of}
+use Rattle.cut_laws.specs.Cuts.{Cut, start_of, side_of}
 use Rattle.plan_claims.specs.declared.notes.Note.{Note}
 use Rattle.plan_claims.specs.declared.notes.Wanted.{Wanted}
 use Rattle.plan_claims.specs.Below.{LawsBelow}
 use Rattle.plan_claims.specs.Notes.{IsNote, cut_at}
 use Rattle.plan_claims.specs.Noted.{AreNotes, AreNotesOf, first_terms}
-use Rattle.plan_claims.specs.Rows.{total_of, row_of, IsNext}
+use Rattle.sp_cuts.specs.Stacks.{total_of}
+use Rattle.plan_claims.specs.Rows.{row_of}
 use Rattle.plan_claims.specs.Walks.{IsLeft, IsRight, AreMet, AreClaimsOf, claims_put}
-use Rattle.plan_claims.specs.Wants.{Shows, ShowsIf, AllShow, AreHanded, MeetsIf, claim_if, claim_of_wanted}
+use Rattle.plan_claims.specs.Wants.{Shows, ShowsIf, AllShow, AreHanded, MeetsIf, claim_if}
 use Rattle.plan_claims.proofs.Peaks.{top_within, start_below}
 use Rattle.plan_claims.proofs.Sides.{lt_or_le}
 use Rattle.plan_claims.proofs.Standing.{row_width, row_width_before, row_width_is, row_whole, next_there, ends_append, ends_length}
@@ -148,7 +147,7 @@ module _ (laws : LawsBelow) (t : Term) (allowed : IsAllowed t) (within : total_o
       let start = start_below laws d c in
       let b = s.below in
       let l = s.lowest in
-      record { limit = omega arith; low = omega (arith, l, (laws.between w.limit (start_of d c) (run_profile (side_of d c))).1) }
+      record { limit = omega arith; low = omega (arith, l, (laws.sides.between w.limit (start_of d c) (run_profile (side_of d c))).1) }
 
   pub limit_within : (w : Wanted) → Shows (cut_at t) w → w.limit ≤ 2 ^ 60
   limit_within w s = (ranged w s).limit
@@ -230,15 +229,15 @@ module _ (laws : LawsBelow) (ps : List Position) (m : ℕ) (terms : IsTerms ps) 
 
   module _ (root : Wanted) (todo ws : List (Option Wanted)) (w : Option Wanted) (rev : List Claim) (l : AllShow (map cut_at (row_of ps (suc m))) (todo ++ w ∷ []))
       (h : AreHanded (term_at ps m) w ws) (r : IsRight ps (suc m) root (todo ++ w ∷ []) rev) where
-    module _ (f : ℕ → Option RuleClaim) (e : map f (ends_after 0 (row_of ps m)) ≡ map claim_if (todo ++ ws)) (agree : (j : ℕ) → m < j → f j ≡ claim_at (claims_put (suc m) w ++ rev) j) where
+    module _ (f : ℕ → Option RuleClaim) (e : map f (positions_after 0 (row_of ps m)) ≡ map claim_if (todo ++ ws)) (agree : (j : ℕ) → m < j → f j ≡ claim_at (claims_put (suc m) w ++ rev) j) where
       here : f (suc m) ≡ claim_if w
       here = agree (suc m) (omega arith) ∙ put_claim (suc m) w rev r.rising
 
       record Split : Type 0 where
         before : List Term
         now_is : row_of ps (suc m) ≡ before ++ term_at ps m ∷ []
-        front : map f (ends_after 0 before) ≡ map claim_if todo
-        parts : map f (ends_after (row_width before) (parts_of (term_at ps m))) ≡ map claim_if ws
+        front : map f (positions_after 0 before) ≡ map claim_if todo
+        parts : map f (positions_after (row_width before) (parts_of (term_at ps m))) ≡ map claim_if ws
 
       split : Split
       split =
@@ -248,24 +247,24 @@ module _ (laws : LawsBelow) (ps : List Position) (m : ℕ) (terms : IsTerms ps) 
           subst (λ (l : List Cut). AllShow l (todo ++ w ∷ [])) (ap (map cut_at) x.now_is ∙ map-append cut_at x.before (t ∷ [])) l in
           let sb = (show_last (map cut_at x.before) (cut_at t) todo w s).0 in
           let zero_more : 0 + row_width x.before ≡ row_width x.before = omega arith in
-          let ends : map f (ends_after 0 (row_of ps m)) ≡ map f (ends_after 0 x.before) ++ map f (ends_after (row_width x.before) (parts_of t)) =
-          ap (λ (l : List Term). map f (ends_after 0 l)) x.was ∙ ap (map f) (ends_append 0 x.before (parts_of t)) ∙ map-append f (ends_after 0 x.before) (ends_after (0 + row_width x.before) (parts_of t))
-          ∙ ap (λ (n : ℕ). map f (ends_after 0 x.before) ++ map f (ends_after n (parts_of t))) zero_more in
-          let z = split_equal (map f (ends_after 0 x.before)) (map f (ends_after (row_width x.before) (parts_of t))) (map claim_if todo) (map claim_if ws)
-          (omega (arith, map_lengths f (ends_after 0 x.before), ends_length 0 x.before, claims_lengths todo, show_length (map cut_at x.before) todo sb, map_length x.before))
+          let ends : map f (positions_after 0 (row_of ps m)) ≡ map f (positions_after 0 x.before) ++ map f (positions_after (row_width x.before) (parts_of t)) =
+          ap (λ (l : List Term). map f (positions_after 0 l)) x.was ∙ ap (map f) (ends_append 0 x.before (parts_of t)) ∙ map-append f (positions_after 0 x.before) (positions_after (0 + row_width x.before) (parts_of t))
+          ∙ ap (λ (n : ℕ). map f (positions_after 0 x.before) ++ map f (positions_after n (parts_of t))) zero_more in
+          let z = split_equal (map f (positions_after 0 x.before)) (map f (positions_after (row_width x.before) (parts_of t))) (map claim_if todo) (map claim_if ws)
+          (omega (arith, map_lengths f (positions_after 0 x.before), ends_length 0 x.before, claims_lengths todo, show_length (map cut_at x.before) todo sb, map_length x.before))
           (sym ends ∙ e ∙ map-append claim_if todo ws) in
           record { before = x.before; now_is = x.now_is; front = z.0; parts = z.1 }
 
       wide : (s : Split) → row_width s.before + width_of (term_at ps m) ≡ suc m
       wide s = sym (row_width_before s.before (term_at ps m)) ∙ ap row_width (sym s.now_is) ∙ row_width_is ps (suc m) terms few
 
-      before_it : map f (ends_after 0 (row_of ps (suc m))) ≡ map claim_if (todo ++ w ∷ [])
+      before_it : map f (positions_after 0 (row_of ps (suc m))) ≡ map claim_if (todo ++ w ∷ [])
       before_it =
           let s = split in
           let t : Term = term_at ps m in
           let at : (0 + row_width s.before) + width_of t ≡ suc m = omega (arith, wide s) in
-          ap (λ (l : List Term). map f (ends_after 0 l)) s.now_is ∙ ap (map f) (ends_append 0 s.before (t ∷ [])) ∙ map-append f (ends_after 0 s.before) (ends_after (0 + row_width s.before) (t ∷ []))
-          ∙ ap (λ (n : ℕ). map f (ends_after 0 s.before) ++ f n ∷ []) at ∙ ap (λ (o : Option RuleClaim). map f (ends_after 0 s.before) ++ o ∷ []) here
+          ap (λ (l : List Term). map f (positions_after 0 l)) s.now_is ∙ ap (map f) (ends_append 0 s.before (t ∷ [])) ∙ map-append f (positions_after 0 s.before) (positions_after (0 + row_width s.before) (t ∷ []))
+          ∙ ap (λ (n : ℕ). map f (positions_after 0 s.before) ++ f n ∷ []) at ∙ ap (λ (o : Option RuleClaim). map f (positions_after 0 s.before) ++ o ∷ []) here
           ∙ ap (λ (l : List (Option RuleClaim)). l ++ claim_if w ∷ []) s.front ∙ sym (map-append claim_if todo (w ∷ []))
 
       met : AreMet ps (suc m) root f
@@ -275,10 +274,10 @@ module _ (laws : LawsBelow) (ps : List Position) (m : ℕ) (terms : IsTerms ps) 
       meets_it c is =
           let s = split in
           let t : Term = term_at ps m in
-          let x : MeetsRule t (map f (ends_after (row_width s.before) (parts_of t))) c =
+          let x : MeetsRule t (map f (positions_after (row_width s.before) (parts_of t))) c =
           subst (λ (ks : List (Option RuleClaim)). MeetsRule t ks c) (sym s.parts) (meets_here t (map claim_if ws) (claim_if w) c h.meets (sym here ∙ is)) in
           let start : row_width s.before ≡ suc m - width_of t = omega (arith, wide s) in
-          let y : MeetsRule t (map f (part_positions (suc m) t)) c = subst (λ (n : ℕ). MeetsRule t (map f (ends_after n (parts_of t))) c) start x in
+          let y : MeetsRule t (map f (part_positions (suc m) t)) c = subst (λ (n : ℕ). MeetsRule t (map f (positions_after n (parts_of t))) c) start x in
           let one : m ≡ suc m - 1 = omega arith in
           subst (λ (n : ℕ). MeetsRule (term_at ps n) (map f (part_positions (suc m) (term_at ps n))) c) one y
 
@@ -384,7 +383,7 @@ right_starts ps root todo claims terms e none =
       inside = λ j h. refl;
       whatever = λ f same agree. record {
         root_is =
-            let y : map f (ends_after 0 (term_of ps ∷ [])) ≡ claim_if (Some root) ∷ [] = sym (ap (λ (l : List Term). map f (ends_after 0 l)) (row_whole ps terms)) ∙ same in
+            let y : map f (positions_after 0 (term_of ps ∷ [])) ≡ claim_if (Some root) ∷ [] = sym (ap (λ (l : List Term). map f (positions_after 0 l)) (row_whole ps terms)) ∙ same in
             let n : 0 + width_of (term_of ps) ≡ length ps = omega (arith, wide) in
             ap f (sym n) ∙ head_same y;
         meet = λ j c lt le is. absurd (omega arith);

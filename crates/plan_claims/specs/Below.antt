@@ -1,39 +1,21 @@
+-- No public clause names this.
 -- The laws of the layers below that the proofs of this crate stand on.
-use Rattle.std.specs.Prelude.{◌≡◌, ℕ, ◌<◌, ◌≤◌, List}
-use Rattle.side_laws.specs.Laws.{LowestBetween, LowestAfterAll, TopAboveLevel, TopPasses, LowestOfCrossing, TopOfCrossing, LevelsOfMerge}
+use Rattle.std.specs.Prelude.{ℕ, ◌<◌, ◌≤◌, List}
 use Rattle.side_laws.specs.Levels.{level_sum, AllStart, AreLevels}
 use Rattle.side_laws.specs.Merging.{AllRising}
-use Rattle.hill_valley.specs.Laws.{RopesStay, SidesStay, ExtendsItself, ExtendsOn, ProfileOfRuns}
-use Rattle.segment_merge.specs.Laws.{ProfileOfMerge, ProfileOfCrossing}
+use Rattle.segment_merge.specs.Laws.{SideLaws}
 use Rattle.sp_terms.specs.declared.position.Position.{Position}
 use Rattle.sp_terms.specs.Postfix.{Denotes}
 use Rattle.sp_terms.specs.Term.{Term, Direction, IsAllowed}
 use Rattle.sp_terms.specs.Values.{IsTerms, term_of}
-use Rattle.cut_laws.specs.Cuts.{Cut, par_cut, top_of}
+use Rattle.cut_laws.specs.Cuts.{Cut, par_cut, top_of, starts, sides}
 use Rattle.cut_laws.specs.Names.{Names, names_of}
 use Rattle.cut_laws.specs.Standing.{StandsFor}
 use Rattle.cut_laws.specs.TermCuts.{cut_of_term}
 use Rattle.cut_laws.specs.Tops.{SomeReaches, tops}
-use Rattle.cut_laws.specs.Wanted.{starts, sides}
 use Rattle.sp_cuts.specs.Laws.{PartsStay, AllPartsStay, NumbersWithinPeak}
 
 pub record LawsBelow : Type 0 where
-  -- sides
-  pub between : LowestBetween
-  pub after_all : LowestAfterAll
-  pub above : TopAboveLevel
-  pub passes : TopPasses
-  pub crossing_lowest : LowestOfCrossing
-  pub crossing_top : TopOfCrossing
-  pub levels : LevelsOfMerge
-  -- ropes and runs
-  pub rope : RopesStay
-  pub stay : SidesStay
-  pub itself : ExtendsItself
-  pub on : ExtendsOn
-  pub profile : ProfileOfRuns
-  pub profile_merge : ProfileOfMerge
-  pub profile_crossing : ProfileOfCrossing
   -- terms
   pub denotes : (ps : List Position) → IsTerms ps → Denotes ps (term_of ps)
   -- cuts
@@ -45,3 +27,5 @@ pub record LawsBelow : Type 0 where
   pub part_stays : PartsStay
   pub parts_stay : AllPartsStay
   pub within_peak : NumbersWithinPeak
+  -- sides and ropes; last, since the laws above speak of the sides of cuts
+  pub sides : SideLaws

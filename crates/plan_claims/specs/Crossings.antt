@@ -1,9 +1,10 @@
+-- No public clause names this.
 -- What a series' side that goes over its task does, in numbers, and what is wanted of the parts.
 use Rattle.std.specs.Prelude.{◌≡◌, ℕ, ◌<◌, ◌≤◌, max, min, if◌then◌else◌, nat_lt, Option, Some, None}
 use Rattle.sp_terms.specs.Term.{Direction}
 use Rattle.sp_term_laws.specs.Moves.{other}
 use Rattle.plan_text.specs.Plan.{direction_of}
-use Rattle.cut_laws.specs.Cuts.{Cut, top_of, lowest_of, start_of}
+use Rattle.cut_laws.specs.Cuts.{Cut, top_of, lowest_of}
 use Rattle.plan_claims.specs.declared.notes.Wanted.{Wanted}
 use Rattle.plan_claims.specs.Wants.{ShowsIf}
 

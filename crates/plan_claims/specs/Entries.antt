@@ -1,5 +1,7 @@
+-- No public clause names this.
 -- Parts on a stack, with the peaks of both of their sides.
-use Rattle.std.specs.Prelude.{◌≡◌, ℕ, ◌+◌, Bool, List, [], ◌∷◌, ⊤}
+use Rattle.std.specs.Prelude.{◌≡◌, ℕ, Bool, List, map, sum_by}
+use Rattle.std.specs.List.{AllByRecursion}
 use Rattle.cut_laws.specs.Cuts.{Cut, front_peak, back_peak, series_cut}
 use Rattle.sp_cuts.specs.Parts.{cut_of, IsPart}
 use Rattle.plan_claims.specs.declared.entries.Entry.{Entry}
@@ -14,17 +16,14 @@ pub record IsEntry (lists : List (List ℕ)) (e : Entry) : Type 0 where
   pub back_is : e.back_top ≡ back_peak (cut_of lists e.part)
 
 abbrev pub AreEntries : List (List ℕ) → List Entry → Type 0
-AreEntries lists [] = ⊤
-AreEntries lists (e ∷ es) = IsEntry lists e × AreEntries lists es
+AreEntries lists es = AllByRecursion (IsEntry lists) es
 
 abbrev pub entry_cuts : List (List ℕ) → List Entry → List Cut
-entry_cuts lists [] = []
-entry_cuts lists (e ∷ es) = cut_of lists e.part ∷ entry_cuts lists es
+entry_cuts lists es = map (λ e. cut_of lists e.part) es
 
 -- the sum of their peaks
 abbrev pub entry_peaks : List Entry → ℕ
-entry_peaks [] = 0
-entry_peaks (e ∷ es) = e.part.peak + entry_peaks es
+entry_peaks es = sum_by (λ e. e.part.peak) es
 
 -- the entry of a series of these cuts, and what is noted of it
 pub record IsSeriesOf (lists : List (List ℕ)) (a b : Cut) (hill : ℕ) (e : Entry) (n : SeriesNote) : Type 0 where

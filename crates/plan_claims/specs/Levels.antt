@@ -1,8 +1,9 @@
+-- No public clause names this.
 -- The levels at which parts side by side are stuck, from what was noted of them, and what is wanted of the parts.
 use Rattle.std.specs.Prelude.{ℕ, ◌-◌, if◌then◌else◌, nat_lt, nat_le, List, [], ◌∷◌, Option, Some, None}
 use Rattle.side_laws.specs.Segments.{Segment}
 use Rattle.hill_valley.specs.declared.side.Seg.{Seg}
-use Rattle.hill_valley.specs.Sides.{profile}
+use Rattle.hill_valley.specs.Side.{profile}
 use Rattle.sp_terms.specs.Term.{Direction, forward, backward}
 use Rattle.plan_text.specs.Plan.{direction_of}
 use Rattle.plan_claims.specs.declared.notes.PartNote.{PartNote}

@@ -1,12 +1,12 @@
+-- No public clause names this.
 -- What is noted of a position: the peaks and levels of the cuts of its term's parts, and as much of their sides as claims may ask for.
-use Rattle.std.specs.Prelude.{◌≡◌, ℕ, ◌+◌, ◌-◌, ◌<◌, ◌≤◌, Bool, true, if◌then◌else◌, List, [], ◌∷◌, ◌++◌, map, ◌⊎◌, ⊤}
+use Rattle.std.specs.Prelude.{◌≡◌, ℕ, ◌+◌, ◌-◌, ◌<◌, ◌≤◌, true, if◌then◌else◌, List, [], ◌∷◌, ◌++◌, map, ◌⊎◌, ⊤}
+use Rattle.std.specs.List.{AllZip}
 use Rattle.side_laws.specs.Segments.{Segment, net_sum}
-use Rattle.hill_valley.specs.declared.side.Seg.{Seg}
-use Rattle.hill_valley.specs.Sides.{profile, run_profile}
+use Rattle.hill_valley.specs.Side.{profile, run_profile}
 use Rattle.sp_terms.specs.Term.{Term, hold, series, par, Parts, no_parts, part, Direction, forward, backward, hill_of}
 use Rattle.sp_terms.specs.Places.{list_of_parts}
 use Rattle.sp_term_laws.specs.Moves.{other}
-use Rattle.plan_text.specs.declared.claim.Dir.{Dir}
 use Rattle.plan_text.specs.declared.claim.Dir.TheVariants.{F, R}
 use Rattle.cut_laws.specs.Cuts.{Cut, front_peak, back_peak, side_of, start_of, top_of}
 use Rattle.cut_laws.specs.Names.{Names, NamesOfParts}
@@ -68,10 +68,7 @@ pub record IsPartNote (c : Cut) (n : PartNote) : Type 0 where
   pub back_is : n.read ≡ true → profile n.back.items ≡ run_profile c.back
 
 abbrev pub ArePartNotes : List Cut → List PartNote → Type 0
-ArePartNotes [] [] = ⊤
-ArePartNotes [] (n ∷ ns) = ⊥
-ArePartNotes (c ∷ cs) [] = ⊥
-ArePartNotes (c ∷ cs) (n ∷ ns) = IsPartNote c n × ArePartNotes cs ns
+ArePartNotes cs ns = AllZip IsPartNote cs ns
 
 -- how many parts were not read
 abbrev pub unread : List PartNote → ℕ

@@ -1,12 +1,14 @@
+-- No public clause names this.
 -- The walk from the last position down: what is left to do, and what is done.
 use Rattle.std.specs.Prelude.{◌≡◌, ℕ, ◌+◌, ◌<◌, ◌≤◌, pos, ◌-ℤ◌, All, List, [], ◌∷◌, length, map, Option, Some, None}
+use Rattle.limits.specs.Limits.{most_positions}
 use Rattle.sp_terms.specs.declared.position.Position.{Position}
-use Rattle.sp_terms.specs.Places.{ends_after}
+use Rattle.sp_terms.specs.Places.{positions_after}
 use Rattle.claim_rules.specs.Claims.{Claim as RuleClaim}
 use Rattle.claim_rules.specs.Placed.{MeetsAt}
 use Rattle.plan_text.specs.declared.claim.Claim.{Claim}
 use Rattle.plan_text.specs.Plan.{claim_at, IsClaimWithin, RiseFrom}
-use Rattle.claim_check.specs.Judged.{Passes}
+use Rattle.claim_check.specs.Judged.{PassesAt}
 use Rattle.plan_claims.specs.declared.notes.Note.{Note}
 use Rattle.plan_claims.specs.declared.notes.Wanted.{Wanted}
 use Rattle.plan_claims.specs.Notes.{cut_at}
@@ -36,13 +38,13 @@ pub record IsRight (ps : List Position) (k : ℕ) (root : Wanted) (todo : List (
   pub rising : RiseFrom k claims
   -- no claim stands behind the last position
   pub inside : (j : ℕ) → length ps < j → claim_at claims j ≡ None
-  pub whatever : (f : ℕ → Option RuleClaim) → map f (ends_after 0 (row_of ps k)) ≡ map claim_if todo
+  pub whatever : (f : ℕ → Option RuleClaim) → map f (positions_after 0 (row_of ps k)) ≡ map claim_if todo
       → ((j : ℕ) → k < j → f j ≡ claim_at claims j) → AreMet ps k root f
 
 -- the claims of all positions
 pub record AreClaimsOf (ps : List Position) (root : Wanted) (claims : List Claim) : Type 0 where
-  pub few : length claims ≤ 4000001
+  pub few : length claims ≤ most_positions
   pub within : All IsClaimWithin claims
   pub rising : RiseFrom 0 claims
-  pub pass : (k : ℕ) → Passes ps (claim_at claims) k
+  pub pass : (k : ℕ) → PassesAt ps (claim_at claims) k
   pub root_is : claim_at claims (length ps) ≡ Some (claim_of_wanted root)

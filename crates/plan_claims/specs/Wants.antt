@@ -1,18 +1,19 @@
+-- No public clause names this.
 -- What is wanted of a term and of its parts.
-use Rattle.std.specs.Prelude.{◌≡◌, ℕ, ◌≤◌, List, [], ◌∷◌, map, Option, Some, None, ⊤}
+use Rattle.std.specs.Prelude.{◌≡◌, ◌≤◌, pos, ◌-ℤ◌, List, map, Option, Some, None, ⊤}
+use Rattle.std.specs.List.{AllZip}
 use Rattle.sp_terms.specs.Places.{parts_of}
 use Rattle.sp_terms.specs.Term.{Term}
 use Rattle.claim_rules.specs.Claims.{Claim}
 use Rattle.claim_rules.specs.Rules.{MeetsRule}
 use Rattle.plan_text.specs.Plan.{direction_of}
 use Rattle.cut_laws.specs.Cuts.{Cut, top_of, lowest_of}
-use Rattle.cut_laws.specs.Wanted.{claim_below}
 use Rattle.plan_claims.specs.declared.notes.Wanted.{Wanted}
 use Rattle.plan_claims.specs.Notes.{cut_at}
 
--- what is wanted, as a claim
+-- what is wanted, as a claim: its bound is the greatest below the limit
 abbrev pub claim_of_wanted : Wanted → Claim
-claim_of_wanted w = claim_below (direction_of w.dir) w.limit w.low
+claim_of_wanted w = record { direction = direction_of w.dir; bound = pos w.limit -ℤ pos 1; rest = w.low }
 
 abbrev pub claim_if : Option Wanted → Option Claim
 claim_if None = None
@@ -28,10 +29,7 @@ ShowsIf c None = ⊤
 ShowsIf c (Some w) = Shows c w
 
 abbrev pub AllShow : List Cut → List (Option Wanted) → Type 0
-AllShow [] [] = ⊤
-AllShow [] (w ∷ ws) = ⊥
-AllShow (c ∷ cs) [] = ⊥
-AllShow (c ∷ cs) (w ∷ ws) = ShowsIf c w × AllShow cs ws
+AllShow cs ws = AllZip ShowsIf cs ws
 
 -- a claim, if there is one, meets the rule over these claims of the parts
 abbrev pub MeetsIf : Term → List (Option Claim) → Option Claim → Type 0
@@ -45,5 +43,4 @@ pub record AreHanded (t : Term) (w : Option Wanted) (ws : List (Option Wanted)) 
 
 -- nothing is wanted of any of these
 abbrev pub none_each : {A : Type 0} → List A → List (Option Wanted)
-none_each [] = []
-none_each (x ∷ xs) = None ∷ none_each xs
+none_each xs = map (λ _. None) xs

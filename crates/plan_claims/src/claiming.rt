@@ -1,18 +1,18 @@
 //! The claims of a plan: the second pass, from the last position down.
 
 ghost use Rattle.std.specs.Prelude.{◌≡◌, ◌+◌, ◌-◌, ◌<◌, ◌≤◌, ◌++◌, [], ◌∷◌, ℕ, pos, ◌≤ℤ◌, ◌+ℤ◌, max, length, reverse, All, List, Some, IfOk, IfSome, OnOk};
+ghost use Rattle.limits.specs.Limits.{most_positions, most_total};
 ghost use Rattle.mp_system.specs.Traversal.{IsLeast};
 ghost use Rattle.sp_terms.specs.SystemOfTerm.{system_of_term};
 ghost use Rattle.sp_terms.specs.Values.{term_of};
 ghost use Rattle.claim_rules.specs.Claims.{Claim as RuleClaim};
 ghost use Rattle.plan_text.specs.Plan.{claim_at, IsClaimWithin, RiseFrom};
-ghost use Rattle.claim_check.specs.Judged.{Passes};
+ghost use Rattle.claim_check.specs.Judged.{PassesAt};
 ghost use Rattle.plan_claims.specs.declared.notes.Wanted.{Wanted};
 ghost use Rattle.plan_claims.specs.Entries.{IsEntry};
 ghost use Rattle.plan_claims.specs.Notes.{cut_at};
 ghost use Rattle.plan_claims.specs.Noted.{AreNotesOf};
 ghost use Rattle.plan_claims.specs.Wants.{Shows};
-ghost use Rattle.hill_valley.specs.Sides.{greatest_memory};
 ghost use Rattle.sp_cuts.specs.Parts.{cut_of};
 ghost use Rattle.plan_claims.specs.Walks.{AreClaimsOf, IsLeft, IsRight, claims_put};
 
@@ -43,11 +43,11 @@ pub fn claims_of<L: Ledger>(
 ) -> Result<Vec<Claim>, NoMemory>
     requires least { IsLeast (system_of_term (term_of terms.now)) plan.now.peak }
     // what a plan file asks of its claims
-    ensures few { IfOk result (λ claims. length claims.items ≤ 4000001) }
+    ensures few { IfOk result (λ claims. length claims.items ≤ most_positions) }
     ensures within { IfOk result (λ claims. All IsClaimWithin claims.items) }
     ensures rising { IfOk result (λ claims. RiseFrom 0 claims.items) }
     // what the judge of claims asks of them
-    ensures pass { IfOk result (λ claims. (k : ℕ) → Passes terms.now (claim_at claims.items) k) }
+    ensures pass { IfOk result (λ claims. (k : ℕ) → PassesAt terms.now (claim_at claims.items) k) }
     ensures root { IfOk result (λ claims. (c : RuleClaim) × (claim_at claims.items (length terms.now) ≡ Some c) × (pos plan.now.peak ≤ℤ (c.bound +ℤ pos 1))) }
 {
     below();
@@ -95,7 +95,6 @@ fn claims_from(
     requires root { Shows (cut_at (term_of terms.now)) root }
     ensures claims { IfOk result (λ claims. AreClaimsOf terms.now root claims.items) }
 {
-    below();
     let mut notes = notes;
     let mut todo = Vec::new(alloc);
     todo.push(Some(root))?;
@@ -125,11 +124,12 @@ fn claim_at_position(
 {
     below();
     let _positions = terms.len();
-    if let Some(note) = notes.pop() {
-        let wanted = last_wanted(todo);
-        put_claim(position, wanted, claims)?;
-        hand_down(&note, wanted, todo)?;
-    }
+    let Some(note) = notes.pop() else {
+        unreachable!()
+    };
+    let wanted = last_wanted(todo);
+    put_claim(position, wanted, claims)?;
+    hand_down(&note, wanted, todo)?;
     Ok(())
 }
 
@@ -140,12 +140,12 @@ fn last_wanted(todo: &mut Vec<Option<Wanted>>) -> Option<Wanted>
 {
     match todo.pop() {
         Some(wanted) => wanted,
-        None => None,
+        None => unreachable!(),
     }
 }
 
 fn put_claim(position: u32, wanted: Option<Wanted>, claims: &mut Vec<Claim>) -> Result<(), NoMemory>
-    requires { IfSome wanted (λ w. w.limit ≤ greatest_memory) }
+    requires { IfSome wanted (λ w. w.limit ≤ most_total) }
     ensures { OnOk result (claims.new.items ≡ claims.old.items ++ claims_put position wanted) }
 {
     if let Some(wanted) = wanted {

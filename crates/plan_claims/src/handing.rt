@@ -2,7 +2,7 @@
 
 ghost use Rattle.std.specs.Prelude.{◌≡◌, ℕ, ◌-◌, ◌++◌, if◌then◌else◌, nat_lt, true, false, [], ◌∷◌, List, Option, Some, None, OnOk};
 ghost use Rattle.side_laws.specs.Segments.{lowest};
-ghost use Rattle.hill_valley.specs.Sides.{profile};
+ghost use Rattle.hill_valley.specs.Side.{profile};
 ghost use Rattle.mp_system.specs.declared.system.Task.{Task};
 ghost use Rattle.sp_terms.specs.Term.{Term, Direction, series, hill_of, IsAllowed};
 ghost use Rattle.sp_term_laws.specs.Moves.{other};

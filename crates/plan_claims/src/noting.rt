@@ -1,26 +1,26 @@
 //! The first pass: the cut of each term, and what the claims need of it.
 
-ghost use Rattle.std.specs.Prelude.{◌≡◌, ◌+◌, ◌-◌, ◌<◌, ◌≤◌, ℕ, true, false, List, length, IfOk, OnOk};
-ghost use Rattle.mp_system.specs.declared.system.Task.{Task};
+ghost use Rattle.std.specs.Prelude.{◌≡◌, ◌<◌, ◌≤◌, ℕ, true, false, List, length, sum_by, IfOk, OnOk};
 ghost use Rattle.hill_valley.specs.Ropes.{Extends};
-ghost use Rattle.hill_valley.specs.Sides.{greatest_memory};
+ghost use Rattle.limits.specs.Limits.{most_total};
 ghost use Rattle.sp_terms.specs.Term.{Term, series, par, Parts, count, IsAllowed};
 ghost use Rattle.sp_terms.specs.Places.{IsTermAt};
 ghost use Rattle.sp_terms.specs.Values.{term_of};
 ghost use Rattle.cut_laws.specs.Cuts.{hold_cut};
-ghost use Rattle.sp_cuts.specs.Parts.{cut_of, cuts_of, AreParts, sum_of_peaks};
+ghost use Rattle.sp_cuts.specs.Parts.{cut_of, cuts_of, AreParts, hill_between, CanJoin};
 ghost use Rattle.plan_claims.specs.Entries.{IsEntry, AreEntries, entry_cuts, entry_peaks, IsSeriesOf, IsNotedPart};
 ghost use Rattle.plan_claims.specs.Notes.{ArePartNotes, unread, cut_at};
 ghost use Rattle.plan_claims.specs.Noted.{AreNotesOf, IsReady, IsDone};
 
 use crate::NoMemory;
 use crate::entries::Entry;
+use crate::first_segments::{read_back, read_front};
 use crate::laws::below;
 use crate::notes::{Note, PartNote, SeriesNote};
-use crate::reading::{read_back, read_front};
 use hill_valley::Ropes;
+use mp_system::Task;
 use plan_text::Dir;
-use sp_cuts::{Part, hold, parallel, series};
+use sp_cuts::{Part, hill_between, hold, parallel, series};
 use sp_terms::{Position, Terms};
 use std::alloc::Global;
 use std::sync::ledger::Ledger;
@@ -43,7 +43,6 @@ pub(crate) fn note_terms<L: Ledger>(
     ensures whole { IfOk result (λ n. IsEntry n.ropes n.whole) }
     ensures cut { IfOk result (λ n. cut_of n.ropes n.whole.part ≡ cut_at (term_of terms.now)) }
 {
-    below();
     let mut ropes = Ropes::new(alloc);
     let mut stack = Vec::new(alloc);
     let mut notes = Vec::new(alloc);
@@ -86,8 +85,8 @@ fn note_position<L: Ledger>(
             stack.push(hold_entry(alloc, size))?;
             Ok(Note::Data)
         }
-        Position::Task { extra, share, .. } => {
-            let note = note_task(alloc, extra, share, stack, ropes)?;
+        Position::Task { extra, share, time } => {
+            let note = note_task(alloc, Task { extra, share, time }, stack, ropes, steps)?;
             Ok(note)
         }
         Position::Par(many) => {
@@ -98,7 +97,7 @@ fn note_position<L: Ledger>(
 }
 
 fn hold_entry(alloc: Global, size: u64) -> Entry
-    requires size { size ≤ greatest_memory }
+    requires size { size ≤ most_total }
     ensures entry { (lists : List (List ℕ)) → IsEntry lists result }
     ensures cut { (lists : List (List ℕ)) → cut_of lists result.part ≡ hold_cut size }
 {
@@ -110,24 +109,24 @@ fn hold_entry(alloc: Global, size: u64) -> Entry
 }
 
 // The task of a series of the two terms on top.
-fn note_task(
+fn note_task<L: Ledger>(
     alloc: Global,
-    extra: u64,
-    share: u64,
+    task: Task,
     stack: &mut Vec<Entry>,
     ropes: &mut Ropes,
+    steps: &mut Steps<L>,
 ) -> Result<Note, NoMemory>
     requires entries { AreEntries ropes.old stack.old.items }
-    requires ready { (a : Term) × (v : Task) × (b : Term) × (v.extra ≡ extra) × (v.share ≡ share) × IsReady ropes.old stack.old.items (series a v b) }
+    requires ready { (a : Term) × (b : Term) × IsReady ropes.old stack.old.items (series a task b) }
     ensures entries { OnOk result (AreEntries ropes.new stack.new.items) }
-    ensures done { IfOk result (λ n. (a : Term) (v : Task) (b : Term) → v.extra ≡ extra → v.share ≡ share → IsAllowed (series a v b)
-        → IsDone ropes.old ropes.new stack.old.items stack.new.items (series a v b) n) }
+    ensures done { IfOk result (λ n. (a b : Term) → IsAllowed (series a task b)
+        → IsDone ropes.old ropes.new stack.old.items stack.new.items (series a task b) n) }
     ensures kept { Extends ropes.old ropes.new }
 {
     below();
     if let Some(b) = stack.pop() {
         if let Some(a) = stack.pop() {
-            let made = note_series(alloc, a, b, extra, share, ropes)?;
+            let made = note_series(alloc, a, task, b, ropes, steps)?;
             stack.push(made.entry)?;
             return Ok(Note::Series(made.note));
         }
@@ -142,57 +141,51 @@ struct Made {
     note: SeriesNote,
 }
 
-fn note_series(
+fn note_series<L: Ledger>(
     alloc: Global,
     a: Entry,
+    task: Task,
     b: Entry,
-    extra: u64,
-    share: u64,
     ropes: &mut Ropes,
+    steps: &mut Steps<L>,
 ) -> Result<Made, NoMemory>
     requires a { IsEntry ropes.old a }
     requires b { IsEntry ropes.old b }
-    requires inputs { share ≤ a.part.fin }
-    requires outputs { share ≤ extra + b.part.initial }
-    requires hill { a.part.fin + ((extra + b.part.initial) - share) ≤ greatest_memory }
-    requires extra { extra ≤ greatest_memory }
-    ensures made { let hill = a.part.fin + ((extra + b.part.initial) - share) in
-        IfOk result (λ m. IsSeriesOf ropes.new (cut_of ropes.old a.part) (cut_of ropes.old b.part) hill m.entry m.note) }
+    requires joins { CanJoin a.part task b.part }
+    ensures made { IfOk result (λ m.
+        IsSeriesOf ropes.new (cut_of ropes.old a.part) (cut_of ropes.old b.part) (hill_between a.part task b.part) m.entry m.note) }
     ensures kept { Extends ropes.old ropes.new }
 {
     if a.part.least <= b.part.least {
-        note_first(alloc, a, b, extra, share, ropes)
+        note_first(alloc, a, task, b, ropes, steps)
     } else {
-        note_second(alloc, a, b, extra, share, ropes)
+        note_second(alloc, a, task, b, ropes, steps)
     }
 }
 
 // The cut lies in the first part: backwards, the way goes over the second part's front.
-fn note_first(
+fn note_first<L: Ledger>(
     alloc: Global,
     a: Entry,
+    task: Task,
     b: Entry,
-    extra: u64,
-    share: u64,
     ropes: &mut Ropes,
+    steps: &mut Steps<L>,
 ) -> Result<Made, NoMemory>
     requires a { IsEntry ropes.old a }
     requires b { IsEntry ropes.old b }
-    requires inputs { share ≤ a.part.fin }
-    requires outputs { share ≤ extra + b.part.initial }
-    requires hill { a.part.fin + ((extra + b.part.initial) - share) ≤ greatest_memory }
-    requires extra { extra ≤ greatest_memory }
+    requires joins { CanJoin a.part task b.part }
     requires least { a.part.least ≤ b.part.least }
-    ensures made { let hill = a.part.fin + ((extra + b.part.initial) - share) in
-        IfOk result (λ m. IsSeriesOf ropes.new (cut_of ropes.old a.part) (cut_of ropes.old b.part) hill m.entry m.note) }
+    ensures made { IfOk result (λ m.
+        IsSeriesOf ropes.new (cut_of ropes.old a.part) (cut_of ropes.old b.part) (hill_between a.part task b.part) m.entry m.note) }
     ensures kept { Extends ropes.old ropes.new }
 {
     below();
-    let hill = a.part.fin + (extra + b.part.initial - share);
+    let hill = hill_between(&a.part, &task, &b.part);
     let (least, between_start, far_start) = (b.part.least, b.part.initial, a.part.fin);
     let near = read_front(alloc, b.part, 0, ropes)?;
     let far = read_back(alloc, a.part, least + 1, ropes)?;
-    let part = series(far.part, 0, extra, share, near.part, ropes)?;
+    let part = series(far.part, 0, task, near.part, ropes, steps)?;
     Ok(Made {
         entry: Entry {
             part,
@@ -214,31 +207,28 @@ fn note_first(
 }
 
 // The cut lies in the second part: forwards, the way goes over the first part's back.
-fn note_second(
+fn note_second<L: Ledger>(
     alloc: Global,
     a: Entry,
+    task: Task,
     b: Entry,
-    extra: u64,
-    share: u64,
     ropes: &mut Ropes,
+    steps: &mut Steps<L>,
 ) -> Result<Made, NoMemory>
     requires a { IsEntry ropes.old a }
     requires b { IsEntry ropes.old b }
-    requires inputs { share ≤ a.part.fin }
-    requires outputs { share ≤ extra + b.part.initial }
-    requires hill { a.part.fin + ((extra + b.part.initial) - share) ≤ greatest_memory }
-    requires extra { extra ≤ greatest_memory }
+    requires joins { CanJoin a.part task b.part }
     requires least { b.part.least < a.part.least }
-    ensures made { let hill = a.part.fin + ((extra + b.part.initial) - share) in
-        IfOk result (λ m. IsSeriesOf ropes.new (cut_of ropes.old a.part) (cut_of ropes.old b.part) hill m.entry m.note) }
+    ensures made { IfOk result (λ m.
+        IsSeriesOf ropes.new (cut_of ropes.old a.part) (cut_of ropes.old b.part) (hill_between a.part task b.part) m.entry m.note) }
     ensures kept { Extends ropes.old ropes.new }
 {
     below();
-    let hill = a.part.fin + (extra + b.part.initial - share);
+    let hill = hill_between(&a.part, &task, &b.part);
     let (least, between_start, far_start) = (a.part.least, a.part.fin, b.part.initial);
     let near = read_back(alloc, a.part, 0, ropes)?;
     let far = read_front(alloc, b.part, least + 1, ropes)?;
-    let part = series(near.part, 0, extra, share, far.part, ropes)?;
+    let part = series(near.part, 0, task, far.part, ropes, steps)?;
     Ok(Made {
         entry: Entry {
             part,
@@ -320,7 +310,7 @@ fn note_parts(
     requires entries { AreEntries ropes.old entries.items }
     ensures parts { IfOk result (λ n. AreParts ropes.new n.parts.items) }
     ensures cuts { IfOk result (λ n. cuts_of ropes.new n.parts.items ≡ entry_cuts ropes.old entries.items) }
-    ensures peaks { IfOk result (λ n. sum_of_peaks n.parts.items ≡ entry_peaks entries.items) }
+    ensures peaks { IfOk result (λ n. sum_by (λ p. p.peak) n.parts.items ≡ entry_peaks entries.items) }
     ensures notes { IfOk result (λ n. ArePartNotes (entry_cuts ropes.old entries.items) n.notes.items) }
     ensures one { IfOk result (λ n. unread n.notes.items ≤ 1) }
     ensures kept { Extends ropes.old ropes.new }

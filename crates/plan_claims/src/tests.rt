@@ -3,7 +3,6 @@
 ghost use Rattle.std.specs.Prelude.{◌≡◌, ◌<◌};
 ghost use Rattle.sp_terms.specs.Builder.{IsPosition};
 
-use crate::laws::below;
 use crate::{NoMemory, claims_of};
 use claim_check::{Verdict, check};
 use mp_outside::NoGate;
@@ -30,8 +29,6 @@ fn certify<L: Ledger>(alloc: Global, blank: Blank, terms: &Terms) -> Result<Cert
     requires parts { blank.parts ≡ L.parts }
     requires some { 0 < blank.parts }
 {
-    below();
-    let _positions = terms.len();
     let mut steps = Steps::<L>::new(blank);
     let plan = plan_terms(alloc, terms, &mut steps)?;
     let claims = claims_of(alloc, terms, &plan, &mut steps)?;

@@ -1,13 +1,15 @@
 -- The numbers of the cut of a term, and how many segments it has.
-use Rattle.std.proofs.Common.{◌≡◌, ℕ, ◌+◌, ◌-◌, ◌≤◌, max, leb, cond, Bool, true, false, List, [], ◌∷◌, ◌++◌, refl, arith, length}
+use Rattle.std.proofs.Common.{◌≡◌, ℕ, ◌+◌, ◌-◌, ◌≤◌, max, leb, cond, Bool, true, false, List, [], ◌∷◌, ◌++◌, refl, ap, arith, length}
+use Rattle.std.specs.List.{sum_by}
+use Rattle.std.proofs.lemmas.List.Sums.{sum_by-cons}
 use Rattle.std.proofs.lemmas.Bool.Decides.{nat_tests}
 use Rattle.std.proofs.lemmas.Grind.{common_steps}
 use Rattle.sp_terms.specs.Term.{Term, hold, series, par, Parts, no_parts, part, initial_of, final_of, first_memory_of_parts, hill_of, forward, backward}
 use Rattle.sp_terms.specs.SystemOfTerm.{task_count, task_count_of_parts}
-use Rattle.hill_valley.specs.Sides.{Run, append_run, insert_run}
+use Rattle.hill_valley.specs.Side.{Run, append_run, insert_run}
 use Rattle.segment_merge.specs.Merging.{insert_runs, merge_runs}
 use Rattle.segment_merge.specs.Crossing.{append_runs, hill_run, cross_hill_runs}
-use Rattle.cut_laws.specs.Cuts.{Cut, cut_first, cut_second, series_cut, par_cut, over_task, front_peak, back_peak, fronts, backs, sum_initial, sum_fin}
+use Rattle.cut_laws.specs.Cuts.{Cut, cut_first, cut_second, series_cut, par_cut, over_task, front_peak, back_peak, fronts, backs}
 use Rattle.cut_laws.specs.Names.{Names, NamesOfParts}
 use Rattle.cut_laws.specs.TermCuts.{cut_of_term, cuts_of_parts}
 
@@ -33,9 +35,9 @@ mutual
   cut_initial (series a v b) (na, x, nb) = omega (arith, series_initial (cut_of_term a na) x (hill_of a v b) (cut_of_term b nb), cut_initial a na)
   cut_initial (par ts) ns = cuts_initial ts ns
 
-  cuts_initial : (ts : Parts) (ns : NamesOfParts ts) → sum_initial (cuts_of_parts ts ns) ≡ first_memory_of_parts forward ts
+  cuts_initial : (ts : Parts) (ns : NamesOfParts ts) → sum_by (λ c. c.initial) (cuts_of_parts ts ns) ≡ first_memory_of_parts forward ts
   cuts_initial no_parts ns = refl
-  cuts_initial (part t ts) (n, ns) = omega (arith, cut_initial t n, cuts_initial ts ns)
+  cuts_initial (part t ts) (n, ns) = omega (arith, cut_initial t n, cuts_initial ts ns, sum_by-cons (λ (c : Cut). c.initial) (cut_of_term t n) (cuts_of_parts ts ns))
 
 mutual
   pub cut_fin : (t : Term) (n : Names t) → (cut_of_term t n).fin ≡ final_of t
@@ -43,9 +45,9 @@ mutual
   cut_fin (series a v b) (na, x, nb) = omega (arith, series_fin (cut_of_term a na) x (hill_of a v b) (cut_of_term b nb), cut_fin b nb)
   cut_fin (par ts) ns = cuts_fin ts ns
 
-  cuts_fin : (ts : Parts) (ns : NamesOfParts ts) → sum_fin (cuts_of_parts ts ns) ≡ first_memory_of_parts backward ts
+  cuts_fin : (ts : Parts) (ns : NamesOfParts ts) → sum_by (λ c. c.fin) (cuts_of_parts ts ns) ≡ first_memory_of_parts backward ts
   cuts_fin no_parts ns = refl
-  cuts_fin (part t ts) (n, ns) = omega (arith, cut_fin t n, cuts_fin ts ns)
+  cuts_fin (part t ts) (n, ns) = omega (arith, cut_fin t n, cuts_fin ts ns, sum_by-cons (λ (c : Cut). c.fin) (cut_of_term t n) (cuts_of_parts ts ns))
 
 -- ---- how many segments
 
@@ -56,6 +58,9 @@ length_append_run : (r : Run) (es : List Run) → length (append_run r es) ≤ l
 length_append_run r [] = omega arith
 length_append_run r (s ∷ []) = let h = length_appended_last r s in omega arith
 length_append_run r (s ∷ e ∷ es) = let h = length_append_run r (e ∷ es) in omega arith
+
+pub one_longer : (r : Run) (es es' : List Run) → es' ≡ append_run r es → length es' ≤ length es + 1
+one_longer r es es' e = omega (arith, ap (length {A = Run}) e, length_append_run r es)
 
 length_append_runs : (far near : List Run) → length (append_runs far near) ≤ length far + length near
 length_append_runs [] near = omega arith

@@ -1,13 +1,13 @@
 -- What holds on the way along a side, over a hill.
-use Rattle.std.proofs.Common.{◌≡◌, ℕ, ◌+◌, ◌-◌, ◌<◌, ◌≤◌, ◌^◌, max, List, [], ◌∷◌, ◌++◌, refl, ap, sym, ◌∙◌, arith}
+use Rattle.std.proofs.Common.{◌≡◌, ℕ, ◌+◌, ◌-◌, ◌<◌, ◌≤◌, ◌^◌, max, List, [], ◌∷◌, ◌++◌, refl, ap, sym, ◌∙◌, arith, length}
 use Rattle.std.proofs.lemmas.Bool.Decides.{nat_tests}
 use Rattle.side_laws.specs.Segments.{net_sum, top}
 use Rattle.hill_valley.specs.declared.ropes.Rope.{Rope}
 use Rattle.hill_valley.specs.declared.side.Seg.{Seg}
 use Rattle.hill_valley.specs.Ropes.{list_of, IsRope, Extends}
-use Rattle.hill_valley.specs.Sides.{profile, HaveRopes, Run, run_of, runs_of, append_run}
+use Rattle.hill_valley.specs.Side.{profile, HaveRopes, Run, run_of, runs_of, append_run}
 use Rattle.segment_merge.specs.Crossing.{append_runs, hill_run, cross_hill_runs}
-use Rattle.sp_cuts.specs.Below.{LawsBelow}
+use Rattle.segment_merge.specs.Laws.{SideLaws}
 
 -- `far` is left of far0, and the others belong to the hill
 pub record Going (end : ℕ) (ropes0 ropes : List (List ℕ)) (far0 far : List Seg) (hill0 level0 : ℕ) (tasks0 : Rope) (hill level : ℕ) (tasks : Rope) : Type 0 where
@@ -20,6 +20,7 @@ pub record Going (end : ℕ) (ropes0 ropes : List (List ℕ)) (far0 far : List S
   pub rises : end ≤ hill
   pub high : top level (profile far) ≤ 2 ^ 60
   pub within : hill ≤ 2 ^ 60
+  pub fewer : length far ≤ length far0
 
 -- the next run belongs to the hill
 on_is : (end hill level : ℕ) (ts : List ℕ) (s : Run) (far near : List Run) → end < level → cross_hill_runs end hill level ts (s ∷ far) near ≡ cross_hill_runs end (max hill (level + s.up)) (level - s.net) (ts ++ s.tasks) far near
@@ -30,10 +31,10 @@ stop_is : (end hill level : ℕ) (ts : List ℕ) (far near : List Run) → level
 stop_is end hill level ts [] near h = refl
 stop_is end hill level ts (s ∷ far) near h = grind (arith, nat_tests)
 
-module _ (laws : LawsBelow) (end : ℕ) where
+module _ (laws : SideLaws) (end : ℕ) where
   pub going_starts : (ropes : List (List ℕ)) (far : List Seg) (hill level : ℕ) (tasks : Rope) → HaveRopes ropes far → IsRope ropes tasks → net_sum (profile far) ≤ level → level ≤ end + net_sum (profile far) → end ≤ hill
       → top level (profile far) ≤ 2 ^ 60 → hill ≤ 2 ^ 60 → Going end ropes ropes far far hill level tasks hill level tasks
-  going_starts ropes far hill level tasks f r a b c d e = record { told = λ near. refl; far_ropes = f; rope = r; kept = laws.itself ropes; room = a; falls = b; rises = c; high = d; within = e }
+  going_starts ropes far hill level tasks f r a b c d e = record { told = λ near. refl; far_ropes = f; rope = r; kept = laws.runs.itself ropes; room = a; falls = b; rises = c; high = d; within = e; fewer = omega arith }
 
   module _ (ropes0 ropes : List (List ℕ)) (far0 far rest : List Seg) (hill0 level0 : ℕ) (tasks0 : Rope) (hill level : ℕ) (tasks : Rope) (s : Seg)
       (m : Going end ropes0 ropes far0 far hill0 level0 tasks0 hill level tasks) (first : far ≡ s ∷ rest) where
@@ -49,7 +50,7 @@ module _ (laws : LawsBelow) (end : ℕ) where
         let h = rw first at m.high in
         let ri = m.rises in
         let wi = m.within in
-        let stay = laws.stay ropes ropes' rest r.1 kept in
+        let stay = laws.runs.stay ropes ropes' rest r.1 kept in
         record {
           told = λ near.
               ap (λ (k : ℕ). cross_hill_runs end k (level - s.net) (list_of ropes' tasks') (runs_of ropes' rest) near) hill_is
@@ -60,12 +61,13 @@ module _ (laws : LawsBelow) (end : ℕ) where
               ∙ m.told near;
           far_ropes = stay.0;
           rope = rope;
-          kept = laws.on ropes0 ropes ropes' m.kept kept;
+          kept = laws.runs.on ropes0 ropes ropes' m.kept kept;
           room = omega arith;
           falls = omega arith;
           rises = omega arith;
           high = omega arith;
           within = omega arith;
+          fewer = let l = ap (length {A = Seg}) first in let q = m.fewer in omega arith;
         }
 
   module _ (ropes0 ropes : List (List ℕ)) (far0 far : List Seg) (hill0 level0 : ℕ) (tasks0 : Rope) (hill level : ℕ) (tasks : Rope) (m : Going end ropes0 ropes far0 far hill0 level0 tasks0 hill level tasks) where
@@ -77,13 +79,13 @@ module _ (laws : LawsBelow) (end : ℕ) where
 
 -- ---- the last step
 
-pub over_told : LawsBelow → (old ropes new : List (List ℕ)) (end hill0 level0 : ℕ) (ts0 : List ℕ) (far0 far near near' : List Seg) (hill level : ℕ) (ts : List ℕ)
+pub over_told : SideLaws → (old ropes new : List (List ℕ)) (end hill0 level0 : ℕ) (ts0 : List ℕ) (far0 far near near' : List Seg) (hill level : ℕ) (ts : List ℕ)
     → HaveRopes old near → Extends old ropes → HaveRopes ropes far → Extends ropes new
     → ((n : List Run) → cross_hill_runs end hill0 level0 ts0 (runs_of old far0) n ≡ append_runs (runs_of ropes far) (append_run (hill_run end hill level ts) n))
     → runs_of new near' ≡ append_run (hill_run end hill level ts) (runs_of ropes near)
     → append_runs (runs_of new far) (runs_of new near') ≡ cross_hill_runs end hill0 level0 ts0 (runs_of old far0) (runs_of old near)
 over_told laws old ropes new end hill0 level0 ts0 far0 far near near' hill level ts rn k rf k' told put =
-    ap (λ (l : List Run). append_runs l (runs_of new near')) (laws.stay ropes new far rf k').1
+    ap (λ (l : List Run). append_runs l (runs_of new near')) (laws.runs.stay ropes new far rf k').1
     ∙ ap (append_runs (runs_of ropes far)) put
-    ∙ ap (λ (l : List Run). append_runs (runs_of ropes far) (append_run (hill_run end hill level ts) l)) (laws.stay old ropes near rn k).1
+    ∙ ap (λ (l : List Run). append_runs (runs_of ropes far) (append_run (hill_run end hill level ts) l)) (laws.runs.stay old ropes near rn k).1
     ∙ sym (told (runs_of old near))

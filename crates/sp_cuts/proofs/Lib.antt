@@ -1,15 +1,11 @@
 pub mod Kept
-pub mod Listing
-pub mod Moving
 pub mod Appended
 pub mod Crossed
 pub mod Made
-pub mod Tops
 pub mod Together
 pub mod Counts
 pub mod Stacked
 pub mod Moves
 pub mod Pushed
 pub mod Planned
-pub mod Tasks
 pub mod Standing

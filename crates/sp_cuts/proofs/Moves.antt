@@ -1,6 +1,10 @@
 -- How many segments are moved while a term's part is made.
-use Rattle.std.proofs.Common.{◌≡◌, ℕ, zero, suc, ◌+◌, ◌*◌, ◌<◌, ◌≤◌, ◌^◌, List, [], ◌∷◌, refl, ap, sym, arith, subst, length, Some}
-use Rattle.side_laws.specs.Counting.{Counted, sum_of, greatest_of, AllCounted}
+use Rattle.std.proofs.Common.{◌≡◌, ℕ, zero, suc, ◌+◌, ◌*◌, ◌<◌, ◌≤◌, ◌^◌, ◌⊎◌, inl, inr, List, [], ◌∷◌, refl, ap, sym, arith, subst, length, Some}
+use Rattle.std.proofs.lemmas.Bool.Decides.{nat_tests}
+use Rattle.std.specs.List.{AllByRecursion, sum_by}
+use Rattle.std.proofs.lemmas.List.Sums.{sum_by-cons}
+use Rattle.side_laws.specs.Counting.{Counted, greatest_of, IsCounted}
+use Rattle.hill_valley.specs.declared.side.Seg.{Seg}
 use Rattle.segment_merge.specs.Merging.{segment_count, longest}
 use Rattle.mp_system.specs.declared.system.Task.{Task}
 use Rattle.sp_terms.specs.Term.{Term, hold, series, par, Parts, no_parts, part}
@@ -8,8 +12,8 @@ use Rattle.sp_terms.specs.Postfix.{gather}
 use Rattle.sp_terms.specs.SystemOfTerm.{task_count, task_count_of_parts}
 use Rattle.cut_laws.specs.Names.{numbered}
 use Rattle.sp_cuts.specs.declared.parts.Part.{Part}
-use Rattle.sp_cuts.specs.Parts.{fronts_of, backs_of, moves_in}
-use Rattle.sp_cuts.specs.Below.{LawsBelow}
+use Rattle.sp_cuts.specs.Parts.{fronts_of, backs_of, moves_between, moves_in}
+use Rattle.segment_merge.specs.Laws.{SideLaws}
 use Rattle.sp_cuts.specs.Stacks.{IsPartOf, ArePartsOf, stack_tasks, AreMoved, AreMovedParts}
 use Rattle.sp_cuts.proofs.Appended.{length_runs}
 use Rattle.sp_cuts.proofs.Counts.{count_of, cut_count}
@@ -21,9 +25,27 @@ few lists base t p h = omega (arith, ap count_of h.cut, cut_count t (numbered ba
 pub moved_hold : (size : ℕ) (st : List Term) (total : ℕ) → AreMoved st total → AreMoved (hold size ∷ st) total
 moved_hold size st total h = (0, total, omega arith, omega arith, h)
 
-pub moved_series : LawsBelow → (a : Term) (v : Task) (b : Term) (st : List Term) (total : ℕ) → AreMoved (b ∷ a ∷ st) total → AreMoved (series a v b ∷ st) total
-moved_series laws a v b st total (m, rest, h, e, (n, rest', k, f, g)) =
-    (m + n, rest', laws.more_tasks (m + n) (task_count b + task_count a) (task_count (series a v b)) (laws.together m n (task_count b) (task_count a) h k) (omega arith), omega arith, g)
+moves_few : (a b : Part) (m n : ℕ) → length a.front + length a.back ≤ m → length b.front + length b.back ≤ n
+    → ((moves_between a b ≤ m) × (moves_between a b ≤ n + 1)) ⊎ ((moves_between a b ≤ m + 1) × (moves_between a b ≤ n))
+moves_few a b m n h k = grind (arith, nat_tests)
+
+pub moved_series : SideLaws → (lists : List (List ℕ)) (base next : ℕ) (a : Term) (v : Task) (b : Term) (pa pb : Part) (st : List Term) (total : ℕ) → IsPartOf lists base a pa → IsPartOf lists next b pb → AreMoved (b ∷ a ∷ st) total
+    → AreMoved (series a v b ∷ st) (total + moves_between pa pb)
+moved_series laws lists base next a v b pa pb st total ha hb (m, rest, h, e, (n, rest', k, f, g)) =
+    let x = moves_between pa pb in (
+      n + m + x,
+      rest',
+      elim (moves_few pa pb (task_count a) (task_count b) (few lists base a pa ha) (few lists next b pb hb)) [
+        | inl w ↦
+            let more = laws.more_tasks m (task_count b) (task_count b + 1) h (omega arith) in
+            laws.more_tasks (n + m + x) (task_count a + (task_count b + 1)) (task_count (series a v b)) (laws.series n m x (task_count a) (task_count b + 1) k more w.0 w.1) (omega arith)
+        | inr w ↦
+            let more = laws.more_tasks n (task_count a) (task_count a + 1) k (omega arith) in
+            laws.more_tasks (n + m + x) (task_count a + 1 + task_count b) (task_count (series a v b)) (laws.series n m x (task_count a + 1) (task_count b) more h w.0 w.1) (omega arith)
+      ],
+      omega arith,
+      g,
+    )
 
 -- ---- a par
 
@@ -43,11 +65,11 @@ parted (suc k) (t ∷ st) acc ts rest total extra (m, left, p, q, g) a e =
     subst (λ (n : ℕ). Parted ts rest n) (let w : m + extra + left ≡ extra + total = omega arith in w) r
 
 record AreCounted (ts : Parts) (ps : List Part) (x : ℕ) (cs : List Counted) : Type 0 where
-  all : AllCounted cs
-  moves : sum_of (λ p. p.moves) cs ≡ x
-  tasks : sum_of (λ p. p.tasks) cs ≡ task_count_of_parts ts
-  front : sum_of (λ p. p.front) cs ≡ segment_count (fronts_of ps)
-  back : sum_of (λ p. p.back) cs ≡ segment_count (backs_of ps)
+  all : AllByRecursion IsCounted cs
+  moves : sum_by (λ p. p.moves) cs ≡ x
+  tasks : sum_by (λ p. p.tasks) cs ≡ task_count_of_parts ts
+  front : sum_by (λ p. p.front) cs ≡ segment_count (fronts_of ps)
+  back : sum_by (λ p. p.back) cs ≡ segment_count (backs_of ps)
   long_front : greatest_of (λ p. p.front) cs ≡ longest (fronts_of ps)
   long_back : greatest_of (λ p. p.back) cs ≡ longest (backs_of ps)
 
@@ -61,16 +83,16 @@ are_counted lists base (part t ts) (p ∷ ps) x h (m, rest, g, e, a) =
       c ∷ cs,
       record {
         all = ((g, few lists base t p h.0), r.all);
-        moves = omega (arith, r.moves);
-        tasks = omega (arith, r.tasks);
-        front = omega (arith, r.front);
-        back = omega (arith, r.back);
+        moves = omega (arith, r.moves, sum_by-cons (λ (x : Counted). x.moves) c cs);
+        tasks = omega (arith, r.tasks, sum_by-cons (λ (x : Counted). x.tasks) c cs);
+        front = omega (arith, r.front, sum_by-cons (λ (x : Counted). x.front) c cs, sum_by-cons (length {A = Seg}) p.front (fronts_of ps));
+        back = omega (arith, r.back, sum_by-cons (λ (x : Counted). x.back) c cs, sum_by-cons (length {A = Seg}) p.back (backs_of ps));
         long_front = omega (arith, r.long_front);
         long_back = omega (arith, r.long_back);
       },
     )
 
-pub moved_par : LawsBelow → (lists : List (List ℕ)) (base k : ℕ) (st : List Term) (ts : Parts) (rest : List Term) (ps : List Part) (total : ℕ) → ArePartsOf lists base ts ps → AreMoved st total → gather k st no_parts ≡ Some (ts, rest)
+pub moved_par : SideLaws → (lists : List (List ℕ)) (base k : ℕ) (st : List Term) (ts : Parts) (rest : List Term) (ps : List Part) (total : ℕ) → ArePartsOf lists base ts ps → AreMoved st total → gather k st no_parts ≡ Some (ts, rest)
     → AreMoved (par ts ∷ rest) (total + moves_in ps)
 moved_par laws lists base k st ts rest ps total h g e =
     let s = parted k st no_parts ts rest total 0 g refl e in
@@ -81,10 +103,11 @@ moved_par laws lists base k st ts rest ps total h g e =
 
 -- ---- the whole
 
-moved_stack : LawsBelow → (st : List Term) (total : ℕ) → AreMoved st total → 2 ^ total ≤ stack_tasks st ^ stack_tasks st
+moved_stack : SideLaws → (st : List Term) (total : ℕ) → AreMoved st total → 2 ^ total ≤ stack_tasks st ^ stack_tasks st
 moved_stack laws [] total h = subst (λ (k : ℕ). 2 ^ k ≤ 0 ^ 0) (sym h) (omega arith)
 moved_stack laws (t ∷ st) total (m, rest, h, e, g) =
-    subst (λ (k : ℕ). 2 ^ k ≤ stack_tasks (t ∷ st) ^ stack_tasks (t ∷ st)) (sym e) (laws.together m rest (task_count t) (stack_tasks st) h (moved_stack laws st rest g))
+    subst (λ (k : ℕ). 2 ^ k ≤ stack_tasks (t ∷ st) ^ stack_tasks (t ∷ st)) (let n : m + rest + 0 ≡ total = omega arith in n)
+    (laws.series m rest 0 (task_count t) (stack_tasks st) h (moved_stack laws st rest g) (omega arith) (omega arith))
 
-pub moved_bound : LawsBelow → (st : List Term) (total s d : ℕ) → AreMoved st total → stack_tasks st ≤ s → s < 2 ^ d → total ≤ s * d
+pub moved_bound : SideLaws → (st : List Term) (total s d : ℕ) → AreMoved st total → stack_tasks st ≤ s → s < 2 ^ d → total ≤ s * d
 moved_bound laws st total s d h le hd = laws.bounded total s d (laws.more_tasks total (stack_tasks st) s (moved_stack laws st total h) le) hd

@@ -14,11 +14,11 @@ use Rattle.sp_terms.specs.SystemOfTerm.{task_count, task_count_of_parts}
 use Rattle.sp_terms.specs.Values.{IsTerms, term_of, AllAllowed, added_size, added_tasks}
 use Rattle.cut_laws.specs.Cuts.{hold_cut}
 use Rattle.sp_cuts.specs.declared.parts.Part.{Part}
-use Rattle.sp_cuts.specs.Parts.{cut_of, IsPart, moves_in}
-use Rattle.sp_cuts.specs.Below.{LawsBelow}
-use Rattle.sp_cuts.specs.Stacks.{total_of_parts, IsPartOf, ArePiled, stack_tasks, stack_total, SeriesReady, SeriesDone, ParReady, ParDone, PositionReady, PositionDone, AreMoved, ParSteps, PositionSteps}
+use Rattle.sp_cuts.specs.Parts.{cut_of, IsPart, moves_between, moves_in}
+use Rattle.segment_merge.specs.Laws.{SideLaws}
+use Rattle.sp_cuts.specs.Stacks.{total_of_parts, IsPartOf, ArePiled, stack_tasks, stack_total, SeriesReady, SeriesDone, SeriesSteps, ParReady, ParDone, PositionReady, PositionDone, AreMoved, ParSteps, PositionSteps}
 use Rattle.sp_cuts.proofs.Moves.{moved_hold, moved_series, moved_par, moved_bound}
-use Rattle.sp_cuts.proofs.Stacked.{none_some, some_same, one_more, hold_of, par_taken}
+use Rattle.sp_cuts.proofs.Stacked.{none_some, some_same, one_more, hold_of, par_taken, two_tops, stack_length}
 
 -- ---- a data item
 
@@ -43,8 +43,12 @@ hold_fits lists items position size next is r =
 
 -- ---- a task
 
+-- the task of a position
+abbrev pub task_of : ℕ → ℕ → ℕ → Task
+task_of extra share time = record { extra = extra; share = share; time = time }
+
 series_go : (lists : List (List ℕ)) (items : List Part) (extra share time next : ℕ) (st st' : List Term) → ArePiled lists st (reverse items) → push (at.Task extra share time) st ≡ Some st' → AllAllowed st' → stack_total st' ≤ 2 ^ 60
-    → SeriesReady lists items extra share
+    → SeriesReady lists items (task_of extra share time)
 series_go lists items extra share time next [] st' piled pushed allowed within = absurd (none_some pushed)
 series_go lists items extra share time next (b ∷ []) st' piled pushed allowed within = absurd (none_some pushed)
 series_go lists items extra share time next (b ∷ a ∷ st) st' piled pushed allowed within =
@@ -52,7 +56,7 @@ series_go lists items extra share time next (b ∷ a ∷ st) st' piled pushed al
     let f = (subst AllAllowed (sym (some_same pushed)) allowed).0 in
     record { st = st; a = a; b = b; piled = piled; inputs = f.0; outputs = f.1; within = omega arith }
 
-pub series_ready : (lists : List (List ℕ)) (items : List Part) (position : Position) (extra share time next : ℕ) → position ≡ at.Task extra share time → PositionReady lists items position next → SeriesReady lists items extra share
+pub series_ready : (lists : List (List ℕ)) (items : List Part) (position : Position) (extra share time next : ℕ) → position ≡ at.Task extra share time → PositionReady lists items position next → SeriesReady lists items (task_of extra share time)
 series_ready lists items position extra share time next is r =
     let s = subst (λ (x : Position). PositionReady lists items x next) is r in
     series_go lists items extra share time next s.st s.st' s.piled s.pushed s.allowed s.within
@@ -70,17 +74,16 @@ next_fits lists items position extra share time next is r =
     let f = s.few in
     omega arith
 
-task_go : (old new : List (List ℕ)) (items items' : List Part) (extra share time next : ℕ) → SeriesDone old new items items' next extra share → PositionDone old new items items' (at.Task extra share time) next (next + 1)
+task_go : (old new : List (List ℕ)) (items items' : List Part) (extra share time next : ℕ) → SeriesDone old new items items' next (task_of extra share time) → PositionDone old new items items' (at.Task extra share time) next (next + 1)
 task_go old new items items' extra share time next h [] st' piled pushed allowed next_is = absurd (none_some pushed)
 task_go old new items items' extra share time next h (b ∷ []) st' piled pushed allowed next_is = absurd (none_some pushed)
 task_go old new items items' extra share time next h (b ∷ a ∷ st) st' piled pushed allowed next_is =
-    let v : Task = record { extra = extra; share = share; time = time } in
-    let e : series a v b ∷ st ≡ st' = some_same pushed in
+    let e : series a (task_of extra share time) b ∷ st ≡ st' = some_same pushed in
     let w = ap stack_tasks e in
     let f = (subst AllAllowed (sym e) allowed).0 in
-    (subst (λ (s : List Term). ArePiled new s (reverse items')) e (h st a v b refl refl f.0 next_is piled), omega arith)
+    (subst (λ (s : List Term). ArePiled new s (reverse items')) e (h st a b f.0 next_is piled), omega arith)
 
-pub task_done : (old new : List (List ℕ)) (items items' : List Part) (position : Position) (extra share time next : ℕ) → position ≡ at.Task extra share time → SeriesDone old new items items' next extra share → PositionDone old new items items' position next (next + 1)
+pub task_done : (old new : List (List ℕ)) (items items' : List Part) (position : Position) (extra share time next : ℕ) → position ≡ at.Task extra share time → SeriesDone old new items items' next (task_of extra share time) → PositionDone old new items items' position next (next + 1)
 task_done old new items items' position extra share time next is h = subst (λ (x : Position). PositionDone old new items items' x next (next + 1)) (sym is) (task_go old new items items' extra share time next h)
 
 -- ---- a par
@@ -120,7 +123,7 @@ par_position old new items items' position many next is h = subst (λ (x : Posit
 
 -- ---- steps
 
-pub par_steps : LawsBelow → (lists : List (List ℕ)) (st : List Term) (ts : Parts) (rest : List Term) (total : ℕ) (items ps : List Part) (at many s s' : ℕ) → gather many st no_parts ≡ Some (ts, rest) → ArePiled lists st (reverse items) → AreMoved st total
+pub par_steps : SideLaws → (lists : List (List ℕ)) (st : List Term) (ts : Parts) (rest : List Term) (total : ℕ) (items ps : List Part) (at many s s' : ℕ) → gather many st no_parts ≡ Some (ts, rest) → ArePiled lists st (reverse items) → AreMoved st total
     → at + many ≡ length items → ps ≡ drop at items → s' ≤ s + moves_in ps → (more : ℕ) × (s' ≤ s + more) × AreMoved (par ts ∷ rest) (total + more)
 par_steps laws lists st ts rest total items ps at many s s' g piled moved n d le =
     (moves_in ps, le, moved_par laws lists (suc (stack_tasks rest)) many st ts rest ps total (par_taken lists st ts rest items (take at items) ps at many g piled n refl d).all moved g)
@@ -131,15 +134,21 @@ hold_steps_go lists items size s s' le st st' total piled pushed moved = (0, ome
 pub hold_steps : (lists : List (List ℕ)) (items : List Part) (position : Position) (size s s' : ℕ) → position ≡ Hold size → s' ≤ s → PositionSteps lists items position s s'
 hold_steps lists items position size s s' is le = subst (λ (x : Position). PositionSteps lists items x s s') (sym is) (hold_steps_go lists items size s s' le)
 
-task_steps_go : LawsBelow → (lists : List (List ℕ)) (items : List Part) (extra share time s s' : ℕ) → s' ≤ s → PositionSteps lists items (at.Task extra share time) s s'
-task_steps_go laws lists items extra share time s s' le [] st' total piled pushed moved = absurd (none_some pushed)
-task_steps_go laws lists items extra share time s s' le (b ∷ []) st' total piled pushed moved = absurd (none_some pushed)
-task_steps_go laws lists items extra share time s s' le (b ∷ a ∷ st) st' total piled pushed moved =
-    let v : Task = record { extra = extra; share = share; time = time } in
-    (0, omega arith, subst (λ (l : List Term). AreMoved l (total + 0)) (some_same pushed) (subst (AreMoved (series a v b ∷ st)) (let n : total ≡ total + 0 = omega arith in n) (moved_series laws a v b st total moved)))
+pub series_steps : SideLaws → (lists : List (List ℕ)) (st : List Term) (a b : Term) (v : Task) (total : ℕ) (items low1 low : List Part) (pa pb : Part) (s s' : ℕ) → ArePiled lists (b ∷ a ∷ st) (reverse items) → items ≡ low1 ++ pb ∷ [] → low1 ≡ low ++ pa ∷ []
+    → AreMoved (b ∷ a ∷ st) total → s' ≤ s + moves_between pa pb → (more : ℕ) × (s' ≤ s + more) × AreMoved (series a v b ∷ st) (total + more)
+series_steps laws lists st a b v total items low1 low pa pb s s' piled top1 top2 moved le =
+    let t = two_tops lists st a b items low1 low pa pb piled top1 top2 in
+    (moves_between pa pb, le, moved_series laws lists (suc (stack_tasks st)) (suc (stack_tasks st) + task_count a) a v b pa pb st total t.first t.second moved)
 
-pub task_steps : LawsBelow → (lists : List (List ℕ)) (items : List Part) (position : Position) (extra share time s s' : ℕ) → position ≡ at.Task extra share time → s' ≤ s → PositionSteps lists items position s s'
-task_steps laws lists items position extra share time s s' is le = subst (λ (x : Position). PositionSteps lists items x s s') (sym is) (task_steps_go laws lists items extra share time s s' le)
+task_steps_go : (lists : List (List ℕ)) (items : List Part) (extra share time s s' : ℕ) → SeriesSteps lists items (task_of extra share time) s s' → PositionSteps lists items (at.Task extra share time) s s'
+task_steps_go lists items extra share time s s' h [] st' total piled pushed moved = absurd (none_some pushed)
+task_steps_go lists items extra share time s s' h (b ∷ []) st' total piled pushed moved = absurd (none_some pushed)
+task_steps_go lists items extra share time s s' h (b ∷ a ∷ st) st' total piled pushed moved =
+    let r = h st a b total piled moved in
+    (r.0, r.1, subst (λ (l : List Term). AreMoved l (total + r.0)) (some_same pushed) r.2)
+
+pub task_steps : (lists : List (List ℕ)) (items : List Part) (position : Position) (extra share time s s' : ℕ) → position ≡ at.Task extra share time → SeriesSteps lists items (task_of extra share time) s s' → PositionSteps lists items position s s'
+task_steps lists items position extra share time s s' is h = subst (λ (x : Position). PositionSteps lists items x s s') (sym is) (task_steps_go lists items extra share time s s' h)
 
 par_steps_go : (lists : List (List ℕ)) (items : List Part) (many s s' : ℕ) → ParSteps lists items many s s' → PositionSteps lists items (Par many) s s'
 par_steps_go lists items many s s' h st st' total piled pushed moved =
@@ -298,9 +307,8 @@ standing_top lists t items low p h e =
     let f : reverse items ≡ p ∷ reverse low = rw e (grind (arith, common_steps)) in
     (subst (ArePiled lists (t ∷ [])) f h).0
 
-pub standing_some : (lists : List (List ℕ)) (t : Term) (items : List Part) → ArePiled lists (t ∷ []) (reverse items) → length items ≡ 0 → ⊥
-standing_some lists t [] h n = h
-standing_some lists t (x ∷ items) h n = absurd (omega arith)
+pub standing_some : (lists : List (List ℕ)) (t : Term) (items : List Part) → ArePiled lists (t ∷ []) (reverse items) → length items ≡ 1
+standing_some lists t items h = stack_length lists (t ∷ []) items h
 
 -- what was moved before a position
 pub record Spent (ps : List Position) (i s0 s : ℕ) : Type 0 where
@@ -313,7 +321,7 @@ pub record Spent (ps : List Position) (i s0 s : ℕ) : Type 0 where
 pub spent_starts : (ps : List Position) (s0 : ℕ) → Spent ps 0 s0 s0
 spent_starts ps s0 = record { st = []; pushed = refl; total = 0; moved = refl; le = omega arith }
 
-module _ (laws : LawsBelow) (ps : List Position) (i : ℕ) (p : Position) (lists : List (List ℕ)) (items : List Part) (next : ℕ) (a : IsTerms ps) (s : Standing ps i lists items next) (lt : i < length ps) (here : get_or ps i p ≡ p)
+module _ (laws : SideLaws) (ps : List Position) (i : ℕ) (p : Position) (lists : List (List ℕ)) (items : List Part) (next : ℕ) (a : IsTerms ps) (s : Standing ps i lists items next) (lt : i < length ps) (here : get_or ps i p ≡ p)
     (s0 n n' : ℕ) (x : Spent ps i s0 n) (more : PositionSteps lists items p n n') where
   record After : Type 0 where
     st' : List Term
@@ -342,7 +350,7 @@ module _ (laws : LawsBelow) (ps : List Position) (i : ℕ) (p : Position) (lists
       let b = moved_bound laws y.st' y.total (task_count (term_of ps)) d y.moved y.tasks_le h in
       omega arith
 
-pub spent_ends : LawsBelow → (ps : List Position) (i s0 s : ℕ) → IsTerms ps → Spent ps i s0 s → i ≡ length ps → (d : ℕ) → task_count (term_of ps) < 2 ^ d → s ≤ s0 + task_count (term_of ps) * d
+pub spent_ends : SideLaws → (ps : List Position) (i s0 s : ℕ) → IsTerms ps → Spent ps i s0 s → i ≡ length ps → (d : ℕ) → task_count (term_of ps) < 2 ^ d → s ≤ s0 + task_count (term_of ps) * d
 spent_ends laws ps i s0 s a x n d h =
     let e : x.st ≡ term_of ps ∷ [] = some_same (sym x.pushed ∙ ap (λ (l : List Position). push_all l []) (take_all ps i n) ∙ a.is) in
     let w = ap stack_tasks e in

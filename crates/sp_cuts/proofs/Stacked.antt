@@ -1,7 +1,9 @@
 -- Parts on a stack, and what joining some of them makes.
-use Rattle.std.proofs.Common.{◌≡◌, ℕ, zero, suc, ◌+◌, ◌-◌, ◌≤◌, ◌^◌, max, List, [], ◌∷◌, ◌++◌, refl, ap, sym, ◌∙◌, arith, subst, length, reverse, Some, None, take, drop, length-drop, take-append-drop}
+use Rattle.std.proofs.Common.{◌≡◌, ℕ, zero, suc, ◌+◌, ◌≤◌, ◌^◌, max, List, [], ◌∷◌, ◌++◌, refl, ap, sym, ◌∙◌, arith, subst, length, reverse, Some, None, take, drop, length-drop, take-append-drop}
 use Rattle.std.proofs.lemmas.Grind.{common_steps}
+use Rattle.std.specs.List.{sum_by}
 use Rattle.std.proofs.lemmas.List.{reverse-append}
+use Rattle.std.proofs.lemmas.List.Sums.{sum_by-cons}
 use Rattle.hill_valley.specs.Ropes.{Extends}
 use Rattle.mp_system.specs.declared.system.Task.{Task}
 use Rattle.sp_terms.specs.Term.{Term, hold, series, par, Parts, no_parts, part, initial_of, final_of, hill_of}
@@ -11,9 +13,9 @@ use Rattle.cut_laws.specs.Cuts.{Cut, hold_cut, series_cut, par_cut}
 use Rattle.cut_laws.specs.Names.{numbered, numbered_parts}
 use Rattle.cut_laws.specs.TermCuts.{cut_of_term, cuts_of_parts}
 use Rattle.sp_cuts.specs.declared.parts.Part.{Part}
-use Rattle.sp_cuts.specs.Parts.{cut_of, cuts_of, IsPart}
-use Rattle.sp_cuts.specs.Splits.{IsRough, AreRough, sum_in}
-use Rattle.sp_cuts.specs.Below.{LawsBelow}
+use Rattle.sp_cuts.specs.Parts.{cut_of, cuts_of, IsPart, hill_between, CanJoin}
+use Rattle.sp_cuts.specs.Splits.{IsRough, AreRough}
+use Rattle.segment_merge.specs.Laws.{SideLaws}
 use Rattle.sp_cuts.specs.Stacks.{total_of, total_of_parts, IsPartOf, ArePiled, ArePartsOf, stack_tasks}
 use Rattle.sp_cuts.proofs.Kept.{cut_kept, rough_kept, rough, within}
 use Rattle.sp_cuts.proofs.Counts.{cut_initial, cut_fin}
@@ -29,7 +31,7 @@ fin_is lists base t p h = ap (λ (c : Cut). c.fin) h.cut ∙ cut_fin t (numbered
 pub hold_of : (lists : List (List ℕ)) (base size : ℕ) (p : Part) → cut_of lists p ≡ hold_cut size → IsPart lists p → p.peak ≡ size → IsPartOf lists base (hold size) p
 hold_of lists base size p e h peak = record { cut = e; rough = rough lists p h; weight = omega arith }
 
-module _ (laws : LawsBelow) where
+module _ (laws : SideLaws) where
   of_kept : (old new : List (List ℕ)) (base : ℕ) (t : Term) (p : Part) → IsPartOf old base t p → Extends old new → IsPartOf new base t p
   of_kept old new base t p h k = record { cut = cut_kept laws old new p h.rough.both k ∙ h.cut; rough = rough_kept laws old new p h.rough k; weight = h.weight }
 
@@ -47,17 +49,18 @@ module _ (laws : LawsBelow) where
   end_within lists base t p h = let w = (within laws lists p h.rough.both).end in let b = h.rough.bound in omega arith
 
   series_of : (r0 r2 : List (List ℕ)) (base : ℕ) (a : Term) (v : Task) (b : Term) (pa pb p : Part) → IsPartOf r0 base a pa → IsPartOf r0 (base + task_count a) b pb
-      → cut_of r2 p ≡ series_cut (cut_of r0 pa) (base + (task_count a + task_count b)) (pa.fin + ((v.extra + pb.initial) - v.share)) (cut_of r0 pb)
-      → IsRough r2 p → v.share ≤ pa.fin → p.peak ≡ max pa.peak (max (pa.fin + ((v.extra + pb.initial) - v.share)) pb.peak) → IsPartOf r2 base (series a v b) p
+      → cut_of r2 p ≡ series_cut (cut_of r0 pa) (base + (task_count a + task_count b)) (hill_between pa v pb) (cut_of r0 pb)
+      → IsRough r2 p → v.share ≤ pa.fin → p.peak ≡ max pa.peak (max (hill_between pa v pb) pb.peak) → IsPartOf r2 base (series a v b) p
   series_of r0 r2 base a v b pa pb p ha hb e r share peak =
-      let hi : pa.fin + ((v.extra + pb.initial) - v.share) ≡ hill_of a v b = omega (arith, fin_is r0 base a pa ha, initial_is r0 (base + task_count a) b pb hb) in
+      let own : ℕ = base + (task_count a + task_count b) in
+      let hi : hill_between pa v pb ≡ hill_of a v b = omega (arith, fin_is r0 base a pa ha, initial_is r0 (base + task_count a) b pb hb) in
       let wa = end_within r0 base a pa ha in
       let wb = start_within r0 (base + task_count a) b pb hb in
       let la = ha.weight in let lb = hb.weight in
       record {
-        cut = e ∙ ap (λ (c : Cut). series_cut c (base + (task_count a + task_count b)) (pa.fin + ((v.extra + pb.initial) - v.share)) (cut_of r0 pb)) ha.cut
-            ∙ ap (series_cut (cut_of_term a (numbered base a)) (base + (task_count a + task_count b)) (pa.fin + ((v.extra + pb.initial) - v.share))) hb.cut
-            ∙ ap (λ (n : ℕ). series_cut (cut_of_term a (numbered base a)) (base + (task_count a + task_count b)) n (cut_of_term b (numbered (base + task_count a) b))) hi;
+        cut = e ∙ ap (λ (c : Cut). series_cut c own (hill_between pa v pb) (cut_of r0 pb)) ha.cut
+            ∙ ap (series_cut (cut_of_term a (numbered base a)) own (hill_between pa v pb)) hb.cut
+            ∙ ap (λ (n : ℕ). series_cut (cut_of_term a (numbered base a)) own n (cut_of_term b (numbered (base + task_count a) b))) hi;
         rough = r;
         weight = omega arith;
       }
@@ -76,13 +79,13 @@ all_rough lists base no_parts (p ∷ ps) h = absurd h
 all_rough lists base (part t ts) [] h = absurd h
 all_rough lists base (part t ts) (p ∷ ps) h = (h.0.rough, all_rough lists (base + task_count t) ts ps h.1)
 
-pub all_peaks : (lists : List (List ℕ)) (base : ℕ) (ts : Parts) (ps : List Part) → ArePartsOf lists base ts ps → sum_in (λ p. p.peak) ps ≤ total_of_parts ts
+pub all_peaks : (lists : List (List ℕ)) (base : ℕ) (ts : Parts) (ps : List Part) → ArePartsOf lists base ts ps → sum_by (λ p. p.peak) ps ≤ total_of_parts ts
 all_peaks lists base no_parts [] h = omega arith
 all_peaks lists base no_parts (p ∷ ps) h = absurd h
 all_peaks lists base (part t ts) [] h = absurd h
-all_peaks lists base (part t ts) (p ∷ ps) h = let r = all_peaks lists (base + task_count t) ts ps h.1 in let w = h.0.weight in omega arith
+all_peaks lists base (part t ts) (p ∷ ps) h = let r = all_peaks lists (base + task_count t) ts ps h.1 in let w = h.0.weight in omega (arith, sum_by-cons (λ (q : Part). q.peak) p ps)
 
-par_of : (r0 r2 : List (List ℕ)) (base : ℕ) (ts : Parts) (ps : List Part) (p : Part) → ArePartsOf r0 base ts ps → cut_of r2 p ≡ par_cut (cuts_of r0 ps) → IsRough r2 p → p.peak ≡ sum_in (λ p. p.peak) ps → IsPartOf r2 base (par ts) p
+par_of : (r0 r2 : List (List ℕ)) (base : ℕ) (ts : Parts) (ps : List Part) (p : Part) → ArePartsOf r0 base ts ps → cut_of r2 p ≡ par_cut (cuts_of r0 ps) → IsRough r2 p → p.peak ≡ sum_by (λ p. p.peak) ps → IsPartOf r2 base (par ts) p
 par_of r0 r2 base ts ps p h e r peak =
     let w = all_peaks r0 base ts ps h in
     record { cut = e ∙ ap par_cut (cuts_are r0 base ts ps h); rough = r; weight = omega arith }
@@ -140,67 +143,66 @@ gathered_length zero st acc ts rest e = omega arith
 gathered_length (suc k) [] acc ts rest e = absurd (none_some e)
 gathered_length (suc k) (t ∷ st) acc ts rest e = let r = gathered_length k st (part t acc) ts rest e in omega arith
 
+-- a stack of terms has as many parts
+pub stack_length : (r0 : List (List ℕ)) (st : List Term) (items : List Part) → ArePiled r0 st (reverse items) → length items ≡ length st
+stack_length r0 st items piled = let b = piled_length r0 st (reverse items) piled in let c : length (reverse items) ≡ length items = grind (arith, common_steps) in omega arith
+
 pub many_fit : (r0 : List (List ℕ)) (st : List Term) (ts : Parts) (rest : List Term) (items : List Part) (many : ℕ) → gather many st no_parts ≡ Some (ts, rest) → ArePiled r0 st (reverse items) → many ≤ length items
 many_fit r0 st ts rest items many g piled =
-    let a = gathered_length many st no_parts ts rest g in let b = piled_length r0 st (reverse items) piled in let c : length (reverse items) ≡ length items = grind (arith, common_steps) in omega arith
+    omega (arith, gathered_length many st no_parts ts rest g, stack_length r0 st items piled)
 
 -- ---- one more part on top
 
 pub one_more : (lists : List (List ℕ)) (st : List Term) (t : Term) (low : List Part) (p : Part) → IsPartOf lists (suc (stack_tasks st)) t p → ArePiled lists st (reverse low) → ArePiled lists (t ∷ st) (reverse (low ++ p ∷ []))
 one_more lists st t low p h k = let e : p ∷ reverse low ≡ reverse (low ++ p ∷ []) = grind (arith, common_steps) in subst (ArePiled lists (t ∷ st)) e (h, k)
 
-pub par_done : LawsBelow → (r0 r2 : List (List ℕ)) (ts : Parts) (rest : List Term) (low ps : List Part) (p : Part) (items' : List Part) → Taken r0 ts rest ps (reverse low) → Extends r0 r2
-    → cut_of r2 p ≡ par_cut (cuts_of r0 ps) → IsRough r2 p → p.peak ≡ sum_in (λ p. p.peak) ps → items' ≡ low ++ p ∷ [] → ArePiled r2 (par ts ∷ rest) (reverse items')
+pub par_done : SideLaws → (r0 r2 : List (List ℕ)) (ts : Parts) (rest : List Term) (low ps : List Part) (p : Part) (items' : List Part) → Taken r0 ts rest ps (reverse low) → Extends r0 r2
+    → cut_of r2 p ≡ par_cut (cuts_of r0 ps) → IsRough r2 p → p.peak ≡ sum_by (λ p. p.peak) ps → items' ≡ low ++ p ∷ [] → ArePiled r2 (par ts ∷ rest) (reverse items')
 par_done laws r0 r2 ts rest low ps p items' t kept cut r peak new =
     let f = par_of r0 r2 (suc (stack_tasks rest)) ts ps p t.all cut r peak in
     subst (λ (l : List Part). ArePiled r2 (par ts ∷ rest) (reverse l)) (sym new) (one_more r2 rest (par ts) low p f (piled_kept laws r0 r2 rest (reverse low) t.piled kept))
 
 -- ---- the two parts on top
 
-record TwoTops (lists : List (List ℕ)) (st : List Term) (a b : Term) (low : List Part) (pa pb : Part) : Type 0 where
-  first : IsPartOf lists (suc (stack_tasks st)) a pa
-  second : IsPartOf lists (suc (stack_tasks st) + task_count a) b pb
-  below : ArePiled lists st (reverse low)
+pub record TwoTops (lists : List (List ℕ)) (st : List Term) (a b : Term) (low : List Part) (pa pb : Part) : Type 0 where
+  pub first : IsPartOf lists (suc (stack_tasks st)) a pa
+  pub second : IsPartOf lists (suc (stack_tasks st) + task_count a) b pb
+  pub below : ArePiled lists st (reverse low)
 
 reverse_two : (items low1 low : List Part) (pa pb : Part) → items ≡ low1 ++ pb ∷ [] → low1 ≡ low ++ pa ∷ [] → reverse items ≡ pb ∷ pa ∷ reverse low
 reverse_two items low1 low pa pb e f = rw (e, f) (grind (arith, common_steps))
 
-two_tops : (lists : List (List ℕ)) (st : List Term) (a b : Term) (items low1 low : List Part) (pa pb : Part) → ArePiled lists (b ∷ a ∷ st) (reverse items) → items ≡ low1 ++ pb ∷ [] → low1 ≡ low ++ pa ∷ [] → TwoTops lists st a b low pa pb
+pub two_tops : (lists : List (List ℕ)) (st : List Term) (a b : Term) (items low1 low : List Part) (pa pb : Part) → ArePiled lists (b ∷ a ∷ st) (reverse items) → items ≡ low1 ++ pb ∷ [] → low1 ≡ low ++ pa ∷ [] → TwoTops lists st a b low pa pb
 two_tops lists st a b items low1 low pa pb h e f =
     let g = subst (ArePiled lists (b ∷ a ∷ st)) (reverse_two items low1 low pa pb e f) h in
     let n : suc (task_count a + stack_tasks st) ≡ suc (stack_tasks st) + task_count a = omega arith in
     record { first = g.1.0; second = subst (λ (m : ℕ). IsPartOf lists m b pb) n g.0; below = g.1.1 }
 
--- a hill that fits, and what series_part asks
-pub record Hill (lists : List (List ℕ)) (extra share : ℕ) (pa pb : Part) : Type 0 where
+-- what series_part asks
+pub record Joined (lists : List (List ℕ)) (v : Task) (pa pb : Part) : Type 0 where
   pub first : IsRough lists pa
   pub second : IsRough lists pb
-  pub outputs : share ≤ extra + pb.initial
-  pub after : pa.fin ≤ pa.fin + ((extra + pb.initial) - share)
-  pub before : pb.initial ≤ pa.fin + ((extra + pb.initial) - share)
-  pub sum : extra + pb.initial ≤ 2 ^ 60
-  pub hill : pa.fin + ((extra + pb.initial) - share) ≤ 2 ^ 60
+  pub joins : CanJoin pa v pb
 
-module _ (laws : LawsBelow) (r0 r2 : List (List ℕ)) (st : List Term) (a b : Term) (items low1 low : List Part) (pa pb : Part) (task extra share : ℕ)
+module _ (laws : SideLaws) (r0 r2 : List (List ℕ)) (st : List Term) (a b : Term) (items low1 low : List Part) (pa pb : Part) (number : ℕ) (v : Task)
     (piled : ArePiled r0 (b ∷ a ∷ st) (reverse items)) (top1 : items ≡ low1 ++ pb ∷ []) (top2 : low1 ≡ low ++ pa ∷ []) where
-  pub hill_fits : share ≤ final_of a → share ≤ extra + initial_of b → total_of a + extra + total_of b ≤ 2 ^ 60 → Hill r0 extra share pa pb
-  hill_fits i o h =
+  pub joins_fit : v.share ≤ final_of a → v.share ≤ v.extra + initial_of b → total_of a + v.extra + total_of b ≤ 2 ^ 60 → Joined r0 v pa pb
+  joins_fit i o h =
       let t = two_tops r0 st a b items low1 low pa pb piled top1 top2 in
       let wa = end_within laws r0 (suc (stack_tasks st)) a pa t.first in
       let wb = start_within laws r0 (suc (stack_tasks st) + task_count a) b pb t.second in
       let ea = fin_is r0 (suc (stack_tasks st)) a pa t.first in
       let eb = initial_is r0 (suc (stack_tasks st) + task_count a) b pb t.second in
       let la = t.first.weight in let lb = t.second.weight in
-      record { first = t.first.rough; second = t.second.rough; outputs = omega arith; after = omega arith; before = omega arith; sum = omega arith; hill = omega arith }
+      record { first = t.first.rough; second = t.second.rough; joins = record { inputs = omega arith; outputs = omega arith; hill = omega arith } }
 
-  pub series_done : (v : Task) (p : Part) (items' : List Part) → v.extra ≡ extra → v.share ≡ share → v.share ≤ final_of a → task ≡ suc (stack_tasks (b ∷ a ∷ st)) → Extends r0 r2
-      → cut_of r2 p ≡ series_cut (cut_of r0 pa) task (pa.fin + ((extra + pb.initial) - share)) (cut_of r0 pb) → IsRough r2 p → p.peak ≡ max pa.peak (max (pa.fin + ((extra + pb.initial) - share)) pb.peak)
+  pub series_done : (p : Part) (items' : List Part) → v.share ≤ final_of a → number ≡ suc (stack_tasks (b ∷ a ∷ st)) → Extends r0 r2
+      → cut_of r2 p ≡ series_cut (cut_of r0 pa) number (hill_between pa v pb) (cut_of r0 pb) → IsRough r2 p → p.peak ≡ max pa.peak (max (hill_between pa v pb) pb.peak)
       → items' ≡ low ++ p ∷ [] → ArePiled r2 (series a v b ∷ st) (reverse items')
-  series_done v p items' ex sh ok tk kept cut r peak new =
+  series_done p items' ok tk kept cut r peak new =
       let t = two_tops r0 st a b items low1 low pa pb piled top1 top2 in
-      let n : task ≡ suc (stack_tasks st) + (task_count a + task_count b) = omega arith in
-      let hi : pa.fin + ((extra + pb.initial) - share) ≡ pa.fin + ((v.extra + pb.initial) - v.share) = omega arith in
-      let e : cut_of r2 p ≡ series_cut (cut_of r0 pa) (suc (stack_tasks st) + (task_count a + task_count b)) (pa.fin + ((v.extra + pb.initial) - v.share)) (cut_of r0 pb) =
-      cut ∙ ap (λ (k : ℕ). series_cut (cut_of r0 pa) k (pa.fin + ((extra + pb.initial) - share)) (cut_of r0 pb)) n ∙ ap (λ (k : ℕ). series_cut (cut_of r0 pa) (suc (stack_tasks st) + (task_count a + task_count b)) k (cut_of r0 pb)) hi in
-      let f = series_of laws r0 r2 (suc (stack_tasks st)) a v b pa pb p t.first t.second e r (omega (arith, fin_is r0 (suc (stack_tasks st)) a pa t.first)) (omega arith) in
+      let n : number ≡ suc (stack_tasks st) + (task_count a + task_count b) = omega arith in
+      let e : cut_of r2 p ≡ series_cut (cut_of r0 pa) (suc (stack_tasks st) + (task_count a + task_count b)) (hill_between pa v pb) (cut_of r0 pb) =
+      cut ∙ ap (λ (k : ℕ). series_cut (cut_of r0 pa) k (hill_between pa v pb) (cut_of r0 pb)) n in
+      let f = series_of laws r0 r2 (suc (stack_tasks st)) a v b pa pb p t.first t.second e r (omega (arith, fin_is r0 (suc (stack_tasks st)) a pa t.first)) peak in
       subst (λ (l : List Part). ArePiled r2 (series a v b ∷ st) (reverse l)) (sym new) (one_more r2 st (series a v b) low p f (piled_kept laws r0 r2 st (reverse low) t.below kept))

@@ -1,28 +1,31 @@
 -- Parts that are split into their sides, and the part that the merged sides make.
-use Rattle.std.proofs.Common.{◌≡◌, ℕ, ◌+◌, ◌-◌, ◌≤◌, ◌^◌, List, [], ◌∷◌, ◌++◌, refl, ap, sym, ◌∙◌, arith, subst, length, append_assoc}
-use Rattle.std.proofs.lemmas.List.{append-nil}
-use Rattle.side_laws.specs.Segments.{net_sum, top, IsRising}
-use Rattle.side_laws.specs.Merging.{merge_segments}
+use Rattle.std.proofs.Common.{◌≡◌, ℕ, ◌+◌, ◌-◌, ◌≤◌, ◌^◌, length, List, [], ◌∷◌, ◌++◌, refl, ap, sym, ◌∙◌, arith, subst, append_assoc}
+use Rattle.std.specs.List.{AllByRecursion, sum_by}
+use Rattle.std.proofs.lemmas.List.{append-nil, map-append, nil_from_length}
+use Rattle.std.proofs.lemmas.List.Sums.{sum_by-append, sum_by-cons}
+use Rattle.side_laws.specs.Levels.{AllStart}
+use Rattle.side_laws.specs.Merging.{AllRising}
+use Rattle.side_laws.specs.Segments.{net_sum}
 use Rattle.hill_valley.specs.declared.side.Seg.{Seg}
 use Rattle.hill_valley.specs.Ropes.{Extends}
-use Rattle.hill_valley.specs.Sides.{profile, HaveRopes, Run, runs_of}
-use Rattle.segment_merge.specs.Merging.{merge_runs, all_runs_of, profiles, AllHaveRopes, net_sum_all, segment_count, longest}
-use Rattle.cut_laws.specs.Cuts.{Cut, par_cut, fronts, backs, sum_initial, sum_fin, sum_least}
+use Rattle.hill_valley.specs.Side.{profile, HaveRopes, Run, runs_of}
+use Rattle.segment_merge.specs.Laws.{SideLaws}
+use Rattle.segment_merge.specs.Merging.{merge_runs, all_runs_of, AllHaveRopes, net_sum_all, segment_count, longest}
+use Rattle.sp_terms.specs.Term.{Direction, forward, backward}
+use Rattle.cut_laws.specs.Cuts.{Cut, par_cut, fronts, backs, top_of, starts, sides}
+use Rattle.cut_laws.specs.Tops.{MeetsAtLeast, BothRise, tops}
 use Rattle.sp_cuts.specs.declared.parts.Part.{Part}
-use Rattle.sp_cuts.specs.Parts.{cuts_of, AreParts, fronts_of, backs_of, sum_of_peaks, moves_in}
-use Rattle.sp_cuts.specs.Splits.{IsRough, AreRough, sum_in, AreSplit}
-use Rattle.sp_cuts.specs.Below.{LawsBelow}
-use Rattle.sp_cuts.proofs.Kept.{same_cut, within, rough}
-use Rattle.sp_cuts.proofs.Made.{part_with}
-use Rattle.sp_cuts.proofs.Tops.{merged_top}
+use Rattle.sp_cuts.specs.Parts.{cut_of, cuts_of, AreParts, fronts_of, backs_of, moves_in}
+use Rattle.sp_cuts.specs.Splits.{IsRough, AreRough, AreSplit}
+use Rattle.sp_cuts.proofs.Kept.{same_cut, sides_of, peak_of_cut, within, rough}
+
+-- the part of these
+abbrev pub part_with : List Seg → List Seg → ℕ → ℕ → ℕ → ℕ → Part
+part_with f b i e l k = record { front = f; back = b; initial = i; fin = e; least = l; peak = k }
 
 pub all_rough : (lists : List (List ℕ)) (ps : List Part) → AreParts lists ps → AreRough lists ps
 all_rough lists [] h = tt
 all_rough lists (p ∷ ps) h = (rough lists p h.0, all_rough lists ps h.1)
-
-pub same_peaks : (ps : List Part) → sum_in (λ p. p.peak) ps ≡ sum_of_peaks ps
-same_peaks [] = refl
-same_peaks (p ∷ ps) = omega (arith, same_peaks ps)
 
 -- ---- splitting
 
@@ -32,18 +35,6 @@ pub record Splitting (yielded rest parts : List Part) (fs bs : List (List Seg)) 
 
 pub splitting_starts : (parts all : List Part) → parts ≡ all → Splitting [] parts all [] [] 0 0 0 0
 splitting_starts parts all e = record { all = e; splits = record { front = refl; back = refl; start_is = refl; end_is = refl; low_is = refl; most_is = refl } }
-
-sum_append : (f : Part → ℕ) (ps qs : List Part) → sum_in f (ps ++ qs) ≡ sum_in f ps + sum_in f qs
-sum_append f [] qs = omega arith
-sum_append f (q ∷ ps) qs = omega (arith, sum_append f ps qs)
-
-fronts_last : (ps : List Part) (p : Part) → fronts_of (ps ++ p ∷ []) ≡ fronts_of ps ++ p.front ∷ []
-fronts_last [] p = refl
-fronts_last (q ∷ ps) p = ap (λ (l : List (List Seg)). q.front ∷ l) (fronts_last ps p)
-
-backs_last : (ps : List Part) (p : Part) → backs_of (ps ++ p ∷ []) ≡ backs_of ps ++ p.back ∷ []
-backs_last [] p = refl
-backs_last (q ∷ ps) p = ap (λ (l : List (List Seg)). q.back ∷ l) (backs_last ps p)
 
 -- the next sums fit
 pub record Fit (start end low most : ℕ) (p : Part) : Type 0 where
@@ -57,10 +48,10 @@ module _ (yielded rest' rest parts : List Part) (fs bs : List (List Seg)) (start
   together : yielded ++ p ∷ rest ≡ parts
   together = ap (λ (l : List Part). yielded ++ l) (sym first) ∙ s.all
 
-  fits : (f : Part → ℕ) (n : ℕ) → n ≡ sum_in f yielded → sum_in f parts ≤ 2 ^ 60 → n + f p ≤ 2 ^ 60
-  fits f n e h = omega (arith, e, ap (sum_in f) together, sum_append f yielded (p ∷ rest))
+  fits : (f : Part → ℕ) (n : ℕ) → n ≡ sum_by f yielded → sum_by f parts ≤ 2 ^ 60 → n + f p ≤ 2 ^ 60
+  fits f n e h = omega (arith, e, ap (sum_by f) together, sum_by-append f yielded (p ∷ rest), sum_by-cons f p rest)
 
-  pub splitting_fit : sum_in (λ p. p.initial) parts ≤ 2 ^ 60 → sum_in (λ p. p.fin) parts ≤ 2 ^ 60 → sum_in (λ p. p.least) parts ≤ 2 ^ 60 → sum_in (λ p. p.peak) parts ≤ 2 ^ 60 → Fit start end low most p
+  pub splitting_fit : sum_by (λ p. p.initial) parts ≤ 2 ^ 60 → sum_by (λ p. p.fin) parts ≤ 2 ^ 60 → sum_by (λ p. p.least) parts ≤ 2 ^ 60 → sum_by (λ p. p.peak) parts ≤ 2 ^ 60 → Fit start end low most p
   splitting_fit a b c d = record {
     start_fits = fits (λ p. p.initial) start s.splits.start_is a;
     end_fits = fits (λ p. p.fin) end s.splits.end_is b;
@@ -68,15 +59,15 @@ module _ (yielded rest' rest parts : List Part) (fs bs : List (List Seg)) (start
     most_fits = fits (λ p. p.peak) most s.splits.most_is d;
   }
 
-  more : (f : Part → ℕ) (n : ℕ) → n ≡ sum_in f yielded → n + f p ≡ sum_in f (yielded ++ p ∷ [])
-  more f n e = omega (arith, e, sum_append f yielded (p ∷ []))
+  more : (f : Part → ℕ) (n : ℕ) → n ≡ sum_by f yielded → n + f p ≡ sum_by f (yielded ++ p ∷ [])
+  more f n e = omega (arith, e, sum_by-append f yielded (p ∷ []))
 
   pub splitting_on : Splitting (yielded ++ p ∷ []) rest parts (fs ++ p.front ∷ []) (bs ++ p.back ∷ []) (start + p.initial) (end + p.fin) (low + p.least) (most + p.peak)
   splitting_on = record {
     all = append_assoc yielded (p ∷ []) rest ∙ together;
     splits = record {
-      front = ap (λ (l : List (List Seg)). l ++ p.front ∷ []) s.splits.front ∙ sym (fronts_last yielded p);
-      back = ap (λ (l : List (List Seg)). l ++ p.back ∷ []) s.splits.back ∙ sym (backs_last yielded p);
+      front = ap (λ (l : List (List Seg)). l ++ p.front ∷ []) s.splits.front ∙ sym (map-append (λ (q : Part). q.front) yielded (p ∷ []));
+      back = ap (λ (l : List (List Seg)). l ++ p.back ∷ []) s.splits.back ∙ sym (map-append (λ (q : Part). q.back) yielded (p ∷ []));
       start_is = more (λ p. p.initial) start s.splits.start_is;
       end_is = more (λ p. p.fin) end s.splits.end_is;
       low_is = more (λ p. p.least) low s.splits.low_is;
@@ -84,54 +75,44 @@ module _ (yielded rest' rest parts : List Part) (fs bs : List (List Seg)) (start
     };
   }
 
-nothing_left : {X : Type 0} (l : List X) → length l ≡ 0 → l ≡ []
-nothing_left [] h = refl
-nothing_left (x ∷ xs) h = absurd (omega arith)
-
 pub splitting_ends : (yielded rest parts : List Part) (fs bs : List (List Seg)) (start end low most : ℕ) → Splitting yielded rest parts fs bs start end low most → length rest ≡ 0 → AreSplit parts fs bs start end low most
 splitting_ends yielded rest parts fs bs start end low most s e =
-    let all : yielded ≡ parts = sym (append-nil yielded) ∙ ap (λ (l : List Part). yielded ++ l) (sym (nothing_left rest e)) ∙ s.all in
+    let all : yielded ≡ parts = sym (append-nil yielded) ∙ ap (λ (l : List Part). yielded ++ l) (sym (nil_from_length rest e)) ∙ s.all in
     subst (λ (y : List Part). AreSplit y fs bs start end low most) all s.splits
 
 -- ---- what merge needs
 
-pub fronts_ropes : (lists : List (List ℕ)) (ps : List Part) → AreRough lists ps → AllHaveRopes lists (fronts_of ps)
+fronts_ropes : (lists : List (List ℕ)) (ps : List Part) → AreRough lists ps → AllHaveRopes lists (fronts_of ps)
 fronts_ropes lists [] h = tt
 fronts_ropes lists (p ∷ ps) h = (h.0.both.front_ropes, fronts_ropes lists ps h.1)
 
-pub backs_ropes : (lists : List (List ℕ)) (ps : List Part) → AreRough lists ps → AllHaveRopes lists (backs_of ps)
+backs_ropes : (lists : List (List ℕ)) (ps : List Part) → AreRough lists ps → AllHaveRopes lists (backs_of ps)
 backs_ropes lists [] h = tt
 backs_ropes lists (p ∷ ps) h = (h.0.both.back_ropes, backs_ropes lists ps h.1)
 
--- sums over all parts
+-- each sum over the parts is within that of their peaks
 pub record Sums (ps : List Part) : Type 0 where
-  pub front : net_sum_all (fronts_of ps) + sum_in (λ p. p.least) ps ≡ sum_in (λ p. p.initial) ps
-  pub back : net_sum_all (backs_of ps) + sum_in (λ p. p.least) ps ≡ sum_in (λ p. p.fin) ps
-  pub start : sum_in (λ p. p.initial) ps ≤ sum_in (λ p. p.peak) ps
-  pub end : sum_in (λ p. p.fin) ps ≤ sum_in (λ p. p.peak) ps
-  pub front_top : top (sum_in (λ p. p.initial) ps) (merge_segments (profiles (fronts_of ps))) ≤ sum_in (λ p. p.peak) ps
-  pub back_top : top (sum_in (λ p. p.fin) ps) (merge_segments (profiles (backs_of ps))) ≤ sum_in (λ p. p.peak) ps
+  pub start : sum_by (λ p. p.initial) ps ≤ sum_by (λ p. p.peak) ps
+  pub end : sum_by (λ p. p.fin) ps ≤ sum_by (λ p. p.peak) ps
+  pub low : sum_by (λ p. p.least) ps ≤ sum_by (λ p. p.peak) ps
+  pub front : net_sum_all (fronts_of ps) ≤ sum_by (λ p. p.peak) ps
+  pub back : net_sum_all (backs_of ps) ≤ sum_by (λ p. p.peak) ps
 
-net_merged : LawsBelow → (sides : List (List Seg)) → net_sum (merge_segments (profiles sides)) ≡ net_sum_all sides
-net_merged laws [] = refl
-net_merged laws (side ∷ sides) = omega (arith, laws.inserts_net (profile side) (merge_segments (profiles sides)), net_merged laws sides)
-
-pub sums : LawsBelow → (lists : List (List ℕ)) (ps : List Part) → AreRough lists ps → Sums ps
-sums laws lists [] h = record { front = refl; back = refl; start = omega arith; end = omega arith; front_top = omega arith; back_top = omega arith }
+pub sums : SideLaws → (lists : List (List ℕ)) (ps : List Part) → AreRough lists ps → Sums ps
+sums laws lists [] h = record { start = omega arith; end = omega arith; low = omega arith; front = omega arith; back = omega arith }
 sums laws lists (p ∷ ps) h =
     let r = sums laws lists ps h.1 in
+    let rs = r.start in let re = r.end in let rl = r.low in let rf = r.front in let rb = r.back in
     let w = within laws lists p h.0.both in
+    let ws = w.start in let we = w.end in let wf = w.front_net in let wb = w.back_net in
     let b = h.0.bound in
-    let f = h.0.both.front_net in let g = h.0.both.back_net in
-    let rf = r.front in let rg = r.back in let rs = r.start in let re = r.end in let ft = r.front_top in let bt = r.back_top in
-    let ws = w.start in let we = w.end in
+    let peak = sum_by-cons (λ (q : Part). q.peak) p ps in
     record {
-      front = omega arith;
-      back = omega arith;
-      start = omega arith;
-      end = omega arith;
-      front_top = omega (arith, merged_top laws p.initial (sum_in (λ p. p.initial) ps) (profile p.front) (merge_segments (profiles (fronts_of ps))) (omega arith) (omega (arith, net_merged laws (fronts_of ps))));
-      back_top = omega (arith, merged_top laws p.fin (sum_in (λ p. p.fin) ps) (profile p.back) (merge_segments (profiles (backs_of ps))) (omega arith) (omega (arith, net_merged laws (backs_of ps))));
+      start = omega (arith, sum_by-cons (λ (q : Part). q.initial) p ps);
+      end = omega (arith, sum_by-cons (λ (q : Part). q.fin) p ps);
+      low = omega (arith, sum_by-cons (λ (q : Part). q.least) p ps);
+      front = omega (arith, sum_by-cons (λ (s : List Seg). net_sum (profile s)) p.front (fronts_of ps));
+      back = omega (arith, sum_by-cons (λ (s : List Seg). net_sum (profile s)) p.back (backs_of ps));
     }
 
 -- what merge asks of the sides
@@ -141,90 +122,99 @@ pub record Ready (lists : List (List ℕ)) (fs bs : List (List Seg)) : Type 0 wh
   pub front_net : net_sum_all fs ≤ 2 ^ 60
   pub back_net : net_sum_all bs ≤ 2 ^ 60
 
-pub ready : LawsBelow → (lists : List (List ℕ)) (parts : List Part) (fs bs : List (List Seg)) (start end low most : ℕ) → AreRough lists parts → sum_in (λ p. p.peak) parts ≤ 2 ^ 60 → AreSplit parts fs bs start end low most → Ready lists fs bs
+pub ready : SideLaws → (lists : List (List ℕ)) (parts : List Part) (fs bs : List (List Seg)) (start end low most : ℕ) → AreRough lists parts → sum_by (λ p. p.peak) parts ≤ 2 ^ 60 → AreSplit parts fs bs start end low most → Ready lists fs bs
 ready laws lists parts fs bs start end low most h room s =
     let t = sums laws lists parts h in
-    let a = t.start in let b = t.end in
+    let a = t.front in let b = t.back in
     record {
       front_ropes = rw s.front (fronts_ropes lists parts h);
       back_ropes = rw s.back (backs_ropes lists parts h);
-      front_net = omega (arith, ap net_sum_all s.front, t.front);
-      back_net = omega (arith, ap net_sum_all s.back, t.back);
+      front_net = omega (arith, ap net_sum_all s.front);
+      back_net = omega (arith, ap net_sum_all s.back);
     }
 
 pub moves_of : (parts : List Part) (fs bs : List (List Seg)) (start end low most : ℕ) → AreSplit parts fs bs start end low most → (segment_count fs - longest fs) + (segment_count bs - longest bs) ≡ moves_in parts
 moves_of parts fs bs start end low most s = rw (s.front, s.back) refl
 
+-- ---- what the cuts of the parts keep
+
+each_meets : (lists : List (List ℕ)) (ps : List Part) → AreRough lists ps → AllByRecursion MeetsAtLeast (cuts_of lists ps)
+each_meets lists [] h = tt
+each_meets lists (p ∷ ps) h = (h.0.both.meets, each_meets lists ps h.1)
+
+each_rises : (d : Direction) (lists : List (List ℕ)) (ps : List Part) → AreRough lists ps → AllRising (sides d (cuts_of lists ps))
+each_rises d lists [] h = tt
+each_rises forward lists (p ∷ ps) h = (h.0.both.rising.front, each_rises forward lists ps h.1)
+each_rises backward lists (p ∷ ps) h = (h.0.both.rising.back, each_rises backward lists ps h.1)
+
+each_starts : (d : Direction) (lists : List (List ℕ)) (ps : List Part) → AreRough lists ps → AllStart (starts d (cuts_of lists ps)) (sides d (cuts_of lists ps))
+each_starts d lists [] h = tt
+each_starts forward lists (p ∷ ps) h = (let m = h.0.both.meets.front in omega arith, each_starts forward lists ps h.1)
+each_starts backward lists (p ∷ ps) h = (let m = h.0.both.meets.back in omega arith, each_starts backward lists ps h.1)
+
+tops_le : (d : Direction) (lists : List (List ℕ)) (ps : List Part) → AreRough lists ps → tops d (cuts_of lists ps) ≤ sum_by (λ p. p.peak) ps
+tops_le d lists [] h = omega arith
+tops_le forward lists (p ∷ ps) h = let b = h.0.bound in omega (arith, tops_le forward lists ps h.1, sum_by-cons (λ (q : Part). q.peak) p ps)
+tops_le backward lists (p ∷ ps) h = let b = h.0.bound in omega (arith, tops_le backward lists ps h.1, sum_by-cons (λ (q : Part). q.peak) p ps)
+
 -- ---- what the merged sides make
 
-runs_of_fronts : (lists : List (List ℕ)) (ps : List Part) → all_runs_of lists (fronts_of ps) ≡ fronts (cuts_of lists ps)
-runs_of_fronts lists [] = refl
-runs_of_fronts lists (p ∷ ps) = ap (λ (l : List (List Run)). runs_of lists p.front ∷ l) (runs_of_fronts lists ps)
+-- the sides and the numbers of several parts are those of their cuts
+pub record Told (lists : List (List ℕ)) (ps : List Part) : Type 0 where
+  pub front : all_runs_of lists (fronts_of ps) ≡ fronts (cuts_of lists ps)
+  pub back : all_runs_of lists (backs_of ps) ≡ backs (cuts_of lists ps)
+  pub start : sum_by (λ p. p.initial) ps ≡ sum_by (λ c. c.initial) (cuts_of lists ps)
+  pub end : sum_by (λ p. p.fin) ps ≡ sum_by (λ c. c.fin) (cuts_of lists ps)
+  pub low : sum_by (λ p. p.least) ps ≡ sum_by (λ c. c.least) (cuts_of lists ps)
 
-runs_of_backs : (lists : List (List ℕ)) (ps : List Part) → all_runs_of lists (backs_of ps) ≡ backs (cuts_of lists ps)
-runs_of_backs lists [] = refl
-runs_of_backs lists (p ∷ ps) = ap (λ (l : List (List Run)). runs_of lists p.back ∷ l) (runs_of_backs lists ps)
-
-sums_initial : (lists : List (List ℕ)) (ps : List Part) → sum_initial (cuts_of lists ps) ≡ sum_in (λ p. p.initial) ps
-sums_initial lists [] = refl
-sums_initial lists (p ∷ ps) = omega (arith, sums_initial lists ps)
-
-sums_fin : (lists : List (List ℕ)) (ps : List Part) → sum_fin (cuts_of lists ps) ≡ sum_in (λ p. p.fin) ps
-sums_fin lists [] = refl
-sums_fin lists (p ∷ ps) = omega (arith, sums_fin lists ps)
-
-sums_least : (lists : List (List ℕ)) (ps : List Part) → sum_least (cuts_of lists ps) ≡ sum_in (λ p. p.least) ps
-sums_least lists [] = refl
-sums_least lists (p ∷ ps) = omega (arith, sums_least lists ps)
+told : (lists : List (List ℕ)) (ps : List Part) → Told lists ps
+told lists [] = record { front = refl; back = refl; start = refl; end = refl; low = refl }
+told lists (p ∷ ps) =
+    let r = told lists ps in
+    let cs = cuts_of lists ps in
+    record {
+      front = ap (λ (l : List (List Run)). runs_of lists p.front ∷ l) r.front;
+      back = ap (λ (l : List (List Run)). runs_of lists p.back ∷ l) r.back;
+      start = omega (arith, r.start, sum_by-cons (λ (q : Part). q.initial) p ps, sum_by-cons (λ (c : Cut). c.initial) (cut_of lists p) cs);
+      end = omega (arith, r.end, sum_by-cons (λ (q : Part). q.fin) p ps, sum_by-cons (λ (c : Cut). c.fin) (cut_of lists p) cs);
+      low = omega (arith, r.low, sum_by-cons (λ (q : Part). q.least) p ps, sum_by-cons (λ (c : Cut). c.least) (cut_of lists p) cs);
+    }
 
 same_numbers : (f b : List Run) (i i' e e' l l' : ℕ) → i ≡ i' → e ≡ e' → l ≡ l' → ◌≡◌ {A = Cut} (record { front = f; back = b; initial = i; fin = e; least = l }) (record { front = f; back = b; initial = i'; fin = e'; least = l' })
 same_numbers f b i i' e e' l l' p q r = rw (p, q, r) refl
 
-module _ (laws : LawsBelow) (r0 r1 r2 : List (List ℕ)) (parts : List Part) (fs bs : List (List Seg)) (start end low most : ℕ) (front back : List Seg)
-    (h : AreRough r0 parts) (room : sum_in (λ p. p.peak) parts ≤ 2 ^ 60) (s : AreSplit parts fs bs start end low most) (k01 : Extends r0 r1) (k12 : Extends r1 r2) (front_ropes : HaveRopes r1 front) (back_ropes : HaveRopes r2 back)
-    (f : runs_of r1 front ≡ merge_runs (all_runs_of r0 fs)) (b : runs_of r2 back ≡ merge_runs (all_runs_of r1 bs))
-    (f' : profile front ≡ merge_segments (profiles fs)) (b' : profile back ≡ merge_segments (profiles bs)) where
+module _ (laws : SideLaws) (r0 r1 r2 : List (List ℕ)) (parts : List Part) (fs bs : List (List Seg)) (start end low most : ℕ) (front back : List Seg)
+    (h : AreRough r0 parts) (s : AreSplit parts fs bs start end low most) (k01 : Extends r0 r1) (k12 : Extends r1 r2) (front_ropes : HaveRopes r1 front) (back_ropes : HaveRopes r2 back)
+    (f : runs_of r1 front ≡ merge_runs (all_runs_of r0 fs)) (b : runs_of r2 back ≡ merge_runs (all_runs_of r1 bs)) where
   front_is : runs_of r2 front ≡ merge_runs (fronts (cuts_of r0 parts))
-  front_is = (laws.stay r1 r2 front front_ropes k12).1 ∙ f ∙ ap (λ (l : List (List Seg)). merge_runs (all_runs_of r0 l)) s.front ∙ ap merge_runs (runs_of_fronts r0 parts)
+  front_is = (laws.runs.stay r1 r2 front front_ropes k12).1 ∙ f ∙ ap (λ (l : List (List Seg)). merge_runs (all_runs_of r0 l)) s.front ∙ ap merge_runs (told r0 parts).front
 
   back_is : runs_of r2 back ≡ merge_runs (backs (cuts_of r0 parts))
-  back_is = b ∙ ap merge_runs (laws.all_stay r0 r1 bs (rw s.back (backs_ropes r0 parts h)) k01).1 ∙ ap (λ (l : List (List Seg)). merge_runs (all_runs_of r0 l)) s.back ∙ ap merge_runs (runs_of_backs r0 parts)
+  back_is = b ∙ ap merge_runs (laws.all_stay r0 r1 bs (rw s.back (backs_ropes r0 parts h)) k01).1 ∙ ap (λ (l : List (List Seg)). merge_runs (all_runs_of r0 l)) s.back ∙ ap merge_runs (told r0 parts).back
 
   pub together_cut : ◌≡◌ {A = Cut} (record { front = runs_of r2 front; back = runs_of r2 back; initial = start; fin = end; least = low }) (par_cut (cuts_of r0 parts))
-  together_cut = same_cut (runs_of r2 front) (merge_runs (fronts (cuts_of r0 parts))) (runs_of r2 back) (merge_runs (backs (cuts_of r0 parts))) start end low front_is back_is
-      ∙ same_numbers (merge_runs (fronts (cuts_of r0 parts))) (merge_runs (backs (cuts_of r0 parts))) start (sum_initial (cuts_of r0 parts)) end (sum_fin (cuts_of r0 parts)) low (sum_least (cuts_of r0 parts))
-      (s.start_is ∙ sym (sums_initial r0 parts)) (s.end_is ∙ sym (sums_fin r0 parts)) (s.low_is ∙ sym (sums_least r0 parts))
+  together_cut =
+      let cs = cuts_of r0 parts in
+      same_cut (runs_of r2 front) (merge_runs (fronts cs)) (runs_of r2 back) (merge_runs (backs cs)) start end low front_is back_is
+      ∙ same_numbers (merge_runs (fronts cs)) (merge_runs (backs cs)) start (sum_by (λ c. c.initial) cs) end (sum_by (λ c. c.fin) cs) low (sum_by (λ c. c.least) cs)
+      (s.start_is ∙ (told r0 parts).start) (s.end_is ∙ (told r0 parts).end) (s.low_is ∙ (told r0 parts).low)
 
-  front_net : net_sum (profile front) + low ≡ start
-  front_net = let t = sums laws r0 parts h in omega (arith, ap net_sum f', net_merged laws fs, ap net_sum_all s.front, t.front, s.low_is, s.start_is)
-
-  back_net : net_sum (profile back) + low ≡ end
-  back_net = let t = sums laws r0 parts h in omega (arith, ap net_sum b', net_merged laws bs, ap net_sum_all s.back, t.back, s.low_is, s.end_is)
-
-  front_top : top start (profile front) ≤ most
-  front_top =
-      let t = (sums laws r0 parts h).front_top in
-      let e : top start (profile front) ≡ top (sum_in (λ p. p.initial) parts) (merge_segments (profiles (fronts_of parts))) =
-      ap (top start) (f' ∙ ap (λ (l : List (List Seg)). merge_segments (profiles l)) s.front) ∙ ap (λ (n : ℕ). top n (merge_segments (profiles (fronts_of parts)))) s.start_is in
-      omega (arith, s.most_is)
-
-  back_top : top end (profile back) ≤ most
-  back_top =
-      let t = (sums laws r0 parts h).back_top in
-      let e : top end (profile back) ≡ top (sum_in (λ p. p.fin) parts) (merge_segments (profiles (backs_of parts))) =
-      ap (top end) (b' ∙ ap (λ (l : List (List Seg)). merge_segments (profiles l)) s.back) ∙ ap (λ (n : ℕ). top n (merge_segments (profiles (backs_of parts)))) s.end_is in
-      omega (arith, s.most_is)
-
-  pub together_rough : IsRough r2 (part_with front back start end low most)
-  together_rough = record {
-    both = record {
-      front_ropes = (laws.stay r1 r2 front front_ropes k12).0;
-      back_ropes = back_ropes;
-      front_net = front_net;
-      back_net = back_net;
-      front_rises = subst IsRising (sym f') (laws.merge_rises (profiles fs));
-      back_rises = subst IsRising (sym b') (laws.merge_rises (profiles bs));
-    };
-    bound = let x = front_top in let y = back_top in omega arith;
-    within = let e = s.most_is in omega arith;
-  }
+  pub together_rough : ((cs : List Cut) → AllByRecursion MeetsAtLeast cs → MeetsAtLeast (par_cut cs)) → ((cs : List Cut) → BothRise (par_cut cs))
+      → ((d : Direction) (cs : List Cut) → AllRising (sides d cs) → AllStart (starts d cs) (sides d cs) → top_of d (par_cut cs) ≤ tops d cs)
+      → sum_by (λ p. p.peak) parts ≤ 2 ^ 60 → IsRough r2 (part_with front back start end low most)
+  together_rough meets rises high room =
+      let cs = cuts_of r0 parts in
+      let p = part_with front back start end low most in
+      record {
+        both = sides_of r2 p (par_cut cs) together_cut (laws.runs.stay r1 r2 front front_ropes k12).0 back_ropes (meets cs (each_meets r0 parts h)) (rises cs);
+        bound = omega (
+          arith,
+          ap peak_of_cut together_cut,
+          s.most_is,
+          high forward cs (each_rises forward r0 parts h) (each_starts forward r0 parts h),
+          high backward cs (each_rises backward r0 parts h) (each_starts backward r0 parts h),
+          tops_le forward r0 parts h,
+          tops_le backward r0 parts h,
+        );
+        within = let e = s.most_is in omega arith;
+      }

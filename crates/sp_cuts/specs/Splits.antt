@@ -1,29 +1,27 @@
--- Parts taken apart into their sides. The words of the planner's own steps, which no public contract cites.
-use Rattle.std.specs.Prelude.{◌≡◌, ℕ, ◌+◌, ◌≤◌, List, [], ◌∷◌, ⊤}
+-- No public clause names this.
+-- Parts taken apart into their sides: the words of the planner's own steps.
+use Rattle.std.specs.Prelude.{◌≡◌, ℕ, ◌≤◌, max, List, sum_by}
+use Rattle.std.specs.List.{AllByRecursion}
+use Rattle.limits.specs.Limits.{most_total}
 use Rattle.hill_valley.specs.declared.side.Seg.{Seg}
-use Rattle.hill_valley.specs.Sides.{greatest_memory}
+use Rattle.cut_laws.specs.Cuts.{front_peak, back_peak}
 use Rattle.sp_cuts.specs.declared.parts.Part.{Part}
-use Rattle.sp_cuts.specs.Parts.{HasSides, tops_of, fronts_of, backs_of}
+use Rattle.sp_cuts.specs.Parts.{cut_of, HasSides, fronts_of, backs_of}
 
 -- a part whose `peak` is only a bound of its peak
 pub record IsRough (lists : List (List ℕ)) (p : Part) : Type 0 where
   pub both : HasSides lists p
-  pub bound : tops_of p ≤ p.peak
-  pub within : p.peak ≤ greatest_memory
+  pub bound : max (front_peak (cut_of lists p)) (back_peak (cut_of lists p)) ≤ p.peak
+  pub within : p.peak ≤ most_total
 
 abbrev pub AreRough : List (List ℕ) → List Part → Type 0
-AreRough lists [] = ⊤
-AreRough lists (p ∷ ps) = IsRough lists p × AreRough lists ps
-
-abbrev pub sum_in : (Part → ℕ) → List Part → ℕ
-sum_in f [] = 0
-sum_in f (p ∷ ps) = f p + sum_in f ps
+AreRough lists ps = AllByRecursion (IsRough lists) ps
 
 -- the sides of the parts, and the sums of their numbers
 pub record AreSplit (parts : List Part) (fs bs : List (List Seg)) (start end low most : ℕ) : Type 0 where
   pub front : fs ≡ fronts_of parts
   pub back : bs ≡ backs_of parts
-  pub start_is : start ≡ sum_in (λ p. p.initial) parts
-  pub end_is : end ≡ sum_in (λ p. p.fin) parts
-  pub low_is : low ≡ sum_in (λ p. p.least) parts
-  pub most_is : most ≡ sum_in (λ p. p.peak) parts
+  pub start_is : start ≡ sum_by (λ p. p.initial) parts
+  pub end_is : end ≡ sum_by (λ p. p.fin) parts
+  pub low_is : low ≡ sum_by (λ p. p.least) parts
+  pub most_is : most ≡ sum_by (λ p. p.peak) parts

@@ -1,13 +1,13 @@
--- Parts on a stack, made of the terms on the stack by which a list of positions denotes its term. The words of the planner's own
--- steps, which no public contract cites.
+-- No public clause names this.
+-- Parts on a stack, made of the terms on the stack by which a list of positions denotes its term.
 use Rattle.std.specs.Prelude.{◌≡◌, ℕ, suc, ◌+◌, ◌≤◌, ◌^◌, List, [], ◌∷◌, ⊤, reverse, Some}
+use Rattle.limits.specs.Limits.{most_tasks, most_total}
 use Rattle.mp_system.specs.declared.system.Task.{Task}
 use Rattle.sp_terms.specs.Term.{Term, hold, series, par, Parts, no_parts, part, initial_of, final_of}
 use Rattle.sp_terms.specs.declared.position.Position.{Position}
 use Rattle.sp_terms.specs.Postfix.{gather, push}
 use Rattle.sp_terms.specs.SystemOfTerm.{task_count}
 use Rattle.sp_terms.specs.Values.{AllAllowed}
-use Rattle.hill_valley.specs.Sides.{greatest_memory}
 use Rattle.cut_laws.specs.Names.{numbered}
 use Rattle.cut_laws.specs.TermCuts.{cut_of_term}
 use Rattle.sp_cuts.specs.declared.parts.Part.{Part}
@@ -57,19 +57,18 @@ ArePartsOf lists base (part t ts) (p ∷ ps) = IsPartOf lists base t p × ArePar
 -- ---- what a position does
 
 -- the two terms on top can be joined by this task
-pub record SeriesReady (lists : List (List ℕ)) (items : List Part) (extra share : ℕ) : Type 0 where
+pub record SeriesReady (lists : List (List ℕ)) (items : List Part) (v : Task) : Type 0 where
   pub st : List Term
   pub a : Term
   pub b : Term
   pub piled : ArePiled lists (b ∷ a ∷ st) (reverse items)
-  pub inputs : share ≤ final_of a
-  pub outputs : share ≤ extra + initial_of b
-  pub within : total_of a + extra + total_of b ≤ greatest_memory
+  pub inputs : v.share ≤ final_of a
+  pub outputs : v.share ≤ v.extra + initial_of b
+  pub within : total_of a + v.extra + total_of b ≤ most_total
 
-abbrev pub SeriesDone : List (List ℕ) → List (List ℕ) → List Part → List Part → ℕ → ℕ → ℕ → Type 0
-SeriesDone old new items items' task extra share =
-    (st : List Term) (a : Term) (v : Task) (b : Term) → v.extra ≡ extra → v.share ≡ share → v.share ≤ final_of a → task ≡ suc (stack_tasks (b ∷ a ∷ st))
-    → ArePiled old (b ∷ a ∷ st) (reverse items) → ArePiled new (series a v b ∷ st) (reverse items')
+abbrev pub SeriesDone : List (List ℕ) → List (List ℕ) → List Part → List Part → ℕ → Task → Type 0
+SeriesDone old new items items' number v =
+    (st : List Term) (a b : Term) → v.share ≤ final_of a → number ≡ suc (stack_tasks (b ∷ a ∷ st)) → ArePiled old (b ∷ a ∷ st) (reverse items) → ArePiled new (series a v b ∷ st) (reverse items')
 
 -- so many terms on top can be set side by side
 pub record ParReady (lists : List (List ℕ)) (items : List Part) (many : ℕ) : Type 0 where
@@ -78,7 +77,7 @@ pub record ParReady (lists : List (List ℕ)) (items : List Part) (many : ℕ) :
   pub rest : List Term
   pub piled : ArePiled lists st (reverse items)
   pub gathered : gather many st no_parts ≡ Some (ts, rest)
-  pub within : total_of_parts ts ≤ greatest_memory
+  pub within : total_of_parts ts ≤ most_total
 
 abbrev pub ParDone : List (List ℕ) → List (List ℕ) → List Part → List Part → ℕ → Type 0
 ParDone old new items items' many =
@@ -93,8 +92,8 @@ pub record PositionReady (lists : List (List ℕ)) (items : List Part) (position
   pub pushed : push position st ≡ Some st'
   pub allowed : AllAllowed st'
   pub next_is : next ≡ suc (stack_tasks st)
-  pub within : stack_total st' ≤ greatest_memory
-  pub few : stack_tasks st' ≤ 1000000
+  pub within : stack_total st' ≤ most_total
+  pub few : stack_tasks st' ≤ most_tasks
 
 abbrev pub PositionDone : List (List ℕ) → List (List ℕ) → List Part → List Part → Position → ℕ → ℕ → Type 0
 PositionDone old new items items' position next next' =
@@ -111,6 +110,11 @@ AreMoved (t ∷ st) total = (m : ℕ) × (rest : ℕ) × (2 ^ m ≤ task_count t
 abbrev pub AreMovedParts : Parts → ℕ → Type 0
 AreMovedParts no_parts total = total ≡ 0
 AreMovedParts (part t ts) total = (m : ℕ) × (rest : ℕ) × (2 ^ m ≤ task_count t ^ task_count t) × (total ≡ m + rest) × AreMovedParts ts rest
+
+abbrev pub SeriesSteps : List (List ℕ) → List Part → Task → ℕ → ℕ → Type 0
+SeriesSteps lists items v s s' =
+    (st : List Term) (a b : Term) (total : ℕ) → ArePiled lists (b ∷ a ∷ st) (reverse items) → AreMoved (b ∷ a ∷ st) total
+    → (more : ℕ) × (s' ≤ s + more) × AreMoved (series a v b ∷ st) (total + more)
 
 abbrev pub ParSteps : List (List ℕ) → List Part → ℕ → ℕ → ℕ → Type 0
 ParSteps lists items many s s' =

@@ -1,99 +1,97 @@
 //! Parts in a row, with a task between them, and parts side by side.
 
-ghost use Rattle.std.specs.Prelude.{◌≡◌, ◌⊎◌, ℕ, ◌+◌, ◌-◌, ◌<◌, ◌≤◌, max, List, [], ◌∷◌, ◌++◌, IfOk};
+ghost use Rattle.std.specs.Prelude.{◌≡◌, ◌⊎◌, ℕ, ◌+◌, ◌<◌, ◌≤◌, max, List, [], ◌∷◌, ◌++◌, sum_by, IfOk};
 ghost use Rattle.std.specs.List.{concat};
-ghost use Rattle.mp_system.specs.declared.system.Task.{Task};
+ghost use Rattle.limits.specs.Limits.{most_total};
 ghost use Rattle.sp_terms.specs.Term.{Term, series, par, Parts, Direction, IsAllowed};
 ghost use Rattle.side_laws.specs.Levels.{level_sum, AreLevels};
 ghost use Rattle.hill_valley.specs.Ropes.{Extends};
-ghost use Rattle.hill_valley.specs.Sides.{greatest_memory};
-ghost use Rattle.cut_laws.specs.Cuts.{series_cut, par_cut, top_of};
+ghost use Rattle.cut_laws.specs.Cuts.{series_cut, par_cut, top_of, starts, sides};
 ghost use Rattle.cut_laws.specs.Standing.{StandsFor, AllStandFor};
 ghost use Rattle.cut_laws.specs.Tops.{LiesInFirst, LiesInSecond, SomeReaches};
-ghost use Rattle.cut_laws.specs.Wanted.{starts, sides};
-ghost use Rattle.sp_cuts.specs.Parts.{cut_of, cuts_of, tops_of, IsPart, AreParts, sum_of_peaks, moves_in};
-ghost use Rattle.sp_cuts.specs.Splits.{IsRough, AreRough, sum_in, AreSplit};
+ghost use Rattle.sp_cuts.specs.Parts.{cut_of, cuts_of, HasSides, IsPart, AreParts, hill_between, CanJoin, moves_between, moves_in};
+ghost use Rattle.sp_cuts.specs.Splits.{IsRough, AreRough, AreSplit};
 
 use crate::NoMemory;
 use crate::hills::{Over, lead_over, way_over};
-use crate::laws::below;
-use crate::parts::Part;
+use crate::parts::{Part, hill_between};
 use hill_valley::{Ropes, Side};
-use segment_merge::merge;
+use mp_system::Task;
+use segment_merge::{laws, merge};
 use std::alloc::Global;
 use std::sync::ledger::Ledger;
 use step_count::Steps;
 
 /// The part of a series: a first part, a task that consumes all that it leaves and produces all that the second part starts
-/// with, and the second part. The cut is that of the part with the lesser least memory, a tie to the first. The share is at most
-/// what the first part leaves, and at most the extra and what the second part starts with. The hill is at most 2^60.
-/// Near linear in the segments that are joined or moved. Where memory is wanting the ropes may hold more.
-pub fn series(
+/// with, and the second part. The task goes by this name. The cut is that of the part with the lesser least memory, a tie to the first.
+/// Each segment that is moved from one side into another is a step. Near linear in the segments that are joined or moved. Where memory is
+/// wanting the ropes may hold more, and what was counted stays.
+pub fn series<L: Ledger>(
     a: Part,
-    task: u32,
-    extra: u64,
-    share: u64,
+    name: u32,
+    task: Task,
     b: Part,
     ropes: &mut Ropes,
+    steps: &mut Steps<L>,
 ) -> Result<Part, NoMemory>
     requires a { IsPart ropes.old a }
     requires b { IsPart ropes.old b }
-    requires inputs { share ≤ a.fin }
-    requires outputs { share ≤ extra + b.initial }
-    requires hill { a.fin + ((extra + b.initial) - share) ≤ greatest_memory }
-    ensures cut { let hill = a.fin + ((extra + b.initial) - share) in
-        IfOk result (λ p. cut_of ropes.new p ≡ series_cut (cut_of ropes.old a) task hill (cut_of ropes.old b)) }
-    ensures peak { IfOk result (λ p. p.peak ≡ max a.peak (max (a.fin + ((extra + b.initial) - share)) b.peak)) }
+    requires joins { CanJoin a task b }
+    ensures cut { IfOk result (λ p. cut_of ropes.new p ≡ series_cut (cut_of ropes.old a) name (hill_between a task b) (cut_of ropes.old b)) }
+    ensures peak { IfOk result (λ p. p.peak ≡ max a.peak (max (hill_between a task b) b.peak)) }
     // one side is that of a part, and the other leads over all else
-    ensures kinds { let hill = a.fin + ((extra + b.initial) - share) in IfOk result (λ p.
-        LiesInFirst (cut_of ropes.old a) (cut_of ropes.old b) hill (cut_of ropes.new p)
-        ⊎ LiesInSecond (cut_of ropes.old a) (cut_of ropes.old b) hill (cut_of ropes.new p)) }
+    ensures kinds { IfOk result (λ p.
+        LiesInFirst (cut_of ropes.old a) (cut_of ropes.old b) (hill_between a task b) (cut_of ropes.new p)
+        ⊎ LiesInSecond (cut_of ropes.old a) (cut_of ropes.old b) (hill_between a task b) (cut_of ropes.new p)) }
     // parts that stand for terms make one that stands for the series. The tasks keep their names
-    ensures stands { IfOk result (λ p. (ta : Term) (v : Task) (tb : Term) (na nb : List ℕ) → v.extra ≡ extra → v.share ≡ share
-        → IsAllowed ta → IsAllowed tb → StandsFor ta na (cut_of ropes.old a) → StandsFor tb nb (cut_of ropes.old b)
-        → StandsFor (series ta v tb) (na ++ (nb ++ task ∷ [])) (cut_of ropes.new p)) }
+    ensures stands { IfOk result (λ p. (ta tb : Term) (na nb : List ℕ) → IsAllowed ta → IsAllowed tb
+        → StandsFor ta na (cut_of ropes.old a) → StandsFor tb nb (cut_of ropes.old b)
+        → StandsFor (series ta task tb) (na ++ (nb ++ name ∷ [])) (cut_of ropes.new p)) }
     ensures part { IfOk result (λ p. IsPart ropes.new p) }
     ensures kept { Extends ropes.old ropes.new }
+    ensures steps { steps.new ≤ steps.old + moves_between a b }
 {
     cut_laws::laws::composition_law();
-    below();
-    let hill = a.fin + (extra + b.initial - share);
-    let part = series_part(a, task, hill, b, ropes)?;
+    laws::all();
+    let hill = hill_between(&a, &task, &b);
+    let part = series_part(a, name, hill, b, ropes, steps)?;
     Ok(part)
 }
 
 // The same for parts whose peaks are bounds, with the hill of the series.
-pub(crate) fn series_part(
+pub(crate) fn series_part<L: Ledger>(
     a: Part,
-    task: u32,
+    name: u32,
     hill: u64,
     b: Part,
     ropes: &mut Ropes,
+    steps: &mut Steps<L>,
 ) -> Result<Part, NoMemory>
     requires a { IsRough ropes.old a }
     requires b { IsRough ropes.old b }
     requires after { a.fin ≤ hill }
     requires before { b.initial ≤ hill }
-    requires hill { hill ≤ greatest_memory }
-    ensures cut { IfOk result (λ p. cut_of ropes.new p ≡ series_cut (cut_of ropes.old a) task hill (cut_of ropes.old b)) }
+    requires hill { hill ≤ most_total }
+    ensures cut { IfOk result (λ p. cut_of ropes.new p ≡ series_cut (cut_of ropes.old a) name hill (cut_of ropes.old b)) }
     ensures peak { IfOk result (λ p. p.peak ≡ max a.peak (max hill b.peak)) }
-    ensures tops { IfOk result (λ p. tops_of p ≡ max (tops_of a) (max hill (tops_of b))) }
     ensures kinds { IfOk result (λ p. LiesInFirst (cut_of ropes.old a) (cut_of ropes.old b) hill (cut_of ropes.new p)
         ⊎ LiesInSecond (cut_of ropes.old a) (cut_of ropes.old b) hill (cut_of ropes.new p)) }
-    ensures rough { IfOk result (λ p. IsRough ropes.new p) }
+    ensures sides { IfOk result (λ p. HasSides ropes.new p) }
     ensures kept { Extends ropes.old ropes.new }
+    ensures steps { steps.new ≤ steps.old + moves_between a b }
 {
-    below();
+    cut_laws::laws::series_law();
+    laws::all();
     let peak = a.peak.max(hill).max(b.peak);
     if a.least <= b.least {
         let high = b.front.top(b.initial).max(hill);
-        let tasks = way_over(b.front, task, ropes)?;
+        let tasks = way_over(&b.front, name, ropes)?;
         let over = Over {
             hill: high,
             level: a.fin,
             tasks,
         };
-        let back = lead_over(b.back, a.back, ropes, b.least, over)?;
+        let back = lead_over(b.back, a.back, b.least, over, ropes, steps)?;
         Ok(Part {
             front: a.front,
             back,
@@ -104,13 +102,13 @@ pub(crate) fn series_part(
         })
     } else {
         let high = a.back.top(a.fin).max(hill);
-        let tasks = way_over(a.back, task, ropes)?;
+        let tasks = way_over(&a.back, name, ropes)?;
         let over = Over {
             hill: high,
             level: b.initial,
             tasks,
         };
-        let front = lead_over(a.front, b.front, ropes, a.least, over)?;
+        let front = lead_over(a.front, b.front, a.least, over, ropes, steps)?;
         Ok(Part {
             front,
             back: b.back,
@@ -132,9 +130,9 @@ pub fn parallel<L: Ledger>(
     steps: &mut Steps<L>,
 ) -> Result<Part, NoMemory>
     requires parts { AreParts ropes.old parts.items }
-    requires peaks { sum_of_peaks parts.items ≤ greatest_memory }
+    requires peaks { sum_by (λ p. p.peak) parts.items ≤ most_total }
     ensures cut { IfOk result (λ p. cut_of ropes.new p ≡ par_cut (cuts_of ropes.old parts.items)) }
-    ensures peak { IfOk result (λ p. p.peak ≤ sum_of_peaks parts.items) }
+    ensures peak { IfOk result (λ p. p.peak ≤ sum_by (λ p. p.peak) parts.items) }
     // where a side of the whole does not pass below a limit, that of some part does not pass below the limit less the others' levels
     ensures levels { IfOk result (λ p. (d : Direction) (limit : ℕ) (levels : List ℕ) → let cuts = cuts_of ropes.old parts.items in
         AreLevels limit 0 (starts d cuts) (sides d cuts) levels → level_sum (starts d cuts) < limit → limit ≤ top_of d (cut_of ropes.new p)
@@ -148,7 +146,7 @@ pub fn parallel<L: Ledger>(
 {
     cut_laws::laws::composition_law();
     cut_laws::laws::par_law();
-    below();
+    laws::all();
     let part = parallel_part(alloc, parts, ropes, steps)?;
     Ok(with_peak(part, ropes))
 }
@@ -160,7 +158,7 @@ pub(crate) fn with_peak(part: Part, ropes: &Ropes) -> Part
     ensures peak { result.peak ≤ part.peak }
     ensures part { IsPart ropes.now result }
 {
-    below();
+    laws::all();
     let peak = part.front.top(part.initial).max(part.back.top(part.fin));
     Part {
         front: part.front,
@@ -180,14 +178,15 @@ pub(crate) fn parallel_part<L: Ledger>(
     steps: &mut Steps<L>,
 ) -> Result<Part, NoMemory>
     requires parts { AreRough ropes.old parts.items }
-    requires peaks { sum_in (λ p. p.peak) parts.items ≤ greatest_memory }
+    requires peaks { sum_by (λ p. p.peak) parts.items ≤ most_total }
     ensures cut { IfOk result (λ p. cut_of ropes.new p ≡ par_cut (cuts_of ropes.old parts.items)) }
-    ensures peak { IfOk result (λ p. p.peak ≡ sum_in (λ p. p.peak) parts.items) }
+    ensures peak { IfOk result (λ p. p.peak ≡ sum_by (λ p. p.peak) parts.items) }
     ensures rough { IfOk result (λ p. IsRough ropes.new p) }
     ensures kept { Extends ropes.old ropes.new }
     ensures steps { steps.new ≤ steps.old + moves_in parts.items }
 {
-    below();
+    cut_laws::laws::par_law();
+    laws::all();
     let apart = split(alloc, parts)?;
     let front = merge(alloc, apart.fronts, ropes, steps)?;
     let back = merge(alloc, apart.backs, ropes, steps)?;
@@ -213,10 +212,10 @@ struct Apart {
 }
 
 fn split(alloc: Global, parts: Vec<Part>) -> Result<Apart, NoMemory>
-    requires initial { sum_in (λ p. p.initial) parts.items ≤ greatest_memory }
-    requires fin { sum_in (λ p. p.fin) parts.items ≤ greatest_memory }
-    requires least { sum_in (λ p. p.least) parts.items ≤ greatest_memory }
-    requires peak { sum_in (λ p. p.peak) parts.items ≤ greatest_memory }
+    requires initial { sum_by (λ p. p.initial) parts.items ≤ most_total }
+    requires fin { sum_by (λ p. p.fin) parts.items ≤ most_total }
+    requires least { sum_by (λ p. p.least) parts.items ≤ most_total }
+    requires peak { sum_by (λ p. p.peak) parts.items ≤ most_total }
     ensures { IfOk result (λ s. AreSplit parts.items s.fronts.items s.backs.items s.initial s.fin s.least s.peak) }
 {
     let mut fronts = Vec::new(alloc);

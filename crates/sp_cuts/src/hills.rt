@@ -1,16 +1,19 @@
 //! A side that goes on over a hill to another side.
 
-ghost use Rattle.std.specs.Prelude.{◌≡◌, ◌+◌, ◌≤◌, List, IfOk};
+ghost use Rattle.std.specs.Prelude.{◌≡◌, ◌+◌, ◌≤◌, min, length, List, IfOk};
+ghost use Rattle.limits.specs.Limits.{most_total};
 ghost use Rattle.side_laws.specs.Segments.{net_sum, top};
 ghost use Rattle.hill_valley.specs.Ropes.{list_of, IsRope, Extends};
-ghost use Rattle.hill_valley.specs.Sides.{greatest_memory, profile, HaveRopes, Run, runs_of, tasks_of, append_run};
+ghost use Rattle.hill_valley.specs.Side.{profile, HaveRopes, Run, runs_of, append_run};
 ghost use Rattle.segment_merge.specs.Crossing.{append_runs, hill_run, cross_hill_runs};
 ghost use Rattle.cut_laws.specs.Cuts.{over_task};
 
 use crate::NoMemory;
 use crate::behind::append_side;
-use crate::laws::below;
 use hill_valley::{Rope, Ropes, Side};
+use segment_merge::laws;
+use std::sync::ledger::Ledger;
+use step_count::Steps;
 
 // A way over a hill that has come down to a level.
 #[derive(Clone, Copy)]
@@ -22,63 +25,49 @@ pub(crate) struct Over {
 }
 
 // The way up a side, and then the task.
-pub(crate) fn way_over(side: Side, task: u32, ropes: &mut Ropes) -> Result<Rope, NoMemory>
-    requires { HaveRopes ropes.old side }
-    ensures list { IfOk result (λ rope. list_of ropes.new rope ≡ over_task (runs_of ropes.old side) task) }
+pub(crate) fn way_over(side: &Side, task: u32, ropes: &mut Ropes) -> Result<Rope, NoMemory>
+    requires { HaveRopes ropes.old side.now }
+    ensures list { IfOk result (λ rope. list_of ropes.new rope ≡ over_task (runs_of ropes.old side.now) task) }
     ensures rope { IfOk result (λ rope. IsRope ropes.new rope) }
     ensures kept { Extends ropes.old ropes.new }
 {
-    below();
-    let down = tasks_down(side, ropes)?;
+    laws::all();
+    let down = side.tasks(ropes)?;
     let up = ropes.flip(down)?;
     let last = ropes.one(task)?;
     ropes.join(up, last)
 }
 
-// The tasks of a side, down its segments.
-fn tasks_down(side: Side, ropes: &mut Ropes) -> Result<Rope, NoMemory>
-    requires { HaveRopes ropes.old side }
-    ensures list { IfOk result (λ rope. list_of ropes.new rope ≡ tasks_of (runs_of ropes.old side)) }
-    ensures rope { IfOk result (λ rope. IsRope ropes.new rope) }
-    ensures kept { Extends ropes.old ropes.new }
-{
-    below();
-    let mut side = side;
-    let mut way = ropes.empty()?;
-    while let Some(seg) = side.take_first() {
-        way = ropes.join(way, seg.tasks)?;
-    }
-    Ok(way)
-}
-
 // The side that goes down `near` to the level `end`, over the way, and down `far`.
-pub(crate) fn lead_over(
+pub(crate) fn lead_over<L: Ledger>(
     near: Side,
     far: Side,
-    ropes: &mut Ropes,
     end: u64,
     over: Over,
+    ropes: &mut Ropes,
+    steps: &mut Steps<L>,
 ) -> Result<Side, NoMemory>
     requires near { HaveRopes ropes.old near }
     requires far { HaveRopes ropes.old far }
     requires rope { IsRope ropes.old over.tasks }
-    requires net { net_sum (profile near) + end ≤ greatest_memory }
+    requires net { net_sum (profile near) + end ≤ most_total }
     requires room { net_sum (profile far) ≤ over.level }
     requires falls { over.level ≤ end + net_sum (profile far) }
     requires rises { end ≤ over.hill }
-    requires top { top over.level (profile far) ≤ greatest_memory }
-    requires hill { over.hill ≤ greatest_memory }
+    requires top { top over.level (profile far) ≤ most_total }
+    requires hill { over.hill ≤ most_total }
     ensures segments { IfOk result (λ side. runs_of ropes.new side
         ≡ cross_hill_runs end over.hill over.level (list_of ropes.old over.tasks) (runs_of ropes.old far) (runs_of ropes.old near)) }
     ensures ropes { IfOk result (λ side. HaveRopes ropes.new side) }
     ensures kept { Extends ropes.old ropes.new }
+    ensures steps { steps.new ≤ steps.old + min (length far) (length near + 1) }
 {
-    below();
+    laws::all();
     let mut near = near;
     let mut far = far;
     let over = go_above(&mut far, ropes, end, over)?;
     near.append(ropes, over.hill - end, end - over.level, over.tasks)?;
-    append_side(far, near, ropes)
+    append_side(far, near, ropes, steps)
 }
 
 // Goes on along a side as long as it is higher than `end`.
@@ -88,20 +77,21 @@ fn go_above(far: &mut Side, ropes: &mut Ropes, end: u64, over: Over) -> Result<O
     requires room { net_sum (profile far.old) ≤ over.level }
     requires falls { over.level ≤ end + net_sum (profile far.old) }
     requires rises { end ≤ over.hill }
-    requires top { top over.level (profile far.old) ≤ greatest_memory }
-    requires hill { over.hill ≤ greatest_memory }
+    requires top { top over.level (profile far.old) ≤ most_total }
+    requires hill { over.hill ≤ most_total }
     ensures crossing { IfOk result (λ way. (near : List Run) →
         cross_hill_runs end over.hill over.level (list_of ropes.old over.tasks) (runs_of ropes.old far.old) near
         ≡ append_runs (runs_of ropes.new far.new) (append_run (hill_run end way.hill way.level (list_of ropes.new way.tasks)) near)) }
     ensures low { IfOk result (λ way. way.level ≤ end) }
     ensures room { IfOk result (λ way. net_sum (profile far.new) ≤ way.level) }
     ensures rises { IfOk result (λ way. end ≤ way.hill) }
-    ensures hill { IfOk result (λ way. way.hill ≤ greatest_memory) }
+    ensures hill { IfOk result (λ way. way.hill ≤ most_total) }
     ensures rope { IfOk result (λ way. IsRope ropes.new way.tasks) }
     ensures far { IfOk result (λ way. HaveRopes ropes.new far.new) }
+    ensures fewer { IfOk result (λ way. length far.new ≤ length far.old) }
     ensures kept { Extends ropes.old ropes.new }
 {
-    below();
+    laws::all();
     let mut hill = over.hill;
     let mut level = over.level;
     let mut tasks = over.tasks;

@@ -7,19 +7,18 @@
 #![tactic(auto)]
 
 mod behind;
-#[cfg(test)]
-mod bench;
 mod composing;
 mod hills;
 pub mod laws;
 mod parts;
-#[cfg(test)]
-mod plain;
 mod planning;
 #[cfg(test)]
 mod tests;
 
 pub use composing::{parallel, series};
-pub use hill_valley::NoMemory;
-pub use parts::{Part, hold};
+pub use parts::{Part, hill_between, hold};
 pub use planning::{Plan, plan_terms};
+use std::alloc::AllocError;
+
+/// Want of memory: an allocation was refused.
+pub type NoMemory = AllocError;

@@ -6,21 +6,20 @@ ghost use Rattle.mp_system.specs.Memory.{peak_of};
 ghost use Rattle.mp_system.specs.Traversal.{IsTraversal, IsLeast};
 ghost use Rattle.sp_terms.specs.SystemOfTerm.{task_count, system_of_term};
 ghost use Rattle.sp_terms.specs.Values.{term_of};
-ghost use Rattle.side_laws.specs.Segments.{net_sum};
-ghost use Rattle.hill_valley.specs.Ropes.{list_of, IsRope, Extends};
-ghost use Rattle.hill_valley.specs.Sides.{greatest_memory, profile, HaveRopes, runs_of, tasks_of};
+ghost use Rattle.hill_valley.specs.Ropes.{Extends};
 ghost use Rattle.cut_laws.specs.Cuts.{order_of};
 ghost use Rattle.cut_laws.specs.Names.{numbered};
 ghost use Rattle.cut_laws.specs.Standing.{StandsFor};
 ghost use Rattle.cut_laws.specs.TermCuts.{cut_of_term};
 ghost use Rattle.sp_cuts.specs.Parts.{cut_of, IsPart};
-ghost use Rattle.sp_cuts.specs.Stacks.{IsPartOf, SeriesReady, SeriesDone, ParReady, ParDone, PositionReady, PositionDone, ParSteps, PositionSteps};
+ghost use Rattle.sp_cuts.specs.Stacks.{IsPartOf, SeriesReady, SeriesDone, SeriesSteps, ParReady, ParDone, ParSteps, PositionReady, PositionDone, PositionSteps};
 
 use crate::NoMemory;
 use crate::composing::{parallel_part, series_part, with_peak};
-use crate::laws::below;
-use crate::parts::{Part, hold};
-use hill_valley::{Rope, Ropes, Side};
+use crate::parts::{Part, hill_between, hold};
+use hill_valley::Ropes;
+use mp_system::Task;
+use segment_merge::laws;
 use sp_terms::{Position, Terms, laws as term_laws};
 use std::alloc::Global;
 use std::sync::ledger::Ledger;
@@ -40,8 +39,8 @@ pub struct Plan {
 }
 
 /// The plan of a term: down the front of its part, and up the back. One pass over the positions, with a stack of parts. Each
-/// segment that is moved from one side into another is a step. Of s tasks, fewer than 2^d, it takes at most s * d steps. Where
-/// memory is wanting, what was counted stays.
+/// segment that is moved from one side into another, in a series or side by side, is a step; one that is joined to another segment is
+/// gone for good, and is none. Of s tasks, fewer than 2^d, it takes at most s * d steps. Where memory is wanting, what was counted stays.
 pub fn plan_terms<L: Ledger>(
     alloc: Global,
     terms: &Terms,
@@ -60,7 +59,7 @@ pub fn plan_terms<L: Ledger>(
     ensures part { IfOk result (λ p. IsPart p.ropes p.part) }
     ensures steps { (d : ℕ) → task_count (term_of terms.now) < 2 ^ d → steps.new ≤ steps.old + task_count (term_of terms.now) * d }
 {
-    below();
+    laws::all();
     cut_laws::laws::stands_law();
     cut_laws::laws::number_law();
     term_laws::terms_law();
@@ -68,24 +67,15 @@ pub fn plan_terms<L: Ledger>(
     let mut ropes = Ropes::new(alloc);
     let rough = part_of(alloc, terms, &mut ropes, steps)?;
     let part = with_peak(rough, &ropes);
-    let peak = part.peak;
-    let front = read_side(alloc, part.front, &mut ropes)?;
-    let back = read_side(alloc, part.back, &mut ropes)?;
-    let up = ropes.flip(back.tasks)?;
-    let way = ropes.join(front.tasks, up)?;
+    let down = part.front.tasks(&mut ropes)?;
+    let back = part.back.tasks(&mut ropes)?;
+    let up = ropes.flip(back)?;
+    let way = ropes.join(down, up)?;
     let order = ropes.list(alloc, way)?;
-    let whole = Part {
-        front: front.side,
-        back: back.side,
-        initial: part.initial,
-        fin: part.fin,
-        least: part.least,
-        peak,
-    };
     Ok(Plan {
         order,
-        peak,
-        part: whole,
+        peak: part.peak,
+        part,
         ropes,
     })
 }
@@ -101,7 +91,7 @@ fn part_of<L: Ledger>(
     ensures kept { Extends ropes.old ropes.new }
     ensures steps { (d : ℕ) → task_count (term_of terms.now) < 2 ^ d → steps.new ≤ steps.old + task_count (term_of terms.now) * d }
 {
-    below();
+    laws::all();
     let mut stack = Vec::new(alloc);
     let mut next = 1;
     for done in 0..terms.len() {
@@ -110,7 +100,7 @@ fn part_of<L: Ledger>(
     }
     match stack.pop() {
         Some(part) => Ok(part),
-        None => Ok(hold(alloc, 0)),
+        None => unreachable!(),
     }
 }
 
@@ -128,14 +118,14 @@ fn push_position<L: Ledger>(
     ensures kept { Extends ropes.old ropes.new }
     ensures steps { PositionSteps ropes.old stack.old.items position steps.old steps.new }
 {
-    below();
+    laws::all();
     match position {
         Position::Hold(size) => {
             stack.push(hold(alloc, size))?;
             Ok(next)
         }
-        Position::Task { extra, share, .. } => {
-            push_series(stack, next, extra, share, ropes)?;
+        Position::Task { extra, share, time } => {
+            push_series(stack, next, Task { extra, share, time }, ropes, steps)?;
             Ok(next + 1)
         }
         Position::Par(many) => {
@@ -145,26 +135,25 @@ fn push_position<L: Ledger>(
     }
 }
 
-// Joins the two parts on top of the stack by a task.
-fn push_series(
+// Joins the two parts on top of the stack by a task with this number.
+fn push_series<L: Ledger>(
     stack: &mut Vec<Part>,
-    task: u32,
-    extra: u64,
-    share: u64,
+    number: u32,
+    task: Task,
     ropes: &mut Ropes,
+    steps: &mut Steps<L>,
 ) -> Result<(), NoMemory>
-    requires ready { SeriesReady ropes.old stack.old.items extra share }
-    ensures done { OnOk result (SeriesDone ropes.old ropes.new stack.old.items stack.new.items task extra share) }
+    requires ready { SeriesReady ropes.old stack.old.items task }
+    ensures done { OnOk result (SeriesDone ropes.old ropes.new stack.old.items stack.new.items number task) }
     ensures kept { Extends ropes.old ropes.new }
+    ensures steps { SeriesSteps ropes.old stack.old.items task steps.old steps.new }
 {
-    below();
-    if let Some(b) = stack.pop() {
-        if let Some(a) = stack.pop() {
-            let hill = a.fin + (extra + b.initial - share);
-            let part = series_part(a, task, hill, b, ropes)?;
-            stack.push(part)?;
-        }
-    }
+    laws::all();
+    let Some(b) = stack.pop() else { unreachable!() };
+    let Some(a) = stack.pop() else { unreachable!() };
+    let hill = hill_between(&a, &task, &b);
+    let part = series_part(a, number, hill, b, ropes, steps)?;
+    stack.push(part)?;
     Ok(())
 }
 
@@ -181,37 +170,10 @@ fn push_par<L: Ledger>(
     ensures kept { Extends ropes.old ropes.new }
     ensures steps { ParSteps ropes.old stack.old.items many steps.old steps.new }
 {
-    below();
+    laws::all();
     let at = stack.len() - many as usize;
     let parts = stack.split_off(at)?;
     let part = parallel_part(alloc, parts, ropes, steps)?;
     stack.push(part)?;
     Ok(())
-}
-
-// A side that was read, and its tasks down its segments.
-#[derive(Drop)]
-struct Read {
-    side: Side,
-    tasks: Rope,
-}
-
-fn read_side(alloc: Global, side: Side, ropes: &mut Ropes) -> Result<Read, NoMemory>
-    requires ropes { HaveRopes ropes.old side }
-    ensures list { IfOk result (λ r. list_of ropes.new r.tasks ≡ tasks_of (runs_of ropes.old side)) }
-    ensures rope { IfOk result (λ r. IsRope ropes.new r.tasks) }
-    ensures same { IfOk result (λ r. runs_of ropes.new r.side ≡ runs_of ropes.old side) }
-    ensures ropes { IfOk result (λ r. HaveRopes ropes.new r.side) }
-    ensures kept { Extends ropes.old ropes.new }
-{
-    below();
-    let _rising = side.len();
-    let mut rest = side;
-    let mut copy = Side::new(alloc);
-    let mut tasks = ropes.empty()?;
-    while let Some(seg) = rest.take_first() {
-        tasks = ropes.join(tasks, seg.tasks)?;
-        copy.append(ropes, seg.up, seg.net, seg.tasks)?;
-    }
-    Ok(Read { side: copy, tasks })
 }

@@ -1,18 +1,28 @@
 //! Worked examples, by hand, and small trees and workflows against a plain search.
 
+ghost use Rattle.std.specs.Prelude.{◌≡◌, ◌<◌};
 ghost use Rattle.sp_terms.specs.Builder.{IsPosition};
 
-use crate::bench::{peak_in_twelve_steps, plan, two_chains};
-use crate::plain::least_peak;
-use crate::{NoMemory, Plan};
+use crate::{NoMemory, Plan, plan_terms};
 use hill_valley::Side;
-use mp_system::replay;
+use mp_system::{Item, System, replay};
 use sp_terms::{Position, TermBuilder, Terms, read_workflow, system_of};
 use std::alloc::Global;
 use std::marker::Brand;
 use std::process::Abort;
-use std::sync::ledger::Blank;
+use std::sync::ledger::{Blank, Ledger};
 use std::test::Fail;
+use step_count::Steps;
+
+// The plan, with a count of its own.
+fn plan<L: Ledger>(alloc: Global, blank: Blank, terms: &Terms) -> Result<Plan, NoMemory>
+    requires name { blank.name ≡ L.name }
+    requires parts { blank.parts ≡ L.parts }
+    requires some { 0 < blank.parts }
+{
+    let mut steps = Steps::<L>::new(blank);
+    plan_terms(alloc, terms, &mut steps)
+}
 
 fn planned(alloc: Global, terms: &Terms) -> Result<Plan, NoMemory> {
     plan::<Brand>(alloc, Blank::new(1), terms)
@@ -34,6 +44,7 @@ const STAR: &[u8] =
 
 const DATA_ALONE: &[u8] = b"workflow 1\ntasks 0\ndata 10\ndata 10\npar 2\nend\n";
 
+// Two chains of two tasks: from 4 down to 1, and over 10 to 3.
 const TWO_CHAINS: &[u8] =
     b"workflow 1\ntasks 4\ndata 4\ndata 1\ntask 0 1\ndata 3\ntask 6 1\ndata 4\ndata 1\ntask 0 1\ndata 3\ntask 6 1\npar 2\nend\n";
 
@@ -51,37 +62,26 @@ const SHARED: &[u8] = b"workflow 2\ntasks 1\ndata 4\ndata 3\ntask 2 4 1\nend\n";
 #[test]
 fn plans_have_the_peaks_of_the_worked_rows(rt: HostRuntime) -> Result<(), Fail> {
     let alloc = rt.alloc();
-    let rows: [(&[u8], u64, &[u32]); 10] = [
-        (FIVE, 11, &[3, 1, 4, 2, 5]),
-        (ONE_NODE, 9, &[1]),
-        (NOTHING, 0, &[]),
-        (NODE_OF_NOTHING, 0, &[1]),
-        (STAR, 6, &[3, 2, 1, 4]),
-        (DATA_ALONE, 20, &[]),
-        (TWO_CHAINS, 13, &[1, 3, 4, 2]),
-        (TWO_ROOTS, 7, &[2, 1]),
-        (HILLS, 13, &[1, 2, 3]),
-        (SHARED, 5, &[1]),
+    let rows: [(&[u8], u64); 10] = [
+        (FIVE, 11),
+        (ONE_NODE, 9),
+        (NOTHING, 0),
+        (NODE_OF_NOTHING, 0),
+        (STAR, 6),
+        (DATA_ALONE, 20),
+        (TWO_CHAINS, 13),
+        (TWO_ROOTS, 7),
+        (HILLS, 13),
+        (SHARED, 5),
     ];
-    for (text, peak, order) in rows {
+    for (text, peak) in rows {
         let terms = read_workflow(alloc, text)?;
         let plan = planned(alloc, &terms)?;
         assert_eq!(rt; plan.peak, peak);
         assert_eq!(rt; plan.part.peak, peak);
-        assert_eq!(rt; plan.order.as_slice(), order);
         let system = system_of(alloc, &terms)?;
         assert_eq!(rt; replay(alloc, &system, &plan.order)?, peak);
     }
-    Ok(())
-}
-
-// That the steps are at most twelve is proved of `peak_in_twelve_steps`.
-#[test]
-fn four_tasks_take_at_most_twelve_steps(rt: HostRuntime) -> Result<(), Fail> {
-    let alloc = rt.alloc();
-    let terms = read_workflow(alloc, STAR)?;
-    let peak = peak_in_twelve_steps::<Brand>(alloc, Blank::new(1), &terms)?;
-    assert_eq!(rt; peak, Some(6));
     Ok(())
 }
 
@@ -97,7 +97,9 @@ fn assert_one(rt: &impl Abort, side: Side, up: u64, net: u64) {
 
 #[test]
 fn a_part_of_two_chains_is_cut_in_both(rt: HostRuntime) -> Result<(), Fail> {
-    let part = two_chains::<Brand>(rt.alloc(), Blank::new(1))?;
+    let alloc = rt.alloc();
+    let terms = read_workflow(alloc, TWO_CHAINS)?;
+    let part = planned(alloc, &terms)?.part;
     assert_eq!(rt; part.initial, 8);
     assert_eq!(rt; part.fin, 6);
     assert_eq!(rt; part.least, 2);
@@ -202,6 +204,90 @@ fn put_task(builder: &mut TermBuilder, extra: u64, share: u64) {
                 time: 1,
             },
         );
+    }
+}
+
+// As many tasks as a plain search takes.
+const MOST: usize = 12;
+
+// The least peak over all traversals of a system of at most twelve tasks. For each set of tasks in turn, it is the least over all
+// that can be the last of them: what was done before it is a smaller set.
+fn least_peak(alloc: Global, system: &System) -> Result<u64, NoMemory> {
+    let count = system.tasks().len().min(MOST);
+    let mut best: Vec<u64> = Vec::new(alloc);
+    for set in 0..1usize << count {
+        let mut least = if set == 0 { 0 } else { u64::MAX };
+        for task in 0..count {
+            if is_in(set, task) && is_ready(system, without(set, task), task) {
+                let before = best.get(without(set, task)).copied().unwrap_or(u64::MAX);
+                least = least.min(before.max(running(system, without(set, task), task)));
+            }
+        }
+        best.push(least.max(memory(system, set)))?;
+    }
+    Ok(best.last().copied().unwrap_or(0))
+}
+
+// The task, counted from 0, is in the set.
+fn is_in(set: usize, task: usize) -> bool {
+    (set >> task.min(63)) & 1 == 1
+}
+
+fn without(set: usize, task: usize) -> usize {
+    set & !(1usize << task.min(63))
+}
+
+// The number of a task, which counts from 1, is that of a task in the set. None counts as `none` says.
+fn is_done(set: usize, number: Option<u32>, none: bool) -> bool {
+    match number {
+        Some(number) => is_in(set, (number as usize).saturating_sub(1)),
+        None => none,
+    }
+}
+
+fn is_present(set: usize, item: &Item) -> bool {
+    is_done(set, item.from, true) && !is_done(set, item.to, false)
+}
+
+// The memory after these tasks.
+fn memory(system: &System, set: usize) -> u64 {
+    let mut sum = 0u64;
+    for item in system.items() {
+        if is_present(set, item) {
+            sum = sum.saturating_add(item.size);
+        }
+    }
+    sum
+}
+
+fn is_number(number: Option<u32>, task: usize) -> bool {
+    match number {
+        Some(number) => (number as usize).saturating_sub(1) == task,
+        None => false,
+    }
+}
+
+// All that the task consumes is there after these tasks.
+fn is_ready(system: &System, set: usize, task: usize) -> bool {
+    for item in system.items() {
+        if is_number(item.to, task) && !is_done(set, item.from, true) {
+            return false;
+        }
+    }
+    true
+}
+
+// The memory while the task runs after these tasks.
+fn running(system: &System, set: usize, task: usize) -> u64 {
+    let mut sum = memory(system, set);
+    for item in system.items() {
+        if is_number(item.from, task) {
+            sum = sum.saturating_add(item.size);
+        }
+    }
+    match system.tasks().get(task) {
+        Some(own) => sum.saturating_add(own.extra).saturating_sub(own.share),
+        None => sum,
     }
 }
 

@@ -1,4 +1,4 @@
-use Rattle.std.proofs.Common.{rules, arith, ◌≡◌, ℕ, ap, sym, subst, ◌∙◌, refl, ◌-◌, length}
+use Rattle.std.proofs.Common.{rules, arith}
 use Rattle.std.proofs.lemmas.Grind.{common_steps}
 use Rattle.plan_claims.proofs.Walking.{here_last, here_limit, here_left, here_right, todo_there, some_note}
 use Rattle.plan_claims.proofs.claiming.claim_at_position.Goals as goal
@@ -8,16 +8,16 @@ put_claim-requires c =
     here_limit c.below.ensures c.args.terms.now c.args.position c.len-positions.ensures.terms c.requires.position.0 c.requires.position.1 c.args.notes.now.items _ c.in-Some.note c.args.todo.now.items _ c.last_wanted-wanted.result
     c.in-Some.ensures.items c.last_wanted-wanted.ensures c.requires.left
 
-pub returns-in_ok-hand_down-clause-left : goal.returns-in_ok-hand_down-clause-left
-returns-in_ok-hand_down-clause-left c =
+pub returns-clause-left : goal.returns-clause-left
+returns-clause-left c =
     let x = here_last c.below.ensures c.args.terms.now c.args.position c.len-positions.ensures.terms c.requires.position.0 c.requires.position.1 c.args.notes.now.items _ c.in-Some.note c.args.todo.now.items _ c.last_wanted-wanted.result
     c.in-Some.ensures.items c.last_wanted-wanted.ensures c.requires.left in
     let h = c.in_ok-hand_down.ensures _ x.allowed x.note x.shows in
     here_left c.below.ensures c.args.terms.now c.args.position c.len-positions.ensures.terms c.requires.position.0 c.requires.position.1 c.args.notes.now.items _ c.in-Some.note c.args.todo.now.items _ c.last_wanted-wanted.result
     c.in-Some.ensures.items c.last_wanted-wanted.ensures c.requires.left h.0 _ h.1 h.2
 
-pub returns-in_ok-hand_down-clause-right : goal.returns-in_ok-hand_down-clause-right
-returns-in_ok-hand_down-clause-right c root r =
+pub returns-clause-right : goal.returns-clause-right
+returns-clause-right c root r =
     let x = here_last c.below.ensures c.args.terms.now c.args.position c.len-positions.ensures.terms c.requires.position.0 c.requires.position.1 c.args.notes.now.items _ c.in-Some.note c.args.todo.now.items _ c.last_wanted-wanted.result
     c.in-Some.ensures.items c.last_wanted-wanted.ensures c.requires.left in
     let h = c.in_ok-hand_down.ensures _ x.allowed x.note x.shows in
@@ -27,8 +27,5 @@ returns-in_ok-hand_down-clause-right c root r =
 pub last_wanted-wanted-requires : goal.last_wanted-wanted-requires
 last_wanted-wanted-requires c = todo_there c.args.terms.now c.args.position c.len-positions.ensures.terms c.requires.position.0 c.requires.position.1 c.args.notes.now.items c.args.todo.now.items c.requires.left
 
-pub returns-in_default-clause-left : goal.returns-in_default-clause-left
-returns-in_default-clause-left c = absurd (some_note c.args.terms.now c.args.position c.args.notes.now.items c.requires.left.notes c.requires.position.0 (first_of (search rules, omega (arith, c.in_default.ensures.cases.0, c.args.notes.now.ok), grind (arith, common_steps))))
-
-pub returns-in_default-clause-right : goal.returns-in_default-clause-right
-returns-in_default-clause-right c = absurd (some_note c.args.terms.now c.args.position c.args.notes.now.items c.requires.left.notes c.requires.position.0 (first_of (search rules, omega (arith, c.in_default.ensures.cases.0, c.args.notes.now.ok), grind (arith, common_steps))))
+pub unreachable-requires : goal.unreachable-requires
+unreachable-requires c = some_note c.args.terms.now c.args.position c.args.notes.now.items c.requires.left.notes c.requires.position.0 (first_of (search rules, omega (arith, c.in_default.ensures.cases.0, c.args.notes.now.ok), grind (arith, common_steps)))

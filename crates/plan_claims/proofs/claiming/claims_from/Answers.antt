@@ -1,4 +1,4 @@
-use Rattle.std.proofs.Common.{◌≡◌, ℕ, ◌≤◌, ap, sym, subst, ◌∙◌, refl, arith, reverse, List, ◌++◌, ◌∷◌, [], Some, Option}
+use Rattle.std.proofs.Common.{◌≡◌, ℕ, ap, sym, subst, ◌∙◌, arith, reverse, List, ◌++◌, ◌∷◌, [], Some, Option}
 use Rattle.plan_text.specs.declared.claim.Claim.{Claim}
 use Rattle.plan_claims.specs.declared.notes.Wanted.{Wanted}
 use Rattle.plan_claims.specs.Walks.{IsLeft, IsRight, AreClaimsOf}

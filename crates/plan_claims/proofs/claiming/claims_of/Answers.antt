@@ -1,8 +1,6 @@
-use Rattle.std.proofs.Common.{◌≡◌, ℕ, ◌+◌, ◌-◌, ◌<◌, ◌≤◌, ap, sym, subst, ◌∙◌, refl, arith, inl, inr, List, ◌++◌, ◌∷◌, [], length, max}
-use Rattle.std.specs.Prelude.{pos, ◌-ℤ◌, ◌+ℤ◌, ◌≤ℤ◌}
-use Rattle.std.proofs.lemmas.Int.{ints}
+use Rattle.std.proofs.Common.{subst}
 use Rattle.cut_laws.specs.Cuts.{Cut}
-use Rattle.plan_claims.specs.Wants.{Shows, claim_of_wanted}
+use Rattle.plan_claims.specs.Wants.{Shows}
 use Rattle.plan_claims.proofs.Least.{peak_reached}
 use Rattle.plan_claims.proofs.claiming.claims_of.Goals as goal
 

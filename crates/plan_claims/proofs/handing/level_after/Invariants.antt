@@ -1,5 +1,5 @@
 use Rattle.std.proofs.Common.{◌≡◌, drop}
-use Rattle.hill_valley.specs.Sides.{profile}
+use Rattle.hill_valley.specs.Side.{profile}
 use Rattle.plan_claims.specs.Levels.{level_below}
 use Rattle.plan_claims.proofs.handing.level_after.Given as goal
 

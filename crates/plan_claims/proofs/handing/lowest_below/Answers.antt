@@ -1,4 +1,4 @@
-use Rattle.std.proofs.Common.{refl, arith, ◌<◌, ◌≤◌}
+use Rattle.std.proofs.Common.{refl, arith}
 use Rattle.plan_claims.proofs.Loops.{lowest_ends, lowest_stops, lowest_goes}
 use Rattle.plan_claims.proofs.handing.lowest_below.Goals as goal
 

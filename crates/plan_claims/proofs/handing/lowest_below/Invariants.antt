@@ -1,6 +1,6 @@
 use Rattle.std.proofs.Common.{◌≡◌, drop}
 use Rattle.side_laws.specs.Segments.{lowest}
-use Rattle.hill_valley.specs.Sides.{profile}
+use Rattle.hill_valley.specs.Side.{profile}
 use Rattle.plan_claims.proofs.handing.lowest_below.Given as goal
 
 abbrev pub invariant-loop-seg : goal.invariant-loop-seg

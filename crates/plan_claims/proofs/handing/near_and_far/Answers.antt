@@ -1,8 +1,7 @@
 use Rattle.std.proofs.Common.{◌∙◌, ap, List}
 use Rattle.side_laws.specs.Segments.{lowest}
 use Rattle.hill_valley.specs.declared.side.Seg.{Seg}
-use Rattle.hill_valley.specs.Sides.{profile}
-use Rattle.sp_terms.specs.Term.{Direction}
+use Rattle.hill_valley.specs.Side.{profile}
 use Rattle.plan_claims.proofs.NearFar.{handed_other, handed_near, handed_closed, handed_hill, handed_last}
 use Rattle.sp_term_laws.specs.Moves.{other}
 use Rattle.plan_claims.proofs.handing.near_and_far.Goals as goal

@@ -1,5 +1,5 @@
-use Rattle.std.proofs.Common.{refl, arith, ◌<◌, ◌≤◌}
-use Rattle.plan_claims.proofs.Loops.{left_ends, left_goes, none_ends, none_goes, each_ends, each_goes}
+use Rattle.std.proofs.Common.{refl}
+use Rattle.plan_claims.proofs.Loops.{none_ends, none_goes}
 use Rattle.plan_claims.proofs.handing.nothing_each.Goals as goal
 
 pub loop-part-init : goal.loop-part-init

@@ -1,4 +1,4 @@
-use Rattle.std.proofs.Common.{◌≡◌, ℕ, ◌+◌, ◌-◌, ◌<◌, ◌≤◌, ap, sym, subst, ◌∙◌, refl, arith, List, ◌++◌, ◌∷◌, [], length, drop}
+use Rattle.std.proofs.Common.{ap, sym}
 use Rattle.cut_laws.specs.Cuts.{front_peak, back_peak}
 use Rattle.plan_claims.proofs.noting.hold_entry.Goals as goal
 

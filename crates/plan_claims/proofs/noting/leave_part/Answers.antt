@@ -1,4 +1,3 @@
-use Rattle.std.proofs.Common.{◌≡◌, ℕ, ◌+◌, ◌-◌, ◌<◌, ◌≤◌, ap, sym, subst, ◌∙◌, refl, arith, List, ◌++◌, ◌∷◌, [], length, drop}
 use Rattle.plan_claims.proofs.PartsRead.{left_noted}
 use Rattle.plan_claims.proofs.noting.leave_part.Goals as goal
 

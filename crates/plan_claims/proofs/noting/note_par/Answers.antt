@@ -1,4 +1,4 @@
-use Rattle.std.proofs.Common.{rules, ◌≡◌, ℕ, ◌+◌, ◌-◌, ◌<◌, ◌≤◌, ap, sym, subst, ◌∙◌, refl, arith, List, ◌++◌, ◌∷◌, [], length, drop}
+use Rattle.std.proofs.Common.{◌-◌, ap, ◌∙◌, arith}
 use Rattle.cut_laws.specs.Cuts.{par_cut}
 use Rattle.plan_claims.proofs.Stacked.{many_there, peaks_fit, par_done, par_entries, par_entry, top_entries}
 use Rattle.plan_claims.proofs.noting.note_par.Goals as goal
@@ -16,10 +16,10 @@ parallel-requires-clause-peaks g c =
 
 pub returns-clause-entries : goal.returns-clause-entries
 returns-clause-entries g c =
-    par_entries c.below.ensures c.args.ropes.now c.args.stack.now.items _ _ (c.len.result - c.args.many) c.in_ok-entries.ensures.items c.in_ok-entries.ensures.tail c.requires.entries _ _ _ (c.below.ensures.on _ _ _ c.in_ok-read.ensures.kept c.in_ok-part.ensures.kept)
+    par_entries c.below.ensures c.args.ropes.now c.args.stack.now.items _ _ (c.len.result - c.args.many) c.in_ok-entries.ensures.items c.in_ok-entries.ensures.tail c.requires.entries _ _ _ (c.below.ensures.sides.runs.on _ _ _ c.in_ok-read.ensures.kept c.in_ok-part.ensures.kept)
     (par_entry c.below.ensures _ _ c.in_ok-part.ensures.part c.top-front_top.ensures.top c.top-back_top.ensures.top) c.in_ok-push.ensures.items
 
 pub returns-clause-done : goal.returns-clause-done
 returns-clause-done g c ts n allowed before e =
-    let x = par_done c.below.ensures c.args.ropes.now c.args.stack.now.items _ _ (c.len.result - c.args.many) c.in_ok-entries.ensures.items c.in_ok-entries.ensures.tail c.requires.entries _ _ c.in_ok-read.read.notes.items _ c.args.many (let n = many_there c.args.ropes.now c.args.stack.now.items c.requires.ready.0 c.args.many c.requires.ready.2 c.requires.ready.1 in omega (arith, c.len.ensures, c.args.stack.now.ok)) (c.below.ensures.on _ _ _ c.in_ok-read.ensures.kept c.in_ok-part.ensures.kept) (c.in_ok-part.ensures.cut ∙ ap par_cut c.in_ok-read.ensures.cuts) c.in_ok-read.ensures.notes c.in_ok-push.ensures.items ts n before e in
+    let x = par_done c.below.ensures c.args.ropes.now c.args.stack.now.items _ _ (c.len.result - c.args.many) c.in_ok-entries.ensures.items c.in_ok-entries.ensures.tail c.requires.entries _ _ c.in_ok-read.read.notes.items _ c.args.many (let n = many_there c.args.ropes.now c.args.stack.now.items c.requires.ready.0 c.args.many c.requires.ready.2 c.requires.ready.1 in omega (arith, c.len.ensures, c.args.stack.now.ok)) (c.below.ensures.sides.runs.on _ _ _ c.in_ok-read.ensures.kept c.in_ok-part.ensures.kept) (c.in_ok-part.ensures.cut ∙ ap par_cut c.in_ok-read.ensures.cuts) c.in_ok-read.ensures.notes c.in_ok-push.ensures.items ts n before e in
     (x.0, (x.1, c.in_ok-read.ensures.one))

@@ -1,4 +1,4 @@
-use Rattle.std.proofs.Common.{◌≡◌, ℕ, ◌+◌, ◌-◌, ◌<◌, ◌≤◌, ap, sym, subst, ◌∙◌, refl, arith, List, ◌++◌, ◌∷◌, [], length, drop}
+use Rattle.std.proofs.Common.{ap, refl, arith, length}
 use Rattle.plan_claims.proofs.Stacked.{next_entry, next_gathered}
 use Rattle.plan_claims.proofs.noting.note_parts.Goals as goal
 

@@ -1,4 +1,3 @@
-use Rattle.std.proofs.Common.{rules, ◌≡◌, ℕ, ◌+◌, ◌-◌, ◌<◌, ◌≤◌, ap, sym, subst, ◌∙◌, refl, arith, List, ◌++◌, ◌∷◌, [], length, drop}
 use Rattle.plan_claims.proofs.Stacked.{hold_fits, hold_entries, hold_done, task_ready, task_at, par_ready, par_at}
 use Rattle.plan_claims.proofs.noting.note_position.Goals as goal
 

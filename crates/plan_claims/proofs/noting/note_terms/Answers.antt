@@ -1,5 +1,5 @@
-use Rattle.std.proofs.Common.{rules, ◌≡◌, ℕ, ◌+◌, ◌-◌, ◌<◌, ◌≤◌, ap, sym, subst, ◌∙◌, refl, arith, List, ◌++◌, ◌∷◌, [], length, drop}
-use Rattle.plan_claims.proofs.Stacked.{next_ready, next_done, whole_entry, some_entry, index_is}
+use Rattle.std.proofs.Common.{arith}
+use Rattle.plan_claims.proofs.Stacked.{next_ready, next_done, whole_entry, index_is}
 use Rattle.plan_claims.proofs.noting.note_terms.Goals as goal
 
 pub note_position-requires : goal.note_position-requires

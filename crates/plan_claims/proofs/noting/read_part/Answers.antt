@@ -1,4 +1,3 @@
-use Rattle.std.proofs.Common.{◌≡◌, ℕ, ◌+◌, ◌-◌, ◌<◌, ◌≤◌, ap, sym, subst, ◌∙◌, refl, arith, List, ◌++◌, ◌∷◌, [], length, drop}
 use Rattle.plan_claims.proofs.PartsRead.{read_noted}
 use Rattle.plan_claims.proofs.noting.read_part.Goals as goal
 
@@ -8,4 +7,4 @@ returns-clause-noted c =
     c.in_ok-back.ensures.part c.in_ok-back.ensures.cut c.in_ok-back.ensures.peak c.in_ok-back.ensures.first
 
 pub returns-clause-kept : goal.returns-clause-kept
-returns-clause-kept c = c.below.ensures.on _ _ _ c.in_ok-front.ensures.kept c.in_ok-back.ensures.kept
+returns-clause-kept c = c.below.ensures.sides.runs.on _ _ _ c.in_ok-front.ensures.kept c.in_ok-back.ensures.kept

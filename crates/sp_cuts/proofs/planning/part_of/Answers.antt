@@ -12,10 +12,10 @@ loop-done-preserved g c =
     let lt : c.loop-done.done < length c.args.terms.now = (let t = c.loop-done-test.true in let e = c.len-done-end.ensures.value in omega arith) in
     let here = index_there c.args.terms.now c.loop-done.done c.at-position.result c.at-position.ensures in
     record {
-      kept = c.below.ensures.on _ _ _ c.loop-done.invariant.kept c.in_ok-next.ensures.kept;
+      kept = c.all.ensures.runs.on _ _ _ c.loop-done.invariant.kept c.in_ok-next.ensures.kept;
       standing = standing_on c.args.terms.now c.loop-done.done c.at-position.result c.loop-done.ropes c.loop-done.stack.items c.loop-done.next c.len-done-end.ensures.terms c.loop-done.invariant.standing lt here
           c.push_position.new.ropes c.push_position.new.stack.items c.in_ok-next.next c.in_ok-next.ensures.done;
-      spent = spent_on c.below.ensures c.args.terms.now c.loop-done.done c.at-position.result c.loop-done.ropes c.loop-done.stack.items c.loop-done.next c.len-done-end.ensures.terms c.loop-done.invariant.standing lt here
+      spent = spent_on c.all.ensures c.args.terms.now c.loop-done.done c.at-position.result c.loop-done.ropes c.loop-done.stack.items c.loop-done.next c.len-done-end.ensures.terms c.loop-done.invariant.standing lt here
           c.args.steps.now c.loop-done.steps c.push_position.new.steps c.loop-done.invariant.spent c.push_position.ensures.steps;
     }
 
@@ -23,5 +23,5 @@ pub returns-in_err-next-clause-steps : goal.returns-in_err-next-clause-steps
 returns-in_err-next-clause-steps g c =
     let lt : c.loop-done.done < length c.args.terms.now = (let t = c.loop-done-test.true in let e = c.len-done-end.ensures.value in omega arith) in
     let here = index_there c.args.terms.now c.loop-done.done c.at-position.result c.at-position.ensures in
-    spent_stopped c.below.ensures c.args.terms.now c.loop-done.done c.at-position.result c.loop-done.ropes c.loop-done.stack.items c.loop-done.next c.len-done-end.ensures.terms c.loop-done.invariant.standing lt here
+    spent_stopped c.all.ensures c.args.terms.now c.loop-done.done c.at-position.result c.loop-done.ropes c.loop-done.stack.items c.loop-done.next c.len-done-end.ensures.terms c.loop-done.invariant.standing lt here
     c.args.steps.now c.loop-done.steps c.push_position.new.steps c.loop-done.invariant.spent c.push_position.ensures.steps

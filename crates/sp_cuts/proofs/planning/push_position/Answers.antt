@@ -27,10 +27,10 @@ pub returns-in_ok-push-in-Hold-clause-steps : goal.returns-in_ok-push-in-Hold-cl
 returns-in_ok-push-in-Hold-clause-steps g c = hold_steps c.args.ropes.now c.args.stack.now.items c.args.position c.in-Hold.size c.args.steps.now c.args.steps.now c.in-Hold.is (omega arith)
 
 pub returns-in_err-push_series-in-Task-clause-steps : goal.returns-in_err-push_series-in-Task-clause-steps
-returns-in_err-push_series-in-Task-clause-steps g c = task_steps c.below.ensures c.args.ropes.now c.args.stack.now.items c.args.position c.in-Task.extra c.in-Task.share _ c.args.steps.now c.args.steps.now c.in-Task.is (omega arith)
+returns-in_err-push_series-in-Task-clause-steps g c = task_steps c.args.ropes.now c.args.stack.now.items c.args.position c.in-Task.extra c.in-Task.share c.in-Task.time c.args.steps.now c.push_series.new.steps c.in-Task.is c.push_series.ensures.steps
 
 pub returns-in_ok-push_series-in-Task-clause-steps : goal.returns-in_ok-push_series-in-Task-clause-steps
-returns-in_ok-push_series-in-Task-clause-steps g c = task_steps c.below.ensures c.args.ropes.now c.args.stack.now.items c.args.position c.in-Task.extra c.in-Task.share _ c.args.steps.now c.args.steps.now c.in-Task.is (omega arith)
+returns-in_ok-push_series-in-Task-clause-steps g c = task_steps c.args.ropes.now c.args.stack.now.items c.args.position c.in-Task.extra c.in-Task.share c.in-Task.time c.args.steps.now c.push_series.new.steps c.in-Task.is c.push_series.ensures.steps
 
 pub returns-in_err-push_par-in-Par-clause-steps : goal.returns-in_err-push_par-in-Par-clause-steps
 returns-in_err-push_par-in-Par-clause-steps g c = par_position_steps c.args.ropes.now c.args.stack.now.items c.args.position c.in-Par.many c.args.steps.now c.push_par.new.steps c.in-Par.is c.push_par.ensures.steps

@@ -29,12 +29,11 @@ within (f ∷ es) e most new None h le m = absurd (apart (seg_of f) (segs_of es)
     apart s ss e = cc
 within (f ∷ es) e most new (Some s) h le m = (m, let u = head_up (seg_of f) s (segs_of es) new m in let g : f ≡ e = cc in let k = ap (λ (x : Entry). x.0) g in omega arith)
 
-pub returns-in-Some : goal.returns-in-Some
-returns-in-Some c =
+pub returns-in-Some-clause-first : goal.returns-in-Some-clause-first
+returns-in-Some-clause-first c =
     let first = within c.self.inside.segments.entries (c.in-Some.up.now, c.in-Some.field-0-1.now) c.args.most c.take_first.new.self c.take_first.result c.in-Some.ensures.first c.if-up-most.true in
-    record { first = rw c.self.view_is at (first (rw c.self.view_is c.take_first.ensures.first)) }
+    rw c.self.view_is at (first (rw c.self.view_is c.take_first.ensures.first))
 
-pub returns-in_default : goal.returns-in_default
-returns-in_default c = record {
-  first = (refl, rw c.self.view_is at (above c.self.inside.segments.entries (c.in-Some.up.now, c.in-Some.field-0-1.now) c.args.most c.in-Some.ensures.first c.if-up-most.false));
-}
+pub returns-in_default-clause-first : goal.returns-in_default-clause-first
+returns-in_default-clause-first c =
+    (refl, rw c.self.view_is at (above c.self.inside.segments.entries (c.in-Some.up.now, c.in-Some.field-0-1.now) c.args.most c.in-Some.ensures.first c.if-up-most.false))

@@ -1,6 +1,5 @@
-use Rattle.std.proofs.Common.{◌≡◌, ℕ, ◌+◌, ◌-◌, ◌<◌, ◌≤◌, ap, sym, subst, ◌∙◌, refl, arith, inl, inr, List, ◌++◌, ◌∷◌, [], length, max}
 use Rattle.plan_claims.proofs.PartsRead.{front_part, front_cut, front_room, first_of_runs}
-use Rattle.plan_claims.proofs.reading.read_front.Goals as goal
+use Rattle.plan_claims.proofs.first_segments.read_front.Goals as goal
 
 pub read_first-requires-clause-room : goal.read_first-requires-clause-room
 read_first-requires-clause-room c = front_room c.below.ensures _ _ c.requires.part

@@ -1,7 +1,7 @@
 use Rattle.std.proofs.Common.{inl, inr, refl}
 use Rattle.plan_claims.proofs.Tails.{taking_on, taking_ends}
-use Rattle.plan_claims.proofs.reading.take_first.Goals.{else-loop-at-test, then-loop-at-test+in-None}
-use Rattle.plan_claims.proofs.reading.take_first.Goals as goal
+use Rattle.plan_claims.proofs.first_segments.take_first.Goals.{else-loop-at-test, then-loop-at-test+in-None}
+use Rattle.plan_claims.proofs.first_segments.take_first.Goals as goal
 
 pub loop-at-preserved : goal.loop-at-preserved
 loop-at-preserved c = taking_on c.args.side c.args.level _ _ c.loop-at.at c.loop-at.invariant c.in-Some.seg _ _ _ c.in-Some.ensures.first c.in_ok-push-in-Some.ensures.items refl

@@ -1,9 +1,9 @@
-//! The numbers of a side, which is taken apart and put together again.
+//! The first segments of a side, which is taken apart and put together again.
 
 ghost use Rattle.std.specs.Prelude.{◌≡◌, ◌++◌, ◌≤◌, IfOk};
 ghost use Rattle.side_laws.specs.Segments.{net_sum};
 ghost use Rattle.hill_valley.specs.Ropes.{Extends};
-ghost use Rattle.hill_valley.specs.Sides.{profile, IsSide, HaveRopes, runs_of, run_profile};
+ghost use Rattle.hill_valley.specs.Side.{profile, IsSide, HaveRopes, runs_of, run_profile};
 ghost use Rattle.sp_cuts.specs.Parts.{cut_of, IsPart};
 ghost use Rattle.plan_claims.specs.Notes.{AreFirst};
 
@@ -100,7 +100,6 @@ fn read_first(
     ensures first { IfOk result (λ r. AreFirst (profile side) (profile r.first.items) level stop) }
     ensures kept { Extends ropes.old ropes.new }
 {
-    below();
     let Read { side: rest, first } = take_first(alloc, side, level, stop)?;
     let side = put_back(&first, rest, ropes)?;
     Ok(Read { side, first })
@@ -113,7 +112,7 @@ fn take_first(alloc: Global, side: Side, level: u64, stop: u64) -> Result<Read, 
     ensures first { IfOk result (λ r. AreFirst (profile side) (profile r.first.items) level stop) }
     ensures side { IsSide (profile side) }
 {
-    let _rising = side.len();
+    side.keeps();
     let mut rest = side;
     let mut first = Vec::new(alloc);
     let mut at = level;

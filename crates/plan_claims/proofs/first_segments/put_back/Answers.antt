@@ -1,6 +1,6 @@
-use Rattle.std.proofs.Common.{refl, ◌+◌, ◌-◌, ◌≡◌, arith}
+use Rattle.std.proofs.Common.{refl, ◌-◌, arith}
 use Rattle.plan_claims.proofs.Tails.{is_tail, putting_starts, put_rope, put_up, put_net, put_on}
-use Rattle.plan_claims.proofs.reading.put_back.Goals as goal
+use Rattle.plan_claims.proofs.first_segments.put_back.Goals as goal
 
 pub loop-left-init : goal.loop-left-init
 loop-left-init c = putting_starts c.below.ensures c.args.ropes.now c.args.first.now c.args.rest _ refl (is_tail _ _ c.requires.ropes c.requires.side)
