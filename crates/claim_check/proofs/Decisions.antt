@@ -42,52 +42,52 @@ same_direction backward backward = inl refl
 some_same : {A : Type 0} {x y : A} → Some x ≡ Some y → x ≡ y
 some_same e = cc
 
+either : {P Q : Type 0} → Decided P → Decided Q → Decided (P ⊎ Q)
+either (inl p) q = inl (inl p)
+either (inr fails) (inl q) = inl (inr q)
+either (inr fails) (inr fails') = inr (λ h. ⊎_elim fails fails' h)
+
+-- what says the same is decided too
+same : {P Q : Type 0} → (P → Q) → (Q → P) → Decided P → Decided Q
+same to from (inl p) = inl (to p)
+same to from (inr fails) = inr (λ q. fails (from q))
+
+none_some : {A : Type 0} {x : A} → None ≡ Some x → ⊥
+none_some e = cc
+
 has : (d : Direction) (bound : ℤ) (rest : ℕ) (claim : Option Claim) → Decided (Has d bound rest claim)
-has d bound rest None = inr (λ h. none h.1)
-  where
-    none : {A : Type 0} {x : A} → None ≡ Some x → ⊥
-    none e = cc
-has d bound rest (Some c) = of_some (both (same_direction c.direction d) (both (same_z c.bound bound) (at_most rest c.rest)))
-  where
-    of_some : Decided ((c.direction ≡ d) × ((c.bound ≡ bound) × (rest ≤ c.rest))) → Decided (Has d bound rest (Some c))
-    of_some (inl h) = inl (c, refl, h.0, h.1.0, h.1.1)
-    of_some (inr fails) = inr (λ h. fails (subst (λ (x : Claim). (x.direction ≡ d) × ((x.bound ≡ bound) × (rest ≤ x.rest))) (sym (some_same h.1)) (h.2, (h.3, h.4))))
+has d bound rest None = inr (λ h. none_some h.1)
+has d bound rest (Some c) =
+    same (λ h. (c, refl, h.0, h.1.0, h.1.1)) (λ h. subst (λ (x : Claim). (x.direction ≡ d) × ((x.bound ≡ bound) × (rest ≤ x.rest))) (sym (some_same h.1)) (h.2, (h.3, h.4)))
+    (both (same_direction c.direction d) (both (same_z c.bound bound) (at_most rest c.rest)))
 
 -- ---- series
 
-either_of : {A B C D R : Type 0} → (A → R) → (B → R) → (C → R) → (D → R)
-    → (R → A ⊎ (B ⊎ (C ⊎ D))) → Decided A → Decided B → Decided C → Decided D → Decided R
-either_of a b c d out (inl x) q r s = inl (a x)
-either_of a b c d out (inr fails) (inl x) r s = inl (b x)
-either_of a b c d out (inr fails) (inr fails2) (inl x) s = inl (c x)
-either_of a b c d out (inr fails) (inr fails2) (inr fails3) (inl x) = inl (d x)
-either_of a b c d out (inr fails) (inr fails2) (inr fails3) (inr fails4) = inr (λ h. none fails fails2 fails3 fails4 (out h))
-  where
-    none : {A B C D : Type 0} → (A → ⊥) → (B → ⊥) → (C → ⊥) → (D → ⊥) → A ⊎ (B ⊎ (C ⊎ D)) → ⊥
-    none f g h k (inl x) = f x
-    none f g h k (inr (inl x)) = g x
-    none f g h k (inr (inr (inl x))) = h x
-    none f g h k (inr (inr (inr x))) = k x
-
-which : (a : Term) (v : Task) (b : Term) (p q : Option Claim) (c : Claim) → MeetsSeries a v b p q c
-    → Has c.direction c.bound c.rest (passed_first c.direction p q)
-    ⊎ ((Has (other c.direction) c.bound 0 (passed_first c.direction p q) × (c.rest ≤ least_of (passed_first c.direction a b)))
-    ⊎ (((c.bound <ℤ pos (hill_of a v b)) × (c.rest ≤ least_of (passed_first c.direction a b)))
-    ⊎ (Has c.direction c.bound c.rest (passed_last c.direction p q) × (c.rest ≤ least_of (passed_first c.direction a b)))))
-which a v b p q c (first_is_stuck h) = inl h
-which a v b p q c (first_is_closed h le) = inr (inl (h, le))
-which a v b p q c (hill_is_above h le) = inr (inr (inl (h, le)))
-which a v b p q c (last_is_stuck h le) = inr (inr (inr (h, le)))
+-- the four rules, in one
+abbrev Ways : Term → Task → Term → Option Claim → Option Claim → Claim → Type 0
+Ways a v b p q c =
+    Has c.direction c.bound c.rest (passed_first c.direction p q)
+    ⊎ ((c.rest ≤ least_of (passed_first c.direction a b))
+    × (Has (other c.direction) c.bound 0 (passed_first c.direction p q)
+    ⊎ ((c.bound <ℤ pos (hill_of a v b)) ⊎ Has c.direction c.bound c.rest (passed_last c.direction p q))))
 
 meets_series : (a : Term) (v : Task) (b : Term) (p q : Option Claim) (c : Claim) → Decided (MeetsSeries a v b p q c)
 meets_series a v b p q c =
-    let low = at_most c.rest (least_of (passed_first c.direction a b)) in
-    either_of (λ h. first_is_stuck h) (λ h. first_is_closed h.0 h.1) (λ h. hill_is_above h.0 h.1) (λ h. last_is_stuck h.0 h.1)
-    (which a v b p q c)
-    (has c.direction c.bound c.rest (passed_first c.direction p q))
-    (both (has (other c.direction) c.bound 0 (passed_first c.direction p q)) low)
-    (both (below_z c.bound (pos (hill_of a v b))) low)
-    (both (has c.direction c.bound c.rest (passed_last c.direction p q)) low)
+    same to from (either (has c.direction c.bound c.rest (passed_first c.direction p q))
+    (both (at_most c.rest (least_of (passed_first c.direction a b))) (either (has (other c.direction) c.bound 0 (passed_first c.direction p q))
+    (either (below_z c.bound (pos (hill_of a v b))) (has c.direction c.bound c.rest (passed_last c.direction p q))))))
+  where
+    to : Ways a v b p q c → MeetsSeries a v b p q c
+    to (inl h) = first_is_stuck h
+    to (inr (le, inl h)) = first_is_closed h le
+    to (inr (le, inr (inl h))) = hill_is_above h le
+    to (inr (le, inr (inr h))) = last_is_stuck h le
+
+    from : MeetsSeries a v b p q c → Ways a v b p q c
+    from (first_is_stuck h) = inl h
+    from (first_is_closed h le) = inr (le, inl h)
+    from (hill_is_above h le) = inr (le, inr (inl h))
+    from (last_is_stuck h le) = inr (le, inr (inr h))
 
 -- ---- parts side by side
 
@@ -107,11 +107,8 @@ some_claim (Some c ∷ cs) = inl tt
 
 meets_par : (ts : List Term) (cs : List (Option Claim)) (c : Claim) → Decided (MeetsPar ts cs c)
 meets_par ts cs c =
-    of_parts (both (some_claim cs) (both (have_room c.direction c.bound (values_in c.direction ts cs) ts cs) (at_most c.rest (values_in c.direction ts cs))))
-  where
-    of_parts : Decided (SomeClaim cs × (HaveRoom c.direction c.bound (values_in c.direction ts cs) ts cs × (c.rest ≤ values_in c.direction ts cs))) → Decided (MeetsPar ts cs c)
-    of_parts (inl h) = inl (record { some = h.0; room = h.1.0; rest = h.1.1 })
-    of_parts (inr fails) = inr (λ m. fails (m.some, (m.room, m.rest)))
+    same (λ h. record { some = h.0; room = h.1.0; rest = h.1.1 }) (λ m. (m.some, (m.room, m.rest)))
+    (both (some_claim cs) (both (have_room c.direction c.bound (values_in c.direction ts cs) ts cs) (at_most c.rest (values_in c.direction ts cs))))
 
 meets_rule : (t : Term) (cs : List (Option Claim)) (c : Claim) → Decided (MeetsRule t cs c)
 meets_rule (hold size) cs c = both (below_z c.bound (pos size)) (at_most c.rest size)
@@ -126,16 +123,11 @@ meets_rule (par ts) cs c = meets_par (list_of_parts ts) cs c
 pub passes : (ps : List Position) (f : ℕ → Option Claim) (k : ℕ) → Decided (PassesAt ps f k)
 passes ps f k = at (f k) refl
   where
-    none : {A : Type 0} {x : A} → None ≡ Some x → ⊥
-    none e = cc
-
     at : (o : Option Claim) → f k ≡ o → Decided (PassesAt ps f k)
-    at None e = inl (λ c is. absurd (none (sym e ∙ is)))
-    at (Some c) e = of_claim c e (both (at_most 1 k) (both (at_most k (length ps)) (meets_rule (term_of_position ps k) (map f (part_positions k (term_of_position ps k))) c)))
-      where
-        of_claim : (c : Claim) → f k ≡ Some c → Decided ((1 ≤ k) × ((k ≤ length ps) × MeetsAt ps f k c)) → Decided (PassesAt ps f k)
-        of_claim c e (inl h) = inl (λ d is. subst (λ x. (1 ≤ k) × (k ≤ length ps) × MeetsAt ps f k x) (some_same (sym e ∙ is)) (h.0, h.1.0, h.1.1))
-        of_claim c e (inr fails) = inr (λ pass. let p = pass c e in fails (p.0, (p.1, p.2)))
+    at None e = inl (λ c is. absurd (none_some (sym e ∙ is)))
+    at (Some c) e =
+        same (λ h d is. subst (λ x. (1 ≤ k) × (k ≤ length ps) × MeetsAt ps f k x) (some_same (sym e ∙ is)) (h.0, h.1.0, h.1.1)) (λ pass. let p = pass c e in (p.0, (p.1, p.2)))
+        (both (at_most 1 k) (both (at_most k (length ps)) (meets_rule (term_of_position ps k) (map f (part_positions k (term_of_position ps k))) c)))
 
 -- all pass below n, or one is the lowest that does not
 pub search_below : (P : ℕ → Type 0) → ((k : ℕ) → Decided (P k)) → (n : ℕ)

@@ -1,6 +1,5 @@
 -- The parts of a series, and the rule at a position.
-use Rattle.std.proofs.Common.{◌≡◌, refl, sym, ap, ◌∙◌, subst, ℕ, suc, ◌+◌, ◌-◌, ◌<◌, ◌≤◌, All, IsTrue, List, [], ◌∷◌, Bool, true, false, map, length, get_or, Option, arith}
-use mathlib.Core.Bool.{not}
+use Rattle.std.proofs.Common.{◌≡◌, sym, ap, ◌∙◌, subst, ℕ, suc, ◌+◌, ◌-◌, ◌<◌, ◌≤◌, All, IsTrue, List, [], ◌∷◌, Bool, false, map, get_or, Option, arith}
 use Rattle.std.specs.Prelude.{◌↔◌}
 use Rattle.std.proofs.lemmas.List.Elements.{All-get_or}
 use Rattle.mp_system.specs.declared.system.Task.{Task}
@@ -15,14 +14,6 @@ use Rattle.claim_rules.specs.Placed.{MeetsAt, claims_at}
 use Rattle.claim_rules.specs.Rules.{values_in, HaveRoom, SomeClaim, MeetsRule, MeetsData, MeetsSeries, MeetsPar}
 use Rattle.claim_check.specs.Judgeable.{IsPlaced, parts_at}
 use Rattle.claim_check.proofs.Sums.{own_at}
-
-pub not_true : (b : Bool) → not b ≡ true → b ≡ false
-not_true true e = cc
-not_true false e = refl
-
-pub not_false : (b : Bool) → not b ≡ false → b ≡ true
-not_false true e = refl
-not_false false e = cc
 
 -- the second part stands just before the series, and the first just before the second
 pub record SeriesAt (ps : List Position) (k : ℕ) (v : Task) : Type 0 where

@@ -1,5 +1,5 @@
 -- The parts of a `par` taken together, from the last one back.
-use Rattle.std.proofs.Common.{◌≡◌, refl, sym, ap, ◌∙◌, subst, ℕ, zero, suc, ◌+◌, ◌-◌, ◌*◌, ◌^◌, ◌<◌, ◌≤◌, All, IsTrue, List, [], ◌∷◌, Bool, true, false, length, drop, map, get_or, Option, Some, None, arith, Bool}
+use Rattle.std.proofs.Common.{◌≡◌, refl, sym, ap, ◌∙◌, subst, ℕ, zero, suc, ◌+◌, ◌-◌, ◌*◌, ◌^◌, ◌<◌, ◌≤◌, IsTrue, List, [], ◌∷◌, Bool, true, false, length, drop, get_or, Option, Some, None, arith, Bool}
 use Rattle.std.specs.Prelude.{◌↔◌, ◌||◌, is_some, ℤ}
 use Rattle.sp_terms.specs.declared.position.Position.{Position}
 use Rattle.sp_terms.specs.declared.position.Position.TheVariants.{Par}

@@ -1,5 +1,5 @@
 -- The values of the term that ends at a position, from those of the terms that end before it.
-use Rattle.std.proofs.Common.{◌≡◌, ℕ, suc, ◌+◌, ◌-◌, ◌<◌, ◌≤◌, ◌^◌, min, refl, sym, subst, ap, arith, ◌∙◌, List, [], ◌∷◌, ◌++◌, length, length-append, take, drop, get_or, Some, append_assoc, length-take}
+use Rattle.std.proofs.Common.{◌≡◌, ℕ, suc, ◌+◌, ◌-◌, ◌<◌, ◌≤◌, ◌^◌, min, refl, sym, subst, ap, arith, ◌∙◌, List, [], ◌∷◌, ◌++◌, length, length-append, take, get_or, Some, append_assoc, length-take}
 use Rattle.std.specs.List.{sum_by}
 use Rattle.std.proofs.lemmas.List.{append-nil}
 use Rattle.std.proofs.lemmas.Grind.{common_steps}
@@ -79,15 +79,27 @@ mutual
 
 -- a series
 
+abbrev pub no_values : Values
+no_values = record { initial = 0; fin = 0; least = 0; width = 0 }
+
+-- the values of the second part, and those of the first part before it
+abbrev pub right_at : List Values → ℕ → Values
+right_at values at = get_or values (at - 1) no_values
+
+abbrev pub left_at : List Values → ℕ → Values
+left_at values at = get_or values (at - 1 - (right_at values at).width) no_values
+
 pub record SeriesAt (ps : List Position) (values : List Values) (at : ℕ) : Type 0 where
-  pub left : Values
-  pub right : Values
   pub some : 0 < at
-  pub is_right : (d : Values) → get_or values (at - 1) d ≡ right
-  pub room : right.width ≤ at - 1
-  pub is_left : (d : Values) → get_or values (at - 1 - right.width) d ≡ left
-  pub few : left.width + right.width ≤ at
-  pub own : record { initial = left.initial; fin = right.fin; least = min left.least right.least; width = left.width + right.width + 1 } ≡ values_of (term_at ps at)
+  pub room : (right_at values at).width ≤ at - 1
+  pub few : (left_at values at).width + (right_at values at).width ≤ at
+  pub own : record {
+    initial = (left_at values at).initial;
+    fin = (right_at values at).fin;
+    least = min (left_at values at).least (right_at values at).least;
+    width = (left_at values at).width + (right_at values at).width + 1;
+  }
+      ≡ values_of (term_at ps at)
 
 pub series_at : (ps : List Position) (values : List Values) (at : ℕ) → IsTerms ps → at < length ps → AreValues ps values at → ((d : Position) → IsTaskPosition (get_or ps at d)) → SeriesAt ps values at
 series_at ps values at h lt known task =
@@ -98,16 +110,17 @@ series_at ps values at h lt known task =
     let right_is : term_at ps (at - 1) ≡ b = ends ps at b (a ∷ stack) (omega (arith, u.room, u.some)) (p.is ∙ ap Some e) in
     let left_is : term_at ps (at - width_of b - 1) ≡ a = ends ps (at - width_of b) a stack (omega (arith, w.room, w.some)) u.is in
     let own_is : term_at ps at ≡ series a v b = ap (λ o. last_term (stack_from o)) p.then ∙ ap last_term f in
-    let same : at - 1 - width_of b ≡ at - width_of b - 1 = omega arith in
+    let right : right_at values at ≡ values_of b = known (at - 1) no_values (omega (arith, u.room, u.some)) ∙ ap values_of right_is in
+    let wide : (right_at values at).width ≡ width_of b = ap (λ (v : Values). v.width) right in
+    let left : left_at values at ≡ values_of a =
+    ap (λ n. get_or values n no_values) (let e : at - 1 - (right_at values at).width ≡ at - width_of b - 1 = omega arith in e) ∙ known (at - width_of b - 1) no_values (omega (arith, u.room, u.some)) ∙ ap values_of left_is in
+    let long : (left_at values at).width ≡ width_of a = ap (λ (v : Values). v.width) left in
     record {
-      left = values_of a;
-      right = values_of b;
       some = omega (arith, u.room, u.some);
-      is_right = λ d. known (at - 1) d (omega (arith, u.room, u.some)) ∙ ap values_of right_is;
-      room = omega (arith, u.room, w.room, w.some);
-      is_left = λ d. ap (λ n. get_or values n d) same ∙ known (at - width_of b - 1) d (omega (arith, u.room, u.some)) ∙ ap values_of left_is;
-      few = omega (arith, u.room, w.room);
-      own = ap (λ n. record { initial = first_memory forward a; fin = first_memory backward b; least = min (least_of a) (least_of b); width = n }) (more (width_of a) (width_of b)) ∙ sym (ap values_of own_is);
+      room = omega (arith, wide, u.room, w.room, w.some);
+      few = omega (arith, wide, long, u.room, w.room);
+      own = (λ i. record { initial = (left i).initial; fin = (right i).fin; least = min (left i).least (right i).least; width = (left i).width + (right i).width + 1 })
+          ∙ ap (λ n. record { initial = first_memory forward a; fin = first_memory backward b; least = min (least_of a) (least_of b); width = n }) (more (width_of a) (width_of b)) ∙ sym (ap values_of own_is);
     }
   where
     more : (m n : ℕ) → m + n + 1 ≡ suc (m + n)
@@ -153,10 +166,8 @@ taken_all ps at left end all h zero_left =
     let parts : h.parts ≡ h.whole = ap (λ p. p.0) (some_same same) in
     h.all_is ∙ ap (λ ts. values_of (par ts)) parts ∙ sym (ap values_of h.top)
 
-pub record Take (ps : List Position) (values : List Values) (at left end : ℕ) (all : Values) : Type 0 where
-  pub next : Values
+pub record Take (ps : List Position) (at left end : ℕ) (all next : Values) : Type 0 where
   pub some : 0 < end
-  pub is_next : (d : Values) → get_or values (end - 1) d ≡ next
   pub room : next.width ≤ end
   pub few : all.width + next.width ≤ at + 1
   pub initial : all.initial + next.initial ≤ 2 ^ 60
@@ -164,12 +175,12 @@ pub record Take (ps : List Position) (values : List Values) (at left end : ℕ) 
   pub least : all.least + next.least ≤ 2 ^ 60
   pub taken : Taken ps at (left - 1) (end - next.width) (record { initial = all.initial + next.initial; fin = all.fin + next.fin; least = all.least + next.least; width = all.width + next.width })
 
-pub take_next : (ps : List Position) (values : List Values) (at left end : ℕ) (all : Values) → IsTerms ps → at < length ps → AreValues ps values at → 0 < left → Taken ps at left end all → Take ps values at left end all
+pub take_next : (ps : List Position) (values : List Values) (at left end : ℕ) (all : Values) → IsTerms ps → at < length ps → AreValues ps values at → 0 < left → Taken ps at left end all → Take ps at left end all (right_at values end)
 take_next ps values at left end all h lt known some_left k =
     let more : left ≡ suc (left - 1) = omega arith in
     go k.stack k.is (subst (λ n. gather n k.stack k.parts ≡ Some (k.whole, k.rest)) more k.gathers)
   where
-    go : (stack : List Term) → push_all (take end ps) [] ≡ Some stack → gather (suc (left - 1)) stack k.parts ≡ Some (k.whole, k.rest) → Take ps values at left end all
+    go : (stack : List Term) → push_all (take end ps) [] ≡ Some stack → gather (suc (left - 1)) stack k.parts ≡ Some (k.whole, k.rest) → Take ps at left end all (right_at values end)
     go [] e g = absurd (none_some g)
     go (t ∷ stack) e g =
         let u = under ps end t stack (omega (arith, k.few)) e in
@@ -189,10 +200,8 @@ take_next ps values at left end all h lt known some_left k =
         let e_fin : all.fin + first_memory backward t ≡ first_memory_of_parts backward (part t k.parts) = omega (arith, a_fin) in
         let e_least : all.least + least_of t ≡ least_of_parts (part t k.parts) = omega (arith, a_least) in
         let e_width : all.width + width_of t ≡ suc (width_of_parts (part t k.parts)) = omega (arith, a_width) in
-        record {
-          next = values_of t;
+        subst (Take ps at left end all) (sym (known (end - 1) no_values (omega (arith, u.room, u.some, k.few)) ∙ ap values_of top_is)) (record {
           some = omega (arith, u.room, u.some);
-          is_next = λ d. known (end - 1) d (omega (arith, u.room, u.some, k.few)) ∙ ap values_of top_is;
           room = u.room;
           few = omega (arith, a_width, lens, u.room);
           initial = omega (arith, e_initial, b_initial);
@@ -210,7 +219,7 @@ take_next ps values at left end all h lt known some_left k =
             cut = cut;
             all_is = λ i. record { initial = e_initial i; fin = e_fin i; least = e_least i; width = e_width i };
           };
-        }
+        })
 
 pub hold_at : (ps : List Position) (at size : ℕ) (d : Position) → IsTerms ps → at < length ps → get_or ps at d ≡ Hold size → record { initial = size; fin = size; least = size; width = 1 } ≡ values_of (term_at ps at)
 hold_at ps at size d h lt is =
