@@ -226,16 +226,16 @@ fn refuses_with_the_kind_and_the_line(rt: HostRuntime) {
 #[test]
 fn tells_refusals_in_words(rt: HostRuntime) -> Result<(), Fail> {
     for (text, words) in [
-        (b"tree 3\n".as_slice(), "format 1 header"),
+        (b"tree 3\n".as_slice(), "header at line 1"),
         (
             b"tree 1\nnodes 1\n0 1 2\nend\n".as_slice(),
-            "format 3 number",
+            "number at line 3",
         ),
         (
             b"tree 1\nnodes 1\n1 1 2 1\nend\n".as_slice(),
-            "format 3 cycle",
+            "cycle at line 3",
         ),
-        (b"tree 1\nnodes 1\n0 1 2 1\n".as_slice(), "format 4 no-end"),
+        (b"tree 1\nnodes 1\n0 1 2 1\n".as_slice(), "no-end at line 4"),
     ] {
         let Some(refusal) = refusal_of(rt.alloc(), text) else {
             return Err(Fail::new("this file is not refused"));
