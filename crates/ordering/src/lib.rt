@@ -11,7 +11,6 @@ mod tests;
 pub use order_file::{OrderFileKind, read_order};
 pub use perm::{Perm, identity};
 pub use perm_file::{PermKind, read_perm};
-
 use std::alloc::AllocError;
 
 /// Want of memory: an allocation was refused.

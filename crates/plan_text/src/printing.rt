@@ -103,7 +103,10 @@ fn print_first(with_priority: bool, plan: &PlanFile, report: &mut Report) -> Res
     ensures err { OnErr result (take (length report.old) report.new ≡ report.old) }
 {
     printed_lines();
-    report.line(&[Token::Word("plan"), Token::Word(version_word(with_priority))])?;
+    report.line(&[
+        Token::Word("plan"),
+        Token::Word(version_word(with_priority)),
+    ])?;
     print_tasks("order", plan.order(), report)?;
     print_priority(with_priority, plan.priority(), report)
 }
