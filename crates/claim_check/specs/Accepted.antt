@@ -31,4 +31,5 @@ IsObjection system ps plan (objections.Root last) =
     IsTraversal system plan.order × (peak_of system plan.order ≡ plan.peak) × (length ps ≡ last) × ¬ (HasRoot ps plan)
 IsObjection system ps plan (objections.Claim position shape) =
     IsTraversal system plan.order × (peak_of system plan.order ≡ plan.peak) × HasRoot ps plan
-    × ((k : ℕ) → k < position → PassesAt ps (claim_at plan.claims) k) × ¬ (PassesAt ps (claim_at plan.claims) position) × (shape_at ps position ≡ shape)
+    × ((k : ℕ) → k < position → PassesAt ps (claim_at plan.claims) k) × ¬ (PassesAt ps (claim_at plan.claims) position)
+    × (shape_at ps position ≡ shape)

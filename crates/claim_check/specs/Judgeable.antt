@@ -31,7 +31,8 @@ named_claim claims entry = if entry == 0 then None else slice_get claims (entry 
 -- the entries name the claims that stand at the first positions
 abbrev pub IsClaimTable : List Claim → List ℕ → Type 0
 IsClaimTable claims table = (k : ℕ) → k < length table
-    → (slice_index_or table k 0 ≤ length claims) × (option_map claim_of (named_claim claims (slice_index_or table k 0)) ≡ claim_at claims (k + 1))
+    → (slice_index_or table k 0 ≤ length claims)
+    × (option_map claim_of (named_claim claims (slice_index_or table k 0)) ≡ claim_at claims (k + 1))
 
 -- the entry of a position, where so many claims stand before it
 abbrev pub entry_of : List Claim → ℕ → ℕ → ℕ

@@ -41,7 +41,8 @@ fn lowest_of_chunks<R: Threads + Sync, G: Gate>(
     gate: &G,
 ) -> Result<Vec<Option<u32>>, NoMemory>
     requires { 0 < size }
-    ensures len { IfOk result (λ lowest. length lowest.items ≡ length view.now.positions / size + min 1 (length view.now.positions % size)) }
+    ensures len { IfOk result
+        (λ lowest. length lowest.items ≡ length view.now.positions / size + min 1 (length view.now.positions % size)) }
     ensures each { IfOk result (λ lowest. AreLowest view.now.positions (claim_at view.now.claims) size lowest.items) }
 {
     let lowest = thread::map_chunks(
@@ -51,7 +52,8 @@ fn lowest_of_chunks<R: Threads + Sync, G: Gate>(
         size,
         &|start: usize, places: &[u32]| -> Option<u32>
             requires { (0 < size) × (start + length places.now ≤ most_positions) }
-            ensures { IsLowestIn view.entry.now.positions (claim_at view.entry.now.claims) (start + 1) (start + 1 + length places.now) result }
+            ensures { IsLowestIn view.entry.now.positions (claim_at view.entry.now.claims) (start + 1)
+                (start + 1 + length places.now) result }
         {
             gate.enter((start / size) as u32);
             let from = start as u32 + 1;

@@ -25,7 +25,8 @@ pub fn sum_of_parts(view: &View<'_>, position: u32, parts: u32, dir: Dir) -> Sum
     requires placed { IsPlaced view.now.positions position }
     requires par { (d : Position) → slice_index_or view.now.positions (position - 1) d ≡ Par parts }
     ensures total { result.total ≡
-        values_in (direction_of dir) (parts_at view.now.positions position) (claims_at view.now.positions (claim_at view.now.claims) position) }
+        values_in (direction_of dir) (parts_at view.now.positions position)
+        (claims_at view.now.positions (claim_at view.now.claims) position) }
     ensures some { IsTrue result.some ↔ SomeClaim (claims_at view.now.positions (claim_at view.now.claims) position) }
     ensures small { result.total ≤ 2 ^ 96 }
 {
@@ -49,10 +50,12 @@ pub fn have_room(view: &View<'_>, position: u32, parts: u32, claim: &Claim, tota
     requires placed { IsPlaced view.now.positions position }
     requires par { (d : Position) → slice_index_or view.now.positions (position - 1) d ≡ Par parts }
     requires sum { total ≡
-        values_in (direction_of claim.now.dir) (parts_at view.now.positions position) (claims_at view.now.positions (claim_at view.now.claims) position) }
+        values_in (direction_of claim.now.dir) (parts_at view.now.positions position)
+        (claims_at view.now.positions (claim_at view.now.claims) position) }
     requires small { total ≤ 2 ^ 96 }
     ensures { IsTrue result ↔
-        HaveRoom (direction_of claim.now.dir) claim.now.bound total (parts_at view.now.positions position) (claims_at view.now.positions (claim_at view.now.claims) position) }
+        HaveRoom (direction_of claim.now.dir) claim.now.bound total (parts_at view.now.positions position)
+        (claims_at view.now.positions (claim_at view.now.claims) position) }
 {
     let mut here = position - 1;
     let mut left = parts;

@@ -13,4 +13,5 @@ mutual
   pub data DeriveEach : List Term → List (Option Claim) → Type 0 where
     none_left : DeriveEach [] []
     unclaimed : {t : Term} {ts : List Term} {cs : List (Option Claim)} → DeriveEach ts cs → DeriveEach (t ∷ ts) (None ∷ cs)
-    claimed : {t : Term} {c : Claim} {ts : List Term} {cs : List (Option Claim)} → Derives t c → DeriveEach ts cs → DeriveEach (t ∷ ts) (Some c ∷ cs)
+    claimed : {t : Term} {c : Claim} {ts : List Term} {cs : List (Option Claim)} → Derives t c → DeriveEach ts cs
+        → DeriveEach (t ∷ ts) (Some c ∷ cs)

@@ -37,5 +37,6 @@ hill_of_the_chain = refl
 
 -- both chains have that claim; its value on the way back is its rest, and on the way forward the least memory of a chain
 pub values_of_the_chains :
-    map (λ direction. values_in direction (parts_of (term_of_position tree 11)) (Some stuck ∷ Some stuck ∷ [])) (backward ∷ forward ∷ []) ≡ 10 ∷ 0 ∷ []
+    map (λ direction. values_in direction (parts_of (term_of_position tree 11)) (Some stuck ∷ Some stuck ∷ [])) (backward ∷ forward ∷ [])
+    ≡ 10 ∷ 0 ∷ []
 values_of_the_chains = refl

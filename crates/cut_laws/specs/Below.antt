@@ -19,7 +19,8 @@ pub record TermLaws : Type 0 where
   pub least : (t : Term) (s : State t) → least_of t ≤ memory_of t s
   pub traversal : (t : Term) → IsAllowed t → (order : List ℕ) → IsTraversal (system_of_term t) order
       → Way forward 1 t (first_state forward t) order (peak_of (system_of_term t) order) (first_state backward t)
-  pub way : (t : Term) → IsAllowed t → (order : List ℕ) (peak : ℕ) → Way forward 1 t (first_state forward t) order peak (first_state backward t)
+  pub way : (t : Term) → IsAllowed t → (order : List ℕ) (peak : ℕ)
+      → Way forward 1 t (first_state forward t) order peak (first_state backward t)
       → IsTraversal (system_of_term t) order × (peak ≡ peak_of (system_of_term t) order)
   pub cut : (t : Term) → IsAllowed t → (done rest : List ℕ) → IsTraversal (system_of_term t) (done ++ rest)
       → (s : State t) × (memory_after (system_of_term t) done ≡ memory_of t s)
@@ -29,10 +30,13 @@ pub record TermLaws : Type 0 where
       → Way forward 1 t (first_state forward t) done before s → Way forward 1 t s rest after (first_state backward t)
       → IsTraversal (system_of_term t) (done ++ rest) × (memory_after (system_of_term t) done ≡ memory_of t s)
       × (before ≡ peak_of (system_of_term t) done) × (after ≡ peak_from (system_of_term t) done rest)
-  pub back : (d : Direction) (base : ℕ) (t : Term) (s u : State t) (xs : List ℕ) (h : ℕ) → Way d base t s xs h u → Way (other d) base t u (reverse xs) h s
-  pub ways_joined : (d : Direction) (base : ℕ) (t : Term) (s m u : State t) (xs ys : List ℕ) (h k : ℕ) → Way d base t s xs h m → Way d base t m ys k u → Way d base t s (xs ++ ys) (max h k) u
+  pub back : (d : Direction) (base : ℕ) (t : Term) (s u : State t) (xs : List ℕ) (h : ℕ) → Way d base t s xs h u
+      → Way (other d) base t u (reverse xs) h s
+  pub ways_joined : (d : Direction) (base : ℕ) (t : Term) (s m u : State t) (xs ys : List ℕ) (h k : ℕ) → Way d base t s xs h m
+      → Way d base t m ys k u → Way d base t s (xs ++ ys) (max h k) u
   pub each : (d : Direction) (base : ℕ) (t : Term) (s : State t) → (xs : List ℕ) × (h : ℕ) × Way d base t (first_state d t) xs h s
-  pub least_after : (t : Term) → IsAllowed t → (done rest : List ℕ) → IsTraversal (system_of_term t) (done ++ rest) → least_of t ≤ memory_after (system_of_term t) done
+  pub least_after : (t : Term) → IsAllowed t → (done rest : List ℕ) → IsTraversal (system_of_term t) (done ++ rest)
+      → least_of t ≤ memory_after (system_of_term t) done
 
 -- what a claim that meets a rule says is so
 abbrev pub RulesAreSound : Type 0

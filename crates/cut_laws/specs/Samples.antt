@@ -58,7 +58,8 @@ valley = series (series (hold 4) (task 0) (hold 1)) (task 6) (hold 3)
 abbrev valleys : Term
 valleys = par (part valley (part valley no_parts))
 
-valleys_are_cut : cut_of_term valleys (numbered 1 valleys) ≡ record { front = run 1 6 (1 ∷ 3 ∷ []) ∷ []; back = run 7 4 (2 ∷ 4 ∷ []) ∷ []; initial = 8; fin = 6; least = 2 }
+valleys_are_cut : cut_of_term valleys (numbered 1 valleys)
+    ≡ record { front = run 1 6 (1 ∷ 3 ∷ []) ∷ []; back = run 7 4 (2 ∷ 4 ∷ []) ∷ []; initial = 8; fin = 6; least = 2 }
 valleys_are_cut = refl
 
 valleys_are_ordered : order_of (cut_of_term valleys (numbered 1 valleys)) ≡ 1 ∷ 3 ∷ 4 ∷ 2 ∷ []
@@ -81,7 +82,8 @@ lowest_of_falling = refl
 
 -- along its one traversal the memory is at the levels of its front, and each run goes to its `up` above the level before it
 levels_of_falling :
-    memory_after (system_of_term falling) [] ∷ memory_after (system_of_term falling) (1 ∷ []) ∷ memory_after (system_of_term falling) (1 ∷ 2 ∷ []) ∷ []
+    memory_after (system_of_term falling) [] ∷ memory_after (system_of_term falling) (1 ∷ [])
+    ∷ memory_after (system_of_term falling) (1 ∷ 2 ∷ []) ∷ []
     ≡ 5 ∷ 2 ∷ 0 ∷ []
 levels_of_falling = refl
 

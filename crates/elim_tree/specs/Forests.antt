@@ -21,7 +21,8 @@ pub record IsGrown (joined : ℕ → ℕ → Bool) (k : ℕ) (root parent ancest
   -- whoever has a parent has the right one
   pub tied : (x : ℕ) → x < k → 0 < parent x → IsFirst joined x (parent x) × (parent x ≤ k) × (root x ≡ root (parent x)) × (0 < ancestor x)
   -- an ancestor stands in the same tree, and reaches what is reached past it
-  pub ancestors : (x : ℕ) → x < k → 0 < ancestor x → (x < ancestor x) × (ancestor x ≤ k) × Covers joined x (ancestor x) × (root x ≡ root (ancestor x))
+  pub ancestors : (x : ℕ) → x < k → 0 < ancestor x
+      → (x < ancestor x) × (ancestor x ≤ k) × Covers joined x (ancestor x) × (root x ≡ root (ancestor x))
   -- of the other columns nothing is known
   pub fresh : (x : ℕ) → k ≤ x → (parent x ≡ 0) × (ancestor x ≡ 0) × (root x ≡ x)
 
@@ -39,12 +40,14 @@ pub record IsOnWay (joined : ℕ → ℕ → Bool) (k start c : ℕ) (root paren
 -- the tree of `start` may be put under k
 abbrev pub CanLink : Rooted → ℕ → ℕ → List ℕ → List ℕ → Type 0
 CanLink forest k start parents ancestors =
-    IsAdjacency forest.joined × (start < k) × Reaches forest.joined start k × IsGrown forest.joined k forest.root (slice_index parents) (slice_index ancestors)
+    IsAdjacency forest.joined × (start < k) × Reaches forest.joined start k
+    × IsGrown forest.joined k forest.root (slice_index parents) (slice_index ancestors)
 
 -- it is under k, and whoever was there is still there
 abbrev pub IsLinked : Rooted → ℕ → ℕ → List ℕ → List ℕ → Type 0
 IsLinked forest k start parents ancestors =
-    (root : ℕ → ℕ) × IsGrown forest.joined k root (slice_index parents) (slice_index ancestors) × (root start ≡ k) × ((x : ℕ) → forest.root x ≡ k → root x ≡ k)
+    (root : ℕ → ℕ) × IsGrown forest.joined k root (slice_index parents) (slice_index ancestors) × (root start ≡ k)
+    × ((x : ℕ) → forest.root x ≡ k → root x ≡ k)
 
 -- the column of the j-th vertex of a row
 abbrev pub column_in : List ℕ → List ℕ → ℕ → ℕ

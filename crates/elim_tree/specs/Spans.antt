@@ -1,6 +1,6 @@
 -- No public clause names this.
--- How a postorder is made: each column and those below it fill a span of places, the column itself at its end, and the spans of the children of
--- a column lie side by side, by rising number. Columns are counted from 1, and n is one more than there are.
+-- How a postorder is made: each column and those below it fill a span of places, the column itself at its end, and the spans of the
+-- children of a column lie side by side, by rising number. Columns are counted from 1, and n is one more than there are.
 use Rattle.std.specs.Prelude.{◌≡◌, ◌==◌, if◌then◌else◌, ℕ, zero, suc, ◌+◌, ◌<◌}
 
 -- how many columns are in the subtrees of those children of p that are less than m, where each column has `below` many below it

@@ -41,7 +41,8 @@ pub fn pattern_of_rows()
 /// And so they do by columns, in whatever order the vertices are eliminated.
 pub fn renumbered_pattern()
     ensures pattern { (rows : List (List ℕ)) (order : List ℕ) → IsPattern rows → IsAdjacency (renumbered (is_joined rows) order) }
-    ensures within { (rows : List (List ℕ)) (order : List ℕ) → IsPattern rows → IsWithin (length order) (renumbered (is_joined rows) order) }
+    ensures within { (rows : List (List ℕ)) (order : List ℕ) → IsPattern rows
+        → IsWithin (length order) (renumbered (is_joined rows) order) }
 {}
 
 /// The structure of a column holds no row before the column.

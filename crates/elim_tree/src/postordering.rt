@@ -27,7 +27,8 @@ fn count_below(parents: &[u32], below: &mut [u32], before: &mut [u32])
 // Places the columns from the last one on, so that a parent comes before its children. The span of a column starts where its parent's
 // does, past those of its earlier siblings, and the column itself ends it.
 fn place_columns(parents: &[u32], below: &[u32], starts: &mut [u32], places: &mut [u32])
-    requires lengths { (length below.now ≡ length parents.now) × (length starts.old ≡ length parents.now) × (length places.old ≡ length parents.now) }
+    requires lengths { (length below.now ≡ length parents.now) × (length starts.old ≡ length parents.now)
+        × (length places.old ≡ length parents.now) }
     requires table { IsParentTable parents.now }
     requires counted { IsCounted (length parents.now) (slice_index parents.now) (slice_index below.now) (slice_index starts.old) }
     requires unused { (slice_index starts.old 0 ≡ 0) × (slice_index places.old 0 ≡ 0) }

@@ -27,7 +27,8 @@ pub struct Numbered {
 fn vertices_along(alloc: Global, perm: &Perm, post: &Perm) -> Result<Vec<u32>, NoMemory>
     requires len { length perm.now ≡ length post.now }
     requires few { length post.now ≤ most_order }
-    ensures { IfOk result (λ table. table.items ≡ map (λ k. vertex_at perm.now (vertex_at post.now k)) (range_with_len 0 (length post.now + 1))) }
+    ensures { IfOk result
+        (λ table. table.items ≡ map (λ k. vertex_at perm.now (vertex_at post.now k)) (range_with_len 0 (length post.now + 1))) }
 {
     (0..post.len() + 1)
         .map(|k| perm.at(post.at(k)))
@@ -38,7 +39,8 @@ fn vertices_along(alloc: Global, perm: &Perm, post: &Perm) -> Result<Vec<u32>, N
 fn places_along(alloc: Global, perm: &Perm, post: &Perm) -> Result<Vec<u32>, NoMemory>
     requires len { length perm.now ≡ length post.now }
     requires few { length post.now ≤ most_order }
-    ensures { IfOk result (λ table. table.items ≡ map (λ v. place_of post.now (place_of perm.now v)) (range_with_len 0 (length post.now + 1))) }
+    ensures { IfOk result
+        (λ table. table.items ≡ map (λ v. place_of post.now (place_of perm.now v)) (range_with_len 0 (length post.now + 1))) }
 {
     (0..post.len() + 1)
         .map(|v| post.place(perm.place(v)))
@@ -48,7 +50,9 @@ fn places_along(alloc: Global, perm: &Perm, post: &Perm) -> Result<Vec<u32>, NoM
 // The parents by the new numbers.
 fn parents_along(alloc: Global, parents: &Parents, post: &Perm) -> Result<Vec<u32>, NoMemory>
     requires { length parents.now ≡ length post.now }
-    ensures { IfOk result (λ table. table.items ≡ map (λ k. place_of post.now (parent_at parents.now (vertex_at post.now k))) (range_with_len 0 (length post.now + 1))) }
+    ensures { IfOk result
+        (λ table. table.items
+        ≡ map (λ k. place_of post.now (parent_at parents.now (vertex_at post.now k))) (range_with_len 0 (length post.now + 1))) }
 {
     (0..parents.len() + 1)
         .map(|k| post.place(parents.at(post.at(k))))
@@ -81,8 +85,8 @@ fn tree_along(alloc: Global, parents: &Parents, post: &Perm) -> Result<Parents, 
     Ok(Parents { table })
 }
 
-/// The order of elimination along the postorder of its elimination tree, with the parents carried over. These are numbered in postorder, and
-/// they are the elimination tree of the new order, for each pattern whose tree in the old order the given ones are. Linear. Liu 1990.
+/// The order of elimination along the postorder of its elimination tree, with the parents carried over. These are numbered in postorder,
+/// and they are the elimination tree of the new order, for each pattern whose tree in the old order the given ones are. Linear. Liu 1990.
 pub fn renumber(
     alloc: Global,
     perm: &Perm,

@@ -14,11 +14,13 @@ use Rattle.hill_valley.specs.Staircase.{AreSteps}
 
 -- a rope that was made before is still one, and stands for the same list
 abbrev pub RopesStay : Type 0
-RopesStay = (old new : List (List ℕ)) (rope : Rope) → IsRope old rope → Extends old new → IsRope new rope × (list_of new rope ≡ list_of old rope)
+RopesStay =
+    (old new : List (List ℕ)) (rope : Rope) → IsRope old rope → Extends old new → IsRope new rope × (list_of new rope ≡ list_of old rope)
 
 -- so do the ropes of a side
 abbrev pub SidesStay : Type 0
-SidesStay = (old new : List (List ℕ)) (side : List Seg) → HaveRopes old side → Extends old new → HaveRopes new side × (runs_of new side ≡ runs_of old side)
+SidesStay = (old new : List (List ℕ)) (side : List Seg) → HaveRopes old side → Extends old new
+    → HaveRopes new side × (runs_of new side ≡ runs_of old side)
 
 abbrev pub ExtendsItself : Type 0
 ExtendsItself = (lists : List (List ℕ)) → Extends lists lists
@@ -32,7 +34,8 @@ abbrev pub ProfileOfRuns : Type 0
 ProfileOfRuns = (lists : List (List ℕ)) (side : List Seg) → run_profile (runs_of lists side) ≡ profile side
 
 abbrev pub ProfileOfInsert : Type 0
-ProfileOfInsert = (before : Bool) (r : Run) (rs : List Run) → run_profile (insert_run before r rs) ≡ insert_segment (run_numbers r) (run_profile rs)
+ProfileOfInsert =
+    (before : Bool) (r : Run) (rs : List Run) → run_profile (insert_run before r rs) ≡ insert_segment (run_numbers r) (run_profile rs)
 
 abbrev pub InsertedRises : Type 0
 InsertedRises = (before : Bool) (r : Run) (rs : List Run) → IsRising (run_profile rs) → IsRising (run_profile (insert_run before r rs))

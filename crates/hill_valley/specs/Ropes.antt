@@ -14,7 +14,8 @@ list_of_node at Empty = []
 list_of_node at (Join a b) = at a ++ at b
 list_of_node at (Flip a) = reverse (at a)
 
--- a value for each node, made of the values of its parts. `done` are the values of the nodes before, and a part that is none of them has the value d
+-- a value for each node, made of the values of its parts. `done` are the values of the nodes before, and a part that is none of them has
+-- the value d
 abbrev pub values_from : {A : Type 0} → A → ((ℕ → A) → Node → A) → List A → List Node → List A
 values_from d make done [] = done
 values_from d make done (n ∷ ns) = values_from d make (done ++ make (λ i. get_or done i d) n ∷ []) ns

@@ -28,5 +28,6 @@ ends_at bound (s ∷ t ∷ ss) = ends_at bound (t ∷ ss)
 -- at the end, in place of the last where that has the same bound
 abbrev pub add_step : ℕ → ℕ → List Step → List Step
 add_step bound level [] = record { bound = bound; level = level } ∷ []
-add_step bound level (s ∷ []) = if s.bound == bound then record { bound = bound; level = level } ∷ [] else s ∷ record { bound = bound; level = level } ∷ []
+add_step bound level (s ∷ []) =
+    if s.bound == bound then record { bound = bound; level = level } ∷ [] else s ∷ record { bound = bound; level = level } ∷ []
 add_step bound level (s ∷ t ∷ ss) = s ∷ add_step bound level (t ∷ ss)

@@ -26,13 +26,15 @@ is_word word token = bytes_eq (map to_ascii_lowercase token) (map to_ascii_lower
 abbrev pub values_of_field : List ℕ → Option ℕ
 values_of_field token =
     if is_word (codes "pattern") token then Some 0
-    else (if is_word (codes "real") token || is_word (codes "double") token || is_word (codes "integer") token || is_word (codes "unsigned-integer") token then Some 1
+    else (if is_word (codes "real") token || is_word (codes "double") token || is_word (codes "integer") token
+    || is_word (codes "unsigned-integer") token then Some 1
     else (if is_word (codes "complex") token then Some 2
     else None))
 
 abbrev pub is_symmetry : List ℕ → Bool
 is_symmetry token =
-    is_word (codes "general") token || is_word (codes "symmetric") token || is_word (codes "hermitian") token || is_word (codes "skew-symmetric") token
+    is_word (codes "general") token || is_word (codes "symmetric") token || is_word (codes "hermitian") token
+    || is_word (codes "skew-symmetric") token
 
 abbrev pub banner_tests : Row → List (Test MatrixKind)
 banner_tests row =
@@ -67,7 +69,8 @@ size_of row = unwrap_or (size_stated row.tokens) (record { rows = 0; columns = 0
 
 abbrev pub size_tests : Row → List (Test MatrixKind)
 size_tests row =
-    test (is_some (size_stated row.tokens) && (not ((size_of row).rows == 0) && not ((size_of row).columns == 0))) (fault kinds.SizeLine row)
+    test (is_some (size_stated row.tokens) && (not ((size_of row).rows == 0) && not ((size_of row).columns == 0)))
+    (fault kinds.SizeLine row)
     ∷ test ((size_of row).rows == (size_of row).columns) (fault kinds.NotSquare row)
     ∷ test (nat_le (size_of row).rows most_order) (refusals.Limit limits.Order)
     ∷ test (nat_le (size_of row).entries most_entries) (refusals.Limit limits.Entries)
@@ -100,7 +103,8 @@ entry_tests values order stated taken row =
 abbrev pub matrix_line_tests : List Row → Row → List (Test MatrixKind)
 matrix_line_tests [] row = banner_tests row
 matrix_line_tests (banner ∷ []) row = size_tests row
-matrix_line_tests (banner ∷ size ∷ entries) row = entry_tests (values_stated banner) (size_of size).rows (size_of size).entries (length entries) row
+matrix_line_tests (banner ∷ size ∷ entries) row =
+    entry_tests (values_stated banner) (size_of size).rows (size_of size).entries (length entries) row
 
 abbrev pub matrix_end_tests : List Row → ℕ → List (Test MatrixKind)
 matrix_end_tests [] past = test false (fault_at past kinds.Banner) ∷ []

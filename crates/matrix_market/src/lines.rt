@@ -62,7 +62,8 @@ struct Banner<'a> {
 fn five_words(text: &[u8]) -> Option<Banner<'_>>
     ensures { MatchOption result
         (nat_le 5 (length (tokens_of text.now)) ≡ false)
-        (λ b. (rest : List (List ℕ)) × (tokens_of text.now ≡ b.mark.now ∷ b.object.now ∷ b.format.now ∷ b.field.now ∷ b.symmetry.now ∷ rest)) }
+        (λ b. (rest : List (List ℕ))
+        × (tokens_of text.now ≡ b.mark.now ∷ b.object.now ∷ b.format.now ∷ b.field.now ∷ b.symmetry.now ∷ rest)) }
 {
     let mut words = tokens(text);
     let mark = words.next()?;
@@ -121,7 +122,9 @@ fn are_left(mut words: Tokens<'_>, count: usize) -> bool
 
 #[tactic(auto, unfolding(crate::specs::MatrixFile::size_stated))]
 fn size_fields(text: &[u8]) -> Option<[u64; 3]>
-    ensures { MatchOption result (size_stated (tokens_of text.now) ≡ None) (λ ns. (rows columns entries : ℕ) × (ns ≡ rows ∷ columns ∷ entries ∷ []) × (size_stated (tokens_of text.now) ≡ Some (record { rows = rows; columns = columns; entries = entries }))) }
+    ensures { MatchOption result (size_stated (tokens_of text.now) ≡ None)
+        (λ ns. (rows columns entries : ℕ) × (ns ≡ rows ∷ columns ∷ entries ∷ [])
+        × (size_stated (tokens_of text.now) ≡ Some (record { rows = rows; columns = columns; entries = entries }))) }
 {
     tokens(text).numbers()
 }

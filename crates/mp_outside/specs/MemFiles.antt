@@ -50,7 +50,9 @@ have_one_count s one other = bytes_eq one other || (is_none (contents_of s one) 
 -- the count of this name rose by one, and no count that is not the same one changed
 abbrev pub RaisesOnly : FilesState → FilesState → List ℕ → Type 0
 RaisesOnly old new name =
-    (other : List ℕ) → fault_count_of new other ≡ (if have_one_count old name other then one_more (fault_count_of old other) else fault_count_of old other)
+    (other : List ℕ)
+    → fault_count_of new other
+    ≡ (if have_one_count old name other then one_more (fault_count_of old other) else fault_count_of old other)
 
 -- this name got these contents, and nothing else changed
 pub record Puts (old new : FilesState) (name bytes : List ℕ) : Type 0 where

@@ -9,7 +9,8 @@ one_more-last = refl
 
 -- one file `a` of two bytes whose loads failed three times, and five failed loads of other names
 abbrev one_file : FilesState
-one_file = record { files = record { name = codes "a"; bytes = 7 ∷ 8 ∷ []; faults = 3 } ∷ []; shared = 5; most = 4; calls = 9; failing = [] }
+one_file =
+    record { files = record { name = codes "a"; bytes = 7 ∷ 8 ∷ []; faults = 3 } ∷ []; shared = 5; most = 4; calls = 9; failing = [] }
 
 held_contents : contents_of one_file (codes "a") ≡ Some (7 ∷ 8 ∷ [])
 held_contents = refl

@@ -97,7 +97,8 @@ impl Files for MemFiles {
 
         // when it fails, and how much it gives
         ensures fails { IsErr result ↔ LoadFails self.old name.now }
-        ensures count { IfOk result (λ n. IfSome (contents_of self.old name.now) (λ text. n ≡ min (min (length text - place) (length buf.new)) self.old.most)) }
+        ensures count { IfOk result
+            (λ n. IfSome (contents_of self.old name.now) (λ text. n ≡ min (min (length text - place) (length buf.new)) self.old.most)) }
 
         // what becomes of the counts
         ensures raised { OnErr result (RaisesOnly self.old self.new name.now) }

@@ -37,7 +37,8 @@ stands_in tasks v = list_any (λ u. u == v) tasks
 abbrev pub peak_from : TaskSystem → List ℕ → List ℕ → ℕ
 peak_from system before [] = state_memory system (stands_in before)
 peak_from system before (v ∷ rest) =
-    max (state_memory system (stands_in before)) (max (running_memory system (stands_in before) v) (peak_from system (before ++ v ∷ []) rest))
+    max (state_memory system (stands_in before))
+    (max (running_memory system (stands_in before) v) (peak_from system (before ++ v ∷ []) rest))
 
 -- the peak of an order: the greatest memory over all its states, the first and the last included, and all running tasks
 abbrev pub peak_of : TaskSystem → List ℕ → ℕ

@@ -120,7 +120,8 @@ items_by_name = refl
 abbrev pub moves : List (ℕ × ℕ)
 moves = (2, 3) ∷ (1, 3) ∷ (0, 1) ∷ []
 
-pub items_agree : filter is_solid tree.items ≡ apply_swaps (map (renamed (name_in names)) (filter is_solid leaves_numbered_first.items)) moves
+pub items_agree : filter is_solid tree.items
+    ≡ apply_swaps (map (renamed (name_in names)) (filter is_solid leaves_numbered_first.items)) moves
 items_agree = refl
 
 -- its order 1 to 5 is the tree's leaves first

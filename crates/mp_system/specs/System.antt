@@ -53,7 +53,8 @@ need_of system v = (task_at system v).extra + outputs_of system v - (task_at sys
 
 -- a task's share is at most its inputs, and at most its extra and its outputs
 abbrev pub HasShare : TaskSystem → ℕ → Type 0
-HasShare system v = ((task_at system v).share ≤ inputs_of system v) × ((task_at system v).share ≤ (task_at system v).extra + outputs_of system v)
+HasShare system v =
+    ((task_at system v).share ≤ inputs_of system v) × ((task_at system v).share ≤ (task_at system v).extra + outputs_of system v)
 
 abbrev pub extra_size : Task → ℕ
 extra_size task = task.extra

@@ -35,7 +35,8 @@ fault_of system done v =
 abbrev pub first_fault_after : TaskSystem → List ℕ → List ℕ → Option (ℕ × OrderKind)
 first_fault_after system before [] = if nat_lt (length before) (length system.tasks) then Some (length before + 1, Missing) else None
 first_fault_after system before (v ∷ rest) =
-    option_map_or (λ kind. Some (length before + 1, kind)) (fault_of system (stands_in before) v) (first_fault_after system (before ++ v ∷ []) rest)
+    option_map_or (λ kind. Some (length before + 1, kind)) (fault_of system (stands_in before) v)
+    (first_fault_after system (before ++ v ∷ []) rest)
 
 abbrev pub first_fault : TaskSystem → List ℕ → Option (ℕ × OrderKind)
 first_fault system order = first_fault_after system [] order

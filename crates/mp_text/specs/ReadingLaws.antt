@@ -47,7 +47,8 @@ Follows->>= xs ys P Q (Ok s) f (none, here) next =
 Follows->>= xs ys P Q (Err refusal) f fails next = first_failure-append xs ys ∙ ap (λ o. option_or o (first_failure ys)) fails
 
 -- steps over the elements of a list, as the tokens of a line, follow their tests
-pub Follows-steps_of_all : {K S X : Type 0} (tests : List X → X → List (Test K)) (P : S → List X → Type 0) (step : S → X → Result S (Refusal K))
+pub Follows-steps_of_all : {K S X : Type 0} (tests : List X → X → List (Test K)) (P : S → List X → Type 0)
+    (step : S → X → Result S (Refusal K))
     → ((s : S) (before : List X) (x : X) → P s before → Follows (tests before x) (λ t. P t (before ++ x ∷ [])) (step s x))
     → (s : S) (before xs : List X) → P s before → Follows (tests_of_all tests before xs) (λ t. P t (before ++ xs)) (steps_of_all step s xs)
 Follows-steps_of_all tests P step each s before [] here = (refl, subst (P s) (sym (append-nil before)) here)
@@ -67,7 +68,8 @@ tested-err {K} {S} {T} (t ∷ ts) v w e h = go t.holds refl h (tested-err ts v w
   go true same h rest = rw same (rest (rw same at h))
   go false same h rest = (let is : t.refusal ≡ e = cc (rw same at h) in rw (same, is) refl)
 
-pub Fails-tested : {K S T : Type 0} (tests : List (Test K)) (v : S) (w : T) (e : Refusal K) → Fails (tested tests v) e → Fails (tested tests w) e
+pub Fails-tested : {K S T : Type 0} (tests : List (Test K)) (v : S) (w : T) (e : Refusal K) → Fails (tested tests v) e
+    → Fails (tested tests w) e
 Fails-tested tests v w refusals.NoMemory h = tt
 Fails-tested tests v w (refusals.Format f) h = tested-err tests v w (refusals.Format f) h
 Fails-tested tests v w (refusals.Limit l) h = tested-err tests v w (refusals.Limit l) h

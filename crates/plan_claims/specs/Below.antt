@@ -22,7 +22,8 @@ pub record LawsBelow : Type 0 where
   pub stands : (t : Term) (n : Names t) → IsAllowed t → StandsFor t (names_of t n) (cut_of_term t n)
   pub some : (d : Direction) (limit : ℕ) (cs : List Cut) (levels : List ℕ) → AreLevels limit 0 (starts d cs) (sides d cs) levels
       → limit ≤ top_of d (par_cut cs) → level_sum (starts d cs) < limit → SomeReaches d limit (level_sum levels) cs levels
-  pub together : (d : Direction) (cs : List Cut) → AllRising (sides d cs) → AllStart (starts d cs) (sides d cs) → top_of d (par_cut cs) ≤ tops d cs
+  pub together : (d : Direction) (cs : List Cut) → AllRising (sides d cs) → AllStart (starts d cs) (sides d cs)
+      → top_of d (par_cut cs) ≤ tops d cs
   -- parts
   pub part_stays : PartsStay
   pub parts_stay : AllPartsStay

@@ -14,16 +14,19 @@ pub record LeadsOver (d : Direction) (near far whole : Cut) (hill : ℕ) : Type 
   pub far_low : (limit : ℕ) → lowest_of (other d) limit whole ≡ lowest_of (other d) limit far
   pub top_is : top_of d whole ≡ max (top_of d near) (max (max (top_of (other d) near) hill) (top_of d far))
   pub low_is : (limit : ℕ) → lowest_of d limit whole
-      ≡ (if nat_lt (max (top_of d near) (max (top_of (other d) near) hill)) limit then min near.least (lowest_of d limit far) else lowest_of d limit near)
+      ≡ (if nat_lt (max (top_of d near) (max (top_of (other d) near) hill)) limit then min near.least (lowest_of d limit far)
+      else lowest_of d limit near)
   pub near_low : (limit : ℕ) → top_of d near < limit → lowest_of d limit near ≡ near.least
 
 -- the first thing on the way that does not pass below the limit
 pub data IsObstacle (d : Direction) (near : Cut) (hill : ℕ) (w : Wanted) (p q : Option Wanted) : Type 0 where
   far_stuck : direction_of w.dir ≡ other d → p ≡ None → q ≡ Some w → IsObstacle d near hill w p q
   near_stuck : direction_of w.dir ≡ d → p ≡ Some w → q ≡ None → IsObstacle d near hill w p q
-  near_closed : direction_of w.dir ≡ d → w.low ≤ near.least → (v : Wanted) → p ≡ Some v → q ≡ None → direction_of v.dir ≡ other d → v.limit ≡ w.limit → IsObstacle d near hill w p q
+  near_closed : direction_of w.dir ≡ d → w.low ≤ near.least → (v : Wanted) → p ≡ Some v → q ≡ None → direction_of v.dir ≡ other d
+      → v.limit ≡ w.limit → IsObstacle d near hill w p q
   hill_above : direction_of w.dir ≡ d → w.low ≤ near.least → p ≡ None → q ≡ None → w.limit ≤ hill → IsObstacle d near hill w p q
-  last_stuck : direction_of w.dir ≡ d → w.low ≤ near.least → (v : Wanted) → p ≡ None → q ≡ Some v → direction_of v.dir ≡ d → v.limit ≡ w.limit → w.low ≤ v.low → IsObstacle d near hill w p q
+  last_stuck : direction_of w.dir ≡ d → w.low ≤ near.least → (v : Wanted) → p ≡ None → q ≡ Some v → direction_of v.dir ≡ d
+      → v.limit ≡ w.limit → w.low ≤ v.low → IsObstacle d near hill w p q
 
 -- what is wanted of the near part and of the far one
 pub record AreHandedOver (d : Direction) (near far : Cut) (hill : ℕ) (w : Wanted) (p q : Option Wanted) : Type 0 where

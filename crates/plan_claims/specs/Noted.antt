@@ -34,4 +34,5 @@ pub record IsReady (lists : List (List ℕ)) (items : List Entry) (t : Term) : T
 -- in their place stands the cut of the term, which is noted
 abbrev pub IsDone : List (List ℕ) → List (List ℕ) → List Entry → List Entry → Term → Note → Type 0
 IsDone old new items items' t note =
-    (before : List Term) → entry_cuts old items ≡ map cut_at (before ++ parts_of t) → (entry_cuts new items' ≡ map cut_at (before ++ t ∷ [])) × IsNote t note
+    (before : List Term) → entry_cuts old items ≡ map cut_at (before ++ parts_of t)
+    → (entry_cuts new items' ≡ map cut_at (before ++ t ∷ [])) × IsNote t note

@@ -55,7 +55,8 @@ pub record IsCrossing (d : Direction) (near far : Cut) (hill : ℕ) (n : SeriesN
 -- the cut lies in the part of the lesser least memory, the first one where they are the same
 abbrev pub IsSeriesNote : Cut → Cut → ℕ → SeriesNote → Type 0
 IsSeriesNote a b hill n =
-    ((a.least ≤ b.least) × (n.dir ≡ R) × IsCrossing backward b a hill n) ⊎ ((b.least < a.least) × (n.dir ≡ F) × IsCrossing forward a b hill n)
+    ((a.least ≤ b.least) × (n.dir ≡ R) × IsCrossing backward b a hill n)
+    ⊎ ((b.least < a.least) × (n.dir ≡ F) × IsCrossing forward a b hill n)
 
 -- ---- parts side by side
 

@@ -48,7 +48,8 @@ pub fn claims_of<L: Ledger>(
     ensures rising { IfOk result (λ claims. RiseFrom 0 claims.items) }
     // what the judge of claims asks of them
     ensures pass { IfOk result (λ claims. (k : ℕ) → PassesAt terms.now (claim_at claims.items) k) }
-    ensures root { IfOk result (λ claims. (c : RuleClaim) × (claim_at claims.items (length terms.now) ≡ Some c) × (pos plan.now.peak ≤ℤ (c.bound +ℤ pos 1))) }
+    ensures root { IfOk result
+        (λ claims. (c : RuleClaim) × (claim_at claims.items (length terms.now) ≡ Some c) × (pos plan.now.peak ≤ℤ (c.bound +ℤ pos 1))) }
 {
     below();
     let _positions = terms.len();

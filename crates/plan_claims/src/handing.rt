@@ -101,7 +101,9 @@ fn near_and_far(note: &SeriesNote, wanted: &Wanted) -> (Option<Wanted>, Option<W
 // The lowest level of the far part's side, where the whole is stuck on it. Below the near part's least memory it is that of the
 // whole, and else it is among the first segments.
 fn far_low(note: &SeriesNote, wanted: &Wanted) -> u64
-    ensures { result ≡ (if nat_lt wanted.now.low note.now.least then wanted.now.low else lowest wanted.now.limit note.now.far_start (profile note.now.far.items)) }
+    ensures { result
+        ≡ (if nat_lt wanted.now.low note.now.least then wanted.now.low
+        else lowest wanted.now.limit note.now.far_start (profile note.now.far.items)) }
 {
     if wanted.low < note.least {
         wanted.low

@@ -76,7 +76,8 @@ fn note_position<L: Ledger>(
     requires entries { AreEntries ropes.old stack.old.items }
     requires ready { (t : Term) × IsTermAt position t × IsReady ropes.old stack.old.items t }
     ensures entries { OnOk result (AreEntries ropes.new stack.new.items) }
-    ensures done { IfOk result (λ n. (t : Term) → IsTermAt position t → IsAllowed t → IsDone ropes.old ropes.new stack.old.items stack.new.items t n) }
+    ensures done { IfOk result
+        (λ n. (t : Term) → IsTermAt position t → IsAllowed t → IsDone ropes.old ropes.new stack.old.items stack.new.items t n) }
     ensures kept { Extends ropes.old ropes.new }
 {
     below();
@@ -260,7 +261,8 @@ fn note_par<L: Ledger>(
     requires entries { AreEntries ropes.old stack.old.items }
     requires ready { (ts : Parts) × (count ts ≡ many) × IsReady ropes.old stack.old.items (par ts) }
     ensures entries { OnOk result (AreEntries ropes.new stack.new.items) }
-    ensures done { IfOk result (λ n. (ts : Parts) → count ts ≡ many → IsAllowed (par ts) → IsDone ropes.old ropes.new stack.old.items stack.new.items (par ts) n) }
+    ensures done { IfOk result
+        (λ n. (ts : Parts) → count ts ≡ many → IsAllowed (par ts) → IsDone ropes.old ropes.new stack.old.items stack.new.items (par ts) n) }
     ensures kept { Extends ropes.old ropes.new }
 {
     below();

@@ -43,8 +43,8 @@ abbrev pub IsBestRow : (ℕ → ℕ) → (ℕ → ℕ) → List ℕ → Type 0
 IsBestRow peak out [] = Unit {0}
 IsBestRow peak out (a ∷ cs) = ComesBeforeAll peak out a cs × IsBestRow peak out cs
 
--- row x has the children of x in the best order, those of 0 being the roots, and peak x is the peak of their subtrees in that order and of x
--- after them
+-- row x has the children of x in the best order, those of 0 being the roots, and peak x is the peak of their subtrees in that order and of
+-- x after them
 pub record IsBestAt (nodes : List Node) (peak : ℕ → ℕ) (row : ℕ → List ℕ) (x : ℕ) : Type 0 where
   pub children : (c : ℕ) → Member c (row x) ↔ (IsNode nodes c × (parent_of nodes c ≡ x))
   pub in_order : IsBestRow peak (out_at nodes) (row x)

@@ -16,7 +16,8 @@ use Rattle.segment_merge.specs.Crossing.{append_runs, cross_hill_runs}
 
 -- the sides stay as they are, however many more ropes are made
 abbrev pub AllSidesStay : Type 0
-AllSidesStay = (old new : List (List ℕ)) (sides : List (List Seg)) → AllHaveRopes old sides → Extends old new → AllHaveRopes new sides × (all_runs_of new sides ≡ all_runs_of old sides)
+AllSidesStay = (old new : List (List ℕ)) (sides : List (List Seg)) → AllHaveRopes old sides → Extends old new
+    → AllHaveRopes new sides × (all_runs_of new sides ≡ all_runs_of old sides)
 
 abbrev pub ProfileOfInserts : Type 0
 ProfileOfInserts = (ss rs : List Run) → run_profile (insert_runs ss rs) ≡ insert_segments (run_profile ss) (run_profile rs)
@@ -30,7 +31,8 @@ MergedAtEachUp = (sides : List (List Run)) → AreMerged sides (merge_runs sides
 
 -- the merged list of tasks interleaves those of the sides
 abbrev pub TasksOfMerge : Type 0
-TasksOfMerge = (sides : List (List Run)) → AllRising (run_profiles sides) → IsInterleaving (all_tasks_of sides) (tasks_of (merge_runs sides))
+TasksOfMerge =
+    (sides : List (List Run)) → AllRising (run_profiles sides) → IsInterleaving (all_tasks_of sides) (tasks_of (merge_runs sides))
 
 abbrev pub InsertsAssociate : Type 0
 InsertsAssociate = (a b c : List Run) → insert_runs (insert_runs a b) c ≡ insert_runs a (insert_runs b c)
@@ -46,7 +48,8 @@ MovedBehind = (ss rs : List Run) → IsRising (run_profile ss) → IsRising (run
 
 -- behind a side that is lower throughout, appending is merging, so that either side can be moved into the other
 abbrev pub AppendsInsert : Type 0
-AppendsInsert = (far near : List Run) → IsRising (run_profile near) → IsRising (run_profile far) → StartsAbove (last_up (run_profile near)) (run_profile far)
+AppendsInsert = (far near : List Run) → IsRising (run_profile near) → IsRising (run_profile far)
+    → StartsAbove (last_up (run_profile near)) (run_profile far)
     → append_runs far near ≡ insert_runs near far
 
 abbrev pub ProfileOfAppends : Type 0

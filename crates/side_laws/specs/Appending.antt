@@ -6,7 +6,8 @@ use Rattle.side_laws.specs.Segments.{Segment}
 -- with a segment of this `up` and `net` at the end. One that goes no higher than the last is joined to it
 abbrev pub append_segment : ℕ → ℕ → List Segment → List Segment
 append_segment up net [] = record { up = up; net = net } ∷ []
-append_segment up net (s ∷ []) = if nat_lt s.up up then s ∷ record { up = up; net = net } ∷ [] else record { up = s.up; net = s.net + net } ∷ []
+append_segment up net (s ∷ []) =
+    if nat_lt s.up up then s ∷ record { up = up; net = net } ∷ [] else record { up = s.up; net = s.net + net } ∷ []
 append_segment up net (s ∷ t ∷ ss) = s ∷ append_segment up net (t ∷ ss)
 
 -- with the segments of `far` at the end of `near`, one after another

@@ -24,7 +24,8 @@ LowestAfterAll = (limit level : ℕ) (ss : List Segment) → Passes limit level 
 -- the lowest level is where the side is stuck: the segments before pass, and the next one, if there is one, does not
 abbrev pub LowestIsStuck : Type 0
 LowestIsStuck = (limit level : ℕ) (ss : List Segment)
-    → (before : List Segment) × (rest : List Segment) × (ss ≡ before ++ rest) × Passes limit level before × (lowest limit level ss ≡ level - net_sum before) × IsStuck limit (level - net_sum before) rest
+    → (before : List Segment) × (rest : List Segment) × (ss ≡ before ++ rest) × Passes limit level before
+    × (lowest limit level ss ≡ level - net_sum before) × IsStuck limit (level - net_sum before) rest
 
 -- the top is at least the level
 abbrev pub TopAboveLevel : Type 0
@@ -125,7 +126,8 @@ MovesOfSeries = (m n moved a b : ℕ) → 2 ^ m ≤ a ^ a → 2 ^ n ≤ b ^ b �
 -- parts side by side, where all but the longest fronts and backs are moved
 abbrev pub MovesOfParallel : Type 0
 MovesOfParallel = (ps : List Counted) → AllByRecursion IsCounted ps → (moves : ℕ)
-    → moves ≤ sum_by (λ p. p.moves) ps + (sum_by (λ p. p.front) ps - greatest_of (λ p. p.front) ps) + (sum_by (λ p. p.back) ps - greatest_of (λ p. p.back) ps)
+    → moves ≤ sum_by (λ p. p.moves) ps + (sum_by (λ p. p.front) ps - greatest_of (λ p. p.front) ps)
+    + (sum_by (λ p. p.back) ps - greatest_of (λ p. p.back) ps)
     → 2 ^ moves ≤ sum_by (λ p. p.tasks) ps ^ sum_by (λ p. p.tasks) ps
 
 -- more tasks allow as many moves

@@ -12,11 +12,13 @@ level_sum (level ∷ levels) = level + level_sum levels
 abbrev pub AllStart : List ℕ → List (List Segment) → Type 0
 AllStart starts sides = AllZip (λ start side. net_sum side ≤ start) starts sides
 
--- each side alone, under the limit less the levels of all others, is stuck at its level. `others` is the sum of the levels of sides that stand before these
+-- each side alone, under the limit less the levels of all others, is stuck at its level. `others` is the sum of the levels of sides that
+-- stand before these
 abbrev pub EachStuck : ℕ → ℕ → List ℕ → List (List Segment) → List ℕ → Type 0
 EachStuck limit others [] [] [] = ⊤
 EachStuck limit others (start ∷ starts) (side ∷ sides) (level ∷ levels) =
-    (lowest (limit - (others + level_sum levels)) start side ≡ level) × (level ≤ start) × EachStuck limit (others + level) starts sides levels
+    (lowest (limit - (others + level_sum levels)) start side ≡ level) × (level ≤ start)
+    × EachStuck limit (others + level) starts sides levels
 EachStuck limit others _ _ _ = ⊥
 
 -- each side alone passes under the limit less the levels of all others

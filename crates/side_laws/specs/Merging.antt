@@ -8,7 +8,8 @@ use Rattle.side_laws.specs.Segments.{Segment, net_sum, Passes, IsStuck, IsRising
 -- with one more segment at its place by `up`. One of the same `up` is joined with it
 abbrev pub insert_segment : Segment → List Segment → List Segment
 insert_segment s [] = s ∷ []
-insert_segment s (e ∷ es) = match_ordering (nat_cmp s.up e.up) (s ∷ e ∷ es) (record { up = e.up; net = e.net + s.net } ∷ es) (e ∷ insert_segment s es)
+insert_segment s (e ∷ es) =
+    match_ordering (nat_cmp s.up e.up) (s ∷ e ∷ es) (record { up = e.up; net = e.net + s.net } ∷ es) (e ∷ insert_segment s es)
 
 abbrev pub insert_segments : List Segment → List Segment → List Segment
 insert_segments [] es = es
@@ -47,9 +48,11 @@ AllStuck limit level sides = AllByRecursion (IsStuck limit level) sides
 -- at the level `stuck` all sides together are stuck, whichever of them goes on
 pub record AreStuckAt (limit level : ℕ) (sides : List (List Segment)) (stuck : ℕ) : Type 0 where
   -- some way down leads to where none can go on
-  pub some : (run : List Segment) × (rests : List (List Segment)) × TakesAll sides run rests × Passes limit level run × AllStuck limit (level - net_sum run) rests
+  pub some : (run : List Segment) × (rests : List (List Segment)) × TakesAll sides run rests × Passes limit level run
+      × AllStuck limit (level - net_sum run) rests
   -- and each way that does so ends at this level
-  pub each : (run : List Segment) (rests : List (List Segment)) → TakesAll sides run rests → Passes limit level run → AllStuck limit (level - net_sum run) rests → stuck ≡ level - net_sum run
+  pub each : (run : List Segment) (rests : List (List Segment)) → TakesAll sides run rests → Passes limit level run
+      → AllStuck limit (level - net_sum run) rests → stuck ≡ level - net_sum run
 
 -- there is a way down all sides to their ends below the limit
 abbrev pub PassTogether : ℕ → ℕ → List (List Segment) → Type 0

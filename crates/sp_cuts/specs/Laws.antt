@@ -9,8 +9,10 @@ abbrev pub PartsStay : Type 0
 PartsStay = (old new : List (List ℕ)) (p : Part) → IsPart old p → Extends old new → IsPart new p × (cut_of new p ≡ cut_of old p)
 
 abbrev pub AllPartsStay : Type 0
-AllPartsStay = (old new : List (List ℕ)) (ps : List Part) → AreParts old ps → Extends old new → AreParts new ps × (cuts_of new ps ≡ cuts_of old ps)
+AllPartsStay =
+    (old new : List (List ℕ)) (ps : List Part) → AreParts old ps → Extends old new → AreParts new ps × (cuts_of new ps ≡ cuts_of old ps)
 
 -- the numbers of a part are within its peak
 abbrev pub NumbersWithinPeak : Type 0
-NumbersWithinPeak = (lists : List (List ℕ)) (p : Part) → IsPart lists p → (p.least ≤ p.initial) × (p.least ≤ p.fin) × (p.initial ≤ p.peak) × (p.fin ≤ p.peak)
+NumbersWithinPeak = (lists : List (List ℕ)) (p : Part) → IsPart lists p
+    → (p.least ≤ p.initial) × (p.least ≤ p.fin) × (p.initial ≤ p.peak) × (p.fin ≤ p.peak)

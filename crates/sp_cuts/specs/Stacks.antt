@@ -68,7 +68,8 @@ pub record SeriesReady (lists : List (List ℕ)) (items : List Part) (v : Task) 
 
 abbrev pub SeriesDone : List (List ℕ) → List (List ℕ) → List Part → List Part → ℕ → Task → Type 0
 SeriesDone old new items items' number v =
-    (st : List Term) (a b : Term) → v.share ≤ final_of a → number ≡ suc (stack_tasks (b ∷ a ∷ st)) → ArePiled old (b ∷ a ∷ st) (reverse items) → ArePiled new (series a v b ∷ st) (reverse items')
+    (st : List Term) (a b : Term) → v.share ≤ final_of a → number ≡ suc (stack_tasks (b ∷ a ∷ st))
+    → ArePiled old (b ∷ a ∷ st) (reverse items) → ArePiled new (series a v b ∷ st) (reverse items')
 
 -- so many terms on top can be set side by side
 pub record ParReady (lists : List (List ℕ)) (items : List Part) (many : ℕ) : Type 0 where
@@ -118,7 +119,8 @@ SeriesSteps lists items v s s' =
 
 abbrev pub ParSteps : List (List ℕ) → List Part → ℕ → ℕ → ℕ → Type 0
 ParSteps lists items many s s' =
-    (st : List Term) (ts : Parts) (rest : List Term) (total : ℕ) → gather many st no_parts ≡ Some (ts, rest) → ArePiled lists st (reverse items) → AreMoved st total
+    (st : List Term) (ts : Parts) (rest : List Term) (total : ℕ) → gather many st no_parts ≡ Some (ts, rest)
+    → ArePiled lists st (reverse items) → AreMoved st total
     → (more : ℕ) × (s' ≤ s + more) × AreMoved (par ts ∷ rest) (total + more)
 
 abbrev pub PositionSteps : List (List ℕ) → List Part → Position → ℕ → ℕ → Type 0

@@ -37,7 +37,8 @@ pub fn series<L: Ledger>(
     requires a { IsPart ropes.old a }
     requires b { IsPart ropes.old b }
     requires joins { CanJoin a task b }
-    ensures cut { IfOk result (λ p. cut_of ropes.new p ≡ series_cut (cut_of ropes.old a) name (hill_between a task b) (cut_of ropes.old b)) }
+    ensures cut { IfOk result
+        (λ p. cut_of ropes.new p ≡ series_cut (cut_of ropes.old a) name (hill_between a task b) (cut_of ropes.old b)) }
     ensures peak { IfOk result (λ p. p.peak ≡ max a.peak (max (hill_between a task b) b.peak)) }
     // one side is that of a part, and the other leads over all else
     ensures kinds { IfOk result (λ p.

@@ -50,7 +50,8 @@ pub fn plan_terms<L: Ledger>(
     ensures order { IfOk result (λ p. p.order.items ≡ order_of (cut_of p.ropes p.part)) }
     ensures peak { IfOk result (λ p. p.peak ≡ p.part.peak) }
     // the part stands for the whole term, whose tasks are named by their numbers
-    ensures stands { IfOk result (λ p. StandsFor (term_of terms.now) (range_with_len 1 (task_count (term_of terms.now))) (cut_of p.ropes p.part)) }
+    ensures stands { IfOk result
+        (λ p. StandsFor (term_of terms.now) (range_with_len 1 (task_count (term_of terms.now))) (cut_of p.ropes p.part)) }
     // the order is a traversal of the term's system with this peak
     ensures traversal { IfOk result (λ p. IsTraversal (system_of_term (term_of terms.now)) p.order.items
         × (peak_of (system_of_term (term_of terms.now)) p.order.items ≡ p.peak)) }

@@ -17,4 +17,5 @@ AreWithin base count xs = All (λ v. (base ≤ v) × (v < base + count)) xs
 abbrev pub EachTraversal : ℕ → Parts → List ℕ → Type 0
 EachTraversal base no_parts order = Unit {0}
 EachTraversal base (part t ts) order =
-    ((q : List ℕ) × IsTraversal (system_of_term t) q × (numbers_within base (task_count t) order ≡ map (λ k. (base - 1) + k) q)) × EachTraversal (base + task_count t) ts order
+    ((q : List ℕ) × IsTraversal (system_of_term t) q × (numbers_within base (task_count t) order ≡ map (λ k. (base - 1) + k) q))
+    × EachTraversal (base + task_count t) ts order

@@ -15,6 +15,8 @@ pub record IsAscent (nodes : List Node) (old new : List ℕ) (from stop : ℕ) :
   pub within : stop ≤ length nodes
   pub fewer : unmarked new ≤ unmarked old
   pub path : (j : ℕ) × (j + unmarked new ≤ unmarked old) × (ancestor nodes j from ≡ stop)
-  pub marked : (w : ℕ) → 1 ≤ w → w ≤ length nodes → slice_index_or new (w - 1) 0 ≡ from → (b : ℕ) × (suc b + unmarked new ≤ unmarked old) × (ancestor nodes (suc b) w ≡ stop)
-  pub kept : (w : ℕ) → 1 ≤ w → w ≤ length nodes → slice_index_or new (w - 1) 0 ≢ from → slice_index_or new (w - 1) 0 ≡ slice_index_or old (w - 1) 0
+  pub marked : (w : ℕ) → 1 ≤ w → w ≤ length nodes → slice_index_or new (w - 1) 0 ≡ from
+      → (b : ℕ) × (suc b + unmarked new ≤ unmarked old) × (ancestor nodes (suc b) w ≡ stop)
+  pub kept : (w : ℕ) → 1 ≤ w → w ≤ length nodes → slice_index_or new (w - 1) 0 ≢ from
+      → slice_index_or new (w - 1) 0 ≡ slice_index_or old (w - 1) 0
   pub own : (stop ≡ from) ⊎ (slice_index_or new (from - 1) 0 ≡ from)

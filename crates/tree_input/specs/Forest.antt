@@ -26,7 +26,8 @@ children_of nodes p = filter (λ v. parent_of nodes v == p) (range_with_len 1 (l
 -- below each node stand the trees of its children
 abbrev pub HasChildren : List Node → Forest → Type 0
 HasChildren nodes no_trees = Unit {0}
-HasChildren nodes (tree v children others) = (roots_of children ≡ children_of nodes v) × HasChildren nodes children × HasChildren nodes others
+HasChildren nodes (tree v children others) =
+    (roots_of children ≡ children_of nodes v) × HasChildren nodes children × HasChildren nodes others
 
 -- the forest of these nodes: the trees of the roots, and in each of them, below each node, the trees of its children; roots and
 -- children in rising number

@@ -36,7 +36,11 @@ pub record IsReaderState (s : ReaderState) : Type 0 where
 
 abbrev pub with_node : ReaderState → Row → ReaderState
 with_node s row =
-    record s { nodes = s.nodes ++ node_of s.version row ∷ []; lines = s.lines ++ row.number ∷ []; total = s.total + node_size (node_of s.version row) }
+    record s {
+      nodes = s.nodes ++ node_of s.version row ∷ [];
+      lines = s.lines ++ row.number ∷ [];
+      total = s.total + node_size (node_of s.version row);
+    }
 
 -- a line where nodes are read: one more of them, or the end after the last
 abbrev pub body_step : ReaderState → Row → Result ReaderState (Refusal TreeKind)

@@ -37,8 +37,9 @@ abbrev pub children_out : List Node → ℕ → ℕ
 children_out nodes v = sum_by (out_below v) nodes
 
 -- the share of a node is at most the outs of its children, and at most its extra and its out
-abbrev pub HasShare : List Node → ℕ → Type 0
-HasShare nodes v = ((node_at nodes v).share ≤ children_out nodes v) × ((node_at nodes v).share ≤ (node_at nodes v).extra + (node_at nodes v).out)
+abbrev pub ShareFits : List Node → ℕ → Type 0
+ShareFits nodes v =
+    ((node_at nodes v).share ≤ children_out nodes v) × ((node_at nodes v).share ≤ (node_at nodes v).extra + (node_at nodes v).out)
 
 -- what each node keeps to
 pub record IsNodeWithin (nodes : List Node) (node : Node) : Type 0 where
@@ -58,7 +59,7 @@ pub record IsTree (nodes : List Node) : Type 0 where
   pub each : All (IsNodeWithin nodes) nodes
   pub total : sum_by node_size nodes ≤ most_total
   pub roots : (v : ℕ) → IsNode nodes v → LeadsToRoot nodes v
-  pub shares : (v : ℕ) → IsNode nodes v → HasShare nodes v
+  pub shares : (v : ℕ) → IsNode nodes v → ShareFits nodes v
 
 -- the task of a node
 abbrev pub task_of : Node → Task

@@ -17,7 +17,7 @@ use Rattle.mp_text.specs.Words.{after_word, version_of}
 use Rattle.mp_text.specs.Ahead.{rows_of_bytes, past_of_bytes}
 use Rattle.mp_text.specs.Grammar.{Test, test, Format, IsWellFormed, Refuses, fault, fault_at}
 use Rattle.tree_input.specs.declared.fields.NodeFields.{NodeFields}
-use Rattle.tree_input.specs.Tree.{IsNode, LeadsToRoot, HasShare, node_size}
+use Rattle.tree_input.specs.Tree.{IsNode, LeadsToRoot, ShareFits, node_size}
 use Rattle.tree_input.specs.declared.node.Node.{Node}
 use Rattle.tree_input.specs.declared.node.TreeKind.{TreeKind}
 use Rattle.tree_input.specs.declared.node.TreeKind.TheVariants as kinds
@@ -53,7 +53,8 @@ is_end row = pointwise bytes_eq row.tokens (codes "end" ∷ [])
 
 -- the fields of a line that has just so many tokens, all of them numbers
 abbrev pub fields_of : Version → Option (List ℕ) → Option NodeFields
-fields_of One (Some (parent ∷ out ∷ extra ∷ time ∷ [])) = Some (record { parent = parent; out = out; extra = extra; share = 0; time = time })
+fields_of One (Some (parent ∷ out ∷ extra ∷ time ∷ [])) =
+    Some (record { parent = parent; out = out; extra = extra; share = 0; time = time })
 fields_of Two (Some (parent ∷ out ∷ extra ∷ share ∷ time ∷ [])) =
     Some (record { parent = parent; out = out; extra = extra; share = share; time = time })
 fields_of _ _ = None
@@ -134,7 +135,7 @@ pub record ReadsTree (bytes : List ℕ) (nodes : List Node) : Type 0 where
   pub form : IsWellFormed tree_format (rows_of_bytes Commented bytes) (past_of_bytes bytes)
   pub stated : nodes ≡ nodes_stated (rows_of_bytes Commented bytes)
   pub roots : (v : ℕ) → IsNode nodes v → LeadsToRoot nodes v
-  pub shares : (v : ℕ) → IsNode nodes v → HasShare nodes v
+  pub shares : (v : ℕ) → IsNode nodes v → ShareFits nodes v
 
 -- every line passes, and v is the lowest node whose parents lead to no root
 pub record RefusesCycle (bytes : List ℕ) (refusal : Refusal TreeKind) : Type 0 where
@@ -148,12 +149,13 @@ pub record RefusesShare (bytes : List ℕ) (refusal : Refusal TreeKind) : Type 0
   pub form : IsWellFormed tree_format (rows_of_bytes Commented bytes) (past_of_bytes bytes)
   pub roots : let nodes = nodes_stated (rows_of_bytes Commented bytes) in (v : ℕ) → IsNode nodes v → LeadsToRoot nodes v
   pub node : ℕ
-  pub first : let nodes = nodes_stated (rows_of_bytes Commented bytes) in IsFirstWithout (HasShare nodes) nodes node
+  pub first : let nodes = nodes_stated (rows_of_bytes Commented bytes) in IsFirstWithout (ShareFits nodes) nodes node
   pub refusal_is : refusal ≡ fault_at (line_stating (rows_of_bytes Commented bytes) node) kinds.Share
 
 abbrev pub RefusesTree : List ℕ → Refusal TreeKind → Type 0
 RefusesTree bytes refusal =
-    Refuses tree_format (rows_of_bytes Commented bytes) (past_of_bytes bytes) refusal ⊎ (RefusesCycle bytes refusal ⊎ RefusesShare bytes refusal)
+    Refuses tree_format (rows_of_bytes Commented bytes) (past_of_bytes bytes) refusal
+    ⊎ (RefusesCycle bytes refusal ⊎ RefusesShare bytes refusal)
 
 -- an answer that is no tree: a refusal of the file, or memory ran out
 abbrev pub IsTreeRefusal : List ℕ → Refusal TreeKind → Type 0

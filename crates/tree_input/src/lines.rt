@@ -50,7 +50,8 @@ pub fn node_on(
 ) -> Result<Node, Refusal<TreeKind>>
     requires few { count ≤ most_tasks }
     requires small { total ≤ most_total }
-    ensures judged { let r = row line.entry.number line.entry.text.now in Gives (tested (node_tests version count total r) (node_of version r)) result }
+    ensures judged { let r = row line.entry.number line.entry.text.now in
+        Gives (tested (node_tests version count total r) (node_of version r)) result }
     ensures sizes { IfOk result (λ n. total + (n.out + n.extra) ≤ most_total) }
 {
     if is_word(line.text, b"end") {

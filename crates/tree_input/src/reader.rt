@@ -28,7 +28,8 @@ impl Model for TreeReader {
 
     ghost use Rattle.tree_input.specs.Reader.{IsReaderState};
 
-    ghost invariant = { λ s. IsReaderState (record { stage = s.stage; version = s.version; count = s.count; nodes = s.nodes.items; lines = s.lines.items; total = s.total }) };
+    ghost invariant = { λ s.
+        IsReaderState (record { stage = s.stage; version = s.version; count = s.count; nodes = s.nodes.items; lines = s.lines.items; total = s.total }) };
 }
 
 impl TreeReader {
@@ -53,7 +54,8 @@ impl TreeReader {
 
     // Takes a node line.
     fn node_line(&mut self, line: Line<'_>) -> Result<(), Refusal<TreeKind>>
-        ensures { let r = row line.entry.number line.entry.text.now in Steps (tested (node_tests self.old.version self.old.count self.old.total r) (with_node self.old r)) result self.new }
+        ensures { let r = row line.entry.number line.entry.text.now in
+            Steps (tested (node_tests self.old.version self.old.count self.old.total r) (with_node self.old r)) result self.new }
     {
         let node = node_on(self.version, self.count, self.total, line)?;
         self.lines.push(line.number)?;

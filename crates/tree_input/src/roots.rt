@@ -32,7 +32,8 @@ fn mark_up(nodes: &[Node], marks: &mut [u32], from: u32) -> u32
 // Whether a way up stopped at a node that it had marked itself.
 fn comes_back(marks: &[u32], from: u32, stop: u32) -> bool
     requires { stop ≤ length marks.now }
-    ensures { MatchBool result ((stop ≢ 0) × (slice_index_or marks.now (stop - 1) 0 ≡ from)) ((stop ≡ 0) ⊎ (slice_index_or marks.now (stop - 1) 0 ≢ from)) }
+    ensures { MatchBool result ((stop ≢ 0) × (slice_index_or marks.now (stop - 1) 0 ≡ from))
+        ((stop ≡ 0) ⊎ (slice_index_or marks.now (stop - 1) 0 ≢ from)) }
 {
     stop != 0 && marks[stop as usize - 1] == from
 }
