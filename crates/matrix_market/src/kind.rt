@@ -1,6 +1,6 @@
-ghost use Rattle.std.specs.Prelude.{◌≡◌};
 ghost use Rattle.matrix_market.specs.Kinds.{word_of};
 
+use mp_text::Kind;
 use std::fmt::{self, Display, Formatter, Write};
 
 /// What is wrong with a matrix file.
@@ -30,11 +30,10 @@ pub enum MatrixKind {
     TooMany,
 }
 
-impl MatrixKind {
-    /// The word for it in reports.
-    pub fn word(self) -> &'static str
-        ensures { result.now ≡ word_of self }
-    {
+impl Kind for MatrixKind {
+    ghost word_of = { word_of };
+
+    fn word(self) -> &'static str {
         match self {
             MatrixKind::Banner => "banner",
             MatrixKind::NotMatrix => "not-matrix",

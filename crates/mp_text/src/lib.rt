@@ -22,7 +22,7 @@ pub use layout::Layout;
 pub use line_scan::{Line, Lines};
 pub use numbers::{number, signed};
 pub use reading::{Reader, read_with};
-pub use refusals::{Fault, Refusal};
+pub use refusals::{Fault, Kind, Refusal};
 pub use reports::{Report, Token};
 pub use split::tokens;
 use std::alloc::AllocError;

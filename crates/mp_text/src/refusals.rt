@@ -1,11 +1,22 @@
 //! Why a file is refused.
 
-ghost use Rattle.std.specs.Prelude.{◌≡◌};
+ghost use Rattle.std.specs.Prelude.{◌≡◌, ℕ, List, IsTrue};
+ghost use Rattle.mp_text.specs.Report.{is_token};
 ghost use Rattle.mp_text.specs.declared.refusals.Refusal.TheVariants.{NoMemory};
 
 use limits::LimitName;
 use std::alloc::{AllocError, AllocFailed};
 use std::fmt::{self, Display, Formatter, Write};
+
+/// What can be wrong with a file of one format.
+pub trait Kind: Copy {
+    ghost word_of: { Self → List ℕ };
+
+    /// The word for it in reports, which is one token.
+    fn word(self) -> &'static str
+        ensures word { result.now ≡ word_of self }
+        ensures token { IsTrue (is_token result.now) };
+}
 
 /// What is wrong with a file, and where.
 #[derive(Clone, Copy, Debug, PartialEq, Eq)]

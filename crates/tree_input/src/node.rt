@@ -1,6 +1,6 @@
-ghost use Rattle.std.specs.Prelude.{◌≡◌};
 ghost use Rattle.tree_input.specs.Kinds.{word_of};
 
+use mp_text::Kind;
 use std::fmt::{self, Display, Formatter, Write};
 
 /// A node of a tree: a front and its contribution block.
@@ -39,11 +39,10 @@ pub enum TreeKind {
     Share,
 }
 
-impl TreeKind {
-    /// The word for it in reports.
-    pub fn word(self) -> &'static str
-        ensures { result.now ≡ word_of self }
-    {
+impl Kind for TreeKind {
+    ghost word_of = { word_of };
+
+    fn word(self) -> &'static str {
         match self {
             TreeKind::Header => "header",
             TreeKind::Number => "number",
