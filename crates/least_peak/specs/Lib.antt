@@ -1,0 +1,3 @@
+pub mod Best
+pub mod Problem
+pub mod Named

@@ -1,0 +1,22 @@
+-- No public clause names this.
+-- A system that is that of a term, under the names of its tasks.
+use Rattle.std.specs.Prelude.{◌≡◌, ℕ, List, Option, Some, None, map}
+use Rattle.mp_system.specs.Renaming.{IsRenamed, name_in}
+use Rattle.mp_system.specs.System.{TaskSystem}
+use Rattle.sp_terms.specs.declared.position.Position.{Position}
+use Rattle.sp_terms.specs.SystemOfTerm.{system_of_term}
+use Rattle.sp_terms.specs.Values.{IsTerms, term_of}
+
+-- the system is the term's own, or the same under these names of its tasks
+abbrev pub IsNamedBy : Option (List ℕ) → TaskSystem → TaskSystem → Type 0
+IsNamedBy None own system = own ≡ system
+IsNamedBy (Some names) own system = IsRenamed names own system
+
+-- the positions are a term within the limits, and the system is that of the term, under the names
+abbrev pub IsNamedTerm : Option (List ℕ) → List Position → TaskSystem → Type 0
+IsNamedTerm names positions system = IsTerms positions × IsNamedBy names (system_of_term (term_of positions)) system
+
+-- the tasks of an order, each by its name
+abbrev pub order_named : Option (List ℕ) → List ℕ → List ℕ
+order_named None order = order
+order_named (Some names) order = map (name_in names) order

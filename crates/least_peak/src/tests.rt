@@ -1,0 +1,43 @@
+//! Problems worked by hand: a tree and a workflow.
+
+use crate::Problem;
+use activation::simulate;
+use claim_check::Verdict;
+use mp_outside::NoGate;
+use std::alloc::Global;
+use std::process::Abort;
+use std::test::Fail;
+use std::thread::Threads;
+use sp_terms::read_workflow;
+use tree_input::read_tree;
+
+// Two chains of two tasks below a root; the first tasks need 9, and leave 1.
+const FIVE: &[u8] = b"tree 1\nnodes 5\n2 1 9 1\n5 5 0 1\n4 1 9 1\n5 5 0 1\n0 0 0 1\nend\n";
+
+// The same tasks as a workflow.
+const BRANCHES: &[u8] =
+    b"workflow 1\ntasks 4\ndata 4\ndata 1\ntask 0 1\ndata 3\ntask 6 1\ndata 4\ndata 1\ntask 0 1\ndata 3\ntask 6 1\npar 2\nend\n";
+
+// The plan has this peak, `check` accepts it, and its order replays to it.
+fn check_plan<R: Abort + Threads + Sync>(
+    rt: &R,
+    alloc: Global,
+    problem: &Problem,
+    peak: u64,
+) -> Result<(), Fail> {
+    let plan = problem.plan(alloc)?;
+    assert_eq!(rt; plan.peak(), peak);
+    let verdict = problem.check(rt, alloc, &plan, 2, &NoGate)?;
+    assert_eq!(rt; verdict, Verdict::Yes(peak));
+    assert_eq!(rt; problem.replay(alloc, plan.order())?, peak);
+    Ok(())
+}
+
+#[test]
+fn plans(rt: HostRuntime) -> Result<(), Fail> {
+    let alloc = rt.alloc();
+    let tree = read_tree(alloc, FIVE)?;
+    check_plan(&rt, alloc, &Problem::of_tree(alloc, tree)?, 11)?;
+    let terms = read_workflow(alloc, BRANCHES)?;
+    check_plan(&rt, alloc, &Problem::of_workflow(alloc, terms)?, 13)
+}

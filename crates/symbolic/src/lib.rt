@@ -1,0 +1,24 @@
+//! The symbolic analysis of a sparse symmetric matrix: from its pattern and an order of elimination to the tree of its fronts, as a
+//! multifrontal solver makes it (Duff and Reid 1983; Liu 1990 and 1992).
+//!
+//! ```
+//! let pattern = read_pattern(alloc, text)?;
+//! let perm = read_perm(alloc, order, pattern.order())?;
+//! let fronts = FrontOptions { shape: Shape::Triangle, zeros: None, inplace: false };
+//! let tree = front_tree(alloc, &pattern, &perm, fronts)?;
+//! ```
+//!
+//! The definition stands in specs/FrontTree.antt.
+#![tactic(auto)]
+
+mod analysis;
+mod options;
+#[cfg(test)]
+mod tests;
+
+pub use analysis::front_tree;
+pub use options::FrontOptions;
+use std::alloc::AllocError;
+
+/// Want of memory: an allocation was refused.
+pub type NoMemory = AllocError;
