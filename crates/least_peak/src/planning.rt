@@ -78,7 +78,7 @@ fn plan_counted<L: Ledger>(
     renaming_law();
     traversal_law();
     terms_law();
-    let _tasks = system.tasks();
+    system.keeps();
     let mut steps = Steps::<L>::new(blank);
     let plan = plan_terms(alloc, terms, &mut steps)?;
     let claims = claims_of(alloc, terms, &plan, &mut steps)?;

@@ -103,7 +103,7 @@ impl Problem {
         tree_term();
         match &self.origin {
             Origin::Tree(tree) => {
-                let _nodes = tree.nodes();
+                tree.keeps();
                 let named = terms_of_tree(alloc, tree)?;
                 plan_term(alloc, &self.system, &named.terms, Some(named.names.as_slice()))
             }
@@ -137,7 +137,7 @@ impl Problem {
         tree_term();
         match &self.origin {
             Origin::Tree(tree) => {
-                let _nodes = tree.nodes();
+                tree.keeps();
                 let named = terms_of_tree(alloc, tree)?;
                 check(rt, alloc, &self.system, &named.terms, plan, workers, gate)
             }

@@ -38,7 +38,7 @@ pub fn front_tree(
     pattern_of_rows();
     renumbered_pattern();
     counts_of_fill();
-    let _order = pattern.order();
+    pattern.keeps();
     let parents = etree(alloc, pattern, perm)?;
     let post = postorder(alloc, &parents)?;
     let numbered = renumber(alloc, perm, &parents, &post)?;
