@@ -87,6 +87,13 @@ impl System {
         System { tasks, items }
     }
 
+    /// What every value of this type keeps; a proof that needs it calls it. It does nothing.
+    pub fn keeps(&self)
+        ensures { IsSystem self.now }
+    {
+        let _ = &self.tasks;
+    }
+
     /// The tasks; the first has the number 1.
     pub fn tasks(&self) -> &[Task]
         ensures value { result.now ≡ self.now.tasks }

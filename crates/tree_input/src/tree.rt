@@ -41,6 +41,13 @@ impl Tree {
         Tree { nodes }
     }
 
+    /// What every value of this type keeps; a proof that needs it calls it. It does nothing.
+    pub fn keeps(&self)
+        ensures { IsTree self.now }
+    {
+        let _ = &self.nodes;
+    }
+
     /// The nodes, of which the first has the number 1.
     pub fn nodes(&self) -> &[Node]
         ensures value { result.now ≡ self.now }
