@@ -15,24 +15,24 @@ pub counts-requires-clause-tree : goal.counts-requires-clause-tree
 counts-requires-clause-tree c =
     let rows = c.args.pattern.now in
     carried rows c.args.perm.now c.in_ok-parents.parents c.in_ok-post.post c.in_ok-parents.ensures c.in_ok-post.ensures c.in_ok-numbered.numbered.perm c.in_ok-numbered.numbered.parents c.in_ok-numbered.ensures.order c.requires
-    (c.pattern_of_rows.ensures.pattern rows c.keeps-keeps.ensures) (c.pattern_of_rows.ensures.within rows c.keeps-keeps.ensures) c.in_ok-numbered.ensures.tree
+    (c.pattern_of_rows.ensures.pattern rows c.keeps.ensures) (c.pattern_of_rows.ensures.within rows c.keeps.ensures) c.in_ok-numbered.ensures.tree
 
 pub supernodes-requires : goal.supernodes-requires
 supernodes-requires c =
     let rows = c.args.pattern.now in
     let perm = c.in_ok-numbered.numbered.perm in
     let tree = carried rows c.args.perm.now c.in_ok-parents.parents c.in_ok-post.post c.in_ok-parents.ensures c.in_ok-post.ensures perm c.in_ok-numbered.numbered.parents c.in_ok-numbered.ensures.order c.requires
-    (c.pattern_of_rows.ensures.pattern rows c.keeps-keeps.ensures) (c.pattern_of_rows.ensures.within rows c.keeps-keeps.ensures) c.in_ok-numbered.ensures.tree in
+    (c.pattern_of_rows.ensures.pattern rows c.keeps.ensures) (c.pattern_of_rows.ensures.within rows c.keeps.ensures) c.in_ok-numbered.ensures.tree in
     new-counts rows c.args.perm.now c.in_ok-parents.parents c.in_ok-post.post c.in_ok-parents.ensures c.in_ok-post.ensures perm c.in_ok-numbered.numbered.parents c.deref.result.now
     c.in_ok-numbered.ensures.order tree (c.deref.ensures.value ∙ c.in_ok-counts.ensures)
-    (c.counts_of_fill.ensures (columns rows perm) (length perm) (c.renumbered_pattern.ensures.pattern rows perm c.keeps-keeps.ensures) (c.renumbered_pattern.ensures.within rows perm c.keeps-keeps.ensures))
+    (c.counts_of_fill.ensures (columns rows perm) (length perm) (c.renumbered_pattern.ensures.pattern rows perm c.keeps.ensures) (c.renumbered_pattern.ensures.within rows perm c.keeps.ensures))
 
 pub returns : goal.returns
 returns c =
     let rows = c.args.pattern.now in
     let perm = c.in_ok-numbered.numbered.perm in
     let tree = carried rows c.args.perm.now c.in_ok-parents.parents c.in_ok-post.post c.in_ok-parents.ensures c.in_ok-post.ensures perm c.in_ok-numbered.numbered.parents c.in_ok-numbered.ensures.order c.requires
-    (c.pattern_of_rows.ensures.pattern rows c.keeps-keeps.ensures) (c.pattern_of_rows.ensures.within rows c.keeps-keeps.ensures) c.in_ok-numbered.ensures.tree in
+    (c.pattern_of_rows.ensures.pattern rows c.keeps.ensures) (c.pattern_of_rows.ensures.within rows c.keeps.ensures) c.in_ok-numbered.ensures.tree in
     IfOk-weaker c.fronts.result _ _
     (λ nodes is. front-tree rows c.args.perm.now c.in_ok-parents.parents c.in_ok-post.post c.in_ok-parents.ensures c.in_ok-post.ensures perm c.in_ok-numbered.numbered.parents c.deref.result.now
     c.in_ok-numbered.ensures.order tree (c.deref.ensures.value ∙ c.in_ok-counts.ensures) c.args.options c.in_ok-assembly.assembly c.in_ok-merged.merged nodes c.in_ok-assembly.ensures c.in_ok-merged.ensures is)
