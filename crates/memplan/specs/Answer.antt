@@ -37,12 +37,17 @@ use Rattle.claim_check.specs.Verdicts.{IsVerdict}
 use Rattle.activation.specs.declared.events.Event.{Event}
 use Rattle.activation.specs.Machine.{Setting}
 use Rattle.activation.specs.Schedule.{IsSchedule, first_moment}
-use Rattle.memplan.specs.Analysis.{IsFrontTree}
+use Rattle.symbolic.specs.FrontTree.{IsFrontTree}
 use Rattle.memplan.specs.declared.status.Status.{Status}
 use Rattle.memplan.specs.declared.status.Status.TheVariants as status
 use Rattle.memplan.specs.Request.{Matrix, TreeInput, tree_named, matrix_named, Input, tree_input, workflow_named, OrderSource, order_named, plan_named, Request, replay, tree, post, check, planning, simulate, Simulation, FileRole, tree_file, workflow_file, matrix_file, perm_file, order_file, plan_file, priority_file, NamedFile, files_of}
 use Rattle.memplan.specs.Traces.{trace_lines}
-use Rattle.memplan.specs.Refusals.{limit_word, tree_word, workflow_word, matrix_word, perm_word, order_file_word, plan_word, order_word, shape_word}
+use Rattle.memplan.specs.Refusals.{workflow_word, perm_word, order_file_word, plan_word}
+use Rattle.limits.specs.Limits.{word_of as limit_word}
+use Rattle.tree_input.specs.Kinds.{word_of as tree_word}
+use Rattle.matrix_market.specs.Kinds.{word_of as matrix_word}
+use Rattle.mp_system.specs.Refusal.{word_of as order_word}
+use Rattle.claim_check.specs.Shapes.{word_of as shape_word}
 
 pub record Answer : Type 0 where
   pub status : Status
@@ -118,7 +123,7 @@ IsOrderOf (Some name) n (text ∷ more ∷ texts) order = ⊥
 abbrev pub IsMatrixTree : Matrix → List (List ℕ) → List Node → Type 0
 IsMatrixTree m [] nodes = ⊥
 IsMatrixTree m (text ∷ texts) nodes =
-    (rows : List (List ℕ)) × (order : List ℕ) × IsMatrix text rows × IsOrderOf m.perm (length rows) texts order × IsFrontTree m rows order nodes
+    (rows : List (List ℕ)) × (order : List ℕ) × IsMatrix text rows × IsOrderOf m.perm (length rows) texts order × IsFrontTree m.fronts rows order nodes
 
 abbrev pub IsTreeOf : TreeInput → List (List ℕ) → List Node → Type 0
 IsTreeOf (tree_named name) [] nodes = ⊥

@@ -1,8 +1,8 @@
 pub mod Words
+pub mod Statuses
 pub mod GivenViews
 pub mod Request
 pub mod RequestViews
-pub mod Analysis
 pub mod Refusals
 pub mod Traces
 pub mod Answer
@@ -11,4 +11,5 @@ pub mod Planned
 pub mod Simulated
 pub mod Clauses
 pub mod Pages
+pub mod Sound
 pub mod Judged

@@ -1,141 +1,95 @@
-//! The words of refusals, as they are printed.
+//! The words of kinds, until each kind has its own: then `mp_text::Kind` takes the place of the trait, and this file goes.
 
-ghost use Rattle.std.specs.Prelude.{◌≡◌, IsTrue};
+ghost use Rattle.std.specs.Prelude.{◌≡◌, ℕ, List, IsTrue};
+ghost use Rattle.matrix_market.specs.Kinds as matrices;
 ghost use Rattle.mp_text.specs.Report.{is_token};
+ghost use Rattle.tree_input.specs.Kinds as trees;
 ghost use Rattle.memplan.specs.Refusals as words;
 
-use claim_check::Shape;
-use limits::LimitName;
 use matrix_market::MatrixKind;
-use mp_system::OrderKind;
 use ordering::{OrderFileKind, PermKind};
 use plan_text::PlanKind;
 use sp_terms::WorkflowKind;
 use tree_input::TreeKind;
 
-pub fn limit_word(limit: LimitName) -> &'static str
-    ensures word { result.now ≡ words.limit_word limit }
-    ensures token { IsTrue (is_token result.now) }
-{
-    match limit {
-        LimitName::Bytes => "bytes",
-        LimitName::Order => "order",
-        LimitName::Entries => "entries",
-        LimitName::Mindeg => "mindeg",
-        LimitName::Tasks => "tasks",
-        LimitName::Positions => "positions",
-        LimitName::Size => "size",
-        LimitName::Total => "total",
-        LimitName::Time => "time",
+/// What can be wrong with a file of one format.
+pub trait Kind: Copy {
+    ghost word_of: { Self → List ℕ };
+
+    /// The word for it in refusals, which is one token.
+    fn word(self) -> &'static str
+        ensures word { result.now ≡ word_of self }
+        ensures token { IsTrue (is_token result.now) };
+}
+
+impl Kind for TreeKind {
+    ghost word_of = { trees.word_of };
+
+    fn word(self) -> &'static str {
+        mp_text::Kind::word(self)
     }
 }
 
-pub fn tree_word(kind: TreeKind) -> &'static str
-    ensures word { result.now ≡ words.tree_word kind }
-    ensures token { IsTrue (is_token result.now) }
-{
-    match kind {
-        TreeKind::Header => "header",
-        TreeKind::Number => "number",
-        TreeKind::Parent => "parent",
-        TreeKind::Cycle => "cycle",
-        TreeKind::Count => "count",
-        TreeKind::NoEnd => "no-end",
-        TreeKind::Share => "share",
+impl Kind for MatrixKind {
+    ghost word_of = { matrices.word_of };
+
+    fn word(self) -> &'static str {
+        mp_text::Kind::word(self)
     }
 }
 
-pub fn workflow_word(kind: WorkflowKind) -> &'static str
-    ensures word { result.now ≡ words.workflow_word kind }
-    ensures token { IsTrue (is_token result.now) }
-{
-    match kind {
-        WorkflowKind::Header => "header",
-        WorkflowKind::Word => "word",
-        WorkflowKind::Number => "number",
-        WorkflowKind::StackShort => "stack-short",
-        WorkflowKind::NotOneTerm => "not-one-term",
-        WorkflowKind::TaskCount => "task-count",
-        WorkflowKind::NoEnd => "no-end",
-        WorkflowKind::Share => "share",
+impl Kind for WorkflowKind {
+    ghost word_of = { words.workflow_word };
+
+    fn word(self) -> &'static str {
+        match self {
+            WorkflowKind::Header => "header",
+            WorkflowKind::Word => "word",
+            WorkflowKind::Number => "number",
+            WorkflowKind::StackShort => "stack-short",
+            WorkflowKind::NotOneTerm => "not-one-term",
+            WorkflowKind::TaskCount => "task-count",
+            WorkflowKind::NoEnd => "no-end",
+            WorkflowKind::Share => "share",
+        }
     }
 }
 
-pub fn matrix_word(kind: MatrixKind) -> &'static str
-    ensures word { result.now ≡ words.matrix_word kind }
-    ensures token { IsTrue (is_token result.now) }
-{
-    match kind {
-        MatrixKind::Banner => "banner",
-        MatrixKind::NotMatrix => "not-matrix",
-        MatrixKind::ArrayFormat => "array-format",
-        MatrixKind::Field => "field",
-        MatrixKind::Symmetry => "symmetry",
-        MatrixKind::SizeLine => "size-line",
-        MatrixKind::NotSquare => "not-square",
-        MatrixKind::Entry => "entry",
-        MatrixKind::Index => "index",
-        MatrixKind::TooFew => "too-few",
-        MatrixKind::TooMany => "too-many",
+impl Kind for PermKind {
+    ghost word_of = { words.perm_word };
+
+    fn word(self) -> &'static str {
+        match self {
+            PermKind::Number => "number",
+            PermKind::Range => "range",
+            PermKind::Repeated => "repeated",
+            PermKind::Count => "count",
+        }
     }
 }
 
-pub fn perm_word(kind: PermKind) -> &'static str
-    ensures word { result.now ≡ words.perm_word kind }
-    ensures token { IsTrue (is_token result.now) }
-{
-    match kind {
-        PermKind::Number => "number",
-        PermKind::Range => "range",
-        PermKind::Repeated => "repeated",
-        PermKind::Count => "count",
+impl Kind for OrderFileKind {
+    ghost word_of = { words.order_file_word };
+
+    fn word(self) -> &'static str {
+        match self {
+            OrderFileKind::Number => "number",
+        }
     }
 }
 
-pub fn order_file_word(kind: OrderFileKind) -> &'static str
-    ensures word { result.now ≡ words.order_file_word kind }
-    ensures token { IsTrue (is_token result.now) }
-{
-    match kind {
-        OrderFileKind::Number => "number",
-    }
-}
+impl Kind for PlanKind {
+    ghost word_of = { words.plan_word };
 
-pub fn plan_word(kind: PlanKind) -> &'static str
-    ensures word { result.now ≡ words.plan_word kind }
-    ensures token { IsTrue (is_token result.now) }
-{
-    match kind {
-        PlanKind::Header => "header",
-        PlanKind::Number => "number",
-        PlanKind::Section => "section",
-        PlanKind::Order => "order",
-        PlanKind::Claim => "claim",
-        PlanKind::NoEnd => "no-end",
-        PlanKind::Priority => "priority",
-    }
-}
-
-pub fn shape_word(shape: Shape) -> &'static str
-    ensures word { result.now ≡ words.shape_word shape }
-    ensures token { IsTrue (is_token result.now) }
-{
-    match shape {
-        Shape::Hold => "data",
-        Shape::Series => "series",
-        Shape::Par => "par",
-        Shape::Outside => "outside",
-    }
-}
-
-pub fn order_word(kind: OrderKind) -> &'static str
-    ensures word { result.now ≡ words.order_word kind }
-    ensures token { IsTrue (is_token result.now) }
-{
-    match kind {
-        OrderKind::Unknown => "unknown",
-        OrderKind::Repeated => "repeated",
-        OrderKind::TooEarly => "too-early",
-        OrderKind::Missing => "missing",
+    fn word(self) -> &'static str {
+        match self {
+            PlanKind::Header => "header",
+            PlanKind::Number => "number",
+            PlanKind::Section => "section",
+            PlanKind::Order => "order",
+            PlanKind::Claim => "claim",
+            PlanKind::NoEnd => "no-end",
+            PlanKind::Priority => "priority",
+        }
     }
 }

@@ -1,16 +1,17 @@
-ghost use Rattle.std.specs.Prelude.{◌≡◌, ◌↔◌, ◌⊎◌, ℕ, List, Some, None, map, string_bytes};
+ghost use Rattle.std.specs.Prelude.{◌≡◌, ◌↔◌, ◌⊎◌, ◌<◌, ℕ, List, Some, None, map, string_bytes, length, take};
 ghost use Rattle.mp_outside.specs.Outside.{Rose, Appended};
 ghost use Rattle.memplan.specs.Request.{Input, OrderSource, Request, Simulation, check, planning, simulate, request_of, files_of};
 ghost use Rattle.memplan.specs.Simulated.{IsSimulated};
-ghost use Rattle.memplan.specs.Pages.{status_of};
+ghost use Rattle.memplan.specs.Pages.{answer_of, status_of};
 ghost use Rattle.memplan.specs.Certified.{IsCertified};
 ghost use Rattle.memplan.specs.Planned.{IsBestPlan};
 ghost use Rattle.memplan.specs.Clauses.{AreTold, HasText, IsAnswered, IsCutShort, HasFailed, AreQuiet};
 
-use crate::page::PageKind;
-use crate::report::{Stop, report};
+use crate::commands::report;
+use crate::page::{Page, PageKind};
 use crate::request::request_of;
 use crate::status::Status;
+use crate::stop::Stop;
 use mp_outside::{Files, Gate, Sink, write_all};
 use std::alloc::Global;
 use std::thread::Threads;
@@ -77,11 +78,21 @@ pub fn run_words<R: Threads + Sync, F: Files, S: Sink, G: Gate>(
         Ok(None) => return Status::Usage,
         Err(_) => return Status::NoMemory,
     };
-    let page = match report(rt, alloc, files, request, gate) {
-        Ok(page) => page,
-        Err(Stop::ReadFault) => return Status::ReadFault,
-        Err(Stop::NoMemory) => return Status::NoMemory,
-    };
+    match report(rt, alloc, files, request, gate) {
+        Ok(page) => written(sink, &page),
+        Err(Stop::Refused(page)) => written(sink, &page),
+        Err(Stop::ReadFault) => Status::ReadFault,
+        Err(Stop::NoMemory) => Status::NoMemory,
+    }
+}
+
+// Writes a page: its status, or that the sink failed after a proper prefix of it.
+fn written<S: Sink>(sink: &mut S, page: &Page) -> Status
+    ensures whole { HasText result → (result ≡ (answer_of page.now).status) × Appended (S.written sink.old) (S.written sink.new) (answer_of page.now).text }
+    ensures fault { ¬ HasText result → result ≡ Status.WriteFault }
+    ensures proper_prefix { result ≡ Status.WriteFault → Rose (S.faults sink.old) (S.faults sink.new)
+        × ((n : ℕ) × (n < length (answer_of page.now).text) × Appended (S.written sink.old) (S.written sink.new) (take n (answer_of page.now).text)) }
+{
     match write_all(sink, page.report.bytes()) {
         Ok(()) => status_of(page.kind),
         Err(_) => Status::WriteFault,
