@@ -17,7 +17,7 @@ use Rattle.sp_terms.specs.declared.builder.PushRefusal.TheVariants.{Short, Limit
 use Rattle.sp_terms.specs.Term.{Term, hold, series, par, Parts, no_parts, part, count, forward, backward, first_memory, first_memory_of_parts, AreAllowed}
 use Rattle.sp_terms.specs.Postfix.{gather, push, push_all, postfix}
 use Rattle.sp_terms.specs.Values.{stack_from, stack_of, last_term, Leaves, IsTerms, AllAllowed, IsWithinLimits, added_tasks, added_size}
-use Rattle.sp_terms.specs.Builder.{IsPosition, is_short, total_limit, own_limit, passed_limit, is_overshared, share_refusal, limit_or, refusal_of}
+use Rattle.sp_terms.specs.Builder.{IsPosition, is_short, total_limit, own_limit, passed_limit, limit_of, is_overshared, share_refusal, limit_or, refusal_of}
 use Rattle.sp_terms.specs.Ends.{ends_of, all_ends, IsBuilder, initial_at, fin_at, no_ends, beside, par_ends, series_ends, next_ends, over_ends}
 use Rattle.sp_terms.proofs.Stacks.{onto, Pushed, held, ran, beside as abreast, pushed, push_then, stack_postfix, all_pushed}
 use Rattle.sp_terms.proofs.Standing.{stack_few}
@@ -136,19 +136,14 @@ onto-good : (ts : Parts) (stack : List Term) → AllAllowed (onto ts stack) → 
 onto-good no_parts stack h = (tt, h)
 onto-good (part t ts) stack h = let k = onto-good ts (t ∷ stack) h in ((k.1.0, k.0), k.1.1)
 
-good_push : (p : Position) (stack out : List Term) → Pushed p stack out → IsPosition p → is_overshared stack p ≡ false → AllAllowed stack → AllAllowed out
+good_push : (p : Position) (stack out : List Term) → Pushed p stack out → IsPosition p → is_overshared p stack ≡ false → AllAllowed stack → AllAllowed out
 good_push p stack out (held size st) a o g = (tt, g)
 good_push p stack out (ran v x b st) a o g =
     let k = or_false _ _ o in ((lt_false _ _ k.0, lt_false _ _ k.1, g.1.0, g.0), g.1.1)
 good_push p stack out (abreast ts st f) a o g = let k = onto-good ts st g in ((a, k.0), k.1)
 
-pub over_same : (p : Position) (stack : List Term) → is_short (length stack) p ≡ false → over_ends (all_ends stack) p ≡ is_overshared stack p
-over_same (Hold size) stack e = hold_none size stack
-  where
-    hold_none : (size : ℕ) (stack : List Term) → false ≡ is_overshared stack (Hold size)
-    hold_none size [] = refl
-    hold_none size (b ∷ []) = refl
-    hold_none size (b ∷ (a ∷ stack)) = refl
+pub over_same : (p : Position) (stack : List Term) → is_short (length stack) p ≡ false → over_ends (all_ends stack) p ≡ is_overshared p stack
+over_same (Hold size) stack e = refl
 over_same (at.Task x s t) [] e = absurd (omega (arith, lt_false 0 2 e))
 over_same (at.Task x s t) (b ∷ []) e = absurd (omega (arith, lt_false (length (b ∷ [])) 2 e))
 over_same (at.Task x s t) (b ∷ (a ∷ stack)) e =
@@ -160,12 +155,7 @@ over_same (at.Task x s t) (b ∷ (a ∷ stack)) e =
     let first : get_or all (length all - 2) no_ends ≡ ends_of a = (λ i. get_or (same i) (n i) no_ends) ∙ get_or-append_seam xs (ends_of a) (ends_of b ∷ []) no_ends in
     let last : get_or all (length all - 1) no_ends ≡ ends_of b = ap (λ k. get_or all k no_ends) m ∙ get_or-append_seam (xs ++ ends_of a ∷ []) (ends_of b) [] no_ends in
     λ i. nat_lt (first i).fin s || nat_lt (x + (last i).initial) s
-over_same (Par k) stack e = par_none k stack
-  where
-    par_none : (k : ℕ) (stack : List Term) → false ≡ is_overshared stack (Par k)
-    par_none k [] = refl
-    par_none k (b ∷ []) = refl
-    par_none k (b ∷ (a ∷ stack)) = refl
+over_same (Par k) stack e = refl
 
 -- limits
 
@@ -239,26 +229,26 @@ module _ (ps : List Position) (ends : List Ends) (tasks total : ℕ) (p : Positi
   same_short : is_short (length ends) p ≡ is_short (length (stack_of ps)) p
   same_short = ap (λ n. is_short n p) (height ps ends tasks total h)
 
-  same_limit : passed_limit (length ps) tasks total p ≡ passed_limit (length ps) (sum_by added_tasks ps) (sum_by added_size ps) p
+  same_limit : passed_limit (length ps) tasks total p ≡ limit_of ps p
   same_limit = λ i. passed_limit (length ps) (h.tasks_are i) (h.total_is i) p
 
-  same_over : is_short (length ends) p ≡ false → over_ends ends p ≡ is_overshared (stack_of ps) p
+  same_over : is_short (length ends) p ≡ false → over_ends ends p ≡ is_overshared p (stack_of ps)
   same_over e = ap (λ z. over_ends z p) h.ends_are ∙ over_same p (stack_of ps) (sym same_short ∙ e)
 
   pub refused_short : is_short (length ends) p ≡ true → refusal_of ps p ≡ Some Short
-  refused_short e = ap (λ b. if b then Some Short else limit_or (passed_limit (length ps) (sum_by added_tasks ps) (sum_by added_size ps) p) (share_refusal (is_overshared (stack_of ps) p))) (sym same_short ∙ e)
+  refused_short e = ap (λ b. if b then Some Short else limit_or (limit_of ps p) (share_refusal (is_overshared p (stack_of ps)))) (sym same_short ∙ e)
 
-  not_short : is_short (length ends) p ≡ false → refusal_of ps p ≡ limit_or (passed_limit (length ps) (sum_by added_tasks ps) (sum_by added_size ps) p) (share_refusal (is_overshared (stack_of ps) p))
-  not_short e = ap (λ b. if b then Some Short else limit_or (passed_limit (length ps) (sum_by added_tasks ps) (sum_by added_size ps) p) (share_refusal (is_overshared (stack_of ps) p))) (sym same_short ∙ e)
+  not_short : is_short (length ends) p ≡ false → refusal_of ps p ≡ limit_or (limit_of ps p) (share_refusal (is_overshared p (stack_of ps)))
+  not_short e = ap (λ b. if b then Some Short else limit_or (limit_of ps p) (share_refusal (is_overshared p (stack_of ps)))) (sym same_short ∙ e)
 
   pub refused_limit : is_short (length ends) p ≡ false → (name : LimitName) → passed_limit (length ps) tasks total p ≡ Some name → refusal_of ps p ≡ Some (Limit name)
-  refused_limit e name l = not_short e ∙ ap (λ o. limit_or o (share_refusal (is_overshared (stack_of ps) p))) (sym same_limit ∙ l)
+  refused_limit e name l = not_short e ∙ ap (λ o. limit_or o (share_refusal (is_overshared p (stack_of ps)))) (sym same_limit ∙ l)
 
   pub refused_share : is_short (length ends) p ≡ false → passed_limit (length ps) tasks total p ≡ None → over_ends ends p ≡ true → refusal_of ps p ≡ Some Share
-  refused_share e l o = not_short e ∙ ap (λ x. limit_or x (share_refusal (is_overshared (stack_of ps) p))) (sym same_limit ∙ l) ∙ ap share_refusal (sym (same_over e) ∙ o)
+  refused_share e l o = not_short e ∙ ap (λ x. limit_or x (share_refusal (is_overshared p (stack_of ps)))) (sym same_limit ∙ l) ∙ ap share_refusal (sym (same_over e) ∙ o)
 
   pub taken : is_short (length ends) p ≡ false → passed_limit (length ps) tasks total p ≡ None → over_ends ends p ≡ false → refusal_of ps p ≡ None
-  taken e l o = not_short e ∙ ap (λ x. limit_or x (share_refusal (is_overshared (stack_of ps) p))) (sym same_limit ∙ l) ∙ ap share_refusal (sym (same_over e) ∙ o)
+  taken e l o = not_short e ∙ ap (λ x. limit_or x (share_refusal (is_overshared p (stack_of ps)))) (sym same_limit ∙ l) ∙ ap share_refusal (sym (same_over e) ∙ o)
 
   pub fits_now : IsPosition p → passed_limit (length ps) tasks total p ≡ None → Fits (length ps) tasks total p
   fits_now a l = fits (length ps) tasks total p a (omega (arith, h.tasks_are, h.leave.few_tasks)) (omega (arith, h.total_is, h.leave.total)) l

@@ -69,10 +69,10 @@ standing ps first p rest terms split =
 
 -- a task whose series is allowed does not share too much
 
-pub not_over : (first : List Position) (v : Task) (a b : Term) (stack : List Term) → push_all first [] ≡ Some (b ∷ a ∷ stack) → IsAllowed (series a v b) → is_overshared (stack_of first) (at_task v) ≡ false
+pub not_over : (first : List Position) (v : Task) (a b : Term) (stack : List Term) → push_all first [] ≡ Some (b ∷ a ∷ stack) → IsAllowed (series a v b) → is_overshared (at_task v) (stack_of first) ≡ false
 not_over first v a b stack before (x, y, ga, gb) =
-    let own : is_overshared (b ∷ a ∷ stack) (at_task v) ≡ false = rw (le-ltb _ _ x, le-ltb _ _ y) refl in
-    ap (λ (st : List Term). is_overshared st (at_task v)) (ap stack_from before) ∙ own
+    let own : is_overshared (at_task v) (b ∷ a ∷ stack) ≡ false = rw (le-ltb _ _ x, le-ltb _ _ y) refl in
+    ap (λ (st : List Term). is_overshared (at_task v) st) (ap stack_from before) ∙ own
 
 -- its share is small
 
