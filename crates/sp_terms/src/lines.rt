@@ -21,22 +21,15 @@ use mp_text::{Line, Refusal, Tokens, Version, after_word, fault, number, tokens,
 pub fn header_on(line: Line<'_>) -> Result<Version, Refusal<WorkflowKind>>
     ensures { let r = row line.entry.number line.entry.text.now in Gives (tested (header_tests r) (version_stated r)) result }
 {
-    match version_of(line.text, b"workflow") {
-        Some(version) => Ok(version),
-        None => Err(fault(line.number, WorkflowKind::Header)),
-    }
+    version_of(line.text, b"workflow").ok_or(fault(line.number, WorkflowKind::Header))
 }
 
 /// Line 2: the number of tasks.
 pub fn count_on(line: Line<'_>) -> Result<u64, Refusal<WorkflowKind>>
     ensures { let r = row line.entry.number line.entry.text.now in Gives (tested (count_tests r) (count_stated r)) result }
 {
-    let Some(count) = after_word(line.text, b"tasks") else {
-        return Err(fault(line.number, WorkflowKind::Header));
-    };
-    let Some(count) = number(count) else {
-        return Err(fault(line.number, WorkflowKind::Number));
-    };
+    let count = after_word(line.text, b"tasks").ok_or(fault(line.number, WorkflowKind::Header))?;
+    let count = number(count).ok_or(fault(line.number, WorkflowKind::Number))?;
     if count > MOST_TASKS {
         return Err(Refusal::Limit(LimitName::Tasks));
     }
@@ -124,20 +117,15 @@ pub fn position_on(
     ensures position { IfOk result IsPosition }
 {
     let mut words = tokens(line.text);
-    match next_word(&mut words) {
-        None => Err(fault(line.number, WorkflowKind::Word)),
-        Some(Word::Data) => match only_number(words) {
-            Some(size) => Ok(Position::Hold(size)),
-            None => Err(fault(line.number, WorkflowKind::Number)),
-        },
-        Some(Word::Task) => match task_numbers(version, words) {
-            Some(task) => task_on(count, height, tasks, line.number, task),
-            None => Err(fault(line.number, WorkflowKind::Number)),
-        },
-        Some(Word::Par) => match only_number(words) {
-            Some(parts) => par_on(height, line.number, parts),
-            None => Err(fault(line.number, WorkflowKind::Number)),
-        },
+    let word = next_word(&mut words).ok_or(fault(line.number, WorkflowKind::Word))?;
+    let no_numbers = fault(line.number, WorkflowKind::Number);
+    match word {
+        Word::Data => Ok(Position::Hold(only_number(words).ok_or(no_numbers)?)),
+        Word::Task => {
+            let task = task_numbers(version, words).ok_or(no_numbers)?;
+            task_on(count, height, tasks, line.number, task)
+        }
+        Word::Par => par_on(height, line.number, only_number(words).ok_or(no_numbers)?),
     }
 }
 

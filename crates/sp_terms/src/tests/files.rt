@@ -220,20 +220,18 @@ fn a_text_that_ends_early_has_no_end(rt: HostRuntime) {
 
 #[test]
 fn refusals_in_words(rt: HostRuntime) -> Result<(), Fail> {
-    let words = [
-        (WorkflowKind::Header, "header at line 1"),
-        (WorkflowKind::Word, "word at line 2"),
+    for (kind, said) in [
+        (WorkflowKind::Header, "header at line 3"),
+        (WorkflowKind::Word, "word at line 3"),
         (WorkflowKind::Number, "number at line 3"),
-        (WorkflowKind::StackShort, "stack-short at line 4"),
-        (WorkflowKind::NotOneTerm, "not-one-term at line 5"),
-        (WorkflowKind::TaskCount, "task-count at line 6"),
-        (WorkflowKind::NoEnd, "no-end at line 7"),
-        (WorkflowKind::Share, "share at line 8"),
-    ];
-    for (place, (kind, said)) in words.iter().enumerate() {
-        let line = place as u64 + 1;
-        let refusal = Refusal::Format(Fault { line, kind: *kind });
-        assert_eq!(rt; format!(in rt.alloc(); "{refusal}")?.as_str(), *said);
+        (WorkflowKind::StackShort, "stack-short at line 3"),
+        (WorkflowKind::NotOneTerm, "not-one-term at line 3"),
+        (WorkflowKind::TaskCount, "task-count at line 3"),
+        (WorkflowKind::NoEnd, "no-end at line 3"),
+        (WorkflowKind::Share, "share at line 3"),
+    ] {
+        let refusal = Refusal::Format(Fault { line: 3, kind });
+        assert_eq!(rt; format!(in rt.alloc(); "{refusal}")?.as_str(), said);
     }
     Ok(())
 }
