@@ -22,7 +22,7 @@ use Rattle.sp_terms.specs.declared.position.Position.TheVariants as at
 use Rattle.sp_terms.specs.Values.{stack_of, added_tasks, added_size, Leaves, IsTerms, IsWithinLimits}
 use Rattle.sp_terms.specs.Builder.{IsPosition, is_short, limit_of, is_overshared}
 use Rattle.sp_terms.specs.Ends.{IsBuilder, all_ends}
-use Rattle.sp_terms.specs.WorkflowFile.{workflow_format, version_stated, position_of, is_position, line_tests, limit_tests, room_tests, position_tests, is_end, is_complete, positions_stated, ReadsWorkflow, RefusesWorkflow}
+use Rattle.sp_terms.specs.WorkflowFile.{workflow_format, version_stated, position_of, is_position, form_tests, limit_tests, room_tests, position_tests, is_end, is_complete, positions_stated, ReadsWorkflow, RefusesWorkflow}
 use Rattle.sp_terms.specs.ReaderLaws.{passes}
 use Rattle.sp_terms.proofs.BuilderLemmas.{height, over_same, builder_more, one_term}
 

@@ -19,7 +19,7 @@ use Rattle.sp_terms.specs.declared.stage.Stage.TheVariants as stages
 use Rattle.sp_terms.specs.declared.position.Position.{Position}
 use Rattle.sp_terms.specs.Values.{stack_of, added_tasks}
 use Rattle.sp_terms.specs.Builder.{refusal_of}
-use Rattle.sp_terms.specs.WorkflowFile.{header_tests, version_stated, count_tests, count_stated, position_of, line_tests, last_tests, is_end}
+use Rattle.sp_terms.specs.WorkflowFile.{header_tests, version_stated, count_tests, count_stated, position_of, form_tests, last_tests, is_end}
 
 -- what the reader keeps: what comes next, the version, the stated number of tasks, and the positions
 pub record ReaderState : Type 0 where
@@ -54,7 +54,7 @@ body_step s row =
     let tasks = sum_by added_tasks s.positions in
     if is_end row
     then tested (last_tests s.count height tasks row) (record s { stage = stages.Ended })
-    else tested (line_tests s.version s.count height tasks row) (position_of s.version row) >>= pushed s row.number
+    else tested (form_tests s.version s.count height tasks row) (position_of s.version row) >>= pushed s row.number
 
 -- a line, by what is expected
 abbrev pub staged_step : Stage → ReaderState → Row → Result ReaderState (Refusal WorkflowKind)

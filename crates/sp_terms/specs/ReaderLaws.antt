@@ -24,7 +24,7 @@ use Rattle.sp_terms.specs.declared.stage.Stage.TheVariants as stages
 use Rattle.sp_terms.specs.declared.position.Position.{Position}
 use Rattle.sp_terms.specs.Values.{stack_of, added_tasks}
 use Rattle.sp_terms.specs.Builder.{refusal_of, is_short, limit_of, limit_or, share_refusal, is_overshared}
-use Rattle.sp_terms.specs.WorkflowFile.{workflow_format, workflow_line_tests, workflow_end_tests, header_tests, version_stated, count_tests, count_stated, position_of, is_position, line_tests, limit_tests, room_tests, position_tests, last_tests, body_tests, is_end, is_complete}
+use Rattle.sp_terms.specs.WorkflowFile.{workflow_format, workflow_line_tests, workflow_end_tests, header_tests, version_stated, count_tests, count_stated, position_of, is_position, form_tests, limit_tests, room_tests, position_tests, last_tests, body_tests, is_end, is_complete}
 use Rattle.sp_terms.specs.Reader.{ReaderState, refusal_at, pushed_or, pushed, body_step, staged_step, workflow_step, staged_end, workflow_end, TookPositions, staged_took, took}
 
 -- ---- tests that hold
@@ -34,7 +34,7 @@ passes true rest refusal none = (refl, none)
 passes false rest refusal none = absurd cc
 
 -- a line that passes states a position, which finds terms enough
-pub line_passed : (version : Version) (count height tasks : ℕ) (row : Row) → first_failure (line_tests version count height tasks row) ≡ None
+pub line_passed : (version : Version) (count height tasks : ℕ) (row : Row) → first_failure (form_tests version count height tasks row) ≡ None
     → (is_position (position_of version row) ≡ true) × (is_short height (position_of version row) ≡ false)
 line_passed version count height tasks row none =
     let word = passes _ _ _ none in
@@ -110,10 +110,10 @@ module _ (s : ReaderState) (header counted row : Row) (rows : List Row) (stage :
       go (Some refusal) e = e
 
   at_position : is_end row ≡ false → Follows (position_tests s.version s.count s.positions row) (IsNext all)
-      (tested (line_tests s.version s.count (length (stack_of s.positions)) (sum_by added_tasks s.positions) row) (position_of s.version row) >>= pushed s row.number)
+      (tested (form_tests s.version s.count (length (stack_of s.positions)) (sum_by added_tasks s.positions) row) (position_of s.version row) >>= pushed s row.number)
   at_position more =
       let p = position_of s.version row in
-      let line = line_tests s.version s.count (length (stack_of s.positions)) (sum_by added_tasks s.positions) row in
+      let line = form_tests s.version s.count (length (stack_of s.positions)) (sum_by added_tasks s.positions) row in
       let Passed : Position → Type 0 = λ q. (q ≡ p) × (first_failure line ≡ None) in
       Follows->>= line (room_tests s.positions p row.number) Passed (IsNext all) (tested line p) (pushed s row.number)
       (tested-follows line p Passed (λ none. (refl, none)))

@@ -85,6 +85,7 @@ position_from version None numbers = None
 abbrev pub position_stated : Version → Row → Option Position
 position_stated version row = position_from version (word_stated row) (numbers_of (drop 1 row.tokens))
 
+-- where none is stated, a test before those of a position fails
 abbrev pub stated_or : Option Position → Position
 stated_or stated = unwrap_or stated (Hold 0)
 
@@ -99,23 +100,23 @@ is_position (Par parts) = nat_le 2 parts
 
 -- a task more than line 2 says
 abbrev pub is_too_many : ℕ → ℕ → Position → Bool
-is_too_many count tasks (Hold size) = false
 is_too_many count tasks (at.Task extra share time) = nat_le count tasks
-is_too_many count tasks (Par parts) = false
+is_too_many _ _ _ = false
 
--- the form of a position, in a file of so many tasks, after lines that left so many terms and had so many tasks
-abbrev pub form_tests : ℕ → ℕ → ℕ → Option Position → ℕ → List (Test WorkflowKind)
-form_tests count height tasks stated line =
+-- the form of a position that is stated, in a file of so many tasks, after lines that left so many terms and had so many tasks
+abbrev pub stated_tests : ℕ → ℕ → ℕ → Option Position → ℕ → List (Test WorkflowKind)
+stated_tests count height tasks stated line =
     test (is_some stated && is_position (stated_or stated)) (fault_at line kinds.Number)
     ∷ test (not (is_short height (stated_or stated))) (fault_at line kinds.StackShort)
     ∷ test (not (is_too_many count tasks (stated_or stated))) (fault_at line kinds.TaskCount)
     ∷ []
 
-abbrev pub line_tests : Version → ℕ → ℕ → ℕ → Row → List (Test WorkflowKind)
-line_tests version count height tasks row =
-    test (is_some (word_stated row)) (fault kinds.Word row) ∷ form_tests count height tasks (position_stated version row) row.number
+-- the form of a position line
+abbrev pub form_tests : Version → ℕ → ℕ → ℕ → Row → List (Test WorkflowKind)
+form_tests version count height tasks row =
+    test (is_some (word_stated row)) (fault kinds.Word row) ∷ stated_tests count height tasks (position_stated version row) row.number
 
--- no limit is passed
+-- no limit is passed; those of a position are the builder's
 abbrev pub limit_tests : Option LimitName → List (Test WorkflowKind)
 limit_tests None = []
 limit_tests (Some name) = test false (refusals.Limit name) ∷ []
@@ -127,7 +128,7 @@ room_tests before p line = limit_tests (limit_of before p) ++ test (not (is_over
 -- a position line after lines that state these positions
 abbrev pub position_tests : Version → ℕ → List Position → Row → List (Test WorkflowKind)
 position_tests version count before row =
-    line_tests version count (length (stack_of before)) (sum_by added_tasks before) row
+    form_tests version count (length (stack_of before)) (sum_by added_tasks before) row
     ++ room_tests before (position_of version row) row.number
 
 -- ---- the last line, `end`, where one term is left and the tasks are as many as stated; then no line

@@ -8,7 +8,7 @@ ghost use Rattle.mp_text.specs.Reading.{Gives, tested};
 ghost use Rattle.sp_terms.specs.Builder.{IsPosition};
 ghost use Rattle.sp_terms.specs.Postfix.{at_task};
 ghost use Rattle.sp_terms.specs.declared.position.Position.TheVariants.{Par};
-ghost use Rattle.sp_terms.specs.WorkflowFile.{header_tests, version_stated, count_tests, count_stated, only, task_from, form_tests, line_tests, position_of, is_end, last_tests};
+ghost use Rattle.sp_terms.specs.WorkflowFile.{header_tests, version_stated, count_tests, count_stated, only, task_from, stated_tests, form_tests, position_of, is_end, last_tests};
 
 use crate::kind::WorkflowKind;
 use crate::position::Position;
@@ -72,7 +72,7 @@ fn task_on(
     line: u64,
     task: Task,
 ) -> Result<Position, Refusal<WorkflowKind>>
-    ensures judged { Gives (tested (form_tests count height tasks (Some (at_task task)) line) (at_task task)) result }
+    ensures judged { Gives (tested (stated_tests count height tasks (Some (at_task task)) line) (at_task task)) result }
     ensures position { IfOk result IsPosition }
 {
     let Task { extra, share, time } = task;
@@ -91,7 +91,7 @@ fn task_on(
 // So many of the last terms side by side, after lines that left so many terms; it is no task, so numbers of tasks do not matter.
 fn par_on(height: u64, line: u64, parts: u64) -> Result<Position, Refusal<WorkflowKind>>
     requires { height ≤ most_positions }
-    ensures judged { Gives (tested (form_tests 0 height 0 (Some (Par parts)) line) (Par parts)) result }
+    ensures judged { Gives (tested (stated_tests 0 height 0 (Some (Par parts)) line) (Par parts)) result }
     ensures position { IfOk result IsPosition }
 {
     if parts < 2 {
@@ -113,7 +113,7 @@ pub fn position_on(
     line: Line<'_>,
 ) -> Result<Position, Refusal<WorkflowKind>>
     requires { height ≤ most_positions }
-    ensures judged { let r = row line.entry.number line.entry.text.now in Gives (tested (line_tests version count height tasks r) (position_of version r)) result }
+    ensures judged { let r = row line.entry.number line.entry.text.now in Gives (tested (form_tests version count height tasks r) (position_of version r)) result }
     ensures position { IfOk result IsPosition }
 {
     let mut words = tokens(line.text);
