@@ -1,7 +1,7 @@
 -- Of a permutation file: what is read is a permutation, and no refusal is a limit.
-use Rattle.std.proofs.Common.{◌≡◌, ◌≢◌, ℕ, ◌<◌, Bool, true, false, cond, ltb, leb, eqb, is_some, List, [], ◌∷◌, ◌++◌, length, map, Option, Some, None, inl, inr, refl, sym, subst, ◌∙◌, arith, append_assoc, append-nil}
+use Rattle.std.proofs.Common.{◌≡◌, ◌≢◌, ℕ, Bool, true, false, cond, ltb, leb, eqb, is_some, List, [], ◌∷◌, ◌++◌, length, map, Option, Some, None, inl, inr, refl, sym, subst, ◌∙◌, arith, append_assoc, append-nil}
 use Rattle.std.specs.Option.{option_or}
-use Rattle.std.proofs.lemmas.Bool.{and_parts, leb-true, ltb-true, eqb-true}
+use Rattle.std.proofs.lemmas.Bool.{and_parts, leb-true, eqb-true}
 use Rattle.std.proofs.lemmas.List.{map_push, length-map}
 use Rattle.limits.specs.declared.name.LimitName.{LimitName}
 use Rattle.mp_text.specs.declared.layout.Layout.TheVariants.{Commented}
@@ -9,7 +9,7 @@ use Rattle.mp_text.specs.declared.refusals.Refusal.{Refusal}
 use Rattle.mp_text.specs.declared.refusals.Refusal.TheVariants as refusals
 use Rattle.mp_text.specs.Text.{Row, number_of}
 use Rattle.mp_text.specs.Ahead.{rows_of_bytes, past_of_bytes}
-use Rattle.mp_text.specs.Grammar.{Test, test, first_failure, tests_of_all, ArePassed, Refuses, fault_at}
+use Rattle.mp_text.specs.Grammar.{Test, test, first_failure, tests_of_all, ArePassed, fault_at}
 use Rattle.mp_text.specs.Reading.{IsRefusal}
 use Rattle.mp_text.specs.ReadingLaws.{first_failure-append}
 use Rattle.ordering.specs.OrderFile.{value_of, tokens_of_rows, numbers_stated}

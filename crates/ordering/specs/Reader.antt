@@ -1,7 +1,7 @@
 -- No public clause names this.
 -- What the readers of order files and of permutation files do with a line, and that this is what the tests of their formats say. An `impl`
 -- takes the proofs of its laws from specs/, so they stand here and not in proofs/.
-use Rattle.std.specs.Prelude.{◌≡◌, ℕ, nat_le, List, [], ◌∷◌, ◌++◌, length, map, refl, Result, Ok}
+use Rattle.std.specs.Prelude.{◌≡◌, ℕ, List, [], ◌∷◌, ◌++◌, length, map, refl, Result, Ok}
 use Rattle.std.proofs.Common.{sym, ap, ◌∙◌}
 use Rattle.std.proofs.lemmas.List.{map_push, length-map, append-nil}
 use Rattle.std.proofs.lemmas.Grind.{flat_map-append}

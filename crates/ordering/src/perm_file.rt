@@ -162,8 +162,10 @@ pub fn read_perm(alloc: Global, bytes: &[u8], n: u32) -> Result<Perm, Refusal<Pe
     ensures { MatchResult result (λ perm. ReadsPerm n bytes.now perm) (IsPermRefusal n bytes.now) }
 {
     let reader = read_with(bytes, Layout::Commented, PermReader::new(alloc, n)?)?;
-    Ok(Perm {
-        vertices: reader.vertices,
-        places: reader.places,
-    })
+    let PermReader {
+        vertices,
+        places,
+        ..
+    } = reader;
+    Ok(Perm { vertices, places })
 }
