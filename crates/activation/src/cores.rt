@@ -38,58 +38,23 @@ use std::marker::Model;
 /// memory. Agullo et al. 2016.
 #[derive(Drop)]
 pub struct Core {
-    system: System,
-    order: Vec<u32>,
-    bound: u64,
-    workers: u32,
-    needs: Vec<u64>,
-    frees: Vec<u64>,
-    places: Vec<u32>,
-    outputs: RowTable,
-    waiting: Vec<u32>,
-    phases: Vec<Phase>,
-    activated: usize,
-    running: RunningTasks,
-    booked: u64,
-    used: u64,
+    pub(crate) machine: Machine,
     // What a simulated run takes: its trees and tables, and its events.
-    room: Option<(Room, Vec<Event>)>,
+    pub(crate) room: Room,
+    pub(crate) events: Vec<Event>,
 }
 
 impl Model for Core {
-    ghost use Rattle.std.specs.Prelude.{◌≡◌, ◌≤◌, ◌*◌, [], length, vec_capacity, is_some};
-    ghost use Rattle.std.specs.Option.{ForSome};
+    ghost use Rattle.std.specs.Prelude.{◌≡◌, ◌≤◌, ◌*◌, [], length, vec_capacity};
     ghost use Rattle.activation.specs.Machine.{CoreValue};
-    ghost use Rattle.activation.specs.Tables.{AreCoreTables};
     ghost use Rattle.activation.specs.Run.{IsRoom, run_tables};
 
     ghost Value = { CoreValue };
 
-    ghost view = { λ m. record {
-      setting = record { system = m.system; order = m.order.items; bound = m.bound; workers = m.workers };
-      state = record { activated = m.activated; phases = m.phases.items };
-      has_room = is_some m.room;
-    } };
+    ghost view = { λ c. c.machine };
 
-    ghost invariant = { λ m. AreCoreTables
-        (record { system = m.system; order = m.order.items; bound = m.bound; workers = m.workers })
-        (record { activated = m.activated; phases = m.phases.items })
-        (record {
-          fixed = record { needs = m.needs.items; frees = m.frees.items; places = m.places.items; outputs = m.outputs };
-          waiting = m.waiting.items;
-          running = m.running;
-          booked = m.booked;
-          used = m.used;
-        })
-        × ForSome m.room (λ room. IsRoom (length m.system.tasks) (run_tables room.0)
-        × (room.1.items ≡ []) × (3 * length m.system.tasks ≤ vec_capacity room.1)) };
-}
-
-// The mark of a task that is startable, or is not.
-fn mark(startable: bool) -> u64
-    ensures { result ≡ mark startable }
-{
-    if startable { 0 } else { u64::MAX }
+    ghost invariant = { λ c. IsRoom (length c.machine.setting.system.tasks) (run_tables c.room)
+        × (c.events.items ≡ []) × (3 * length c.machine.setting.system.tasks ≤ vec_capacity c.events) };
 }
 
 impl Core {
@@ -106,7 +71,6 @@ impl Core {
         ensures setting { IfOk result (λ core.
             core.setting ≡ record { system = system.now; order = order.now; bound = bound; workers = workers }) }
         ensures start { IfOk result (λ core. core.state ≡ start_state core.setting) }
-        ensures room { IfOk result (λ core. core.has_room ≡ true) }
         ensures within { IfOk result (λ core. IsSetting core.setting) }
         ensures refused { IfErr result (IsCoreRefusal system.now order.now bound) }
     {
@@ -114,24 +78,163 @@ impl Core {
         if bound < peak {
             return Err(CoreRefusal::BoundBelow { bound, peak });
         }
-        Ok(Core::at_start(alloc, system, order, bound, workers)?)
+        let machine = Machine::new(alloc, system, order, bound, workers)?;
+        let room = Room::new(alloc, system.tasks().len())?;
+        let events = Vec::with_capacity(alloc, 3 * system.tasks().len())?;
+        Ok(Core {
+            machine,
+            room,
+            events,
+        })
     }
 
-    // The core of a setting at its start.
-    fn at_start(
+    /// Activates the next task of the order, where its need fits under the bound beside what is booked.
+    pub fn activate(&mut self) -> Option<u32>
+        ensures setting { self.new.setting ≡ self.old.setting }
+        ensures some { IfSome result (λ t. MayActivate self.old.setting self.old.state t) }
+        ensures next { IfSome result (λ t. self.new.state ≡ state_after self.old.state EventKind.Activate t) }
+        ensures none { IfNone result ((t : ℕ) → MayActivate self.old.setting self.old.state t → ⊥) }
+        ensures unchanged { IfNone result (self.new ≡ self.old) }
+    {
+        self.machine.activate()
+    }
+
+    /// Starts an activated task whose suppliers are done, where a worker is free.
+    pub fn start(&mut self, task: u32) -> bool
+        ensures setting { self.new.setting ≡ self.old.setting }
+        ensures legal { IsTrue result ↔ MayStart self.old.setting self.old.state task }
+        ensures next { OnTrue result (self.new.state ≡ state_after self.old.state EventKind.Start task) }
+        ensures unchanged { OnFalse result (self.new ≡ self.old) }
+    {
+        self.machine.start(task)
+    }
+
+    /// Ends a running task.
+    pub fn finish(&mut self, task: u32) -> bool
+        ensures setting { self.new.setting ≡ self.old.setting }
+        ensures legal { IsTrue result ↔ MayFinish self.old.setting self.old.state task }
+        ensures next { OnTrue result (self.new.state ≡ state_after self.old.state EventKind.Finish task) }
+        ensures unchanged { OnFalse result (self.new ≡ self.old) }
+    {
+        self.machine.finish(task)
+    }
+
+    /// Used memory: the items that are present, and the needs of the running tasks.
+    pub fn used(&self) -> u64
+        ensures { result ≡ used_memory self.now.setting self.now.state }
+    {
+        self.machine.used()
+    }
+
+    /// Booked memory: the items that are present, and the needs of the activated tasks that are not done.
+    pub fn booked(&self) -> u64
+        ensures { result ≡ booked_memory self.now.setting self.now.state }
+    {
+        self.machine.booked()
+    }
+
+    /// How many tasks are activated.
+    pub fn activated(&self) -> u32
+        ensures { result ≡ self.now.state.activated }
+    {
+        traversal_law();
+        let machine = &self.machine;
+        machine.activated as u32
+    }
+
+    /// The running tasks, each once, in any order.
+    pub fn running(&self) -> &[u32]
+        ensures once { IsDistinct nat_eq result.now }
+        ensures each { (t : ℕ) → stands_in result.now t ≡ is_running self.now.state t }
+    {
+        let machine = &self.machine;
+        machine.running.as_slice()
+    }
+
+    /// Whether a task is done; a number that is no task's is not.
+    pub fn is_done(&self, task: u32) -> bool
+        ensures { result ≡ is_done self.now.state task }
+    {
+        let machine = &self.machine;
+        is_number(task, machine.phases.len()) && machine.phases[task as usize - 1].is_done()
+    }
+
+    /// What every core keeps; a proof that needs it calls it. It does nothing.
+    pub fn keeps(&self)
+        // the order is a traversal whose peak is within the bound, and there is a worker
+        ensures setting { IsSetting self.now.setting }
+        ensures few_workers { self.now.setting.workers ≤ most_workers }
+        // running and done tasks are activated and ready, no more tasks run than there are workers, and memory is within the bound
+        ensures safe { IsSafe self.now.setting self.now.state }
+    {
+        self.machine.keeps();
+    }
+}
+
+/// The activation machine: a setting, a state, and tables of both. None of its calls but `new` takes memory.
+#[derive(Drop)]
+pub struct Machine {
+    system: System,
+    order: Vec<u32>,
+    bound: u64,
+    workers: u32,
+    needs: Vec<u64>,
+    frees: Vec<u64>,
+    places: Vec<u32>,
+    outputs: RowTable,
+    waiting: Vec<u32>,
+    phases: Vec<Phase>,
+    activated: usize,
+    running: RunningTasks,
+    booked: u64,
+    used: u64,
+}
+
+impl Model for Machine {
+    ghost use Rattle.activation.specs.Machine.{CoreValue};
+    ghost use Rattle.activation.specs.Tables.{AreCoreTables};
+
+    ghost Value = { CoreValue };
+
+    ghost view = { λ m. record {
+      setting = record { system = m.system; order = m.order.items; bound = m.bound; workers = m.workers };
+      state = record { activated = m.activated; phases = m.phases.items };
+    } };
+
+    ghost invariant = { λ m. AreCoreTables
+        (record { system = m.system; order = m.order.items; bound = m.bound; workers = m.workers })
+        (record { activated = m.activated; phases = m.phases.items })
+        (record {
+          fixed = record { needs = m.needs.items; frees = m.frees.items; places = m.places.items; outputs = m.outputs };
+          waiting = m.waiting.items;
+          running = m.running;
+          booked = m.booked;
+          used = m.used;
+        }) };
+}
+
+// The mark of a task that is startable, or is not.
+fn mark(startable: bool) -> u64
+    ensures { result ≡ mark startable }
+{
+    if startable { 0 } else { u64::MAX }
+}
+
+impl Machine {
+    /// The machine at its start.
+    pub fn new(
         alloc: Global,
         system: &System,
         order: &[u32],
         bound: u64,
         workers: u32,
-    ) -> Result<Core, NoMemory>
+    ) -> Result<Machine, NoMemory>
         requires traversal { IsTraversal system.now order.now }
         requires bound { peak_of system.now order.now ≤ bound }
         requires workers { (1 ≤ workers) × (workers ≤ most_workers) }
         ensures setting { IfOk result (λ m.
             m.setting ≡ record { system = system.now; order = order.now; bound = bound; workers = workers }) }
         ensures start { IfOk result (λ m. m.state ≡ start_state m.setting) }
-        ensures room { IfOk result (λ m. m.has_room ≡ true) }
     {
         start_law();
         traversal_law();
@@ -144,11 +247,9 @@ impl Core {
         let running = RunningTasks::new(alloc, workers as usize, count)?;
         let phases = vec![in alloc; Phase::Idle; count]?;
         let memory = start_memory(system);
-        let room = Room::new(alloc, count)?;
-        let events = Vec::with_capacity(alloc, 3 * count)?;
         let order = Vec::from_slice(alloc, order)?;
         let system = copy_system(alloc, system)?;
-        Ok(Core {
+        Ok(Machine {
             system,
             order,
             bound,
@@ -163,7 +264,6 @@ impl Core {
             running,
             booked: memory,
             used: memory,
-            room: Some((room, events)),
         })
     }
 
@@ -190,7 +290,7 @@ impl Core {
     }
 
     /// Whether a task may start as soon as a worker is free.
-    pub(crate) fn is_startable(&self, task: u32) -> bool
+    pub fn is_startable(&self, task: u32) -> bool
         requires { IsTask self.now.setting.system task }
         ensures { result ≡ is_startable self.now.setting self.now.state task }
     {
@@ -271,42 +371,17 @@ impl Core {
         self.booked
     }
 
-    /// How many tasks are activated.
-    pub fn activated(&self) -> u32
-        ensures { result ≡ self.now.state.activated }
-    {
-        traversal_law();
-        self.activated as u32
-    }
-
-    /// The running tasks, each once, in any order.
-    pub fn running(&self) -> &[u32]
-        ensures once { IsDistinct nat_eq result.now }
-        ensures each { (t : ℕ) → stands_in result.now t ≡ is_running self.now.state t }
-    {
-        self.running.as_slice()
-    }
-
-    /// Whether a task is done; a number that is no task's is not.
-    pub fn is_done(&self, task: u32) -> bool
-        ensures { result ≡ is_done self.now.state task }
-    {
-        is_number(task, self.phases.len()) && self.phases[task as usize - 1].is_done()
-    }
-
-    /// What every core keeps; a proof that needs it calls it. It does nothing.
+    /// What every machine keeps; a proof that needs it calls it. It does nothing.
     pub fn keeps(&self)
-        // the order is a traversal whose peak is within the bound, and there is a worker
         ensures setting { IsSetting self.now.setting }
         ensures few_workers { self.now.setting.workers ≤ most_workers }
-        // running and done tasks are activated and ready, no more tasks run than there are workers, and memory is within the bound
         ensures safe { IsSafe self.now.setting self.now.state }
     {
         let _ = &self.system;
     }
 
     /// The task that stands at this place of the order, counted from 0.
-    pub(crate) fn task_at(&self, place: usize) -> u32
+    pub fn task_at(&self, place: usize) -> u32
         requires { place < length self.now.setting.order }
         ensures { result ≡ slice_index self.now.setting.order place }
     {
@@ -314,7 +389,7 @@ impl Core {
     }
 
     /// Where a task stands in the order, counted from 0.
-    pub(crate) fn place_of(&self, task: u32) -> usize
+    pub fn place_of(&self, task: u32) -> usize
         requires { IsTask self.now.setting.system task }
         ensures within { result < length self.now.setting.order }
         ensures there { slice_index self.now.setting.order result ≡ task }
@@ -323,7 +398,7 @@ impl Core {
     }
 
     /// How long a task takes.
-    pub(crate) fn time_of(&self, task: u32) -> u64
+    pub fn time_of(&self, task: u32) -> u64
         requires { IsTask self.now.setting.system task }
         ensures time { result ≡ (task_at self.now.setting.system task).time }
         ensures long { result ≤ most_time }
@@ -331,23 +406,8 @@ impl Core {
         self.system.tasks()[task as usize - 1].time
     }
 
-    /// Gives away the room of a run.
-    pub(crate) fn take_room(&mut self) -> (Room, Vec<Event>)
-        requires { self.old.has_room ≡ true }
-        ensures setting { self.new.setting ≡ self.old.setting }
-        ensures state { self.new.state ≡ self.old.state }
-        ensures room { IsRoom (length self.old.setting.system.tasks) (run_tables result.0) }
-        ensures events { result.1.items ≡ [] }
-        ensures capacity { 3 * length self.old.setting.system.tasks ≤ vec_capacity result.1 }
-    {
-        let Some(room) = self.room.take() else {
-            unreachable!()
-        };
-        room
-    }
-
     /// Writes down at the rank of the task that is named, if one is, whether it is startable.
-    pub(crate) fn refresh(&self, task: Option<u32>, ranks: &[u32], ready: &mut MinTree)
+    pub fn refresh(&self, task: Option<u32>, ranks: &[u32], ready: &mut MinTree)
         requires tasks { (t : ℕ) → is_named task t ≡ true → IsTask self.now.setting.system t }
         requires ranks { AreRanks (length self.now.setting.system.tasks) ranks.now }
         requires long { length ready.old ≡ length self.now.setting.system.tasks }
@@ -363,7 +423,7 @@ impl Core {
     }
 
     /// Does so for each task that consumes an output of this one.
-    pub(crate) fn refresh_consumers(&self, task: u32, ranks: &[u32], ready: &mut MinTree)
+    pub fn refresh_consumers(&self, task: u32, ranks: &[u32], ready: &mut MinTree)
         requires task { IsTask self.now.setting.system task }
         requires ranks { AreRanks (length self.now.setting.system.tasks) ranks.now }
         requires long { length ready.old ≡ length self.now.setting.system.tasks }

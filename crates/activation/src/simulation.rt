@@ -1,4 +1,4 @@
-ghost use Rattle.std.specs.Prelude.{◌≡◌, true, ◌*◌, ◌≤◌, [], length, vec_capacity};
+ghost use Rattle.std.specs.Prelude.{◌≡◌, ◌*◌, ◌≤◌, [], length, vec_capacity};
 ghost use Rattle.activation.specs.Machine.{start_state, AllDone};
 ghost use Rattle.activation.specs.Runs.{AreLegal, EachOnce, StaysWithinBound, state_after_all};
 ghost use Rattle.activation.specs.Schedule.{HoldsEach, IsSchedule, first_moment, last_time, most_used, most_booked};
@@ -56,7 +56,6 @@ fn run_all(run: Run, events: Vec<Event>) -> Trace
 pub fn simulate(core: Core, priority: &[u32]) -> Trace
     // no event has happened: the core is as `Core::new` made it
     requires start { core.state ≡ start_state core.setting }
-    requires room { core.has_room ≡ true }
     requires priority { HoldsEach core.setting.system priority.now }
     // the events are the schedule of the setting and the priority, and so events of the machine
     ensures schedule { IsSchedule core.setting priority.now (first_moment core.setting) result.events.items }
@@ -74,8 +73,11 @@ pub fn simulate(core: Core, priority: &[u32]) -> Trace
 {
     schedule_law();
     core.keeps();
-    let mut core = core;
-    let (room, events) = core.take_room();
-    let run = Run::new(core, room, priority);
+    let Core {
+        machine,
+        room,
+        events,
+    } = core;
+    let run = Run::new(machine, room, priority);
     run_all(run, events)
 }

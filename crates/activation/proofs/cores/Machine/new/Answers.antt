@@ -8,7 +8,7 @@ use Rattle.mp_system.specs.Traversal.{IsTraversal}
 use Rattle.activation.specs.Machine.{Setting, IsSetting}
 use Rattle.activation.proofs.Orders.{each, stands_once}
 use Rattle.activation.proofs.Beginning.{start_tables}
-use Rattle.activation.proofs.cores.Core.at_start.Goals as goal
+use Rattle.activation.proofs.cores.Machine.new.Goals as goal
 
 set : {system : TaskSystem} {order : List ℕ} {bound workers : ℕ} → IsSystem system → IsTraversal system order → peak_of system order ≤ bound → 1 ≤ workers → IsSetting (record { system = system; order = order; bound = bound; workers = workers })
 set is traversal within some = record { system = is; traversal = traversal; bound = within; workers = some }
@@ -42,4 +42,4 @@ invariant_of-result c =
     })
     c.in_ok-waiting.waiting.items c.in_ok-waiting.ensures.len c.in_ok-waiting.ensures.counts c.start_memory-memory.result c.start_memory-memory.ensures in
     rw (take_at places (drop (length places) c.in_ok-places.places.items) c.in_ok-places.places.len len, c.in_ok-running.ensures, count, phases, c.in_ok-order.ensures.items, c.in_ok-system.ensures)
-    (tables, λ r e. let same : (c.in_ok-room.room, c.in_ok-events.events) ≡ r = cc in rw (← same) (rw count at c.in_ok-room.ensures, search rules, omega (arith, count, c.in_ok-events.ensures)))
+    tables
