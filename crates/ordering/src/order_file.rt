@@ -5,7 +5,7 @@ ghost use Rattle.ordering.specs.OrderFile.{ReadsOrder, IsOrderRefusal};
 ghost use Rattle.ordering.specs.Reader.{number_step};
 
 use limits::{LimitName, MOST_TASKS};
-use mp_text::{Layout, Line, Reader, Refusal, fault, number, read_with, tokens};
+use mp_text::{Kind, Layout, Line, Reader, Refusal, fault, number, read_with, tokens};
 use std::alloc::Global;
 use std::fmt::{self, Display, Formatter, Write};
 use std::marker::Model;
@@ -17,11 +17,10 @@ pub enum OrderFileKind {
     Number = 1,
 }
 
-impl OrderFileKind {
-    /// The word for it in reports.
-    pub fn word(self) -> &'static str
-        ensures { result.now ≡ order_file_word self }
-    {
+impl Kind for OrderFileKind {
+    ghost word_of = { order_file_word };
+
+    fn word(self) -> &'static str {
         match self {
             OrderFileKind::Number => "number",
         }

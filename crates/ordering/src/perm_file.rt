@@ -7,7 +7,7 @@ ghost use Rattle.ordering.specs.PermFile.{perm_token_tests, ReadsPerm, IsPermRef
 ghost use Rattle.ordering.specs.Reader.{vertex_step};
 
 use crate::perm::{NoMemory, Perm};
-use mp_text::{Layout, Line, Reader, Refusal, fault, number, read_with, tokens};
+use mp_text::{Kind, Layout, Line, Reader, Refusal, fault, number, read_with, tokens};
 use std::alloc::Global;
 use std::fmt::{self, Display, Formatter, Write};
 use std::marker::Model;
@@ -25,11 +25,10 @@ pub enum PermKind {
     Count,
 }
 
-impl PermKind {
-    /// The word for it in reports.
-    pub fn word(self) -> &'static str
-        ensures { result.now ≡ perm_word self }
-    {
+impl Kind for PermKind {
+    ghost word_of = { perm_word };
+
+    fn word(self) -> &'static str {
         match self {
             PermKind::Number => "number",
             PermKind::Range => "range",

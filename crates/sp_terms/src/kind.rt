@@ -1,6 +1,6 @@
-ghost use Rattle.std.specs.Prelude.{◌≡◌};
 ghost use Rattle.sp_terms.specs.Kinds.{word_of};
 
+use mp_text::Kind;
 use std::fmt::{self, Display, Formatter, Write};
 
 /// What is wrong with a workflow file.
@@ -24,11 +24,10 @@ pub enum WorkflowKind {
     Share,
 }
 
-impl WorkflowKind {
-    /// The word for it in reports.
-    pub fn word(self) -> &'static str
-        ensures { result.now ≡ word_of self }
-    {
+impl Kind for WorkflowKind {
+    ghost word_of = { word_of };
+
+    fn word(self) -> &'static str {
         match self {
             WorkflowKind::Header => "header",
             WorkflowKind::Word => "word",
