@@ -1,9 +1,9 @@
 -- What a builder keeps, one position further.
-use Rattle.std.proofs.Common.{◌≡◌, ℕ, zero, suc, ◌+◌, ◌-◌, ◌≤◌, ◌^◌, Bool, true, false, refl, sym, subst, ap, arith, ◌∙◌, List, [], ◌∷◌, ◌++◌, length, length-append, take, drop, get_or, Option, Some, None, append_assoc, length-take, slice_set}
-use Rattle.std.specs.Prelude.{◌||◌, nat_lt, nat_le, if◌then◌else◌, option_and_then}
+use Rattle.std.proofs.Common.{◌≡◌, ℕ, zero, suc, ◌+◌, ◌-◌, ◌≤◌, false, refl, sym, subst, ap, arith, ◌∙◌, List, [], ◌∷◌, ◌++◌, length, length-append, take, drop, get_or, Some, None, append_assoc, length-take, slice_set}
+use Rattle.std.specs.Prelude.{◌||◌, nat_lt, if◌then◌else◌, option_and_then}
 use Rattle.std.specs.List.{sum_by}
 use Rattle.std.proofs.lemmas.List.{append-nil, take-take, take_rest, get_or_read}
-use Rattle.std.proofs.lemmas.Bool.{ltb-false, leb-false, or_parts}
+use Rattle.std.proofs.lemmas.Bool.{ltb-false, or_parts}
 use Rattle.std.proofs.lemmas.List.Elements.{All-push}
 use Rattle.std.proofs.Math.Seq.{take-append_seam, get_or-append_seam, drop-append_seam}
 use Rattle.std.proofs.lemmas.List.Sums.{sum_by-append, sum_by-cons, sum_by-take-drop}
@@ -11,14 +11,12 @@ use Rattle.sp_terms.specs.declared.position.Position.{Position}
 use Rattle.sp_terms.specs.declared.position.Position.TheVariants.{Hold, Par}
 use Rattle.sp_terms.specs.declared.position.Position.TheVariants as at
 use Rattle.sp_terms.specs.declared.builder.Ends.{Ends}
-use Rattle.limits.specs.Limits.{most_tasks, most_positions, most_size, most_time, most_total}
-use Rattle.limits.specs.declared.name.LimitName.{LimitName}
-use Rattle.limits.specs.declared.name.LimitName.TheVariants.{Positions, Tasks, Size, Time, Total}
-use Rattle.sp_terms.specs.declared.builder.PushRefusal.TheVariants.{Short, Limit, Share}
+use Rattle.limits.specs.Limits.{most_tasks, most_positions, most_total}
+use Rattle.sp_terms.specs.declared.builder.PushRefusal.TheVariants.{Short}
 use Rattle.sp_terms.specs.Term.{Term, hold, series, par, Parts, no_parts, part, count, forward, backward, first_memory, first_memory_of_parts, AreAllowed}
 use Rattle.sp_terms.specs.Postfix.{gather, push, push_all, postfix}
 use Rattle.sp_terms.specs.Values.{stack_from, stack_of, last_term, Leaves, IsTerms, AllAllowed, IsWithinLimits, added_tasks, added_size}
-use Rattle.sp_terms.specs.Builder.{IsPosition, is_short, total_limit, own_limit, passed_limit, limit_of, is_overshared, share_refusal, limit_or, refusal_of}
+use Rattle.sp_terms.specs.Builder.{IsPosition, is_short, passed_limit, limit_of, is_overshared, share_refusal, limit_or, refusal_of}
 use Rattle.sp_terms.specs.Ends.{ends_of, all_ends, IsBuilder, initial_at, fin_at, no_ends, beside, par_ends, series_ends, next_ends, over_ends}
 use Rattle.sp_terms.proofs.Stacks.{onto, Pushed, held, ran, beside as abreast, pushed, push_then, stack_postfix, all_pushed}
 use Rattle.sp_terms.proofs.Standing.{stack_few}
@@ -147,44 +145,14 @@ over_same (Par k) stack e = refl
 
 -- limits
 
-some_none : {A : Type 0} {x : A} → Some x ≡ None → ⊥
-some_none e = cc
-
-if_none : {A : Type 0} (b : Bool) (x : A) (y : Option A) → (if b then Some x else y) ≡ None → (b ≡ false) × (y ≡ None)
-if_none true x y e = absurd (some_none e)
-if_none false x y e = (refl, e)
-
 pub record Fits (ps tasks total : ℕ) (p : Position) : Type 0 where
   pub within : IsWithinLimits p
-  pub light : added_size p ≤ most_size
   pub few : ps + 1 ≤ most_positions
   pub few_tasks : tasks + added_tasks p ≤ most_tasks
   pub total_is : total + added_size p ≤ most_total
 
-total_fits : (total size : ℕ) → total_limit total size ≡ None → total + size ≤ most_total
-total_fits total size e = ltb-false most_total (total + size) (if_none (nat_lt most_total (total + size)) Total None e).0
-
-count_fits : (n tasks total : ℕ) (p : Position) → passed_limit n tasks total p ≡ None → (n + 1 ≤ most_positions) × (own_limit tasks total p ≡ None)
-count_fits n tasks total p e =
-    let x = if_none (nat_le most_positions n) Positions (own_limit tasks total p) e in (omega (arith, leb-false most_positions n x.0), x.1)
-
 pub fits : (n tasks total : ℕ) (p : Position) → IsPosition p → tasks ≤ most_tasks → total ≤ most_total → passed_limit n tasks total p ≡ None → Fits n tasks total p
-fits n tasks total (Hold size) a l m e =
-    let x = count_fits n tasks total (Hold size) e in
-    let y = if_none (nat_lt most_size size) Size (total_limit total size) x.1 in
-    let le : size ≤ most_size = ltb-false most_size size y.0 in
-    record { within = le; light = le; few = x.0; few_tasks = omega arith; total_is = total_fits total size y.1 }
-fits n tasks total (at.Task x s t) a l m e =
-    let x1 = count_fits n tasks total (at.Task x s t) e in
-    let x2 = if_none (nat_le most_tasks tasks) Tasks (if nat_lt most_size x then Some Size else (if nat_lt most_time t then Some Time else total_limit total x)) x1.1 in
-    let x3 = if_none (nat_lt most_size x) Size (if nat_lt most_time t then Some Time else total_limit total x) x2.1 in
-    let x4 = if_none (nat_lt most_time t) Time (total_limit total x) x3.1 in
-    let le : x ≤ most_size = ltb-false most_size x x3.0 in
-    let le_time : t ≤ most_time = ltb-false most_time t x4.0 in
-    record { within = (le, a, le_time); light = le; few = x1.0; few_tasks = omega (arith, leb-false most_tasks tasks x2.0); total_is = total_fits total x x4.1 }
-fits n tasks total (Par k) a l m e =
-    let x = count_fits n tasks total (Par k) e in
-    record { within = a; light = omega arith; few = x.0; few_tasks = omega arith; total_is = omega arith }
+fits n tasks total p a l m e = grind arith
 
 -- the sums of the ends
 
@@ -224,14 +192,7 @@ module _ (ps : List Position) (ends : List Ends) (tasks total : ℕ) (p : Positi
 
   -- the refusal, told from what the builder keeps
   pub refusal_is : refusal_of ps p ≡ (if is_short (length ends) p then Some Short else limit_or (passed_limit (length ps) tasks total p) (share_refusal (over_ends ends p)))
-  refusal_is = go (is_short (length ends) p) refl
-    where
-      go : (b : Bool) → is_short (length ends) p ≡ b → refusal_of ps p ≡ (if is_short (length ends) p then Some Short else limit_or (passed_limit (length ps) tasks total p) (share_refusal (over_ends ends p)))
-      go true e = rw (sym same_short ∙ e, e) refl
-      go false e = rw (sym same_short ∙ e, e, same_limit, same_over e) refl
-
-  pub fits_now : IsPosition p → passed_limit (length ps) tasks total p ≡ None → Fits (length ps) tasks total p
-  fits_now a l = fits (length ps) tasks total p a (omega (arith, h.tasks_are, h.leave.few_tasks)) (omega (arith, h.total_is, h.leave.total)) l
+  refusal_is = let short = same_short in let limit = same_limit in let over = same_over in grind arith
 
   pub builder_more : IsPosition p → is_short (length ends) p ≡ false → passed_limit (length ps) tasks total p ≡ None → over_ends ends p ≡ false
       → IsBuilder (ps ++ p ∷ []) (next_ends p ends) (tasks + added_tasks p) (total + added_size p)
@@ -240,7 +201,7 @@ module _ (ps : List Position) (ends : List Ends) (tasks total : ℕ) (p : Positi
       let step = pushed p (stack_of ps) out k in
       let all : push_all (ps ++ p ∷ []) [] ≡ Some out = push_then ps (p ∷ []) [] (stack_of ps) h.leave.is ∙ ap (option_and_then (push_all [])) k in
       let is_out : out ≡ stack_of (ps ++ p ∷ []) = sym (ap stack_from all) in
-      let f = fits_now a l in
+      let f = fits (length ps) tasks total p a (omega (arith, h.tasks_are, h.leave.few_tasks)) (omega (arith, h.total_is, h.leave.total)) l in
       let n = length-append ps (p ∷ []) in
       let r = sum_by-append added_tasks ps (p ∷ []) in
       let w = sum_by-append added_size ps (p ∷ []) in

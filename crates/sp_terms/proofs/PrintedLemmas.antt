@@ -1,11 +1,11 @@
 -- A printed workflow is read as it was.
-use Rattle.std.proofs.Common.{◌≡◌, ℕ, suc, ◌+◌, ◌^◌, ◌<◌, ◌≤◌, Bool, true, false, cond, List, [], ◌∷◌, ◌++◌, length, map, refl, sym, ap, subst, ◌∙◌, arith, Some, None, append_assoc, append-nil}
+use Rattle.std.proofs.Common.{◌≡◌, ℕ, ◌+◌, ◌^◌, ◌<◌, ◌≤◌, Bool, true, false, cond, List, [], ◌∷◌, ◌++◌, length, map, refl, sym, ap, subst, ◌∙◌, arith, Some, None, append_assoc, append-nil}
 use Rattle.std.specs.Bool.{IsTrue}
 use Rattle.std.specs.Option.{is_some}
 use Rattle.std.specs.Fmt.{decimal}
 use Rattle.std.specs.List.{All, sum_by, list_all, list_any}
 use Rattle.std.proofs.Math.Bool.{or-true}
-use Rattle.std.proofs.lemmas.Bool.{and_from, le-leb, le-ltb, lt-leb, ne_eqb, eq-eqb, eqb-true, not-false, or_parts}
+use Rattle.std.proofs.lemmas.Bool.{and_from, le-leb, eq-eqb, eqb-true, not-false, or_parts}
 use Rattle.std.proofs.lemmas.List.{map_push}
 use Rattle.std.proofs.lemmas.List.Elements.{All-nil, All-cons, All-head, All-tail}
 use Rattle.std.proofs.lemmas.List.Folds.{list_any-append}
@@ -26,7 +26,7 @@ use Rattle.sp_terms.specs.Term.{Term, count}
 use Rattle.sp_terms.specs.Builder.{is_short, limit_of, is_overshared}
 use Rattle.sp_terms.specs.Postfix.{push_all}
 use Rattle.sp_terms.specs.Values.{stack_from, stack_of, added_size, added_tasks, IsTerms, IsWithinLimits, AllAllowed}
-use Rattle.sp_terms.specs.WorkflowFile.{workflow_format, workflow_line_tests, header_tests, version_stated, count_tests, count_stated, word_spelled, position_from, position_stated, stated_or, position_of, is_position, is_too_many, position_tests, is_end, is_complete, positions_stated, ReadsWorkflow}
+use Rattle.sp_terms.specs.WorkflowFile.{workflow_format, workflow_line_tests, header_tests, version_stated, count_tests, count_stated, word_spelled, position_from, position_stated, stated_or, position_of, is_position, is_too_many, is_end, is_complete, positions_stated, ReadsWorkflow}
 use Rattle.sp_terms.specs.WorkflowText.{position_word, position_numbers, position_line, header_line, count_line, end_line, lines_in, text_in, is_sharing, version_for, text_of, text2_of}
 use Rattle.sp_terms.proofs.ReadLemmas.{stated_parts}
 use Rattle.sp_terms.proofs.Stacks.{onto, Pushed, held, ran, beside}
@@ -101,22 +101,12 @@ module _ (ps first : List Position) (p : Position) (terms : IsTerms ps) (stands 
     where
       go : (p : Position) (stack after : List Term) → Pushed p stack after → push_all first [] ≡ Some stack → AllAllowed after → IsWithinLimits p → sum_by added_size first + added_size p ≤ most_total
           → sum_by added_tasks first + added_tasks p ≤ sum_by added_tasks ps → IsFit (sum_by added_tasks ps) first p
-      go p stack after (held size st) before allowed within total tasks =
-          record { asked = refl; high = refl; few = refl; limit = rw (lt-leb _ _ stands.few, le-ltb _ _ within, le-ltb _ _ total) refl; share = refl }
-      go p stack after (ran v a b st) before allowed within total tasks = record {
-        asked = rw (ne_eqb v.time 0 (λ z. omega (arith, within.1, z))) refl;
-        high = le-ltb _ _ (omega (arith, ap length (ap stack_from before)));
-        few = lt-leb _ _ (omega (arith, tasks));
-        limit = rw (lt-leb _ _ stands.few, lt-leb most_tasks (sum_by added_tasks first) (omega (arith, tasks, terms.few_tasks)), le-ltb _ _ within.0, le-ltb _ _ within.2, le-ltb _ _ total) refl;
-        share = not_over first v a b st before allowed.0;
-      }
-      go p stack after (beside ts st e) before allowed within total tasks = record {
-        asked = le-leb 2 (count ts) within;
-        high = le-ltb _ _ (omega (arith, ap length (ap stack_from before), onto-length ts st));
-        few = refl;
-        limit = rw (lt-leb _ _ stands.few) refl;
-        share = refl;
-      }
+      go p stack after (held size st) before allowed within total tasks = let few = stands.few in grind arith
+      go p stack after (ran v a b st) before allowed within total tasks =
+          let few = stands.few in let few_tasks = terms.few_tasks in
+          let two = ap length (ap stack_from before) in let share = not_over first v a b st before allowed.0 in grind arith
+      go p stack after (beside ts st e) before allowed within total tasks =
+          let few = stands.few in let all = ap length (ap stack_from before) in let parts = onto-length ts st in grind arith
 
   small_numbers : (version : Version) → AreSmall (position_numbers version p)
   small_numbers version = go version p stands.stack stands.after stands.step stands.before stands.allowed stands.within stands.total

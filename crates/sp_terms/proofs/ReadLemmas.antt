@@ -1,5 +1,5 @@
 -- What a workflow file reads as is one term within the limits; it is read or refused, and never both.
-use Rattle.std.proofs.Common.{◌≡◌, ℕ, ◌+◌, ◌-◌, Bool, true, false, not, ◌||◌, List, [], ◌∷◌, ◌++◌, length, length-append, take, map, refl, sym, ap, subst, ◌∙◌, arith, Option, Some, None, append_assoc, append-nil, inl, inr}
+use Rattle.std.proofs.Common.{◌≡◌, ℕ, ◌-◌, Bool, true, false, ◌||◌, List, [], ◌∷◌, ◌++◌, length, length-append, take, map, refl, sym, ap, subst, ◌∙◌, arith, None, append_assoc, append-nil, inl, inr}
 use Rattle.std.specs.Prelude.{◌⊎◌}
 use Rattle.std.specs.List.{sum_by, list_any}
 use Rattle.std.proofs.lemmas.List.{map_push}
@@ -7,36 +7,32 @@ use Rattle.std.proofs.lemmas.List.Elements.{All-nil}
 use Rattle.std.proofs.Math.Seq.{take-append_seam}
 use Rattle.std.proofs.lemmas.List.Folds.{list_any-append}
 use Rattle.std.proofs.Math.Bool.{or-false}
-use Rattle.std.proofs.lemmas.Bool.{leb-true, eqb-true, eqb-false, not-true, or_parts, and_parts}
-use Rattle.limits.specs.declared.name.LimitName.{LimitName}
+use Rattle.std.proofs.lemmas.Bool.{or_parts}
 use Rattle.mp_text.specs.declared.layout.Layout.TheVariants.{Commented}
 use Rattle.mp_text.specs.declared.refusals.Refusal.{Refusal}
 use Rattle.mp_text.specs.declared.words.Version.{Version}
 use Rattle.mp_text.specs.Text.{Row}
 use Rattle.mp_text.specs.Ahead.{rows_of_bytes, past_of_bytes}
-use Rattle.mp_text.specs.Grammar.{Format, ArePassed, IsWellFormed, Refuses, test, first_failure}
+use Rattle.mp_text.specs.Grammar.{Format, ArePassed, IsWellFormed, Refuses, first_failure}
 use Rattle.sp_terms.specs.declared.kind.WorkflowKind.{WorkflowKind}
 use Rattle.sp_terms.specs.declared.position.Position.{Position}
-use Rattle.sp_terms.specs.declared.position.Position.TheVariants.{Hold, Par}
-use Rattle.sp_terms.specs.declared.position.Position.TheVariants as at
 use Rattle.sp_terms.specs.Values.{stack_of, added_tasks, added_size, Leaves, IsTerms, IsWithinLimits}
 use Rattle.sp_terms.specs.Builder.{IsPosition, is_short, limit_of, is_overshared}
 use Rattle.sp_terms.specs.Ends.{IsBuilder, all_ends}
-use Rattle.sp_terms.specs.WorkflowFile.{workflow_format, version_stated, position_of, is_position, form_tests, limit_tests, room_tests, position_tests, is_end, is_complete, positions_stated, ReadsWorkflow, RefusesWorkflow}
-use Rattle.sp_terms.specs.ReaderLaws.{passes}
+use Rattle.sp_terms.specs.WorkflowFile.{workflow_format, version_stated, position_of, position_tests, is_end, is_complete, positions_stated, ReadsWorkflow, RefusesWorkflow}
 use Rattle.sp_terms.proofs.BuilderLemmas.{height, over_same, builder_more, one_term}
 
 -- ---- one line
 
-is_asked : (p : Position) → is_position p ≡ true → IsPosition p
-is_asked (Hold size) e = tt
-is_asked (at.Task extra share time) e = let some = eqb-false time 0 (not-true _ e) in omega (arith, some)
-is_asked (Par parts) e = leb-true 2 parts e
+-- what the tests of a line say of its position
+record IsTakeable (ps : List Position) (p : Position) : Type 0 where
+  asked : IsPosition p
+  enough : is_short (length (stack_of ps)) p ≡ false
+  limit : limit_of ps p ≡ None
+  share : is_overshared p (stack_of ps) ≡ false
 
-room_passed : (limit : Option LimitName) (over : Bool) (refusal : Refusal WorkflowKind) → first_failure (limit_tests limit ++ test (not over) refusal ∷ []) ≡ None → (limit ≡ None) × (over ≡ false)
-room_passed None true refusal e = absurd cc
-room_passed None false refusal e = (refl, refl)
-room_passed (Some name) over refusal e = absurd cc
+position_passed : (version : Version) (count : ℕ) (ps : List Position) (row : Row) → first_failure (position_tests version count ps row) ≡ None → IsTakeable ps (position_of version row)
+position_passed version count ps row none = grind arith
 
 builder : (ps : List Position) → Leaves ps (stack_of ps) → IsBuilder ps (all_ends (stack_of ps)) (sum_by added_tasks ps) (sum_by added_size ps)
 builder ps leaves = record { leave = leaves; ends_are = refl; tasks_are = refl; total_is = refl }
@@ -45,14 +41,9 @@ line_taken : (version : Version) (count : ℕ) (ps : List Position) (row : Row) 
     → Leaves (ps ++ position_of version row ∷ []) (stack_of (ps ++ position_of version row ∷ []))
 line_taken version count ps row leaves none =
     let p = position_of version row in
-    let word = passes _ _ _ none in
-    let number = passes _ _ _ word.1 in
-    let high = passes _ _ _ number.1 in
-    let few = passes _ _ _ high.1 in
-    let room = room_passed (limit_of ps p) (is_overshared p (stack_of ps)) _ few.1 in
-    let enough : is_short (length (stack_of ps)) p ≡ false = not-true _ high.0 in
-    let short : is_short (length (all_ends (stack_of ps))) p ≡ false = ap (λ (n : ℕ). is_short n p) (height _ _ _ _ (builder ps leaves)) ∙ enough in
-    (builder_more _ _ _ _ p (builder ps leaves) (is_asked p (and_parts _ _ number.0).1) short room.0 (over_same p (stack_of ps) enough ∙ room.1)).leave
+    let can = position_passed version count ps row none in
+    let short : is_short (length (all_ends (stack_of ps))) p ≡ false = ap (λ (n : ℕ). is_short n p) (height _ _ _ _ (builder ps leaves)) ∙ can.enough in
+    (builder_more _ _ _ _ p (builder ps leaves) can.asked short can.limit (over_same p (stack_of ps) can.enough ∙ can.share)).leave
 
 -- ---- the lines after the second
 
@@ -81,10 +72,9 @@ module _ (header counted last : Row) (rows : List Row) (passed : ArePassed workf
   unfolding stated
   is_terms ended =
       let none = passed (header ∷ counted ∷ rows) [] last refl in
-      let number = passes _ _ _ (rw (unended, ended) at none) in
-      let one = passes _ _ _ number.1 in
+      let one : length (stack_of (map (position_of (version_stated header)) rows)) ≡ 1 = grind arith in
       let leaves = all_taken [] rows refl none_left in
-      one_term _ _ _ _ (builder (stated rows) leaves) (height _ _ _ _ (builder (stated rows) leaves) ∙ eqb-true _ _ one.0)
+      one_term _ _ _ _ (builder (stated rows) leaves) (height _ _ _ _ (builder (stated rows) leaves) ∙ one)
 
 -- ---- the whole file
 
@@ -128,7 +118,8 @@ stated_parts header counted last rows =
 
 pub reads-terms : (bytes : List ℕ) (ps : List Position) → ReadsWorkflow bytes ps → IsTerms ps
 reads-terms bytes ps reads =
-    let parts = parts_of (rows_of_bytes Commented bytes) reads.form.lines (passes _ _ _ reads.form.end).0 in
+    let end = reads.form.end in
+    let parts = parts_of (rows_of_bytes Commented bytes) reads.form.lines (grind arith) in
     let is = reads.stated ∙ ap positions_stated parts.all_are ∙ stated_parts parts.header parts.counted parts.last parts.rows in
     subst IsTerms (sym is) (is_terms parts.header parts.counted parts.last parts.rows (subst (ArePassed workflow_format) parts.all_are reads.form.lines) parts.unended parts.ended)
 

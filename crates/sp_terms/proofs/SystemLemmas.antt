@@ -1,5 +1,5 @@
 -- The system of a term is a system within the limits.
-use Rattle.std.proofs.Common.{◌≡◌, ℕ, suc, ◌+◌, ◌-◌, ◌<◌, ◌≤◌, Bool, true, false, inl, inr, refl, sym, subst, ap, arith, ◌∙◌, ◌^◌, List, [], ◌∷◌, ◌++◌, length, length-append, take, get_or, Option, Some, None}
+use Rattle.std.proofs.Common.{◌≡◌, ℕ, suc, ◌+◌, ◌-◌, ◌<◌, ◌≤◌, Bool, true, false, inl, inr, refl, sym, subst, ap, arith, ◌∙◌, List, [], ◌∷◌, ◌++◌, length, length-append, take, get_or, Option, Some, None}
 use Rattle.std.specs.Prelude.{if◌then◌else◌, ◌⊎◌}
 use Rattle.std.specs.Option.{ForSome}
 use Rattle.std.specs.List.{All}

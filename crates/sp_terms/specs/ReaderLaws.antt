@@ -1,57 +1,36 @@
 -- No public clause names this.
 -- What the reader of workflow files does is what the tests of the format say: the two laws of its `impl Reader`. An `impl` takes the
 -- proofs of its laws from specs/, so they stand here and not in proofs/.
-use Rattle.std.specs.Prelude.{◌≡◌, ℕ, Bool, true, false, ◌&&◌, ◌||◌, not, if◌then◌else◌, Option, Some, None, List, ◌∷◌, ◌++◌, [], length, map, refl}
-use Rattle.std.specs.List.{sum_by, list_any}
+use Rattle.std.specs.Prelude.{◌≡◌, ℕ, Bool, true, false, Option, Some, None, List, ◌∷◌, ◌++◌, [], length, refl}
+use Rattle.std.specs.List.{sum_by}
 use Rattle.std.specs.Option.{option_map}
-use Rattle.std.proofs.Common.{sym, ap, subst, ◌∙◌}
+use Rattle.std.proofs.Common.{sym, subst, ◌∙◌, arith}
 use Rattle.std.proofs.lemmas.List.{map_push}
 use Rattle.std.proofs.lemmas.List.Folds.{list_any-append}
-use Rattle.std.proofs.lemmas.Bool.{eqb-true, not-true, and_parts}
-use Rattle.limits.specs.declared.name.LimitName.{LimitName}
-use Rattle.mp_text.specs.declared.refusals.Refusal.{Refusal}
 use Rattle.mp_text.specs.declared.words.Version.{Version}
 use Rattle.mp_text.specs.Text.{Row}
-use Rattle.mp_text.specs.Grammar.{test, ArePassed, first_failure, fault, fault_at}
+use Rattle.mp_text.specs.Grammar.{ArePassed, first_failure}
 use Rattle.mp_text.specs.Reading.{Follows, tested, ◌>>=◌}
 use Rattle.mp_text.specs.ReadingLaws.{tested-follows, Follows->>=}
 use Rattle.sp_terms.specs.declared.builder.PushRefusal.{PushRefusal}
-use Rattle.sp_terms.specs.declared.builder.PushRefusal.TheVariants as pushes
-use Rattle.sp_terms.specs.declared.kind.WorkflowKind.{WorkflowKind}
-use Rattle.sp_terms.specs.declared.kind.WorkflowKind.TheVariants as kinds
 use Rattle.sp_terms.specs.declared.stage.Stage.{Stage}
 use Rattle.sp_terms.specs.declared.stage.Stage.TheVariants as stages
 use Rattle.sp_terms.specs.declared.position.Position.{Position}
 use Rattle.sp_terms.specs.Values.{stack_of, added_tasks}
-use Rattle.sp_terms.specs.Builder.{refusal_of, is_short, limit_of, limit_or, share_refusal, is_overshared}
-use Rattle.sp_terms.specs.WorkflowFile.{workflow_format, workflow_line_tests, workflow_end_tests, header_tests, version_stated, count_tests, count_stated, position_of, is_position, form_tests, limit_tests, room_tests, position_tests, last_tests, body_tests, is_end, is_complete}
+use Rattle.sp_terms.specs.Builder.{refusal_of, is_short}
+use Rattle.sp_terms.specs.WorkflowFile.{workflow_format, workflow_line_tests, workflow_end_tests, header_tests, version_stated, count_tests, position_of, form_tests, room_tests, position_tests, last_tests, body_tests, is_end, is_complete}
 use Rattle.sp_terms.specs.Reader.{ReaderState, refusal_at, pushed_or, pushed, body_step, staged_step, workflow_step, staged_end, workflow_end, TookPositions, staged_took, took}
 
--- ---- tests that hold
+-- ---- the tests of a position
 
-pub passes : {K : Type 0} (holds : Bool) (rest : Option (Refusal K)) (refusal : Refusal K) → (if holds then rest else Some refusal) ≡ None → (holds ≡ true) × (rest ≡ None)
-passes true rest refusal none = (refl, none)
-passes false rest refusal none = absurd cc
-
--- a line that passes states a position, which finds terms enough
-pub line_passed : (version : Version) (count height tasks : ℕ) (row : Row) → first_failure (form_tests version count height tasks row) ≡ None
-    → (is_position (position_of version row) ≡ true) × (is_short height (position_of version row) ≡ false)
-line_passed version count height tasks row none =
-    let word = passes _ _ _ none in
-    let number = passes _ _ _ word.1 in
-    let high = passes _ _ _ number.1 in
-    ((and_parts _ _ number.0).1, not-true _ high.0)
+-- a line that passes finds terms enough
+line_high : (version : Version) (count height tasks : ℕ) (row : Row) → first_failure (form_tests version count height tasks row) ≡ None → is_short height (position_of version row) ≡ false
+line_high version count height tasks row none = grind arith
 
 -- the limits and the share of a position are those by which a builder refuses it
 room_same : (before : List Position) (p : Position) (line : ℕ) → is_short (length (stack_of before)) p ≡ false
     → first_failure (room_tests before p line) ≡ option_map (refusal_at line) (refusal_of before p)
-room_same before p line high = rw high (go (limit_of before p) (is_overshared p (stack_of before)))
-  where
-    go : (limit : Option LimitName) (over : Bool)
-        → first_failure (limit_tests limit ++ test (not over) (fault_at line kinds.Share) ∷ []) ≡ option_map (refusal_at line) (limit_or limit (share_refusal over))
-    go None true = refl
-    go None false = refl
-    go (Some name) over = refl
+room_same before p line high = grind arith
 
 -- ---- lines
 
@@ -118,14 +97,13 @@ module _ (s : ReaderState) (header counted row : Row) (rows : List Row) (stage :
       Follows->>= line (room_tests s.positions p row.number) Passed (IsNext all) (tested line p) (pushed s row.number)
       (tested-follows line p Passed (λ none. (refl, none)))
       (λ q here. subst (λ (o : Position). Follows (room_tests s.positions p row.number) (IsNext all) (pushed s row.number o)) (sym here.0)
-      (pushed_follows more (line_passed s.version s.count (length (stack_of s.positions)) (sum_by added_tasks s.positions) row here.1).1))
+      (pushed_follows more (line_high s.version s.count (length (stack_of s.positions)) (sum_by added_tasks s.positions) row here.1)))
 
   at_last : is_end row ≡ true → let last = last_tests s.count (length (stack_of s.positions)) (sum_by added_tasks s.positions) row in
       Follows last (IsNext all) (tested last (record s { stage = stages.Ended }))
   unfolding IsNext all
   at_last ended = tested-follows (last_tests s.count (length (stack_of s.positions)) (sum_by added_tasks s.positions) row) _ _ (λ none.
-      let number = passes _ _ _ none in
-      let one = passes _ _ _ number.1 in (
+      let one : length (stack_of s.positions) ≡ 1 = grind arith in (
         record {
           header = header;
           counted = counted;
@@ -134,7 +112,7 @@ module _ (s : ReaderState) (header counted row : Row) (rows : List Row) (stage :
           rows_are = refl;
           taken = record { version = taken.version; count = taken.count; positions = taken.positions; unended = taken.unended };
           ended = ended;
-          one = eqb-true _ _ one.0;
+          one = one;
         },
         refl,
       ))

@@ -57,11 +57,7 @@ fn count_tasks(positions: &[Position]) -> u64
     requires { sum_by added_tasks positions.now ≤ most_tasks }
     ensures { result ≡ sum_by added_tasks positions.now }
 {
-    let mut tasks: u64 = 0;
-    for position in positions {
-        tasks += count(*position);
-    }
-    tasks
+    positions.iter().map(|position| count(*position)).sum()
 }
 
 // Appends the lines of a version, or some bytes.

@@ -1,4 +1,4 @@
-use Rattle.sp_terms.proofs.PrintedLemmas.{AreLaws, text_of-reads, text2_of-reads}
+use Rattle.sp_terms.proofs.PrintedLemmas.{text_of-reads, text2_of-reads}
 use Rattle.sp_terms.proofs.laws.printed_workflow.Goals as goal
 
 pub returns-clause-text : goal.returns-clause-text
