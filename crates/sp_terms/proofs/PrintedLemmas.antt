@@ -184,8 +184,8 @@ module _ (laws : AreLaws) (version : Version) (ps : List Position) (terms : IsTe
   printable first p rest e = record {
     numbers = small_numbers ps first p terms (standing ps first p rest terms e) version;
     unshared = λ one.
-      let none = sym (list_any-append is_sharing first (p ∷ rest)) ∙ ap (list_any is_sharing) (sym e) ∙ unshared one in
-      (or_parts _ _ (or_parts _ _ none).1).0;
+        let none = sym (list_any-append is_sharing first (p ∷ rest)) ∙ ap (list_any is_sharing) (sym e) ∙ unshared one in
+        (or_parts _ _ (or_parts _ _ none).1).0;
   }
 
   -- the rows of the positions that are left and of the end, after those of the others
