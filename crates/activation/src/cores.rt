@@ -182,7 +182,7 @@ pub struct Machine {
     frees: Vec<u64>,
     places: Vec<u32>,
     outputs: RowTable,
-    waiting: Vec<u32>,
+    waiting: Vec<u64>,
     phases: Vec<Phase>,
     activated: usize,
     running: RunningTasks,
