@@ -1,16 +1,19 @@
 -- What well-formed lines of a plan file say of what they state.
-use Rattle.std.proofs.Common.{◌≡◌, ℕ, suc, ◌-◌, ◌^◌, ◌<◌, ◌≤◌, ◌⊎◌, inl, inr, Bool, true, false, cond, ◌&&◌, ◌||◌, eqb, leb, ltb, List, [], ◌∷◌, ◌++◌, length, get_or, refl, sym, ap, subst, ◌∙◌, arith, pos, unsigned_abs, is_some, Option, Some, None, append_assoc, append-nil}
+use Rattle.std.proofs.Common.{◌≡◌, ℕ, suc, ◌-◌, ◌<◌, ◌≤◌, ◌⊎◌, inl, inr, Bool, true, false, cond, ◌&&◌, eqb, leb, ltb, List, [], ◌∷◌, ◌++◌, length, get_or, refl, sym, ap, subst, ◌∙◌, arith, pos, unsigned_abs, is_some, Option, Some, None, append_assoc, append-nil}
 use Rattle.std.specs.List.{All}
 use Rattle.std.proofs.lemmas.List.{length_push}
 use Rattle.std.proofs.lemmas.List.Elements.{All-nil, All-push}
-use Rattle.std.proofs.lemmas.Bool.{leb-true, ltb-true, ltb-false, eqb-true}
+use Rattle.std.proofs.lemmas.Bool.{and_parts, or_cases, leb-true, ltb-true, ltb-false, eqb-true}
+use Rattle.limits.specs.Limits.{most_tasks, most_positions, most_total}
 use Rattle.mp_text.specs.declared.layout.Layout.TheVariants.{Commented}
 use Rattle.mp_text.specs.declared.refusals.Refusal.{Refusal}
 use Rattle.mp_text.specs.Text.{Row, signed_of}
+use Rattle.mp_text.specs.declared.words.Version.{Version}
+use Rattle.mp_text.specs.declared.words.Version.TheVariants.{One, Two}
 use Rattle.mp_text.specs.Ahead.{rows_of_bytes}
-use Rattle.mp_text.specs.Grammar.{first_failure, ArePassed}
-use Rattle.plan_text.specs.Plan.{PlanText, IsPlan, IsClaimWithin, RiseFrom, IsTask, RanksAll, IsPriority, times}
-use Rattle.plan_text.specs.PlanFile.{Stated, stated, plan_format, staged_tests, is_ended, is_number_up_to, is_bound, bound_of, value_of, token_at, task_on, stated_on, claim_on, last_position, claim_tests, order_tests, peak_tests, priority_tests, priority_section_tests, tests_after_order, last_tests, ReadsPlan}
+use Rattle.mp_text.specs.Grammar.{first_failure, ArePassed, token_at}
+use Rattle.plan_text.specs.Plan.{PlanText, most_number, IsPlan, IsClaimWithin, RiseFrom, IsTask, RanksAll, IsPriority, times}
+use Rattle.plan_text.specs.PlanFile.{Stated, stated, plan_format, staged_tests, is_ended, is_number_up_to, is_bound, bound_of, value_of, task_on, ranks_on, claim_on, last_position, claim_tests, order_tests, peak_tests, priority_tests, priority_section_tests, tests_after_order, last_tests, ReadsPlan}
 use Rattle.plan_text.specs.Reader.{staged_next, with_task, with_rank, with_claim, peak_next, ranks_next, after_order_next}
 use Rattle.plan_text.specs.ReaderLaws.{stated_push}
 use Rattle.plan_text.specs.declared.claim.Claim.{Claim}
@@ -25,22 +28,14 @@ passes : {K : Type 0} (holds : Bool) (rest : Option (Refusal K)) (refusal : Refu
 passes true rest refusal none = (refl, none)
 passes false rest refusal none = absurd cc
 
-both : (a b : Bool) → (a && b) ≡ true → (a ≡ true) × (b ≡ true)
-both true b e = (refl, e)
-both false b e = absurd cc
-
-either : (a b : Bool) → (a || b) ≡ true → (a ≡ true) ⊎ (b ≡ true)
-either true b e = inl refl
-either false b e = inr e
-
 up_to : (most : ℕ) (token : List ℕ) → is_number_up_to most token ≡ true → value_of token ≤ most
-up_to most token e = leb-true _ _ (both _ _ e).1
+up_to most token e = leb-true _ _ (and_parts _ _ e).1
 
-order-test : (row : Row) → first_failure (order_tests row) ≡ None → task_on row ≤ 4294967295
+order-test : (row : Row) → first_failure (order_tests row) ≡ None → task_on row ≤ most_number
 order-test row passed =
     let one = passes _ _ _ passed in
     let two = passes _ _ _ one.1 in
-    up_to 4294967295 (token_at 0 row) two.0
+    up_to most_number (token_at 0 row) two.0
 
 priority-test : (tasks : ℕ) (before : List ℕ) (row : Row) → first_failure (priority_tests tasks before row) ≡ None → IsTask tasks (task_on row) × (times before (task_on row) ≡ 0)
 priority-test tasks before row passed =
@@ -48,8 +43,8 @@ priority-test tasks before row passed =
     let one = passes _ _ _ passed in
     let two = passes _ _ _ one.1 in
     let three = passes _ _ _ two.1 in
-    let all = both (leb 1 v && leb v tasks) (eqb (times before v) 0) three.0 in
-    let task = both (leb 1 v) (leb v tasks) all.0 in
+    let all = and_parts (leb 1 v && leb v tasks) (eqb (times before v) 0) three.0 in
+    let task = and_parts (leb 1 v) (leb v tasks) all.0 in
     ((leb-true 1 v task.0, leb-true v tasks task.1), eqb-true (times before v) 0 all.1)
 
 claim-test : (before : List Claim) (row : Row) → first_failure (claim_tests before row) ≡ None → IsClaimWithin (claim_on row) × (last_position before < (claim_on row).position)
@@ -57,10 +52,10 @@ claim-test before row passed =
     let one = passes _ _ _ passed in
     let two = passes _ _ _ one.1 in
     let three = passes _ _ _ two.1 in
-    let all = both (is_number_up_to 4294967295 (token_at 0 row) && is_bound (token_at 2 row)) (is_number_up_to (2 ^ 60) (token_at 3 row)) two.0 in
-    let first = both (is_number_up_to 4294967295 (token_at 0 row)) (is_bound (token_at 2 row)) all.0 in
-    let bound = both (is_some (signed_of (token_at 2 row))) (leb (unsigned_abs (bound_of (token_at 2 row))) (2 ^ 60)) first.1 in
-    (record { position = up_to 4294967295 (token_at 0 row) first.0; bound = leb-true _ _ bound.1; rest = up_to (2 ^ 60) (token_at 3 row) all.1 }, ltb-true _ _ three.0)
+    let all = and_parts (is_number_up_to most_number (token_at 0 row) && is_bound (token_at 2 row)) (is_number_up_to most_total (token_at 3 row)) two.0 in
+    let first = and_parts (is_number_up_to most_number (token_at 0 row)) (is_bound (token_at 2 row)) all.0 in
+    let bound = and_parts (is_some (signed_of (token_at 2 row))) (leb (unsigned_abs (bound_of (token_at 2 row))) most_total) first.1 in
+    (record { position = up_to most_number (token_at 0 row) first.0; bound = leb-true _ _ bound.1; rest = up_to most_total (token_at 3 row) all.1 }, ltb-true _ _ three.0)
 
 -- ---- positions that rise
 
@@ -100,10 +95,10 @@ last-rises cs c ds rise = subst (λ (n : ℕ). n < c.position) (sym (last_positi
 -- ---- what holds after lines that pass
 
 record IsSoFar (s : Stated) : Type 0 where
-  few_tasks : length s.order ≤ 1000000
-  tasks : All (λ v. v ≤ 4294967295) s.order
-  peak : s.peak ≤ 2 ^ 60
-  few_claims : length s.claims ≤ 4000001
+  few_tasks : length s.order ≤ most_tasks
+  tasks : All (λ v. v ≤ most_number) s.order
+  peak : s.peak ≤ most_total
+  few_claims : length s.claims ≤ most_positions
   claims : All IsClaimWithin s.claims
   rising : RiseFrom 0 s.claims
 
@@ -117,10 +112,10 @@ record IsInPriority (s : Stated) : Type 0 where
 abbrev At : Stage → Stated → Type 0
 At stages.Header s = (s.order ≡ []) × (s.priority ≡ [])
 At stages.OrderSection s = (s.order ≡ []) × (s.priority ≡ [])
-At stages.Order s = (s.count ≤ 1000000) × (length s.order ≤ s.count) × (s.priority ≡ [])
+At stages.Order s = (s.count ≤ most_tasks) × (length s.order ≤ s.count) × (s.priority ≡ [])
 At stages.Priority s = IsInPriority s
 At stages.ClaimsSection s = IsPriority (length s.order) s.priority
-At stages.Claims s = IsPriority (length s.order) s.priority × (s.count ≤ 4000001)
+At stages.Claims s = IsPriority (length s.order) s.priority × (s.count ≤ most_positions)
 At stages.Ended s = IsPriority (length s.order) s.priority
 
 abbrev Holds : Stated → Type 0
@@ -141,32 +136,30 @@ peak-passed : (s : Stated) (row : Row) → IsSoFar s → IsPriority (length s.or
 peak-passed s row so ranked passed =
     let one = passes _ _ _ passed in
     let two = passes _ _ _ one.1 in
-    (record { few_tasks = so.few_tasks; tasks = so.tasks; peak = up_to (2 ^ 60) (token_at 1 row) two.0; few_claims = so.few_claims; claims = so.claims; rising = so.rising }, ranked)
+    let three = passes _ _ _ two.1 in
+    (record { few_tasks = so.few_tasks; tasks = so.tasks; peak = leb-true _ _ three.0; few_claims = so.few_claims; claims = so.claims; rising = so.rising }, ranked)
 
 ranks-passed : (s : Stated) (row : Row) → IsSoFar s → length s.order ≡ s.count → first_failure (priority_section_tests s.count row) ≡ None → Holds (ranks_next s row)
 ranks-passed s row so full passed =
     let one = passes _ _ _ passed in
     let two = passes _ _ _ one.1 in
     let three = passes _ _ _ two.1 in
-    let count : (stated_on row ≡ 0) ⊎ (stated_on row ≡ s.count) = elim (either _ _ three.0) [ inl e ↦ inl (eqb-true _ _ e) | inr e ↦ inr (eqb-true _ _ e) ] in
+    let count : (ranks_on row ≡ 0) ⊎ (ranks_on row ≡ s.count) = elim (or_cases _ _ three.0) [ inl e ↦ inl (eqb-true _ _ e) | inr e ↦ inr (eqb-true _ _ e) ] in
     (same_lists s (ranks_next s row) so refl refl refl, record { tasks = sym full; count = count; within = omega arith; part = part-none s.count })
 
-after_order-passed : (s : Stated) (row : Row) → IsSoFar s → length s.order ≡ s.count → s.priority ≡ [] → first_failure (tests_after_order s row) ≡ None → Holds (after_order_next s row)
-after_order-passed s row so full fresh =
-    elim s.with_priority as (λ b. first_failure (cond b (priority_section_tests s.count row) (peak_tests row)) ≡ None → Holds (cond b (ranks_next s row) (peak_next s row))) [
-      | true ↦ λ passed. ranks-passed s row so full passed
-      | false ↦ λ passed. peak-passed s row so (inl fresh) passed
-    ]
+after_order-passed : (v : Version) (s : Stated) (row : Row) → IsSoFar s → length s.order ≡ s.count → s.priority ≡ [] → first_failure (tests_after_order v s row) ≡ None → Holds (after_order_next v s row)
+after_order-passed One s row so full fresh passed = peak-passed s row so (inl fresh) passed
+after_order-passed Two s row so full fresh passed = ranks-passed s row so full passed
 
 order-passed : (s : Stated) (row : Row) → s.stage ≡ stages.Order → IsSoFar s → At stages.Order s → first_failure (staged_tests stages.Order s row) ≡ None → Holds (staged_next stages.Order s row)
 order-passed s row stage so at = go (ltb (length s.order) s.count) refl where
-  go : (b : Bool) → ltb (length s.order) s.count ≡ b → first_failure (cond b (order_tests row) (tests_after_order s row)) ≡ None → Holds (cond b (with_task s row) (after_order_next s row))
+  go : (b : Bool) → ltb (length s.order) s.count ≡ b → first_failure (cond b (order_tests row) (tests_after_order s.version s row)) ≡ None → Holds (cond b (with_task s row) (after_order_next s.version s row))
   go true e passed =
       let lt = ltb-true _ _ e in
       let few = at.0 in (
         record {
           few_tasks = omega (arith, length_push s.order (task_on row));
-          tasks = All-push (λ (v : ℕ). v ≤ 4294967295) s.order (task_on row) so.tasks (order-test row passed);
+          tasks = All-push (λ (v : ℕ). v ≤ most_number) s.order (task_on row) so.tasks (order-test row passed);
           peak = so.peak;
           few_claims = so.few_claims;
           claims = so.claims;
@@ -177,7 +170,7 @@ order-passed s row stage so at = go (ltb (length s.order) s.count) refl where
   go false e passed =
       let ge = ltb-false _ _ e in
       let within = at.1 in
-      after_order-passed s row so (omega arith) at.2 passed
+      after_order-passed s.version s row so (omega arith) at.2 passed
 
 -- a priority is whole after its last line
 whole : (s : Stated) → IsInPriority s → s.count ≤ length s.priority → IsPriority (length s.order) s.priority
@@ -255,13 +248,8 @@ unfolding stated
 begins = (record { few_tasks = omega arith; tasks = All-nil _; peak = omega arith; few_claims = omega arith; claims = All-nil IsClaimWithin; rising = tt }, (refl, refl))
 
 ended-ranked : (stage : Stage) (s : Stated) → is_ended stage ≡ true → At stage s → IsPriority (length s.order) s.priority
-ended-ranked stages.Header s e at = absurd cc
-ended-ranked stages.OrderSection s e at = absurd cc
-ended-ranked stages.Order s e at = absurd cc
-ended-ranked stages.Priority s e at = absurd cc
-ended-ranked stages.ClaimsSection s e at = absurd cc
-ended-ranked stages.Claims s e at = absurd cc
 ended-ranked stages.Ended s e at = at
+ended-ranked _ s e at = absurd cc
 
 pub reads-is_plan : (bytes : List ℕ) (plan : PlanText) → ReadsPlan bytes plan → IsPlan plan
 reads-is_plan bytes plan reads =

@@ -101,6 +101,3 @@ ranks_from_part n ranked part len = record {
   tasks = part.tasks;
   once = total-full n ranked part.once (total-length n ranked part.tasks ∙ len);
 }
-
-pub length-part : (n : ℕ) (ranked : List ℕ) → IsPart n ranked → length ranked ≤ n
-length-part n ranked part = omega (arith, total-length n ranked part.tasks, total-le n ranked part.once)

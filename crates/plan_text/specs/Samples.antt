@@ -1,5 +1,6 @@
+-- No public clause names this.
 -- Worked examples: the plan of a tree of five nodes, a plan with a priority, and files that are refused.
-use Rattle.std.specs.Prelude.{◌≡◌, ℕ, true, List, [], ◌∷◌, ◌++◌, Option, Some, None, ℤ, pos, neg_ℤ, codes, refl}
+use Rattle.std.specs.Prelude.{◌≡◌, ℕ, List, [], ◌∷◌, ◌++◌, Option, Some, None, ℤ, pos, neg_ℤ, codes, refl}
 use Rattle.std.specs.Fmt.{digits}
 use Rattle.mp_text.specs.declared.layout.Layout.TheVariants.{Commented}
 use Rattle.mp_text.specs.declared.refusals.Refusal.{Refusal}
@@ -7,10 +8,11 @@ use Rattle.mp_text.specs.declared.refusals.Refusal.TheVariants as refusals
 use Rattle.limits.specs.declared.name.LimitName.TheVariants as limits
 use Rattle.mp_text.specs.Text.{lines_of, tokens_of, number_of, number_from, signed_of, rows_from}
 use Rattle.mp_text.specs.Ahead.{rows_of_bytes, past_of_bytes}
-use Rattle.mp_text.specs.Grammar.{first_failure, tests_of_all}
+use Rattle.mp_text.specs.Words.{after_word, version_of}
+use Rattle.mp_text.specs.Grammar.{fault_at, first_failure, tests_of_all}
 use Rattle.sp_terms.specs.Term.{backward}
 use Rattle.plan_text.specs.Plan.{PlanText, claim_at}
-use Rattle.plan_text.specs.PlanFile.{fault_at, stated, plan_of, plan_line_tests, end_tests_after}
+use Rattle.plan_text.specs.PlanFile.{dir_named, stated, plan_of, plan_line_tests, end_tests_after}
 use Rattle.plan_text.specs.Printed.{text_of, text2_of}
 use Rattle.plan_text.specs.declared.claim.Claim.{Claim}
 use Rattle.plan_text.specs.declared.claim.Dir.{Dir}
@@ -50,7 +52,7 @@ ranked_text = refl
 -- ---- reading
 
 pub stated_plan : plan_of (stated (rows_of_bytes Commented (codes "# two tasks\nplan 2\norder 2\n1\n2\n\npriority 2\n2\n01\npeak 6\nclaims 1\n1 F -1 0\nend"))) ≡ ranked
-unfolding lines_of tokens_of number_of number_from signed_of rows_from stated
+unfolding lines_of tokens_of number_of number_from signed_of rows_from after_word version_of dir_named stated
 stated_plan = refl
 
 -- the first test of a file's lines and of its end that fails, if one does
@@ -60,23 +62,23 @@ refusal_of bytes =
     first_failure (tests_of_all plan_line_tests [] rows ++ end_tests_after (stated rows) (past_of_bytes bytes))
 
 pub well_formed : refusal_of (codes "plan 1\norder 1\n1\npeak 3\nclaims 1\n3 R 2 0\nend\n") ≡ None
-unfolding lines_of tokens_of number_of number_from signed_of rows_from stated
+unfolding lines_of tokens_of number_of number_from signed_of rows_from after_word version_of dir_named stated
 well_formed = refl
 
 pub without_end : refusal_of (codes "plan 1\norder 1\n1\npeak 3\nclaims 0\n") ≡ Some (fault_at 6 kinds.NoEnd)
-unfolding lines_of tokens_of number_of number_from signed_of rows_from stated
+unfolding lines_of tokens_of number_of number_from signed_of rows_from after_word version_of dir_named stated
 without_end = refl
 
 pub three_tokens : refusal_of (codes "plan 1\norder 0\npeak 3\nclaims 1\n3 R 2\nend\n") ≡ Some (fault_at 5 kinds.Claim)
-unfolding lines_of tokens_of number_of number_from signed_of rows_from stated
+unfolding lines_of tokens_of number_of number_from signed_of rows_from after_word version_of dir_named stated
 three_tokens = refl
 
 pub ranked_twice : refusal_of (codes "plan 2\norder 2\n1\n2\npriority 2\n2\n2\n") ≡ Some (fault_at 7 kinds.Priority)
-unfolding lines_of tokens_of number_of number_from signed_of rows_from stated
+unfolding lines_of tokens_of number_of number_from signed_of rows_from after_word version_of dir_named stated
 ranked_twice = refl
 
 pub too_many : refusal_of (codes "plan 1\norder 0\npeak 0\nclaims 4000002\n") ≡ Some (refusals.Limit limits.Positions)
-unfolding lines_of tokens_of number_of number_from signed_of rows_from stated
+unfolding lines_of tokens_of number_of number_from signed_of rows_from after_word version_of dir_named stated
 too_many = refl
 
 -- ---- claims by position
