@@ -3,6 +3,7 @@ ghost use Rattle.sp_term_laws.specs.Moves.{other};
 ghost use Rattle.plan_text.specs.Kinds.{word_of};
 ghost use Rattle.plan_text.specs.Plan.{direction_of};
 
+use mp_text::Kind;
 use std::fmt::{self, Display, Formatter, Write};
 
 /// The direction in which a claim is meant.
@@ -59,11 +60,10 @@ pub enum PlanKind {
     Priority,
 }
 
-impl PlanKind {
-    /// The word for it in reports.
-    pub fn word(self) -> &'static str
-        ensures { result.now ≡ word_of self }
-    {
+impl Kind for PlanKind {
+    ghost word_of = { word_of };
+
+    fn word(self) -> &'static str {
         match self {
             PlanKind::Header => "header",
             PlanKind::Number => "number",
