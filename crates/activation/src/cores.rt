@@ -12,7 +12,7 @@ ghost use Rattle.activation.specs.Safe.{IsSafe};
 ghost use Rattle.activation.specs.Refusal.{IsCoreRefusal};
 ghost use Rattle.activation.specs.Tables.{is_startable, is_edge};
 ghost use Rattle.activation.specs.Schedule.{task_entry};
-ghost use Rattle.activation.specs.Run.{AreRanks, IsRoom, run_tables, mark};
+ghost use Rattle.activation.specs.Run.{AreRanks, mark};
 
 use crate::NoMemory;
 use crate::events::{Event, EventKind, Phase};
@@ -20,7 +20,6 @@ use crate::laws::{event_law, start_law};
 use crate::outputs::output_rows;
 use crate::places::{fill_places, is_number};
 use crate::refusal::CoreRefusal;
-use crate::room::Room;
 use crate::running::RunningTasks;
 use crate::start::{copy_system, start_memory};
 use crate::sums::needs_of;
@@ -38,142 +37,6 @@ use std::marker::Model;
 /// memory. Agullo et al. 2016.
 #[derive(Drop)]
 pub struct Core {
-    pub(crate) machine: Machine,
-    // What a simulated run takes: its trees and tables, and its events.
-    pub(crate) room: Room,
-    pub(crate) events: Vec<Event>,
-}
-
-impl Model for Core {
-    ghost use Rattle.std.specs.Prelude.{◌≡◌, ◌≤◌, ◌*◌, [], length, vec_capacity};
-    ghost use Rattle.activation.specs.Machine.{CoreValue};
-    ghost use Rattle.activation.specs.Run.{IsRoom, run_tables};
-
-    ghost Value = { CoreValue };
-
-    ghost view = { λ c. c.machine };
-
-    ghost invariant = { λ c. IsRoom (length c.machine.setting.system.tasks) (run_tables c.room)
-        × (c.events.items ≡ []) × (3 * length c.machine.setting.system.tasks ≤ vec_capacity c.events) };
-}
-
-impl Core {
-    /// The core at its start, with room for a whole run. The order is one of activation: a traversal whose peak is within the bound.
-    /// There are 1 to 4,096 workers. Near linear in the tasks and items.
-    pub fn new(
-        alloc: Global,
-        system: &System,
-        order: &[u32],
-        bound: u64,
-        workers: u32,
-    ) -> Result<Core, CoreRefusal>
-        requires { (1 ≤ workers) × (workers ≤ most_workers) }
-        ensures setting { IfOk result (λ core.
-            core.setting ≡ record { system = system.now; order = order.now; bound = bound; workers = workers }) }
-        ensures start { IfOk result (λ core. core.state ≡ start_state core.setting) }
-        ensures within { IfOk result (λ core. IsSetting core.setting) }
-        ensures refused { IfErr result (IsCoreRefusal system.now order.now bound) }
-    {
-        let peak = replay(alloc, system, order)?;
-        if bound < peak {
-            return Err(CoreRefusal::BoundBelow { bound, peak });
-        }
-        let machine = Machine::new(alloc, system, order, bound, workers)?;
-        let room = Room::new(alloc, system.tasks().len())?;
-        let events = Vec::with_capacity(alloc, 3 * system.tasks().len())?;
-        Ok(Core {
-            machine,
-            room,
-            events,
-        })
-    }
-
-    /// Activates the next task of the order, where its need fits under the bound beside what is booked.
-    pub fn activate(&mut self) -> Option<u32>
-        ensures setting { self.new.setting ≡ self.old.setting }
-        ensures some { IfSome result (λ t. MayActivate self.old.setting self.old.state t) }
-        ensures next { IfSome result (λ t. self.new.state ≡ state_after self.old.state EventKind.Activate t) }
-        ensures none { IfNone result ((t : ℕ) → MayActivate self.old.setting self.old.state t → ⊥) }
-        ensures unchanged { IfNone result (self.new ≡ self.old) }
-    {
-        self.machine.activate()
-    }
-
-    /// Starts an activated task whose suppliers are done, where a worker is free.
-    pub fn start(&mut self, task: u32) -> bool
-        ensures setting { self.new.setting ≡ self.old.setting }
-        ensures legal { IsTrue result ↔ MayStart self.old.setting self.old.state task }
-        ensures next { OnTrue result (self.new.state ≡ state_after self.old.state EventKind.Start task) }
-        ensures unchanged { OnFalse result (self.new ≡ self.old) }
-    {
-        self.machine.start(task)
-    }
-
-    /// Ends a running task.
-    pub fn finish(&mut self, task: u32) -> bool
-        ensures setting { self.new.setting ≡ self.old.setting }
-        ensures legal { IsTrue result ↔ MayFinish self.old.setting self.old.state task }
-        ensures next { OnTrue result (self.new.state ≡ state_after self.old.state EventKind.Finish task) }
-        ensures unchanged { OnFalse result (self.new ≡ self.old) }
-    {
-        self.machine.finish(task)
-    }
-
-    /// Used memory: the items that are present, and the needs of the running tasks.
-    pub fn used(&self) -> u64
-        ensures { result ≡ used_memory self.now.setting self.now.state }
-    {
-        self.machine.used()
-    }
-
-    /// Booked memory: the items that are present, and the needs of the activated tasks that are not done.
-    pub fn booked(&self) -> u64
-        ensures { result ≡ booked_memory self.now.setting self.now.state }
-    {
-        self.machine.booked()
-    }
-
-    /// How many tasks are activated.
-    pub fn activated(&self) -> u32
-        ensures { result ≡ self.now.state.activated }
-    {
-        traversal_law();
-        let machine = &self.machine;
-        machine.activated as u32
-    }
-
-    /// The running tasks, each once, in any order.
-    pub fn running(&self) -> &[u32]
-        ensures once { IsDistinct nat_eq result.now }
-        ensures each { (t : ℕ) → stands_in result.now t ≡ is_running self.now.state t }
-    {
-        let machine = &self.machine;
-        machine.running.as_slice()
-    }
-
-    /// Whether a task is done; a number that is no task's is not.
-    pub fn is_done(&self, task: u32) -> bool
-        ensures { result ≡ is_done self.now.state task }
-    {
-        let machine = &self.machine;
-        is_number(task, machine.phases.len()) && machine.phases[task as usize - 1].is_done()
-    }
-
-    /// What every core keeps; a proof that needs it calls it. It does nothing.
-    pub fn keeps(&self)
-        // the order is a traversal whose peak is within the bound, and there is a worker
-        ensures setting { IsSetting self.now.setting }
-        ensures few_workers { self.now.setting.workers ≤ most_workers }
-        // running and done tasks are activated and ready, no more tasks run than there are workers, and memory is within the bound
-        ensures safe { IsSafe self.now.setting self.now.state }
-    {
-        self.machine.keeps();
-    }
-}
-
-/// The activation machine: a setting, a state, and tables of both. None of its calls but `new` takes memory.
-#[derive(Drop)]
-pub struct Machine {
     system: System,
     order: Vec<u32>,
     bound: u64,
@@ -190,7 +53,7 @@ pub struct Machine {
     used: u64,
 }
 
-impl Model for Machine {
+impl Model for Core {
     ghost use Rattle.activation.specs.Machine.{CoreValue};
     ghost use Rattle.activation.specs.Tables.{AreCoreTables};
 
@@ -220,15 +83,38 @@ fn mark(startable: bool) -> u64
     if startable { 0 } else { u64::MAX }
 }
 
-impl Machine {
-    /// The machine at its start.
+impl Core {
+    /// The core at its start. The order is one of activation: a traversal whose peak is within the bound.
+    /// There are 1 to 4,096 workers. Near linear in the tasks and items.
     pub fn new(
         alloc: Global,
         system: &System,
         order: &[u32],
         bound: u64,
         workers: u32,
-    ) -> Result<Machine, NoMemory>
+    ) -> Result<Core, CoreRefusal>
+        requires { (1 ≤ workers) × (workers ≤ most_workers) }
+        ensures setting { IfOk result (λ core.
+            core.setting ≡ record { system = system.now; order = order.now; bound = bound; workers = workers }) }
+        ensures start { IfOk result (λ core. core.state ≡ start_state core.setting) }
+        ensures within { IfOk result (λ core. IsSetting core.setting) }
+        ensures refused { IfErr result (IsCoreRefusal system.now order.now bound) }
+    {
+        let peak = replay(alloc, system, order)?;
+        if bound < peak {
+            return Err(CoreRefusal::BoundBelow { bound, peak });
+        }
+        Ok(Core::at_start(alloc, system, order, bound, workers)?)
+    }
+
+    // The core of a setting at its start.
+    fn at_start(
+        alloc: Global,
+        system: &System,
+        order: &[u32],
+        bound: u64,
+        workers: u32,
+    ) -> Result<Core, NoMemory>
         requires traversal { IsTraversal system.now order.now }
         requires bound { peak_of system.now order.now ≤ bound }
         requires workers { (1 ≤ workers) × (workers ≤ most_workers) }
@@ -249,7 +135,7 @@ impl Machine {
         let memory = start_memory(system);
         let order = Vec::from_slice(alloc, order)?;
         let system = copy_system(alloc, system)?;
-        Ok(Machine {
+        Ok(Core {
             system,
             order,
             bound,
@@ -290,7 +176,7 @@ impl Machine {
     }
 
     /// Whether a task may start as soon as a worker is free.
-    pub fn is_startable(&self, task: u32) -> bool
+    pub(crate) fn is_startable(&self, task: u32) -> bool
         requires { IsTask self.now.setting.system task }
         ensures { result ≡ is_startable self.now.setting self.now.state task }
     {
@@ -371,17 +257,49 @@ impl Machine {
         self.booked
     }
 
-    /// What every machine keeps; a proof that needs it calls it. It does nothing.
+    /// How many tasks are activated.
+    pub fn activated(&self) -> u32
+        ensures { result ≡ self.now.state.activated }
+    {
+        traversal_law();
+        self.activated as u32
+    }
+
+    /// The running tasks, each once, in any order.
+    pub fn running(&self) -> &[u32]
+        ensures once { IsDistinct nat_eq result.now }
+        ensures each { (t : ℕ) → stands_in result.now t ≡ is_running self.now.state t }
+    {
+        self.running.as_slice()
+    }
+
+    /// Whether a task is done; a number that is no task's is not.
+    pub fn is_done(&self, task: u32) -> bool
+        ensures { result ≡ is_done self.now.state task }
+    {
+        is_number(task, self.phases.len()) && self.phases[task as usize - 1].is_done()
+    }
+
+    /// What every core keeps; a proof that needs it calls it. It does nothing.
     pub fn keeps(&self)
+        // the order is a traversal whose peak is within the bound, and there is a worker
         ensures setting { IsSetting self.now.setting }
         ensures few_workers { self.now.setting.workers ≤ most_workers }
+        // running and done tasks are activated and ready, no more tasks run than there are workers, and memory is within the bound
         ensures safe { IsSafe self.now.setting self.now.state }
     {
         let _ = &self.system;
     }
 
+    /// How many tasks there are.
+    pub(crate) fn tasks(&self) -> usize
+        ensures { result ≡ length self.now.setting.system.tasks }
+    {
+        self.system.tasks().len()
+    }
+
     /// The task that stands at this place of the order, counted from 0.
-    pub fn task_at(&self, place: usize) -> u32
+    pub(crate) fn task_at(&self, place: usize) -> u32
         requires { place < length self.now.setting.order }
         ensures { result ≡ slice_index self.now.setting.order place }
     {
@@ -389,7 +307,7 @@ impl Machine {
     }
 
     /// Where a task stands in the order, counted from 0.
-    pub fn place_of(&self, task: u32) -> usize
+    pub(crate) fn place_of(&self, task: u32) -> usize
         requires { IsTask self.now.setting.system task }
         ensures within { result < length self.now.setting.order }
         ensures there { slice_index self.now.setting.order result ≡ task }
@@ -398,7 +316,7 @@ impl Machine {
     }
 
     /// How long a task takes.
-    pub fn time_of(&self, task: u32) -> u64
+    pub(crate) fn time_of(&self, task: u32) -> u64
         requires { IsTask self.now.setting.system task }
         ensures time { result ≡ (task_at self.now.setting.system task).time }
         ensures long { result ≤ most_time }
@@ -407,7 +325,7 @@ impl Machine {
     }
 
     /// Writes down at the rank of the task that is named, if one is, whether it is startable.
-    pub fn refresh(&self, task: Option<u32>, ranks: &[u32], ready: &mut MinTree)
+    pub(crate) fn refresh(&self, task: Option<u32>, ranks: &[u32], ready: &mut MinTree)
         requires tasks { (t : ℕ) → is_named task t ≡ true → IsTask self.now.setting.system t }
         requires ranks { AreRanks (length self.now.setting.system.tasks) ranks.now }
         requires long { length ready.old ≡ length self.now.setting.system.tasks }
@@ -423,7 +341,7 @@ impl Machine {
     }
 
     /// Does so for each task that consumes an output of this one.
-    pub fn refresh_consumers(&self, task: u32, ranks: &[u32], ready: &mut MinTree)
+    pub(crate) fn refresh_consumers(&self, task: u32, ranks: &[u32], ready: &mut MinTree)
         requires task { IsTask self.now.setting.system task }
         requires ranks { AreRanks (length self.now.setting.system.tasks) ranks.now }
         requires long { length ready.old ≡ length self.now.setting.system.tasks }

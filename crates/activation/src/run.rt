@@ -8,7 +8,7 @@ ghost use Rattle.activation.specs.Schedule.{HoldsEach, task_entry, moment_after,
 ghost use Rattle.activation.specs.Schedule.{NoneStarts};
 ghost use Rattle.activation.specs.Run.{event_count, IsRoom, IsNextDue, IsFirstStartable, run_tables};
 
-use crate::cores::Machine;
+use crate::cores::Core;
 use crate::events::{Event, EventKind};
 use crate::laws::progress_law;
 use crate::places::fill_places;
@@ -19,7 +19,7 @@ use std::marker::Model;
 /// A run in simulated time, between two events.
 #[derive(Drop)]
 pub struct Run {
-    machine: Machine,
+    core: Core,
     room: Room,
     time: u64,
 }
@@ -30,31 +30,31 @@ impl Model for Run {
     ghost Value = { RunValue };
 
     ghost view = { λ r. record {
-      setting = r.machine.setting;
+      setting = r.core.setting;
       priority = r.room.priority.items;
-      moment = record { state = r.machine.state; time = r.time; dues = r.room.dues.items };
+      moment = record { state = r.core.state; time = r.time; dues = r.room.dues.items };
     } };
 
-    ghost invariant = { λ r. IsRun r.machine.setting r.machine.state r.time (run_tables r.room) };
+    ghost invariant = { λ r. IsRun r.core.setting r.core.state r.time (run_tables r.room) };
 }
 
 impl Run {
     /// The run at moment 0, before any event.
-    pub fn new(machine: Machine, room: Room, priority: &[u32]) -> Run
-        requires start { machine.state ≡ start_state machine.setting }
-        requires room { IsRoom (length machine.setting.system.tasks) (run_tables room) }
-        requires priority { HoldsEach machine.setting.system priority.now }
-        ensures setting { result.setting ≡ machine.setting }
+    pub fn new(core: Core, room: Room, priority: &[u32]) -> Run
+        requires start { core.state ≡ start_state core.setting }
+        requires room { IsRoom (length core.setting.system.tasks) (run_tables room) }
+        requires priority { HoldsEach core.setting.system priority.now }
+        ensures setting { result.setting ≡ core.setting }
         ensures priority { result.priority ≡ priority.now }
-        ensures moment { result.moment ≡ first_moment machine.setting }
+        ensures moment { result.moment ≡ first_moment core.setting }
     {
-        machine.keeps();
+        core.keeps();
         traversal_law();
         let mut room = room;
         room.priority.copy_from_slice(priority);
         fill_places(priority, &mut room.ranks);
         Run {
-            machine,
+            core,
             room,
             time: 0,
         }
@@ -66,7 +66,7 @@ impl Run {
         ensures safe { IsSafe self.now.setting self.now.moment.state }
         ensures few_events { event_count self.now.setting self.now.moment.state ≤ 3 * length self.now.setting.system.tasks }
     {
-        self.machine.keeps();
+        self.core.keeps();
         traversal_law();
     }
 
@@ -81,14 +81,14 @@ impl Run {
     pub fn used(&self) -> u64
         ensures { result ≡ used_memory self.now.setting self.now.moment.state }
     {
-        self.machine.used()
+        self.core.used()
     }
 
     /// Booked memory.
     pub fn booked(&self) -> u64
         ensures { result ≡ booked_memory self.now.setting self.now.moment.state }
     {
-        self.machine.booked()
+        self.core.booked()
     }
 
     // The running task that is due first, a tie to the one that stands first in the order.
@@ -96,7 +96,7 @@ impl Run {
         ensures some { IfSome result (λ t. IsNextDue self.now.setting self.now.moment t) }
         ensures none { IfNone result ((u : ℕ) → phase_in self.now.moment.state.phases u ≡ IsRunning → ⊥) }
     {
-        self.machine.keeps();
+        self.core.keeps();
         traversal_law();
         if self.room.clock.len() == 0 {
             return None;
@@ -105,7 +105,7 @@ impl Run {
         if self.room.clock.at(place) == u64::MAX {
             return None;
         }
-        Some(self.machine.task_at(place))
+        Some(self.core.task_at(place))
     }
 
     // The task that may start as soon as a worker is free, and stands first in the priority.
@@ -114,7 +114,7 @@ impl Run {
         ensures none { IfNone result ((u : ℕ) → IsTask self.now.setting.system u →
             is_startable self.now.setting self.now.moment.state u ≡ false) }
     {
-        self.machine.keeps();
+        self.core.keeps();
         traversal_law();
         if self.room.ready.len() == 0 {
             return None;
@@ -142,14 +142,14 @@ impl Run {
         ensures event { result ≡ record { time = task_entry self.old.moment.dues task; kind = EventKind.Finish; task = task } }
         ensures next { self.new.moment ≡ moment_after self.old.setting self.old.moment result }
     {
-        self.machine.keeps();
+        self.core.keeps();
         traversal_law();
-        let place = self.machine.place_of(task);
+        let place = self.core.place_of(task);
         let due = self.due_of(task);
-        self.machine.finish(task);
+        self.core.finish(task);
         self.time = due;
         self.room.clock.put(place, u64::MAX);
-        self.machine
+        self.core
             .refresh_consumers(task, &self.room.ranks, &mut self.room.ready);
         Event {
             time: due,
@@ -185,9 +185,9 @@ impl Run {
         ensures none { IfNone result (NoneActivates self.old.setting self.old.moment) }
         ensures unchanged { IfNone result (self.new ≡ self.old) }
     {
-        self.machine.keeps();
-        let task = self.machine.activate()?;
-        self.machine
+        self.core.keeps();
+        let task = self.core.activate()?;
+        self.core
             .refresh(Some(task), &self.room.ranks, &mut self.room.ready);
         Some(Event {
             time: self.time,
@@ -207,19 +207,19 @@ impl Run {
         ensures none { IfNone result (NoneStarts self.old.setting self.old.moment) }
         ensures unchanged { IfNone result (self.new ≡ self.old) }
     {
-        self.machine.keeps();
+        self.core.keeps();
         traversal_law();
         let Some(task) = self.first_startable() else {
             return None;
         };
-        let place = self.machine.place_of(task);
-        let due = self.time + self.machine.time_of(task);
-        if !self.machine.start(task) {
+        let place = self.core.place_of(task);
+        let due = self.time + self.core.time_of(task);
+        if !self.core.start(task) {
             return None;
         }
         self.room.dues[task as usize - 1] = due;
         self.room.clock.put(place, due);
-        self.machine
+        self.core
             .refresh(Some(task), &self.room.ranks, &mut self.room.ready);
         Some(Event {
             time: self.time,

@@ -6,5 +6,5 @@ use Rattle.activation.proofs.run.Run.due_of.Goals as goal
 pub returns : goal.returns
 returns c =
     let f = c.self.inside in
-    let is : IsTask f.machine.setting.system c.args.task = rw (← c.self.view_is) at c.requires in
+    let is : IsTask f.core.setting.system c.args.task = rw (← c.self.view_is) at c.requires in
     rw (← c.self.view_is) (number_read f.room.dues.items c.args.task c.index.result.now is.0 (omega (arith, is.1, c.self.invariant.dues_long)) c.index.ensures)

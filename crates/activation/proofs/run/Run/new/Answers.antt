@@ -8,15 +8,15 @@ use Rattle.activation.proofs.Clocks.{start_run}
 use Rattle.activation.proofs.run.Run.new.Goals as goal
 
 pub copy_from_slice-requires : goal.copy_from_slice-requires
-copy_from_slice-requires c = omega (arith, c.requires.room.priority_long, each_long c.args.machine.setting.system c.args.priority.now c.requires.priority)
+copy_from_slice-requires c = omega (arith, c.requires.room.priority_long, each_long c.args.core.setting.system c.args.priority.now c.requires.priority)
 
 pub fill_places-requires-clause-once : goal.fill_places-requires-clause-once
 fill_places-requires-clause-once c = λ i j wi wj e.
-    stands_once c.args.machine.setting.system c.args.priority.now c.requires.priority (slice_index c.args.priority.now j) i j wi wj e refl
+    stands_once c.args.core.setting.system c.args.priority.now c.requires.priority (slice_index c.args.priority.now j) i j wi wj e refl
 
 pub invariant_of-result : goal.invariant_of-result
 invariant_of-result c =
-    let s = c.args.machine.setting in
+    let s = c.args.core.setting in
     let room = c.args.room in
     let ranks = c.fill_places.new.places in
     let len : length ranks ≡ room.ranks.len = omega (arith, c.fill_places.auto.places, c.deref_mut.ensures.len) in

@@ -3,8 +3,8 @@ use Rattle.std.proofs.lemmas.Bool.{true≢false, lt-ltb, le-ltb}
 use Rattle.std.proofs.Math.Bool.{and-false}
 use Rattle.mp_system.specs.System.{IsTask}
 use Rattle.activation.proofs.Keeping.{front_read, idle_read, ready_read}
-use Rattle.activation.proofs.cores.Machine.is_startable.Goals as goal
-use Rattle.activation.proofs.cores.Machine.is_startable.Goals.{then-index-self, else-index-self}
+use Rattle.activation.proofs.cores.Core.is_startable.Goals as goal
+use Rattle.activation.proofs.cores.Core.is_startable.Goals.{then-index-self, else-index-self}
 
 pub returns-then-is_idle : goal.returns-then-is_idle
 returns-then-is_idle c =

@@ -8,7 +8,7 @@ use Rattle.mp_system.specs.Traversal.{IsTraversal}
 use Rattle.activation.specs.Machine.{Setting, IsSetting}
 use Rattle.activation.proofs.Orders.{each, stands_once}
 use Rattle.activation.proofs.Beginning.{start_tables}
-use Rattle.activation.proofs.cores.Machine.new.Goals as goal
+use Rattle.activation.proofs.cores.Core.at_start.Goals as goal
 
 set : {system : TaskSystem} {order : List ℕ} {bound workers : ℕ} → IsSystem system → IsTraversal system order → peak_of system order ≤ bound → 1 ≤ workers → IsSetting (record { system = system; order = order; bound = bound; workers = workers })
 set is traversal within some = record { system = is; traversal = traversal; bound = within; workers = some }

@@ -3,7 +3,7 @@ use Rattle.std.proofs.lemmas.Bool.{true≢false}
 use Rattle.activation.specs.Machine.{phase_in, is_running_phase}
 use Rattle.activation.proofs.Phases.{phase_read, running_from}
 use Rattle.activation.proofs.Keeping.{finish_is_task}
-use Rattle.activation.proofs.cores.Machine.may_finish.Goals as goal
+use Rattle.activation.proofs.cores.Core.may_finish.Goals as goal
 
 pub returns-then-is_number : goal.returns-then-is_number
 returns-then-is_number c =

@@ -5,7 +5,7 @@ use Rattle.mp_system.specs.System.{IsTask}
 use Rattle.activation.specs.Machine.{CoreValue}
 use Rattle.activation.specs.Tables.{is_edge, consumed_by, producer_of}
 use Rattle.activation.proofs.Producing.{consumed_all}
-use Rattle.activation.proofs.cores.Machine.refresh_consumers.Goals as goal
+use Rattle.activation.proofs.cores.Core.refresh_consumers.Goals as goal
 
 pub returns-clause-consumers : goal.returns-clause-consumers
 returns-clause-consumers c =

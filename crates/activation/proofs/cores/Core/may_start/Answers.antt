@@ -1,8 +1,8 @@
 use Rattle.std.proofs.Common.{length, arith, sym, ap, ◌∙◌}
 use Rattle.std.proofs.lemmas.Bool.{true≢false}
 use Rattle.activation.proofs.Keeping.{start_is_task, start_room}
-use Rattle.activation.proofs.cores.Machine.may_start.Goals as goal
-use Rattle.activation.proofs.cores.Machine.may_start.Goals.{then-is_number, else-is_number}
+use Rattle.activation.proofs.cores.Core.may_start.Goals as goal
+use Rattle.activation.proofs.cores.Core.may_start.Goals.{then-is_number, else-is_number}
 
 pub returns-else-has_room : goal.returns-else-has_room
 returns-else-has_room c =

@@ -1,6 +1,6 @@
 use Rattle.mp_system.specs.System.{IsTask}
 use Rattle.activation.proofs.Keeping.{place_found}
-use Rattle.activation.proofs.cores.Machine.place_of.Goals as goal
+use Rattle.activation.proofs.cores.Core.place_of.Goals as goal
 
 pub returns-clause-within : goal.returns-clause-within
 returns-clause-within c =

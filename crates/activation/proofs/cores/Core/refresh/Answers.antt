@@ -3,7 +3,7 @@ use Rattle.activation.specs.Run.{mark}
 use Rattle.activation.specs.Tables.{is_startable}
 use Rattle.activation.proofs.Numbers.{named}
 use Rattle.activation.proofs.Ranking.{rank_within, marked}
-use Rattle.activation.proofs.cores.Machine.refresh.Goals as goal
+use Rattle.activation.proofs.cores.Core.refresh.Goals as goal
 
 pub overflow_sub-rank : goal.overflow_sub-rank
 overflow_sub-rank c = (c.requires.tasks c.in-Some.named (named _ c.in-Some.named c.in-Some.is)).0
