@@ -123,7 +123,8 @@ limit_tests (Some name) = test false (refusals.Limit name) ∷ []
 
 -- the limits that a position keeps to after others, and its share
 abbrev pub room_tests : List Position → Position → ℕ → List (Test WorkflowKind)
-room_tests before p line = limit_tests (limit_of before p) ++ test (not (is_overshared p (stack_of before))) (fault_at line kinds.Share) ∷ []
+room_tests before p line =
+    limit_tests (limit_of before p) ++ test (not (is_overshared p (stack_of before))) (fault_at line kinds.Share) ∷ []
 
 -- a position line after lines that state these positions
 abbrev pub position_tests : Version → ℕ → List Position → Row → List (Test WorkflowKind)

@@ -113,7 +113,8 @@ pub fn position_on(
     line: Line<'_>,
 ) -> Result<Position, Refusal<WorkflowKind>>
     requires { height ≤ most_positions }
-    ensures judged { let r = row line.entry.number line.entry.text.now in Gives (tested (form_tests version count height tasks r) (position_of version r)) result }
+    ensures judged { let r = row line.entry.number line.entry.text.now in
+        Gives (tested (form_tests version count height tasks r) (position_of version r)) result }
     ensures position { IfOk result IsPosition }
 {
     let mut words = tokens(line.text);
