@@ -1,5 +1,6 @@
 -- What well-formed lines of a plan file say of what they state.
 use Rattle.std.proofs.Common.{◌≡◌, ℕ, suc, ◌-◌, ◌<◌, ◌≤◌, ◌⊎◌, inl, inr, Bool, true, false, cond, ◌&&◌, eqb, leb, ltb, List, [], ◌∷◌, ◌++◌, length, get_or, refl, sym, ap, subst, ◌∙◌, arith, pos, unsigned_abs, is_some, Option, Some, None, append_assoc, append-nil}
+use Rattle.std.specs.Prelude.{codes}
 use Rattle.std.specs.List.{All}
 use Rattle.std.proofs.lemmas.List.{length_push}
 use Rattle.std.proofs.lemmas.List.Elements.{All-nil, All-push}
@@ -13,7 +14,7 @@ use Rattle.mp_text.specs.declared.words.Version.TheVariants.{One, Two}
 use Rattle.mp_text.specs.Ahead.{rows_of_bytes}
 use Rattle.mp_text.specs.Grammar.{first_failure, ArePassed, token_at}
 use Rattle.plan_text.specs.Plan.{PlanText, most_number, IsPlan, IsClaimWithin, RiseFrom, IsTask, RanksAll, IsPriority, times}
-use Rattle.plan_text.specs.PlanFile.{Stated, stated, plan_format, staged_tests, is_ended, is_number_up_to, is_bound, bound_of, value_of, task_on, ranks_on, claim_on, last_position, claim_tests, order_tests, peak_tests, priority_tests, priority_section_tests, tests_after_order, last_tests, ReadsPlan}
+use Rattle.plan_text.specs.PlanFile.{Stated, stated, plan_format, staged_tests, is_ended, is_number_up_to, is_bound, bound_of, value_of, task_on, stated_on, claim_on, last_position, claim_tests, order_tests, peak_tests, priority_tests, priority_section_tests, tests_after_order, last_tests, ReadsPlan}
 use Rattle.plan_text.specs.Reader.{staged_next, with_task, with_rank, with_claim, peak_next, ranks_next, after_order_next}
 use Rattle.plan_text.specs.ReaderLaws.{stated_push}
 use Rattle.plan_text.specs.declared.claim.Claim.{Claim}
@@ -74,15 +75,15 @@ unfolding last_from
 rise_at n [] c ds rise = rise.0
 rise_at n (d ∷ cs) c ds rise = rise_at d.position cs c ds rise.1
 
-abbrev none : Claim
-none = record { position = 0; dir = F; bound = pos 0; rest = 0 }
+abbrev pub no_claim : Claim
+no_claim = record { position = 0; dir = F; bound = pos 0; rest = 0 }
 
-last_is : (n : ℕ) (c : Claim) (cs : List Claim) → (get_or (c ∷ cs) (length (c ∷ cs) - 1) none).position ≡ last_from n (c ∷ cs)
+last_is : (n : ℕ) (c : Claim) (cs : List Claim) → (get_or (c ∷ cs) (length (c ∷ cs) - 1) no_claim).position ≡ last_from n (c ∷ cs)
 unfolding last_from
 last_is n c [] = refl
 last_is n c (d ∷ cs) =
     let at : length (c ∷ d ∷ cs) - 1 ≡ suc (length (d ∷ cs) - 1) = omega arith in
-    ap (λ (k : ℕ). (get_or (c ∷ d ∷ cs) k none).position) at ∙ last_is c.position d cs
+    ap (λ (k : ℕ). (get_or (c ∷ d ∷ cs) k no_claim).position) at ∙ last_is c.position d cs
 
 last_position_is : (cs : List Claim) → last_position cs ≡ last_from 0 cs
 unfolding last_from
@@ -144,7 +145,7 @@ ranks-passed s row so full passed =
     let one = passes _ _ _ passed in
     let two = passes _ _ _ one.1 in
     let three = passes _ _ _ two.1 in
-    let count : (ranks_on row ≡ 0) ⊎ (ranks_on row ≡ s.count) = elim (or_cases _ _ three.0) [ inl e ↦ inl (eqb-true _ _ e) | inr e ↦ inr (eqb-true _ _ e) ] in
+    let count : (stated_on (codes "priority") row ≡ 0) ⊎ (stated_on (codes "priority") row ≡ s.count) = elim (or_cases _ _ three.0) [ inl e ↦ inl (eqb-true _ _ e) | inr e ↦ inr (eqb-true _ _ e) ] in
     (same_lists s (ranks_next s row) so refl refl refl, record { tasks = sym full; count = count; within = omega arith; part = part-none s.count })
 
 after_order-passed : (v : Version) (s : Stated) (row : Row) → IsSoFar s → length s.order ≡ s.count → s.priority ≡ [] → first_failure (tests_after_order v s row) ≡ None → Holds (after_order_next v s row)

@@ -20,7 +20,7 @@ use Rattle.mp_text.specs.Ahead.{rows_of_bytes, past_of_bytes}
 use Rattle.mp_text.specs.Grammar.{first_failure, ArePassed}
 use Rattle.mp_text.specs.Report.{is_counted, numbered_from, text_of_lines, is_token}
 use Rattle.plan_text.specs.Plan.{PlanText, most_number, IsPlan, IsClaimWithin, RiseFrom, IsTask, RanksAll, IsPriority, times}
-use Rattle.plan_text.specs.PlanFile.{Stated, stated, nothing, plan_format, plan_line_tests, tests_after, plan_of, end_tests_after, peak_tests, dir_named, last_position, ReadsPlan}
+use Rattle.plan_text.specs.PlanFile.{Stated, stated, nothing, plan_format, tests_after, plan_of, end_tests_after, peak_tests, dir_named, last_position, ReadsPlan}
 use Rattle.plan_text.specs.Printed.{header_line, section_line, task_line, claim_line, dir_word, end_line, task_lines, claim_lines, priority_lines, last_lines, lines_in, text_in, version_for, text_of, text2_of}
 use Rattle.plan_text.specs.Reader.{next, peak_next}
 use Rattle.plan_text.specs.ReaderLaws.{stated_push, at_claims, at_peak, at_ranks, at_order}
@@ -55,19 +55,19 @@ leads-stated before (row ∷ rows) t leads =
     ∙ leads-stated (before ++ row ∷ []) rows t (subst (λ (s : Stated). Leads s rows t) (sym (stated_push before row)) leads.1)
 
 leads-passed : (first rows : List Row) (t : Stated) → Leads (stated first) rows t
-    → (before after : List Row) (row : Row) → rows ≡ before ++ row ∷ after → first_failure (plan_line_tests (first ++ before) row) ≡ None
+    → (before after : List Row) (row : Row) → rows ≡ before ++ row ∷ after → first_failure (tests_after (stated (first ++ before)) row) ≡ None
 unfolding Leads
 leads-passed first [] t leads [] after row e = absurd cc
 leads-passed first [] t leads (b ∷ before) after row e = absurd cc
 leads-passed first (r ∷ rows) t leads [] after row e =
     let same : r ≡ row = cc in
-    subst (λ (x : Row). first_failure (plan_line_tests (first ++ []) x) ≡ None) same
-    (subst (λ (xs : List Row). first_failure (plan_line_tests xs r) ≡ None) (sym (append-nil first)) leads.0)
+    subst (λ (x : Row). first_failure (tests_after (stated (first ++ [])) x) ≡ None) same
+    (subst (λ (xs : List Row). first_failure (tests_after (stated xs) r) ≡ None) (sym (append-nil first)) leads.0)
 leads-passed first (r ∷ rows) t leads (b ∷ before) after row e =
     let same : r ≡ b = cc in
     let tail : rows ≡ before ++ row ∷ after = cc in
-    subst (λ (x : Row). first_failure (plan_line_tests (first ++ x ∷ before) row) ≡ None) same
-    (subst (λ (xs : List Row). first_failure (plan_line_tests xs row) ≡ None) (append_assoc first (r ∷ []) before)
+    subst (λ (x : Row). first_failure (tests_after (stated (first ++ x ∷ before)) row) ≡ None) same
+    (subst (λ (xs : List Row). first_failure (tests_after (stated xs) row) ≡ None) (append_assoc first (r ∷ []) before)
     (leads-passed (first ++ r ∷ []) rows t (subst (λ (s : Stated). Leads s rows t) (sym (stated_push first r)) leads.1) before after row tail))
 
 -- the lines from a number on lead there, whichever the number
