@@ -19,8 +19,8 @@ use Rattle.mp_text.specs.Words.{after_word, version_of}
 use Rattle.mp_text.specs.Ahead.{rows_of_bytes, past_of_bytes}
 use Rattle.mp_text.specs.Grammar.{first_failure, ArePassed}
 use Rattle.mp_text.specs.Report.{is_counted, numbered_from, text_of_lines, is_token}
-use Rattle.plan_text.specs.Plan.{PlanText, most_number, IsPlan, IsClaimWithin, RiseFrom, IsTask, RanksAll, IsPriority, times}
-use Rattle.plan_text.specs.PlanFile.{Stated, stated, nothing, plan_format, plan_line_tests, tests_after, plan_of, end_tests_after, peak_tests, dir_named, last_position, ReadsPlan}
+use Rattle.plan_text.specs.Plan.{PlanText, most_number, IsPlan, IsClaimWithin, RiseFrom, IsTask, IsPriority, times}
+use Rattle.plan_text.specs.PlanFile.{Stated, stated, nothing, plan_format, tests_after, plan_of, end_tests_after, peak_tests, dir_named, last_position, ReadsPlan}
 use Rattle.plan_text.specs.Printed.{header_line, section_line, task_line, claim_line, dir_word, end_line, task_lines, claim_lines, priority_lines, last_lines, lines_in, text_in, version_for, text_of, text2_of}
 use Rattle.plan_text.specs.Reader.{next, peak_next}
 use Rattle.plan_text.specs.ReaderLaws.{stated_push, at_claims, at_peak, at_ranks, at_order}
@@ -51,24 +51,20 @@ leads-stated : (before rows : List Row) (t : Stated) → Leads (stated before) r
 unfolding Leads
 leads-stated before [] t leads = ap stated (append-nil before) ∙ leads
 leads-stated before (row ∷ rows) t leads =
-    ap stated (sym (append_assoc before (row ∷ []) rows))
-    ∙ leads-stated (before ++ row ∷ []) rows t (subst (λ (s : Stated). Leads s rows t) (sym (stated_push before row)) leads.1)
+    ap stated (sym (append_assoc before (row ∷ []) rows)) ∙ leads-stated (before ++ row ∷ []) rows t (rw (stated_push before row) leads.1)
 
 leads-passed : (first rows : List Row) (t : Stated) → Leads (stated first) rows t
-    → (before after : List Row) (row : Row) → rows ≡ before ++ row ∷ after → first_failure (plan_line_tests (first ++ before) row) ≡ None
+    → (before after : List Row) (row : Row) → rows ≡ before ++ row ∷ after → first_failure (tests_after (stated (first ++ before)) row) ≡ None
 unfolding Leads
 leads-passed first [] t leads [] after row e = absurd cc
 leads-passed first [] t leads (b ∷ before) after row e = absurd cc
 leads-passed first (r ∷ rows) t leads [] after row e =
     let same : r ≡ row = cc in
-    subst (λ (x : Row). first_failure (plan_line_tests (first ++ []) x) ≡ None) same
-    (subst (λ (xs : List Row). first_failure (plan_line_tests xs r) ≡ None) (sym (append-nil first)) leads.0)
+    rw (append-nil first, ← same) leads.0
 leads-passed first (r ∷ rows) t leads (b ∷ before) after row e =
     let same : r ≡ b = cc in
     let tail : rows ≡ before ++ row ∷ after = cc in
-    subst (λ (x : Row). first_failure (plan_line_tests (first ++ x ∷ before) row) ≡ None) same
-    (subst (λ (xs : List Row). first_failure (plan_line_tests xs row) ≡ None) (append_assoc first (r ∷ []) before)
-    (leads-passed (first ++ r ∷ []) rows t (subst (λ (s : Stated). Leads s rows t) (sym (stated_push first r)) leads.1) before after row tail))
+    rw (← same, ← append_assoc first (r ∷ []) before) (leads-passed (first ++ r ∷ []) rows t (rw (stated_push first r) leads.1) before after row tail)
 
 -- the lines from a number on lead there, whichever the number
 abbrev LeadsOn : Stated → List (List (List ℕ)) → Stated → Type 0
@@ -95,21 +91,25 @@ at_place : (P : ℕ → Type 0) (before : List ℕ) (x : ℕ) (xs : List ℕ) �
 at_place P [] x xs all = All-head P x xs all
 at_place P (b ∷ before) x xs all = at_place P before x xs (All-tail P b (before ++ x ∷ xs) all)
 
-ranks-lead : AreLaws → (s : Stated) (before xs : List ℕ) (rest : List (List (List ℕ))) (t : Stated)
-    → s.count ≤ most_tasks → RanksAll s.count (before ++ xs)
-    → LeadsOn (at_ranks s s.count (before ++ xs)) rest t → LeadsOn (at_ranks s s.count before) (map task_line xs ++ rest) t
+ranks-lead : AreLaws → (s : Stated) (all before xs : List ℕ) (rest : List (List (List ℕ))) (t : Stated)
+    → s.count ≤ most_tasks → IsPriority s.count all → all ≡ before ++ xs
+    → LeadsOn (at_ranks s (length all) all) rest t → LeadsOn (at_ranks s (length all) before) (map task_line xs ++ rest) t
 unfolding Leads
-ranks-lead laws s before [] rest t few ranks more n = subst (λ (ys : List ℕ). Leads (at_ranks s s.count ys) (numbered_from n rest) t) (append-nil before) (more n)
-ranks-lead laws s before (x ∷ xs) rest t few ranks more n =
-    let task = at_place (IsTask s.count) before x xs ranks.tasks in
-    let fresh : times before x ≡ 0 = times-before before x xs (ranks.once x task) in
-    let len = ranks.len in
-    let open_yet : ltb (length before) s.count ≡ true = lt-ltb _ _ (omega (arith, length-append before (x ∷ xs))) in
+ranks-lead laws s all before [] rest t few ranked e more n = subst (λ (ys : List ℕ). Leads (at_ranks s (length all) ys) (numbered_from n rest) t) (e ∙ append-nil before) (more n)
+ranks-lead laws s all before (x ∷ xs) rest t few (inl none) e more n = absurd (omega (arith, ap length none, ap length e, length-append before (x ∷ xs)))
+ranks-lead laws s all before (x ∷ xs) rest t few (inr ranks) e more n =
+    let task = at_place (IsTask s.count) before x xs (subst (All (IsTask s.count)) e ranks.tasks) in
+    let fresh : times before x ≡ 0 = times-before before x xs (ap (λ (ys : List ℕ). times ys x) (sym e) ∙ ranks.once x task) in
+    let open_yet : ltb (length before) (length all) ≡ true = lt-ltb _ _ (omega (arith, ap length e, length-append before (x ∷ xs))) in
     let above = task.1 in
     let number : number_of (decimal x) ≡ Some x = laws.value x (omega arith) in
-    let tail = ranks-lead laws s (before ++ x ∷ []) xs rest t few (subst (RanksAll s.count) (sym (append_assoc before (x ∷ []) xs)) ranks)
-    (subst (λ (ys : List ℕ). LeadsOn (at_ranks s s.count ys) rest t) (sym (append_assoc before (x ∷ []) xs)) more) (n + 1) in
+    let tail = ranks-lead laws s all (before ++ x ∷ []) xs rest t few (inr ranks) (e ∙ sym (append_assoc before (x ∷ []) xs)) more (n + 1) in
     rw (open_yet, number, le-leb 1 x task.0, le-leb x s.count task.1, eq-eqb (times before x) 0 fresh) (refl, tail)
+
+-- a priority is not longer than the order, and what its section states passes
+priority-fits : (n : ℕ) (xs : List ℕ) → IsPriority n xs → (length xs ≤ n) × ((eqb (length xs) 0 || eqb (length xs) n) ≡ true)
+priority-fits n xs (inl none) = rw none (omega arith, refl)
+priority-fits n xs (inr ranks) = let len = ranks.len in (omega arith, or_right _ _ (eq-eqb (length xs) n len))
 
 -- ---- claim lines
 
@@ -185,34 +185,22 @@ ranked-before s priority row =
     rw full (refl, refl)
 
 module _ (laws : AreLaws) (plan : PlanText) (is : IsPlan plan) where
-  full : ltb (length plan.order) (length plan.order) ≡ false
-  full = le-ltb _ _ (omega arith)
-
   -- the priority, if it is printed
-  priority-leads : IsPriority (length plan.order) plan.priority
-      → LeadsOn (ordered Two plan) (priority_lines Two plan.priority ++ last_lines plan) (whole Two plan)
+  priority-leads : LeadsOn (ordered Two plan) (priority_lines Two plan.priority ++ last_lines plan) (whole Two plan)
   unfolding Leads after_word
-  priority-leads (inl none) n =
-      let zero_is : number_of (decimal 0) ≡ Some 0 = laws.value 0 (omega arith) in
-      let last = last-leads laws (at_ranks (ordered Two plan) (length plan.priority) plan.priority) plan is refl (ranked-before (ordered Two plan) plan.priority) (n + 1) in
-      let last_none : Leads (at_ranks (ordered Two plan) 0 []) (numbered_from (n + 1) (last_lines plan)) (done (at_ranks (ordered Two plan) 0 []) plan)
-      = subst (λ (xs : List ℕ). Leads (at_ranks (ordered Two plan) (length xs) xs) (numbered_from (n + 1) (last_lines plan)) (done (at_ranks (ordered Two plan) (length xs) xs) plan)) none last in
-      subst (λ (xs : List ℕ). Leads (ordered Two plan) (numbered_from n (priority_lines Two xs ++ last_lines plan)) (done (at_ranks (ordered Two plan) (length xs) xs) plan)) (sym none)
-      (rw (full, zero_is) (refl, last_none))
-  priority-leads (inr ranks) n =
+  priority-leads n =
       let few = is.few_tasks in
-      let count : number_of (decimal (length plan.order)) ≡ Some (length plan.order) = laws.value (length plan.order) (omega arith) in
-      let all : (eqb (length plan.order) 0 || eqb (length plan.order) (length plan.order)) ≡ true = or_right _ _ (eq-eqb (length plan.order) (length plan.order) refl) in
-      let last : LeadsOn (at_ranks (ordered Two plan) (length plan.order) plan.priority) (last_lines plan) (done (at_ranks (ordered Two plan) (length plan.order) plan.priority) plan)
-      = subst (λ (m : ℕ). LeadsOn (at_ranks (ordered Two plan) m plan.priority) (last_lines plan) (done (at_ranks (ordered Two plan) m plan.priority) plan)) ranks.len
-      (last-leads laws (at_ranks (ordered Two plan) (length plan.priority) plan.priority) plan is refl (ranked-before (ordered Two plan) plan.priority)) in
-      let lines = ranks-lead laws (ordered Two plan) [] plan.priority (last_lines plan) (done (at_ranks (ordered Two plan) (length plan.order) plan.priority) plan) is.few_tasks ranks last (n + 1) in
-      subst (λ (m : ℕ). Leads (ordered Two plan) (numbered_from n (section_line (codes "priority") m ∷ (map task_line plan.priority ++ last_lines plan))) (done (at_ranks (ordered Two plan) m plan.priority) plan)) (sym ranks.len)
-      (rw (full, count, all) (refl, lines))
+      let fits = priority-fits (length plan.order) plan.priority is.priority in
+      let short = fits.0 in
+      let full : ltb (length plan.order) (length plan.order) ≡ false = le-ltb _ _ (omega arith) in
+      let count : number_of (decimal (length plan.priority)) ≡ Some (length plan.priority) = laws.value (length plan.priority) (omega arith) in
+      let last = last-leads laws (at_ranks (ordered Two plan) (length plan.priority) plan.priority) plan is refl (ranked-before (ordered Two plan) plan.priority) in
+      let lines = ranks-lead laws (ordered Two plan) plan.priority [] plan.priority (last_lines plan) (whole Two plan) is.few_tasks is.priority refl last (n + 1) in
+      rw (full, count, fits.1) (refl, lines)
 
   after_order-leads : (v : Version) → LeadsOn (ordered v plan) (priority_lines v plan.priority ++ last_lines plan) (whole v plan)
   after_order-leads One = last-leads laws (ordered One plan) plan is refl (ordered-before plan)
-  after_order-leads Two = priority-leads is.priority
+  after_order-leads Two = priority-leads
 
   section-leads : (v : Version) → LeadsOn (begun v) (task_lines (codes "order") plan.order ++ (priority_lines v plan.priority ++ last_lines plan)) (whole v plan)
   unfolding Leads after_word

@@ -55,32 +55,22 @@ section_form word row =
     ∷ test (is_some (number_after word row)) (fault kinds.Number row)
     ∷ []
 
-abbrev pub tasks_on : Row → ℕ
-tasks_on row = stated_on (codes "order") row
-
 abbrev pub order_section_tests : Row → List (Test PlanKind)
-order_section_tests row = section_form (codes "order") row ++ test (nat_le (tasks_on row) most_tasks) (refusals.Limit limits.Tasks) ∷ []
-
-abbrev pub ranks_on : Row → ℕ
-ranks_on row = stated_on (codes "priority") row
+order_section_tests row =
+    section_form (codes "order") row ++ test (nat_le (stated_on (codes "order") row) most_tasks) (refusals.Limit limits.Tasks) ∷ []
 
 -- the priority ranks all tasks of the order, or is left out
 abbrev pub priority_section_tests : ℕ → Row → List (Test PlanKind)
 priority_section_tests tasks row =
-    section_form (codes "priority") row ++ test ((ranks_on row == 0) || (ranks_on row == tasks)) (fault kinds.Priority row) ∷ []
-
-abbrev pub peak_on : Row → ℕ
-peak_on row = stated_on (codes "peak") row
+    let count = stated_on (codes "priority") row in
+    section_form (codes "priority") row ++ test ((count == 0) || (count == tasks)) (fault kinds.Priority row) ∷ []
 
 abbrev pub peak_tests : Row → List (Test PlanKind)
-peak_tests row = section_form (codes "peak") row ++ test (nat_le (peak_on row) most_total) (fault kinds.Number row) ∷ []
-
-abbrev pub claims_on : Row → ℕ
-claims_on row = stated_on (codes "claims") row
+peak_tests row = section_form (codes "peak") row ++ test (nat_le (stated_on (codes "peak") row) most_total) (fault kinds.Number row) ∷ []
 
 abbrev pub claims_section_tests : Row → List (Test PlanKind)
 claims_section_tests row =
-    section_form (codes "claims") row ++ test (nat_le (claims_on row) most_positions) (refusals.Limit limits.Positions) ∷ []
+    section_form (codes "claims") row ++ test (nat_le (stated_on (codes "claims") row) most_positions) (refusals.Limit limits.Positions) ∷ []
 
 -- ---- a line within a section
 
@@ -141,14 +131,8 @@ claim_tests before row =
 
 -- ---- the last line: `end`, and none after it
 
-abbrev pub is_end : Row → Bool
-is_end row = pointwise bytes_eq row.tokens (codes "end" ∷ [])
-
 abbrev pub last_tests : Row → List (Test PlanKind)
-last_tests row = test (is_end row) (fault kinds.NoEnd row) ∷ []
-
-abbrev pub further_tests : Row → List (Test PlanKind)
-further_tests row = test false (fault kinds.NoEnd row) ∷ []
+last_tests row = test (pointwise bytes_eq row.tokens (codes "end" ∷ [])) (fault kinds.NoEnd row) ∷ []
 
 -- ---- what some lines of a file state, section by section
 
@@ -175,19 +159,19 @@ with_end s (last ∷ rows) = record s { stage = stages.Ended }
 abbrev pub with_claims : Stated → List Row → Stated
 with_claims s [] = s
 with_claims s (section ∷ rows) =
-    let count = claims_on section in
+    let count = stated_on (codes "claims") section in
     with_end (record s { stage = stages.Claims; count = count; claims = map claim_on (take count rows) }) (drop count rows)
 
 -- the lines from `peak P` on
 abbrev pub with_peak : Stated → List Row → Stated
 with_peak s [] = s
-with_peak s (section ∷ rows) = with_claims (record s { stage = stages.ClaimsSection; peak = peak_on section }) rows
+with_peak s (section ∷ rows) = with_claims (record s { stage = stages.ClaimsSection; peak = stated_on (codes "peak") section }) rows
 
 -- the lines from `priority M` on
 abbrev pub with_ranks : Stated → List Row → Stated
 with_ranks s [] = s
 with_ranks s (section ∷ rows) =
-    let count = ranks_on section in
+    let count = stated_on (codes "priority") section in
     with_peak (record s { stage = stages.Priority; tasks = s.count; count = count; priority = map task_on (take count rows) }) (drop count rows)
 
 -- the lines after the order lines
@@ -199,7 +183,7 @@ after_order_in Two s rows = with_ranks s rows
 abbrev pub with_order : Stated → List Row → Stated
 with_order s [] = s
 with_order s (section ∷ rows) =
-    let count = tasks_on section in
+    let count = stated_on (codes "order") section in
     after_order_in s.version (record s { stage = stages.Order; count = count; order = map task_on (take count rows) }) (drop count rows)
 
 unfoldable pub stated : List Row → Stated
@@ -220,13 +204,10 @@ staged_tests stages.Order s row = if nat_lt (length s.order) s.count then order_
 staged_tests stages.Priority s row = if nat_lt (length s.priority) s.count then priority_tests s.tasks s.priority row else peak_tests row
 staged_tests stages.ClaimsSection s row = claims_section_tests row
 staged_tests stages.Claims s row = if nat_lt (length s.claims) s.count then claim_tests s.claims row else last_tests row
-staged_tests stages.Ended s row = further_tests row
+staged_tests stages.Ended s row = test false (fault kinds.NoEnd row) ∷ []
 
 abbrev pub tests_after : Stated → Row → List (Test PlanKind)
 tests_after s row = staged_tests s.stage s row
-
-abbrev pub plan_line_tests : List Row → Row → List (Test PlanKind)
-plan_line_tests before row = tests_after (stated before) row
 
 -- whether `end` was there
 abbrev pub is_ended : Stage → Bool
@@ -237,7 +218,7 @@ abbrev pub end_tests_after : Stated → ℕ → List (Test PlanKind)
 end_tests_after s past = test (is_ended s.stage) (fault_at past kinds.NoEnd) ∷ []
 
 abbrev pub plan_format : Format PlanKind
-plan_format = record { line_tests = plan_line_tests; end_tests = λ rows past. end_tests_after (stated rows) past }
+plan_format = record { line_tests = λ before row. tests_after (stated before) row; end_tests = λ rows past. end_tests_after (stated rows) past }
 
 -- ---- the whole file
 

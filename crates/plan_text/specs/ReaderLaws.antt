@@ -1,7 +1,7 @@
 -- No public clause names this.
 -- What the reader of plan files does is what the tests of the format say: the two laws of its `impl Reader`. An `impl` takes the proofs of
 -- its laws from specs/, so they stand here and not in proofs/.
-use Rattle.std.specs.Prelude.{◌≡◌, ℕ, ◌<◌, ◌≤◌, ◌⊎◌, true, false, nat_lt, List, [], ◌∷◌, ◌++◌, length, map, take, drop, refl}
+use Rattle.std.specs.Prelude.{◌≡◌, ℕ, ◌<◌, ◌≤◌, ◌⊎◌, true, false, nat_lt, List, [], ◌∷◌, ◌++◌, length, map, take, drop, codes, refl}
 use Rattle.std.proofs.Common.{sym, ap, ◌∙◌, arith, inl, inr}
 use Rattle.std.proofs.Math.Seq.{take-nil, drop-nil}
 use Rattle.std.proofs.lemmas.Bool.{cases_Bool, ltb-true, ltb-false, le-ltb, lt-ltb}
@@ -12,7 +12,7 @@ use Rattle.mp_text.specs.declared.words.Version.TheVariants.{One, Two}
 use Rattle.mp_text.specs.Grammar.{ArePassed}
 use Rattle.mp_text.specs.Reading.{Follows}
 use Rattle.mp_text.specs.ReadingLaws.{tested-follows}
-use Rattle.plan_text.specs.PlanFile.{Stated, stated, nothing, tasks_on, ranks_on, peak_on, claims_on, task_on, claim_on, version_stated, with_end, with_claims, with_peak, with_ranks, after_order_in, with_order, plan_format, plan_line_tests, end_tests_after}
+use Rattle.plan_text.specs.PlanFile.{Stated, stated, nothing, stated_on, task_on, claim_on, version_stated, with_end, with_claims, with_peak, with_ranks, after_order_in, with_order, plan_format, tests_after, end_tests_after}
 use Rattle.plan_text.specs.Reader.{next, after_order_next, plan_step, plan_end, took}
 use Rattle.plan_text.specs.declared.claim.Claim.{Claim}
 use Rattle.plan_text.specs.declared.stage.Stage.TheVariants as stages
@@ -70,16 +70,16 @@ abbrev pub at_peak : Stated → ℕ → Stated
 at_peak s peak = record s { stage = stages.ClaimsSection; peak = peak }
 
 claims_push : (s : Stated) (peak : ℕ) (rows : List Row) (row : Row) → s.claims ≡ [] → with_claims (at_peak s peak) (rows ++ row ∷ []) ≡ next (with_claims (at_peak s peak) rows) row
-claims_push s peak [] row fresh = rw (drop-nil (claims_on row), take-nil (claims_on row), fresh) refl
+claims_push s peak [] row fresh = rw (drop-nil (stated_on (codes "claims") row), take-nil (stated_on (codes "claims") row), fresh) refl
 claims_push s peak (section ∷ rows) row fresh =
-    let n = claims_on section in
+    let n = stated_on (codes "claims") section in
     elim (within_or_past claim_on n rows row) [
       | inl w ↦ rw (w.more, w.still_none, w.none, w.open_yet) refl
       | inr p ↦ rw (p.same, p.later) (end_push (at_peak s peak) n (map claim_on (take n rows)) (drop n rows) row p.full)
     ]
 
 peak_push : (s : Stated) (section : Row) (rows : List Row) (row : Row) → s.claims ≡ [] → with_peak s (section ∷ (rows ++ row ∷ [])) ≡ next (with_peak s (section ∷ rows)) row
-peak_push s section rows row fresh = claims_push s (peak_on section) rows row fresh
+peak_push s section rows row fresh = claims_push s (stated_on (codes "peak") section) rows row fresh
 
 abbrev pub at_ranks : Stated → ℕ → List ℕ → Stated
 at_ranks s count priority = record s { stage = stages.Priority; tasks = s.count; count = count; priority = priority }
@@ -91,7 +91,7 @@ ranked_push s count priority (section ∷ rows) row fresh full = peak_push (at_r
 
 ranks_push : (s : Stated) (section : Row) (rows : List Row) (row : Row) → s.claims ≡ [] → with_ranks s (section ∷ (rows ++ row ∷ [])) ≡ next (with_ranks s (section ∷ rows)) row
 ranks_push s section rows row fresh =
-    let n = ranks_on section in
+    let n = stated_on (codes "priority") section in
     elim (within_or_past task_on n rows row) [
       | inl w ↦ rw (w.more, w.still_none, w.none, w.open_yet) refl
       | inr p ↦ rw (p.same, p.later) (ranked_push s n (map task_on (take n rows)) (drop n rows) row fresh p.full)
@@ -106,7 +106,7 @@ after_none Two s = refl
 
 after_one : (v : Version) (s : Stated) (row : Row) → after_order_in v s (row ∷ []) ≡ after_order_next v s row
 after_one One s row = refl
-after_one Two s row = rw (drop-nil (ranks_on row), take-nil (ranks_on row)) refl
+after_one Two s row = rw (drop-nil (stated_on (codes "priority") row), take-nil (stated_on (codes "priority") row)) refl
 
 after_more : (v : Version) (s : Stated) (section : Row) (rows : List Row) (row : Row) → s.claims ≡ []
     → after_order_in v s (section ∷ (rows ++ row ∷ [])) ≡ next (after_order_in v s (section ∷ rows)) row
@@ -121,7 +121,7 @@ ordered_push s count order (section ∷ rows) row fresh full = after_more s.vers
 
 order_push : (s : Stated) (section : Row) (rows : List Row) (row : Row) → s.claims ≡ [] → with_order s (section ∷ (rows ++ row ∷ [])) ≡ next (with_order s (section ∷ rows)) row
 order_push s section rows row fresh =
-    let n = tasks_on section in
+    let n = stated_on (codes "order") section in
     elim (within_or_past task_on n rows row) [
       | inl w ↦ rw (w.more, w.still_none, w.none) (rw (after_none s.version (at_order s n (map task_on (take n rows) ++ task_on row ∷ [])), after_none s.version (at_order s n (map task_on (take n rows))), w.open_yet) refl)
       | inr p ↦ rw (p.same, p.later) (ordered_push s n (map task_on (take n rows)) (drop n rows) row fresh p.full)
@@ -134,16 +134,17 @@ pub stated_push : (rows : List Row) (row : Row) → stated (rows ++ row ∷ []) 
 unfolding stated
 stated_push [] row = refl
 stated_push (header ∷ []) row =
-    rw (drop-nil (tasks_on row), take-nil (tasks_on row)) (after_none (version_stated header) (at_order (begun header) (tasks_on row) []))
+    let n = stated_on (codes "order") row in
+    rw (drop-nil n, take-nil n) (after_none (version_stated header) (at_order (begun header) n []))
 stated_push (header ∷ section ∷ rows) row = order_push (begun header) section rows row refl
 
 -- ---- the two laws
 
 pub step_follows : (s : Stated) (before : List Row) (row : Row) → took s before → ArePassed plan_format before →
-    Follows (plan_line_tests before row) (λ after. took after (before ++ row ∷ []) × (plan_format ≡ plan_format)) (plan_step s row)
+    Follows (tests_after (stated before) row) (λ after. took after (before ++ row ∷ []) × (plan_format ≡ plan_format)) (plan_step s row)
 unfolding plan_step
 step_follows s before row taken passed =
-    rw taken (tested-follows (plan_line_tests before row) (next (stated before) row) (λ after. took after (before ++ row ∷ []) × (plan_format ≡ plan_format))
+    rw taken (tested-follows (tests_after (stated before) row) (next (stated before) row) (λ after. took after (before ++ row ∷ []) × (plan_format ≡ plan_format))
     (λ _. (sym (stated_push before row), refl)))
 
 pub end_follows : (s : Stated) (rows : List Row) (past : ℕ) → took s rows → ArePassed plan_format rows →

@@ -1,12 +1,12 @@
 //! One function for each kind of line of a plan file: its tests in the order of the format's table.
 
-ghost use Rattle.std.specs.Prelude.{◌≡◌, ◌≤◌, MatchOption, IfOk, Some, false, unsigned_abs};
+ghost use Rattle.std.specs.Prelude.{◌≡◌, ◌≤◌, MatchOption, IfOk, Some, false, unsigned_abs, codes};
 ghost use Rattle.limits.specs.Limits.{most_tasks, most_positions, most_total};
 ghost use Rattle.mp_text.specs.Text.{number_of, signed_of};
 ghost use Rattle.mp_text.specs.Ahead.{row};
 ghost use Rattle.mp_text.specs.Reading.{Gives, tested};
 ghost use Rattle.plan_text.specs.Plan.{IsTask};
-ghost use Rattle.plan_text.specs.PlanFile.{is_number_up_to, dir_named, is_bound, header_tests, version_stated, section_form, stated_on, order_section_tests, tasks_on, priority_section_tests, ranks_on, peak_tests, peak_on, claims_section_tests, claims_on, task_on, order_tests, priority_tests, last_position, claim_on, claim_form, claim_tests, last_tests};
+ghost use Rattle.plan_text.specs.PlanFile.{is_number_up_to, dir_named, is_bound, header_tests, version_stated, section_form, stated_on, order_section_tests, priority_section_tests, peak_tests, claims_section_tests, task_on, order_tests, priority_tests, last_position, claim_on, claim_form, claim_tests, last_tests};
 
 use crate::claim::{Claim, Dir, PlanKind};
 use crate::ranking::Ranking;
@@ -77,7 +77,7 @@ fn section_on(line: Line<'_>, word: &[u8]) -> Result<u64, Refusal<PlanKind>>
 
 /// `order N`: the number of tasks.
 pub fn order_section_on(line: Line<'_>) -> Result<u64, Refusal<PlanKind>>
-    ensures judged { let r = row line.entry.number line.entry.text.now in Gives (tested (order_section_tests r) (tasks_on r)) result }
+    ensures judged { let r = row line.entry.number line.entry.text.now in Gives (tested (order_section_tests r) (stated_on (codes "order") r)) result }
     ensures few { IfOk result (λ n. n ≤ most_tasks) }
 {
     let count = section_on(line, b"order")?;
@@ -89,7 +89,7 @@ pub fn order_section_on(line: Line<'_>) -> Result<u64, Refusal<PlanKind>>
 
 /// `priority M`: the number of tasks that it ranks, all or none.
 pub fn priority_section_on(tasks: u64, line: Line<'_>) -> Result<u64, Refusal<PlanKind>>
-    ensures judged { let r = row line.entry.number line.entry.text.now in Gives (tested (priority_section_tests tasks r) (ranks_on r)) result }
+    ensures judged { let r = row line.entry.number line.entry.text.now in Gives (tested (priority_section_tests tasks r) (stated_on (codes "priority") r)) result }
     ensures few { IfOk result (λ n. n ≤ tasks) }
 {
     let count = section_on(line, b"priority")?;
@@ -101,7 +101,7 @@ pub fn priority_section_on(tasks: u64, line: Line<'_>) -> Result<u64, Refusal<Pl
 
 /// `peak P`: the peak.
 pub fn peak_on(line: Line<'_>) -> Result<u64, Refusal<PlanKind>>
-    ensures { let r = row line.entry.number line.entry.text.now in Gives (tested (peak_tests r) (peak_on r)) result }
+    ensures { let r = row line.entry.number line.entry.text.now in Gives (tested (peak_tests r) (stated_on (codes "peak") r)) result }
 {
     let peak = section_on(line, b"peak")?;
     if peak > MOST_TOTAL {
@@ -112,7 +112,7 @@ pub fn peak_on(line: Line<'_>) -> Result<u64, Refusal<PlanKind>>
 
 /// `claims C`: the number of claims.
 pub fn claims_section_on(line: Line<'_>) -> Result<u64, Refusal<PlanKind>>
-    ensures judged { let r = row line.entry.number line.entry.text.now in Gives (tested (claims_section_tests r) (claims_on r)) result }
+    ensures judged { let r = row line.entry.number line.entry.text.now in Gives (tested (claims_section_tests r) (stated_on (codes "claims") r)) result }
     ensures few { IfOk result (λ n. n ≤ most_positions) }
 {
     let count = section_on(line, b"claims")?;
@@ -146,14 +146,10 @@ pub fn priority_on(ranking: &Ranking, line: Line<'_>) -> Result<u32, Refusal<Pla
     let Some(task) = number(token) else {
         return Err(fault(line.number, PlanKind::Number));
     };
-    if task < 1 || task > u64::from(ranking.tasks()) {
+    if !ranking.takes(task) {
         return Err(fault(line.number, PlanKind::Priority));
     }
-    let task = task as u32;
-    if ranking.has(task) {
-        return Err(fault(line.number, PlanKind::Priority));
-    }
-    Ok(task)
+    Ok(task as u32)
 }
 
 // The position of the last claim, 0 where there is none.

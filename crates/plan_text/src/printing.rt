@@ -19,26 +19,30 @@ fn dir_word(dir: Dir) -> &'static str
     }
 }
 
-fn print_each_task(tasks: &[u32], report: &mut Report) -> Result<(), NoMemory>
-    requires { IsTrue (is_line_start report.old) }
-    ensures ok { OnOk result (report.new ≡ report.old ++ text_of_lines (map task_line tasks.now)) }
+// How many tasks there are, and each on a line.
+fn print_tasks(word: &str, tasks: &[u32], report: &mut Report) -> Result<(), NoMemory>
+    requires token { IsTrue (is_token word.now) }
+    requires start { IsTrue (is_line_start report.old) }
+    ensures ok { OnOk result (report.new ≡ report.old ++ text_of_lines (task_lines word.now tasks.now)) }
     ensures start { OnOk result (IsTrue (is_line_start report.new)) }
     ensures err { OnErr result (take (length report.old) report.new ≡ report.old) }
 {
     printed_lines();
+    report.line(&[Token::Word(word), Token::Number(tasks.len() as u64)])?;
     for task in tasks {
         report.line(&[Token::Number(u64::from(*task))])?;
     }
     Ok(())
 }
 
-fn print_each_claim(claims: &[Claim], report: &mut Report) -> Result<(), NoMemory>
+fn print_claims(claims: &[Claim], report: &mut Report) -> Result<(), NoMemory>
     requires { IsTrue (is_line_start report.old) }
-    ensures ok { OnOk result (report.new ≡ report.old ++ text_of_lines (map claim_line claims.now)) }
+    ensures ok { OnOk result (report.new ≡ report.old ++ text_of_lines (claim_lines claims.now)) }
     ensures start { OnOk result (IsTrue (is_line_start report.new)) }
     ensures err { OnErr result (take (length report.old) report.new ≡ report.old) }
 {
     printed_lines();
+    report.line(&[Token::Word("claims"), Token::Number(claims.len() as u64)])?;
     for claim in claims {
         report.line(&[
             Token::Number(u64::from(claim.position)),
@@ -48,28 +52,6 @@ fn print_each_claim(claims: &[Claim], report: &mut Report) -> Result<(), NoMemor
         ])?;
     }
     Ok(())
-}
-
-// How many tasks there are, and each on a line.
-fn print_tasks(word: &str, tasks: &[u32], report: &mut Report) -> Result<(), NoMemory>
-    requires token { IsTrue (is_token word.now) }
-    requires start { IsTrue (is_line_start report.old) }
-    ensures ok { OnOk result (report.new ≡ report.old ++ text_of_lines (task_lines word.now tasks.now)) }
-    ensures start { OnOk result (IsTrue (is_line_start report.new)) }
-    ensures err { OnErr result (take (length report.old) report.new ≡ report.old) }
-{
-    report.line(&[Token::Word(word), Token::Number(tasks.len() as u64)])?;
-    print_each_task(tasks, report)
-}
-
-fn print_claims(claims: &[Claim], report: &mut Report) -> Result<(), NoMemory>
-    requires { IsTrue (is_line_start report.old) }
-    ensures ok { OnOk result (report.new ≡ report.old ++ text_of_lines (claim_lines claims.now)) }
-    ensures start { OnOk result (IsTrue (is_line_start report.new)) }
-    ensures err { OnErr result (take (length report.old) report.new ≡ report.old) }
-{
-    report.line(&[Token::Word("claims"), Token::Number(claims.len() as u64)])?;
-    print_each_claim(claims, report)
 }
 
 // The lines after the priority.

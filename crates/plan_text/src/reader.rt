@@ -77,36 +77,20 @@ impl PlanReader {
         Ok(())
     }
 
-    // Takes an order line.
-    fn task_line(&mut self, line: Line<'_>) -> Result<(), Refusal<PlanKind>>
-        ensures { let r = row line.entry.number line.entry.text.now in Steps (tested (order_tests r) (with_task self.old r)) result self.new }
-    {
-        let task = order_on(line)?;
-        self.order.push(task)?;
-        Ok(())
-    }
-
     // Takes a line after `order N`.
     fn order_line(&mut self, line: Line<'_>) -> Result<(), Refusal<PlanKind>>
         requires { self.old.stage ≡ Stage.Order }
         ensures { let r = row line.entry.number line.entry.text.now in Steps (tested (staged_tests Stage.Order self.old r) (staged_next Stage.Order self.old r)) result self.new }
     {
         if (self.order.len() as u64) < self.count {
-            return self.task_line(line);
+            let task = order_on(line)?;
+            self.order.push(task)?;
+            return Ok(());
         }
         match self.version {
             Version::One => self.peak_line(line),
             Version::Two => self.priority_section(line),
         }
-    }
-
-    // Takes a priority line.
-    fn rank_line(&mut self, line: Line<'_>) -> Result<(), Refusal<PlanKind>>
-        ensures { let r = row line.entry.number line.entry.text.now in Steps (tested (priority_tests self.old.tasks self.old.priority r) (with_rank self.old r)) result self.new }
-    {
-        let task = priority_on(&self.ranking, line)?;
-        self.ranking.push(task)?;
-        Ok(())
     }
 
     // Takes a line after `priority M`.
@@ -115,19 +99,11 @@ impl PlanReader {
         ensures { let r = row line.entry.number line.entry.text.now in Steps (tested (staged_tests Stage.Priority self.old r) (staged_next Stage.Priority self.old r)) result self.new }
     {
         if (self.ranking.len() as u64) < self.count {
-            self.rank_line(line)
-        } else {
-            self.peak_line(line)
+            let task = priority_on(&self.ranking, line)?;
+            self.ranking.push(task)?;
+            return Ok(());
         }
-    }
-
-    // Takes a claim line.
-    fn claim_line(&mut self, line: Line<'_>) -> Result<(), Refusal<PlanKind>>
-        ensures { let r = row line.entry.number line.entry.text.now in Steps (tested (claim_tests self.old.claims r) (with_claim self.old r)) result self.new }
-    {
-        let claim = claim_on(&self.claims, line)?;
-        self.claims.push(claim)?;
-        Ok(())
+        self.peak_line(line)
     }
 
     // Takes a line after `claims C`.
@@ -136,7 +112,9 @@ impl PlanReader {
         ensures { let r = row line.entry.number line.entry.text.now in Steps (tested (staged_tests Stage.Claims self.old r) (staged_next Stage.Claims self.old r)) result self.new }
     {
         if (self.claims.len() as u64) < self.count {
-            return self.claim_line(line);
+            let claim = claim_on(&self.claims, line)?;
+            self.claims.push(claim)?;
+            return Ok(());
         }
         last_on(line)?;
         self.stage = Stage::Ended;

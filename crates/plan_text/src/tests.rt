@@ -1,4 +1,4 @@
-use crate::{Claim, Dir, PlanFile, PlanKind, laws, print_plan, print_plan_2, read_plan};
+use crate::{Claim, Dir, PlanFile, PlanKind, is_plan, laws, print_plan, print_plan_2, read_plan};
 use mp_text::{Fault, Refusal, Report};
 use std::alloc::Global;
 use std::process::Abort;
@@ -95,6 +95,34 @@ fn gives_the_parts(rt: HostRuntime) -> Result<(), Fail> {
         Vec::new(alloc),
     );
     assert!(rt; plan.order().is_empty());
+    Ok(())
+}
+
+#[test]
+fn tells_which_parts_make_a_plan(rt: HostRuntime) -> Result<(), Fail> {
+    let most = 1_152_921_504_606_846_976;
+    let claims = [claim(2, Dir::F, -5, 0), claim(7, Dir::R, 0, most)];
+    let (low, high) = (
+        claim(2, Dir::F, -1_152_921_504_606_846_977, 0),
+        claim(2, Dir::F, 0, most + 1),
+    );
+    let rows: [(u64, &[Claim], &[u32], bool); 11] = [
+        (most, &claims, &[2, 3, 1], true),
+        (0, &[], &[], true),
+        (most + 1, &claims, &[], false),
+        (9, &[claims[1], claims[0]], &[], false),
+        (9, &[claims[0], claims[0]], &[], false),
+        (9, &[claim(0, Dir::F, 0, 0)], &[], false),
+        (9, &[low], &[], false),
+        (9, &[high], &[], false),
+        (9, &claims, &[2, 3], false),
+        (9, &claims, &[2, 3, 2], false),
+        (9, &claims, &[2, 3, 4], false),
+    ];
+    for (peak, claims, priority, want) in rows {
+        let told = is_plan(rt.alloc(), &[3, 1, 2], peak, claims, priority)?;
+        assert_eq!(rt; told, want, "{claims:?} {priority:?}");
+    }
     Ok(())
 }
 
