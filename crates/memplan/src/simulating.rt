@@ -22,7 +22,7 @@ use crate::page::{Page, PageKind, bound_page, order_page, print_count, print_end
 use crate::report::Stop;
 use crate::request::SimulateNames;
 use activation::laws::schedule_law;
-use activation::{Core, CoreRefusal, Event, EventKind, Trace, simulate};
+use activation::{Core, CoreRefusal, Event, EventKind, Simulator, Trace};
 use mp_outside::Files;
 use mp_text::Report;
 use mp_text::laws::{printed_line, printed_number};
@@ -155,7 +155,10 @@ fn simulation_page(
         bound,
         workers,
     ) {
-        Ok(core) => trace_page(alloc, &simulate(core, priority)),
+        Ok(core) => {
+            let simulator = Simulator::new(alloc, core)?;
+            trace_page(alloc, &simulator.run(priority))
+        }
         Err(CoreRefusal::Order(fault)) => order_page(alloc, fault),
         Err(CoreRefusal::BoundBelow { bound, peak }) => bound_page(alloc, bound, peak),
         Err(CoreRefusal::NoMemory) => Err(AllocError),

@@ -14,8 +14,8 @@ use Rattle.memplan.proofs.simulating.simulation_page.Goals as goal
 pub returns-in-Ok-clause-run : goal.returns-in-Ok-clause-run
 returns-in-Ok-clause-run c =
     let core = c.in-Ok.ensures in
-    let trace = c.simulate.result in
-    let run = c.simulate.ensures in
+    let trace = c.run.result in
+    let run = rw c.in_ok-simulator.ensures at c.run.ensures in
     let laws : Laws = record { legal = c.schedule_law.ensures.legal; within = c.schedule_law.ensures.within } in
     let same : c.in-Ok.core.setting ≡ record { system = c.args.ordered.now.system; order = c.numbers.result.now; bound = c.args.bound; workers = c.args.workers } = core.setting in
     let text = λ (page : Page). answer_of page ≡ record { status = Done; text = text_of_lines (report_lines trace.makespan trace.used trace.booked trace.events.items) } in
