@@ -1,5 +1,5 @@
 -- The tables of a machine before and after each event.
-use Rattle.std.proofs.Common.{◌≡◌, ℕ, ◌+◌, ◌-◌, ◌<◌, ◌≤◌, Bool, true, false, not, ◌&&◌, List, [], ◌∷◌, ◌++◌, length, get_or, set, refl, sym, ◌∙◌, ap, arith, ⊎_elim, length-append}
+use Rattle.std.proofs.Common.{◌≡◌, ℕ, ◌+◌, ◌-◌, ◌<◌, ◌≤◌, true, false, not, ◌&&◌, List, [], ◌∷◌, ◌++◌, length, get_or, set, sym, ◌∙◌, ap, arith, ⊎_elim, length-append}
 use Rattle.std.specs.Prelude.{count_by, ◌==◌, ◌||◌, nat_lt, slice_index}
 use Rattle.std.proofs.lemmas.List.{get_or_read, length-take, get_or-take}
 use Rattle.std.proofs.lemmas.Bool.{cases_eq, eq-eqb, eqb-true, ne_eqb, ltb-true, lt-ltb, and_parts, and_from}
@@ -8,7 +8,7 @@ use Rattle.std.proofs.Math.Bool.{or-true, or-false, and-true, and-false}
 use Rattle.mp_system.specs.System.{IsTask, need_of, inputs_of, outputs_of}
 use Rattle.mp_system.specs.Memory.{stands_in, is_ready}
 use Rattle.activation.specs.declared.events.Phase.{Phase}
-use Rattle.activation.specs.declared.events.Phase.TheVariants.{Idle, Running, Done}
+use Rattle.activation.specs.declared.events.Phase.TheVariants.{Running, Done}
 use Rattle.activation.specs.declared.events.EventKind.TheVariants.{Activate, Start, Finish}
 use Rattle.activation.specs.Numbers.{IsNumber}
 use Rattle.activation.specs.Running.{RunningValue}

@@ -36,14 +36,6 @@ phase_replicate zero (suc i) = refl
 phase_replicate (suc n) (suc zero) = refl
 phase_replicate (suc n) (suc (suc i)) = phase_replicate n (suc i)
 
--- a count of what never passes
-pub count_zero : (f : ℕ → Bool) → (xs : List ℕ) → ((x : ℕ) → stands_in xs x ≡ true → f x ≡ false) → count_by f xs ≡ 0
-count_zero f [] none = refl
-count_zero f (x ∷ xs) none =
-    let e = none x (or_left (x == x) (stands_in xs x) (eq-eqb x x refl)) in
-    let ih = count_zero f xs (λ y h. none y (or_right (x == y) (stands_in xs y) h)) in
-    sum_by-cons (λ y. cond (f y) 1 0) x xs ∙ rw (e, ih) refl
-
 -- a sum of terms that are all zero
 pub sum_zero : (f : ℕ → ℕ) → (xs : List ℕ) → ((x : ℕ) → stands_in xs x ≡ true → f x ≡ 0) → sum_by f xs ≡ 0
 sum_zero f [] none = refl
@@ -51,6 +43,10 @@ sum_zero f (x ∷ xs) none =
     let e = none x (or_left (x == x) (stands_in xs x) (eq-eqb x x refl)) in
     let ih = sum_zero f xs (λ y h. none y (or_right (x == y) (stands_in xs y) h)) in
     sum_by-cons f x xs ∙ rw (e, ih) refl
+
+-- a count of what never passes
+pub count_zero : (f : ℕ → Bool) → (xs : List ℕ) → ((x : ℕ) → stands_in xs x ≡ true → f x ≡ false) → count_by f xs ≡ 0
+count_zero f xs none = sum_zero (λ y. cond (f y) 1 0) xs (λ x h. ap (λ (b : Bool). cond b 1 0) (none x h))
 
 -- the running tasks are among the activated ones that are not done
 pub used_within : (c : Setting) → IsSetting c → (st : State) → ((t : ℕ) → phase_in st.phases t ≢ Idle → stands_in (activated_tasks c st) t ≡ true) → used_memory c st ≤ booked_memory c st

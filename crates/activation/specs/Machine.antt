@@ -119,8 +119,7 @@ state_after st Finish t = record { activated = st.activated; phases = with_phase
 abbrev pub AllDone : Setting → State → Type 0
 AllDone c st = (t : ℕ) → IsTask c.system t → is_done st t ≡ true
 
--- what contracts see of a core: what it was given, its state, and whether it still has the room of a simulated run
+-- what contracts see of a core: what it was given, and its state
 pub record CoreValue : Type 0 where
   pub setting : Setting
   pub state : State
-  pub has_room : Bool

@@ -12,7 +12,7 @@ ghost use Rattle.activation.specs.Safe.{IsSafe};
 ghost use Rattle.activation.specs.Refusal.{IsCoreRefusal};
 ghost use Rattle.activation.specs.Tables.{is_startable, is_edge};
 ghost use Rattle.activation.specs.Schedule.{task_entry};
-ghost use Rattle.activation.specs.Run.{AreRanks, IsRoom, run_tables, mark};
+ghost use Rattle.activation.specs.Run.{AreRanks, mark};
 
 use crate::NoMemory;
 use crate::events::{Event, EventKind, Phase};
@@ -20,7 +20,6 @@ use crate::laws::{event_law, start_law};
 use crate::outputs::output_rows;
 use crate::places::{fill_places, is_number};
 use crate::refusal::CoreRefusal;
-use crate::room::Room;
 use crate::running::RunningTasks;
 use crate::start::{copy_system, start_memory};
 use crate::sums::needs_of;
@@ -46,29 +45,23 @@ pub struct Core {
     frees: Vec<u64>,
     places: Vec<u32>,
     outputs: RowTable,
-    waiting: Vec<u32>,
+    waiting: Vec<u64>,
     phases: Vec<Phase>,
     activated: usize,
     running: RunningTasks,
     booked: u64,
     used: u64,
-    // What a simulated run takes: its trees and tables, and its events.
-    room: Option<(Room, Vec<Event>)>,
 }
 
 impl Model for Core {
-    ghost use Rattle.std.specs.Prelude.{◌≡◌, ◌≤◌, ◌*◌, [], length, vec_capacity, is_some};
-    ghost use Rattle.std.specs.Option.{ForSome};
     ghost use Rattle.activation.specs.Machine.{CoreValue};
     ghost use Rattle.activation.specs.Tables.{AreCoreTables};
-    ghost use Rattle.activation.specs.Run.{IsRoom, run_tables};
 
     ghost Value = { CoreValue };
 
     ghost view = { λ m. record {
       setting = record { system = m.system; order = m.order.items; bound = m.bound; workers = m.workers };
       state = record { activated = m.activated; phases = m.phases.items };
-      has_room = is_some m.room;
     } };
 
     ghost invariant = { λ m. AreCoreTables
@@ -80,9 +73,7 @@ impl Model for Core {
           running = m.running;
           booked = m.booked;
           used = m.used;
-        })
-        × ForSome m.room (λ room. IsRoom (length m.system.tasks) (run_tables room.0)
-        × (room.1.items ≡ []) × (3 * length m.system.tasks ≤ vec_capacity room.1)) };
+        }) };
 }
 
 // The mark of a task that is startable, or is not.
@@ -93,7 +84,7 @@ fn mark(startable: bool) -> u64
 }
 
 impl Core {
-    /// The core at its start, with room for a whole run. The order is one of activation: a traversal whose peak is within the bound.
+    /// The core at its start. The order is one of activation: a traversal whose peak is within the bound.
     /// There are 1 to 4,096 workers. Near linear in the tasks and items.
     pub fn new(
         alloc: Global,
@@ -106,7 +97,6 @@ impl Core {
         ensures setting { IfOk result (λ core.
             core.setting ≡ record { system = system.now; order = order.now; bound = bound; workers = workers }) }
         ensures start { IfOk result (λ core. core.state ≡ start_state core.setting) }
-        ensures room { IfOk result (λ core. core.has_room ≡ true) }
         ensures within { IfOk result (λ core. IsSetting core.setting) }
         ensures refused { IfErr result (IsCoreRefusal system.now order.now bound) }
     {
@@ -131,7 +121,6 @@ impl Core {
         ensures setting { IfOk result (λ m.
             m.setting ≡ record { system = system.now; order = order.now; bound = bound; workers = workers }) }
         ensures start { IfOk result (λ m. m.state ≡ start_state m.setting) }
-        ensures room { IfOk result (λ m. m.has_room ≡ true) }
     {
         start_law();
         traversal_law();
@@ -144,8 +133,6 @@ impl Core {
         let running = RunningTasks::new(alloc, workers as usize, count)?;
         let phases = vec![in alloc; Phase::Idle; count]?;
         let memory = start_memory(system);
-        let room = Room::new(alloc, count)?;
-        let events = Vec::with_capacity(alloc, 3 * count)?;
         let order = Vec::from_slice(alloc, order)?;
         let system = copy_system(alloc, system)?;
         Ok(Core {
@@ -163,7 +150,6 @@ impl Core {
             running,
             booked: memory,
             used: memory,
-            room: Some((room, events)),
         })
     }
 
@@ -305,6 +291,13 @@ impl Core {
         let _ = &self.system;
     }
 
+    /// How many tasks there are.
+    pub(crate) fn tasks(&self) -> usize
+        ensures { result ≡ length self.now.setting.system.tasks }
+    {
+        self.system.tasks().len()
+    }
+
     /// The task that stands at this place of the order, counted from 0.
     pub(crate) fn task_at(&self, place: usize) -> u32
         requires { place < length self.now.setting.order }
@@ -329,21 +322,6 @@ impl Core {
         ensures long { result ≤ most_time }
     {
         self.system.tasks()[task as usize - 1].time
-    }
-
-    /// Gives away the room of a run.
-    pub(crate) fn take_room(&mut self) -> (Room, Vec<Event>)
-        requires { self.old.has_room ≡ true }
-        ensures setting { self.new.setting ≡ self.old.setting }
-        ensures state { self.new.state ≡ self.old.state }
-        ensures room { IsRoom (length self.old.setting.system.tasks) (run_tables result.0) }
-        ensures events { result.1.items ≡ [] }
-        ensures capacity { 3 * length self.old.setting.system.tasks ≤ vec_capacity result.1 }
-    {
-        let Some(room) = self.room.take() else {
-            unreachable!()
-        };
-        room
     }
 
     /// Writes down at the rank of the task that is named, if one is, whether it is startable.

@@ -2,7 +2,7 @@
 //! other along a traversal, which books their memory, and started by free workers once their suppliers are done. So no run gets stuck, and
 //! memory stays within every bound that the traversal keeps alone.
 //!
-//! [`Core`] is the machine, for whoever runs the tasks; [`simulate`] is its run in simulated time, for a priority that passes
+//! [`Core`] is the machine, for whoever runs the tasks; a [`Simulator`] runs it in simulated time, for a priority that passes
 //! [`holds_each`]. The definitions stand in specs/: `Machine`, `Runs`, `Safe`, `Schedule`; the laws over every list of events in [`laws`].
 #![tactic(auto)]
 
@@ -27,7 +27,7 @@ pub use cores::Core;
 pub use events::{Event, EventKind};
 pub use priority::holds_each;
 pub use refusal::CoreRefusal;
-pub use simulation::{Trace, simulate};
+pub use simulation::{Simulator, Trace};
 use std::alloc::AllocError;
 
 /// Want of memory: an allocation was refused.

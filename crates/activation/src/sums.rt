@@ -7,8 +7,8 @@ use crate::NoMemory;
 use mp_system::System;
 use std::alloc::Global;
 
-// Adds the size to the sum of the task that is named, if one is.
-fn add_size(sums: &mut [u64], task: Option<u32>, size: u64)
+/// Adds the size to the sum of the task that is named, if one is.
+pub fn add_size(sums: &mut [u64], task: Option<u32>, size: u64)
     requires { (t : ℕ) → is_named task t ≡ true → IsNumber t (length sums.old) × (task_entry sums.old t + size < 2 ^ 64) }
     ensures { (t : ℕ) → task_entry sums.new t ≡ task_entry sums.old t + (if is_named task t then size else 0) }
 {

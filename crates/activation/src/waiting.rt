@@ -1,25 +1,16 @@
-ghost use Rattle.std.specs.Prelude.{◌≡◌, ℕ, ◌+◌, ◌<◌, ◌≤◌, ◌^◌, true, false, All, if◌then◌else◌, length, count_by, IfOk};
+ghost use Rattle.std.specs.Prelude.{◌≡◌, ℕ, ◌+◌, ◌<◌, ◌≤◌, true, false, All, if◌then◌else◌, length, count_by, IfOk};
 ghost use Rattle.mp_system.specs.System.{is_named};
 ghost use Rattle.activation.specs.Schedule.{task_entry};
 ghost use Rattle.activation.specs.Numbers.{IsNumber};
 ghost use Rattle.activation.specs.Tables.{is_awaited, consumed_by};
 
 use crate::NoMemory;
+use crate::sums::add_size;
 use mp_system::System;
 use std::alloc::Global;
 
-// Adds one to the count of the task that is named, if one is.
-fn raise(waiting: &mut [u32], task: Option<u32>)
-    requires { (t : ℕ) → is_named task t ≡ true → IsNumber t (length waiting.old) × (task_entry waiting.old t + 1 < 2 ^ 32) }
-    ensures { (t : ℕ) → task_entry waiting.new t ≡ task_entry waiting.old t + (if is_named task t then 1 else 0) }
-{
-    if let Some(named) = task {
-        waiting[named as usize - 1] += 1;
-    }
-}
-
 // Takes one off the count of the task that is named, if one is.
-fn lower(waiting: &mut [u32], task: Option<u32>)
+fn lower(waiting: &mut [u64], task: Option<u32>)
     requires { (t : ℕ) → is_named task t ≡ true → IsNumber t (length waiting.old) × (1 ≤ task_entry waiting.old t) }
     ensures { (t : ℕ) → task_entry waiting.new t + (if is_named task t then 1 else 0) ≡ task_entry waiting.old t }
 {
@@ -29,22 +20,22 @@ fn lower(waiting: &mut [u32], task: Option<u32>)
 }
 
 /// For each task of a system how many items it waits for at the start.
-pub fn count_waiting(alloc: Global, system: &System) -> Result<Vec<u32>, NoMemory>
+pub fn count_waiting(alloc: Global, system: &System) -> Result<Vec<u64>, NoMemory>
     ensures len { IfOk result (λ waiting. length waiting.items ≡ length system.now.tasks) }
     ensures counts { IfOk result (λ waiting. (t : ℕ) → task_entry waiting.items t ≡ count_by (is_awaited (λ _. false) t) system.now.items) }
 {
     let items = system.items();
-    let mut waiting: Vec<u32> = vec![in alloc; 0; system.tasks().len()]?;
+    let mut waiting: Vec<u64> = vec![in alloc; 0; system.tasks().len()]?;
     for i in 0..items.len() {
         if items[i].from.is_some() {
-            raise(&mut waiting, items[i].to);
+            add_size(&mut waiting, items[i].to, 1);
         }
     }
     Ok(waiting)
 }
 
 /// Takes one off the count of a task for each of these items, told by their places, that it consumes.
-pub fn release(system: &System, places: &[u32], waiting: &mut [u32])
+pub fn release(system: &System, places: &[u32], waiting: &mut [u64])
     requires places { All (λ i. i < length system.now.items) places.now }
     requires long { length waiting.old ≡ length system.now.tasks }
     requires enough { (t : ℕ) → IsNumber t (length waiting.old) → consumed_by t system.now.items places.now ≤ task_entry waiting.old t }

@@ -1,6 +1,6 @@
 -- No public clause names this.
--- Row subtrees by their leaves: what holds of the tables while columns are taken into rows one after another. Where the columns are numbered
--- in postorder, the subtree of column x is a span, from the first column below x to x itself. Gilbert, Ng and Peyton 1994.
+-- Row subtrees by their leaves: what holds of the tables while columns are taken into rows one after another. Where the columns are
+-- numbered in postorder, the subtree of column x is a span, from the first column below x to x itself. Gilbert, Ng and Peyton 1994.
 -- Columns are counted from 1, and n is one more than there are.
 use Rattle.std.specs.Prelude.{◌≡◌, ◌⊎◌, ◌↔◌, ◌==◌, ℕ, suc, ◌+◌, ◌-◌, ◌*◌, ◌<◌, ◌≤◌, Bool, true, ◌&&◌, ◌||◌, IsTrue, List, length, slice_index}
 use Rattle.ordering.specs.Fill.{count_of}
@@ -49,10 +49,11 @@ IsInRow joined i y = (y ≡ i) ⊎ (IsTrue (joined i y) × (y < i))
 unfoldable pub with_entry : (ℕ → ℕ → Bool) → ℕ → ℕ → ℕ → ℕ → Bool
 with_entry taken k j i y = taken i y || (i == k && y == j)
 
--- columns up to j were taken into rows: over the span of x, the leaves of rows less the places where their ways up meet come to the number of
--- the rows that have a column in that span. `last` has the last leaf of each row, or 0.
+-- columns up to j were taken into rows: over the span of x, the leaves of rows less the places where their ways up meet come to the number
+-- of the rows that have a column in that span. `last` has the last leaf of each row, or 0.
 pub record AreLeaves (first : ℕ → ℕ) (n j : ℕ) (taken : ℕ → ℕ → Bool) (last leaves meetings : ℕ → ℕ) : Type 0 where
-  pub balance : (x : ℕ) → x < n → sum_in leaves (first x) (suc x) ≡ passing (λ i. any_in (taken i) (first x) (suc x)) n + sum_in meetings (first x) (suc x)
+  pub balance : (x : ℕ) → x < n
+      → sum_in leaves (first x) (suc x) ≡ passing (λ i. any_in (taken i) (first x) (suc x)) n + sum_in meetings (first x) (suc x)
   pub until : (i y : ℕ) → taken i y ≡ true → y ≤ j
   pub none : (i : ℕ) → last i ≡ 0 → (y : ℕ) → ¬ (taken i y ≡ true)
   pub leaf : (i : ℕ) → 0 < last i → taken i (last i) ≡ true
@@ -95,7 +96,8 @@ growth j = (most_order + 1) * j
 -- these columns were taken, and none after j
 abbrev pub HoldLeaves : List ℕ → ℕ → (ℕ → ℕ → Bool) → Leaves → Type 0
 HoldLeaves firsts j taken t =
-    AreLeaves (slice_index firsts) (length firsts) j taken (slice_index t.last.items) (slice_index t.leaves.items) (slice_index t.meetings.items)
+    AreLeaves (slice_index firsts) (length firsts) j taken (slice_index t.last.items) (slice_index t.leaves.items)
+    (slice_index t.meetings.items)
 
 -- the columns before j were taken into all of their rows
 abbrev pub AreLeavesBefore : (ℕ → ℕ → Bool) → List ℕ → ℕ → Leaves → Type 0

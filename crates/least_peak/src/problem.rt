@@ -158,7 +158,7 @@ impl Problem {
     }
 
     /// The core that runs the tasks on 1 to 4,096 workers within a bound on memory, activated in an order;
-    /// [`simulate`](activation::simulate) runs it in simulated time. Refused are an order that is no traversal, and a bound below its peak.
+    /// a [`Simulator`](activation::Simulator) runs it in simulated time. Refused are an order that is no traversal, and a bound below its peak.
     pub fn core(
         &self,
         alloc: Global,

@@ -1,7 +1,6 @@
 //! Problems worked by hand: a tree and a workflow.
 
 use crate::Problem;
-use activation::simulate;
 use claim_check::Verdict;
 use mp_outside::NoGate;
 use std::alloc::Global;

@@ -26,24 +26,23 @@ use Rattle.memplan.proofs.InputLemmas.{problem_has_system, problem_has_term}
 module _
     (input : Input) (mine : List (List ℕ)) (text : List ℕ) (origin : Origin) (plan : PlanText) (name : List ℕ) (workers : ℕ)
     (is_problem : IsProblemOf input mine origin) (is_plan : IsPlanFile text plan) where
-  certifies : (verdict : Verdict) (answer : Answer) → answer ≡ verdict_answer verdict
+  certifies : (positions : List Position) (verdict : Verdict) (answer : Answer) → IsVerdict (system_of origin) positions plan verdict → answer ≡ verdict_answer verdict
       → ((peak : ℕ) → verdict ≡ Yes peak → (plan.peak ≡ peak) × IsBestTraversal (system_of origin) plan.order peak)
       → answer.status ≡ status.Done → IsCertified input (mine ++ text ∷ []) answer.text
-  certifies (verdicts.No objection) answer is best done = absurd (cc (sym (ap (λ (a : Answer). a.status) is) ∙ done))
-  certifies (verdicts.Yes peak) answer is best done =
-      let found = best peak refl in record {
-        mine = mine;
-        text = text;
-        texts_are = refl;
-        system = system_of origin;
-        is_system = problem_has_system input mine origin is_problem;
-        plan = plan;
-        is_plan = is_plan;
-        traversal = found.1.traversal;
-        peak = found.1.states ∙ sym found.0;
-        least = rw found.0 found.1.least;
-        printed_is = ap (λ (a : Answer). a.text) is ∙ ap yes_line (sym found.0);
-      }
+  certifies positions (verdicts.No objection) answer holds is best done = absurd (cc (sym (ap (λ (a : Answer). a.status) is) ∙ done))
+  certifies positions (verdicts.Yes peak) answer (accepted, is_peak) is best done = record {
+    mine = mine;
+    text = text;
+    texts_are = refl;
+    system = system_of origin;
+    is_system = problem_has_system input mine origin is_problem;
+    plan = plan;
+    is_plan = is_plan;
+    traversal = accepted.traversal;
+    peak = accepted.peak;
+    least = rw is_peak (best peak refl).1.least;
+    printed_is = ap (λ (a : Answer). a.text) is ∙ ap yes_line (sym is_peak);
+  }
 
   pub checked : (positions : List Position) (verdict : Verdict) (answer : Answer) → IsTermOf origin positions → IsVerdict (system_of origin) positions plan verdict
       → ((peak : ℕ) → verdict ≡ Yes peak → (plan.peak ≡ peak) × IsBestTraversal (system_of origin) plan.order peak) → answer ≡ verdict_answer verdict
@@ -60,7 +59,7 @@ module _
       is_plan,
       (verdict, holds, is),
     ),
-    certifies verdict answer is best,
+    certifies positions verdict answer holds is best,
   )
 
 -- ---- a plan
@@ -77,8 +76,8 @@ planned reads short input texts origin positions plan answer is_problem term wit
       is_system = problem_has_system input texts origin is_problem;
       plan = plan;
       is_plan = is_plan;
-      traversal = best.traversal;
-      peak = best.states;
+      traversal = accepted.traversal;
+      peak = accepted.peak;
       least = best.least;
       checked = (texts, text_of plan, system_of origin, positions, plan, refl, with_term, is_plan, (Yes plan.peak, (accepted, refl), refl));
     } in (

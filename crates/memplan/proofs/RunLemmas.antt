@@ -14,7 +14,10 @@ use Rattle.matrix_market.specs.MatrixFile.{RefusesPattern}
 use Rattle.plan_text.specs.PlanFile.{RefusesPlan}
 use Rattle.memplan.specs.Answer.{Answer, IsAnswer, IsRefusedAs, IsRefusedFile, IsRefusedPerm, IsRefused, IsFirstRefusal, IsReport}
 use Rattle.memplan.specs.Clauses.{AreTold, IsAnswered, IsCutShort}
-use Rattle.memplan.specs.Refusals.{workflow_word, perm_word, order_file_word, plan_word}
+use Rattle.sp_terms.specs.Kinds.{word_of as workflow_word}
+use Rattle.ordering.specs.Kinds.{perm_word}
+use Rattle.ordering.specs.Kinds.{order_file_word}
+use Rattle.plan_text.specs.Kinds.{word_of as plan_word}
 use Rattle.memplan.specs.Request.{Request, replay, tree, post, check, planning, simulate, FileRole, NamedFile, tree_file, workflow_file, matrix_file, perm_file, order_file, plan_file, priority_file, files_of}
 use Rattle.memplan.specs.Sound.{IsSound}
 use Rattle.memplan.specs.declared.status.Status.{Status}

@@ -42,7 +42,10 @@ use Rattle.memplan.specs.declared.status.Status.{Status}
 use Rattle.memplan.specs.declared.status.Status.TheVariants as status
 use Rattle.memplan.specs.Request.{Matrix, TreeInput, tree_named, matrix_named, Input, tree_input, workflow_named, OrderSource, order_named, plan_named, Request, replay, tree, post, check, planning, simulate, Simulation, FileRole, tree_file, workflow_file, matrix_file, perm_file, order_file, plan_file, priority_file, NamedFile, files_of}
 use Rattle.memplan.specs.Traces.{trace_lines}
-use Rattle.memplan.specs.Refusals.{workflow_word, perm_word, order_file_word, plan_word}
+use Rattle.sp_terms.specs.Kinds.{word_of as workflow_word}
+use Rattle.ordering.specs.Kinds.{perm_word}
+use Rattle.ordering.specs.Kinds.{order_file_word}
+use Rattle.plan_text.specs.Kinds.{word_of as plan_word}
 use Rattle.limits.specs.Limits.{word_of as limit_word}
 use Rattle.tree_input.specs.Kinds.{word_of as tree_word}
 use Rattle.matrix_market.specs.Kinds.{word_of as matrix_word}

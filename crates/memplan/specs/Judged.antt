@@ -14,7 +14,7 @@ use Rattle.sp_terms.specs.Values.{term_of}
 use Rattle.memplan.specs.Answer.{Answer, IsRefused, IsRefusedAs, IsRefusedFile, IsFirstRefusal, IsOrderFrom, IsOwnPriority, IsPerm, IsReport, IsTreeOf, IsWorkflow, AreAccepted, priority_or}
 use Rattle.memplan.specs.Clauses.{AreTold, HasFailed}
 use Rattle.memplan.specs.Pages.{answer_of}
-use Rattle.memplan.specs.Refusals.{perm_word}
+use Rattle.ordering.specs.Kinds.{perm_word}
 use Rattle.memplan.specs.Request.{Input, tree_input, workflow_named, NamedFile, OrderSource, Request, input_files, source_file, files_of}
 use Rattle.memplan.specs.Sound.{IsSound}
 use Rattle.memplan.specs.declared.commands.simulate.Priority.{Priority}

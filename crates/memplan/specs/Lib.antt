@@ -3,7 +3,6 @@ pub mod Statuses
 pub mod GivenViews
 pub mod Request
 pub mod RequestViews
-pub mod Refusals
 pub mod Traces
 pub mod Answer
 pub mod Certified

@@ -12,13 +12,12 @@ ghost use Rattle.tree_input.specs.TreeFile.{ReadsTree, RefusesTree};
 ghost use Rattle.memplan.specs.Answer.{IsRefusedFile, IsWithinBytes, limit_refused};
 ghost use Rattle.memplan.specs.Judged.{IsStopAt, IsStopFor, IsJudged, IsRefusalOf, rank_word};
 
-use crate::kind_words::Kind;
 use crate::page::{format_page, limit_page};
 use crate::stop::Stop;
 use limits::LimitName;
 use matrix_market::{MatrixKind, Pattern, read_pattern};
 use mp_outside::{Files, ReadRefusal, read_whole};
-use mp_text::Refusal;
+use mp_text::{Kind, Refusal};
 use ordering::{OrderFileKind, Perm, PermKind, read_order, read_perm};
 use plan_text::{PlanFile, PlanKind, read_plan};
 use sp_terms::{Terms, WorkflowKind, read_workflow};

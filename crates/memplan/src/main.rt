@@ -4,7 +4,6 @@
 mod commands;
 mod files;
 mod inputs;
-mod kind_words;
 mod page;
 mod request;
 mod run;

@@ -1,5 +1,5 @@
 -- The order 1, 2, .., n: it is a permutation, and each vertex stands at its own place.
-use Rattle.std.proofs.Common.{◌≡◌, ℕ, zero, suc, ◌+◌, ◌<◌, ◌≤◌, ◌^◌, eqb, leb, List, [], ◌∷◌, ◌++◌, length, get_or, inl, inr, refl, sym, ap, ◌∙◌, arith, add-one}
+use Rattle.std.proofs.Common.{◌≡◌, ℕ, zero, suc, ◌+◌, ◌<◌, ◌≤◌, ◌^◌, eqb, leb, List, [], ◌∷◌, ◌++◌, length, get_or, inl, inr, refl, sym, ap, ◌∙◌, arith}
 use Rattle.std.specs.List.{range_with_len}
 use Rattle.std.proofs.lemmas.Bool.{cases_Bool, leb-true, leb-false, ne_eqb}
 use Rattle.std.proofs.lemmas.List.Sums.{sum_by_push}
@@ -14,8 +14,8 @@ range_push : (a k : ℕ) → range_with_len a (suc k) ≡ range_with_len a k ++ 
 range_push a zero = ap (λ (x : ℕ). x ∷ []) (omega arith)
 range_push a (suc k) = ap (λ (xs : List ℕ). a ∷ xs) (range_push (a + 1) k ∙ ap (λ (x : ℕ). range_with_len (a + 1) k ++ x ∷ []) (omega arith))
 
-pub range_count : (k : ℕ) → range_with_len 0 (k + 1) ≡ range_with_len 0 k ++ k ∷ []
-range_count k = ap (range_with_len 0) (add-one k) ∙ range_push 0 k ∙ ap (λ (x : ℕ). range_with_len 0 k ++ x ∷ []) (omega arith)
+pub range_count : (k : ℕ) → range_with_len 0 k ++ k ∷ [] ≡ range_with_len 0 (suc k)
+range_count k = ap (λ (x : ℕ). range_with_len 0 k ++ x ∷ []) (omega arith) ∙ sym (range_push 0 k)
 
 range_more : (k : ℕ) → range_with_len 1 (suc k) ≡ range_with_len 1 k ++ suc k ∷ []
 range_more k = range_push 1 k ∙ ap (λ (x : ℕ). range_with_len 1 k ++ x ∷ []) (omega arith)

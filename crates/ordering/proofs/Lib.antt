@@ -1,6 +1,4 @@
-pub mod TokenLemmas
 pub mod PlaceLemmas
-pub mod TokenTests
 pub mod TableLemmas
 pub mod PermLemmas
 pub mod PermFileLemmas

@@ -67,8 +67,8 @@ times-none (x ∷ xs) v none =
     ]
 
 -- the test of the format, and that of the code
-pub times-test : (xs : List ℕ) (v : ℕ) → eqb (times xs v) 0 ≡ eqb (place_of xs v) 0
-times-test xs v =
+pub times_test : (xs : List ℕ) (v : ℕ) → eqb (times xs v) 0 ≡ eqb (place_of xs v) 0
+times_test xs v =
     elim (cases_eq (place_of xs v) 0) [
       | inl e ↦ eq-eqb (times xs v) 0 (times-none xs v e) ∙ sym (eq-eqb (place_of xs v) 0 e)
       | inr e ↦ ne_eqb (times xs v) 0 (λ none. e (place-none xs v none)) ∙ sym (ne_eqb (place_of xs v) 0 e)

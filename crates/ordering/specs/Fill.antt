@@ -1,8 +1,8 @@
 -- The fill of a symmetric pattern: what a sparse factorization fills in as the vertices are eliminated one after another, and with it the
 -- structure, the parent and the count of each column. Rose 1972; Liu, The role of elimination trees in sparse factorization, 1990.
 --
--- A pattern is a test of two vertices: whether they are joined. Columns are the vertices by the order in which they are eliminated, so column j
--- is the j-th, and both are counted from 1.
+-- A pattern is a test of two vertices: whether they are joined. Columns are the vertices by the order in which they are eliminated, so
+-- column j is the j-th, and both are counted from 1.
 use Rattle.std.specs.Prelude.{◌==◌, ℕ, zero, suc, ◌+◌, ◌-◌, ◌<◌, ◌≤◌, Bool, not, nat_lt, ◌&&◌, ◌||◌, IsTrue, List, find, unwrap_or, map}
 use Rattle.std.specs.List.{range_with_len, count_by}
 use Rattle.ordering.specs.Perm.{vertex_at}
@@ -50,7 +50,8 @@ parents_of joined n = map (parent_of joined n) (range_with_len 1 n)
 abbrev pub counts_of : (ℕ → ℕ → Bool) → ℕ → List ℕ
 counts_of joined n = map (count_of joined n) (range_with_len 1 n)
 
--- the same without an elimination: the pattern once for each column below j, from the lowest on, all pairs of its later neighbours were put in
+-- the same without an elimination: the pattern once for each column below j, from the lowest on, all pairs of its later neighbours were
+-- put in
 unfoldable pub filled : (ℕ → ℕ → Bool) → ℕ → ℕ → ℕ → Bool
 filled joined zero a b = joined a b
 filled joined (suc j) a b =

@@ -1,8 +1,8 @@
 pub mod OrderFile
-pub mod OrderReader
+pub mod Reader
 pub mod Perm
 pub mod PermTables
 pub mod PermFile
-pub mod PermReader
+pub mod Kinds
 pub mod Fill
 pub mod Samples

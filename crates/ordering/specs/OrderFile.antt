@@ -1,13 +1,15 @@
 -- Order files: task numbers, the tokens of all lines in order. What a file reads as, and what it is refused with.
-use Rattle.std.specs.Prelude.{◌≡◌, ℕ, Bool, true, ◌&&◌, nat_lt, nat_le, is_some, unwrap_or, List, [], ◌∷◌, length, map}
+use Rattle.std.specs.Prelude.{◌≡◌, ℕ, ◌^◌, Bool, ◌&&◌, nat_lt, is_some, unwrap_or, List, [], ◌∷◌, length, map}
 use Rattle.std.specs.List.{flat_map}
 use Rattle.limits.specs.declared.name.LimitName.TheVariants as limits
+use Rattle.limits.specs.Limits.{most_tasks}
 use Rattle.mp_text.specs.declared.layout.Layout.TheVariants.{Commented}
 use Rattle.mp_text.specs.declared.refusals.Refusal.{Refusal}
 use Rattle.mp_text.specs.declared.refusals.Refusal.TheVariants as refusals
 use Rattle.mp_text.specs.Text.{Row, number_of}
 use Rattle.mp_text.specs.Ahead.{rows_of_bytes, past_of_bytes}
-use Rattle.mp_text.specs.Grammar.{Test, test, tests_of_all, Format, IsWellFormed, Refuses}
+use Rattle.mp_text.specs.Grammar.{Test, test, tests_of_all, Format, IsWellFormed, Refuses, fault_at}
+use Rattle.mp_text.specs.Reading.{IsRefusal}
 use Rattle.ordering.specs.declared.order_file.OrderFileKind.{OrderFileKind}
 use Rattle.ordering.specs.declared.order_file.OrderFileKind.TheVariants.{Number}
 
@@ -15,29 +17,26 @@ use Rattle.ordering.specs.declared.order_file.OrderFileKind.TheVariants.{Number}
 abbrev pub value_of : List ℕ → ℕ
 value_of token = unwrap_or (number_of token) 0
 
--- whether a token is a number below 2^32
-abbrev pub is_task_number : List ℕ → Bool
-is_task_number token = is_some (number_of token) && nat_le (value_of token) 4294967295
-
--- a number below 2^32, and at most 10^6 of them; after so many others
-abbrev pub order_token_tests : ℕ → ℕ → List ℕ → List (Test OrderFileKind)
-order_token_tests line taken token =
-    test (is_task_number token) (refusals.Format (record { line = line; kind = Number }))
-    ∷ test (nat_lt taken 1000000) (refusals.Limit limits.Tasks)
-    ∷ []
-
 -- the tokens of all lines, in order
 abbrev pub tokens_of_rows : List Row → List (List ℕ)
 tokens_of_rows rows = flat_map (λ row. row.tokens) rows
 
-abbrev pub order_line_tests : List Row → Row → List (Test OrderFileKind)
-order_line_tests before row = tests_of_all (λ earlier token. order_token_tests row.number (length earlier) token) (tokens_of_rows before) row.tokens
+-- whether a token is a number below 2^32
+abbrev pub is_task_number : List ℕ → Bool
+is_task_number token = is_some (number_of token) && nat_lt (value_of token) (2 ^ 32)
 
-abbrev pub order_end_tests : List Row → ℕ → List (Test OrderFileKind)
-order_end_tests rows past = []
+-- a number below 2^32, and not too many of them; after so many others
+abbrev pub order_token_tests : ℕ → ℕ → List ℕ → List (Test OrderFileKind)
+order_token_tests line taken token =
+    test (is_task_number token) (fault_at line Number)
+    ∷ test (nat_lt taken most_tasks) (refusals.Limit limits.Tasks)
+    ∷ []
 
 abbrev pub order_format : Format OrderFileKind
-order_format = record { line_tests = order_line_tests; end_tests = order_end_tests }
+order_format = record {
+  line_tests = λ before row. tests_of_all (λ earlier token. order_token_tests row.number (length earlier) token) (tokens_of_rows before) row.tokens;
+  end_tests = λ rows past. [];
+}
 
 -- the numbers that the lines state
 abbrev pub numbers_stated : List Row → List ℕ
@@ -53,6 +52,4 @@ RefusesOrder bytes refusal = Refuses order_format (rows_of_bytes Commented bytes
 
 -- an answer that is no order: a refusal of the file, or memory ran out
 abbrev pub IsOrderRefusal : List ℕ → Refusal OrderFileKind → Type 0
-IsOrderRefusal bytes refusals.NoMemory = Unit {0}
-IsOrderRefusal bytes (refusals.Format f) = RefusesOrder bytes (refusals.Format f)
-IsOrderRefusal bytes (refusals.Limit l) = RefusesOrder bytes (refusals.Limit l)
+IsOrderRefusal bytes refusal = IsRefusal order_format (rows_of_bytes Commented bytes) (past_of_bytes bytes) refusal

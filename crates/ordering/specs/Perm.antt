@@ -35,5 +35,6 @@ pub record AreInverse (vertices places : List ℕ) : Type 0 where
   pub some : 0 < length vertices
   pub same_length : length places ≡ length vertices
   pub unused : slice_index vertices 0 ≡ 0
-  pub vertex : (k : ℕ) → k < length vertices → (slice_index vertices k < length vertices) × (slice_index places (slice_index vertices k) ≡ k)
+  pub vertex : (k : ℕ) → k < length vertices
+      → (slice_index vertices k < length vertices) × (slice_index places (slice_index vertices k) ≡ k)
   pub place : (v : ℕ) → v < length vertices → (slice_index places v < length vertices) × (slice_index vertices (slice_index places v) ≡ v)

@@ -1,18 +1,15 @@
 -- Permutation files: each of 1 to n once, the tokens of all lines in order. What a file reads as, and what it is refused with.
-use Rattle.std.specs.Prelude.{◌≡◌, ◌==◌, ℕ, Bool, true, ◌&&◌, nat_lt, nat_le, is_some, List, [], ◌∷◌, length, map}
+use Rattle.std.specs.Prelude.{◌≡◌, ◌==◌, ℕ, Bool, ◌&&◌, nat_lt, nat_le, is_some, List, [], ◌∷◌, length, map}
 use Rattle.mp_text.specs.declared.layout.Layout.TheVariants.{Commented}
 use Rattle.mp_text.specs.declared.refusals.Refusal.{Refusal}
 use Rattle.mp_text.specs.declared.refusals.Refusal.TheVariants as refusals
-use Rattle.mp_text.specs.Text.{Row, number_of}
+use Rattle.mp_text.specs.Text.{number_of}
 use Rattle.mp_text.specs.Ahead.{rows_of_bytes, past_of_bytes}
-use Rattle.mp_text.specs.Grammar.{Test, test, tests_of_all, Format, IsWellFormed, Refuses}
+use Rattle.mp_text.specs.Grammar.{Test, test, tests_of_all, Format, IsWellFormed, Refuses, fault_at}
 use Rattle.ordering.specs.OrderFile.{value_of, tokens_of_rows, numbers_stated}
 use Rattle.ordering.specs.Perm.{times}
 use Rattle.ordering.specs.declared.perm_file.PermKind.{PermKind}
 use Rattle.ordering.specs.declared.perm_file.PermKind.TheVariants as kinds
-
-abbrev pub fault_at : ℕ → PermKind → Refusal PermKind
-fault_at line kind = refusals.Format (record { line = line; kind = kind })
 
 abbrev pub is_vertex : ℕ → ℕ → Bool
 is_vertex n v = nat_le 1 v && nat_le v n
@@ -26,16 +23,15 @@ perm_token_tests n line earlier token =
     ∷ test (times earlier (value_of token) == 0) (fault_at line kinds.Repeated)
     ∷ []
 
-abbrev pub perm_line_tests : ℕ → List Row → Row → List (Test PermKind)
-perm_line_tests n before row =
-    tests_of_all (λ earlier token. perm_token_tests n row.number (map value_of earlier) token) (tokens_of_rows before) row.tokens
-
--- at the end none is missing
-abbrev pub perm_end_tests : ℕ → List Row → ℕ → List (Test PermKind)
-perm_end_tests n rows past = test (nat_le n (length (tokens_of_rows rows))) (fault_at past kinds.Count) ∷ []
+-- at the end, after so many numbers, none is missing
+abbrev pub perm_count_tests : ℕ → ℕ → ℕ → List (Test PermKind)
+perm_count_tests n taken past = test (nat_le n taken) (fault_at past kinds.Count) ∷ []
 
 abbrev pub perm_format : ℕ → Format PermKind
-perm_format n = record { line_tests = perm_line_tests n; end_tests = perm_end_tests n }
+perm_format n = record {
+  line_tests = λ before row. tests_of_all (λ earlier token. perm_token_tests n row.number (map value_of earlier) token) (tokens_of_rows before) row.tokens;
+  end_tests = λ rows past. perm_count_tests n (length (tokens_of_rows rows)) past;
+}
 
 -- every token passes, none is missing, and the order is the one stated
 pub record ReadsPerm (n : ℕ) (bytes order : List ℕ) : Type 0 where

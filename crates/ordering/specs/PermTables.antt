@@ -1,5 +1,6 @@
--- The two tables in which the code keeps an order of elimination: vertices by place, and places by vertex. Both have an unused place 0, which
--- holds 0. No public clause names this.
+-- No public clause names this.
+-- The two tables in which the code keeps an order of elimination: vertices by place, and places by vertex. Both have an unused place 0,
+-- which holds 0.
 use Rattle.std.specs.Prelude.{◌≡◌, ℕ, ◌+◌, ◌<◌, ◌^◌, List, ◌∷◌, length, slice_index_or, drop}
 use Rattle.ordering.specs.Perm.{place_of, IsPerm}
 

@@ -22,41 +22,30 @@ turned_places = refl
 
 -- ---- the arrow: 1 is joined to 2, 3 and 4. Eliminated first, it fills everything in; third, nothing
 
+-- the parents and the counts of four columns
+abbrev pub columns_of : (ℕ → ℕ → Bool) → List ℕ × List ℕ
+columns_of joined = (parents_of joined 4, counts_of joined 4)
+
 abbrev pub arrow : ℕ → ℕ → Bool
 arrow = joined_by ((1, 2) ∷ (1, 3) ∷ (1, 4) ∷ [])
 
-pub arrow_parents : parents_of arrow 4 ≡ 2 ∷ 3 ∷ 4 ∷ 0 ∷ []
+pub arrow_columns : columns_of arrow ≡ (2 ∷ 3 ∷ 4 ∷ 0 ∷ [], 4 ∷ 3 ∷ 2 ∷ 1 ∷ [])
 unfolding graph_at eliminate
-arrow_parents = refl
+arrow_columns = refl
 
-pub arrow_counts : counts_of arrow 4 ≡ 4 ∷ 3 ∷ 2 ∷ 1 ∷ []
+pub turned_arrow_columns : columns_of (renumbered arrow turned) ≡ (3 ∷ 3 ∷ 4 ∷ 0 ∷ [], 2 ∷ 2 ∷ 2 ∷ 1 ∷ [])
 unfolding graph_at eliminate
-arrow_counts = refl
+turned_arrow_columns = refl
 
-pub turned_arrow_parents : parents_of (renumbered arrow turned) 4 ≡ 3 ∷ 3 ∷ 4 ∷ 0 ∷ []
+-- ---- two disjoint pairs, side by side and crossed
+
+pub two_pairs_columns : columns_of (joined_by ((1, 2) ∷ (3, 4) ∷ [])) ≡ (2 ∷ 0 ∷ 4 ∷ 0 ∷ [], 2 ∷ 1 ∷ 2 ∷ 1 ∷ [])
 unfolding graph_at eliminate
-turned_arrow_parents = refl
+two_pairs_columns = refl
 
-pub turned_arrow_counts : counts_of (renumbered arrow turned) 4 ≡ 2 ∷ 2 ∷ 2 ∷ 1 ∷ []
+pub crossed_pairs_columns : columns_of (joined_by ((1, 3) ∷ (2, 4) ∷ [])) ≡ (3 ∷ 4 ∷ 0 ∷ 0 ∷ [], 2 ∷ 2 ∷ 1 ∷ 1 ∷ [])
 unfolding graph_at eliminate
-turned_arrow_counts = refl
-
--- ---- two disjoint pairs
-
-abbrev pub two_pairs : ℕ → ℕ → Bool
-two_pairs = joined_by ((1, 2) ∷ (3, 4) ∷ [])
-
-pub two_pairs_parents : parents_of two_pairs 4 ≡ 2 ∷ 0 ∷ 4 ∷ 0 ∷ []
-unfolding graph_at eliminate
-two_pairs_parents = refl
-
-pub two_pairs_counts : counts_of two_pairs 4 ≡ 2 ∷ 1 ∷ 2 ∷ 1 ∷ []
-unfolding graph_at eliminate
-two_pairs_counts = refl
-
-pub apart_pairs_parents : parents_of (joined_by ((1, 3) ∷ (2, 4) ∷ [])) 4 ≡ 3 ∷ 4 ∷ 0 ∷ 0 ∷ []
-unfolding graph_at eliminate
-apart_pairs_parents = refl
+crossed_pairs_columns = refl
 
 -- ---- the grid of 2 by 2: 1 and 4 stand across, as 2 and 3 do. The elimination of 1 joins 2 and 3
 
@@ -68,13 +57,9 @@ pub grid_structures : map (λ j. map (structure_of grid j) (range_with_len 1 4))
 unfolding graph_at eliminate
 grid_structures = refl
 
-pub grid_parents : parents_of grid 4 ≡ 2 ∷ 3 ∷ 4 ∷ 0 ∷ []
+pub grid_columns : columns_of grid ≡ (2 ∷ 3 ∷ 4 ∷ 0 ∷ [], 3 ∷ 3 ∷ 2 ∷ 1 ∷ [])
 unfolding graph_at eliminate
-grid_parents = refl
-
-pub grid_counts : counts_of grid 4 ≡ 3 ∷ 3 ∷ 2 ∷ 1 ∷ []
-unfolding graph_at eliminate
-grid_counts = refl
+grid_columns = refl
 
 -- the pair 2 3 is filled in
 pub grid_filled : filled grid 2 2 3 ≡ true

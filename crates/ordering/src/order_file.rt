@@ -1,53 +1,36 @@
-ghost use Rattle.std.specs.Prelude.{◌≡◌, ℕ, List, [], MatchResult};
-ghost use Rattle.mp_text.specs.Text.{tokens_of};
-ghost use Rattle.mp_text.specs.Reading.{Steps, steps_of_all};
+ghost use Rattle.std.specs.Prelude.{◌≡◌, [], MatchResult};
+ghost use Rattle.mp_text.specs.Reading.{Steps};
+ghost use Rattle.ordering.specs.Kinds.{order_file_word};
 ghost use Rattle.ordering.specs.OrderFile.{ReadsOrder, IsOrderRefusal};
-ghost use Rattle.ordering.specs.OrderReader.{token_step};
+ghost use Rattle.ordering.specs.Reader.{number_step};
 
-use limits::LimitName;
-use mp_text::{Fault, Layout, Line, Reader, Refusal, number, read_with, tokens};
+use limits::{LimitName, MOST_TASKS};
+use mp_text::{Kind, Layout, Line, Reader, Refusal, fault, number, read_with, tokens};
 use std::alloc::Global;
+use std::fmt::{self, Display, Formatter, Write};
 use std::marker::Model;
 
 /// What is wrong with an order file.
 #[derive(Clone, Copy, Debug, PartialEq, Eq)]
 pub enum OrderFileKind {
     /// A token is no number, or one of 2^32 or more.
-    Number,
+    Number = 1,
 }
 
-const MOST_TASKS: usize = 1_000_000;
+impl Kind for OrderFileKind {
+    ghost word_of = { order_file_word };
 
-// Takes one token more.
-#[tactic(auto, unfolding(crate::specs::OrderReader::token_step))]
-fn push_token(numbers: &mut Vec<u32>, line: u64, token: &[u8]) -> Result<(), Refusal<OrderFileKind>>
-    ensures { Steps (token_step line numbers.old.items token.now) result numbers.new.items }
-{
-    let fault = Refusal::Format(Fault {
-        line,
-        kind: OrderFileKind::Number,
-    });
-    let Some(value) = number(token) else {
-        return Err(fault);
-    };
-    if value > 4_294_967_295 {
-        return Err(fault);
+    fn word(self) -> &'static str {
+        match self {
+            OrderFileKind::Number => "number",
+        }
     }
-    if numbers.len() >= MOST_TASKS {
-        return Err(Refusal::Limit(LimitName::Tasks));
-    }
-    numbers.push(value as u32)?;
-    Ok(())
 }
 
-// Takes the tokens of a line.
-fn push_line(numbers: &mut Vec<u32>, line: u64, text: &[u8]) -> Result<(), Refusal<OrderFileKind>>
-    ensures { Steps (steps_of_all (token_step line) numbers.old.items (tokens_of text.now)) result numbers.new.items }
-{
-    for token in tokens(text) {
-        push_token(numbers, line, token)?;
+impl Display for OrderFileKind {
+    fn fmt<W: Write>(&self, f: &mut Formatter<W>) -> fmt::Result {
+        f.write_str(self.word())
     }
-    Ok(())
 }
 
 #[derive(Drop)]
@@ -63,32 +46,55 @@ impl Model for OrderReader {
     ghost view = { λ s. s.numbers.items };
 }
 
+impl OrderReader {
+    // Takes one token more.
+    #[tactic(auto, unfolding(crate::specs::Reader::number_step))]
+    fn take(&mut self, line: u64, token: &[u8]) -> Result<(), Refusal<OrderFileKind>>
+        ensures { Steps (number_step line self.old token.now) result self.new }
+    {
+        let Some(value) = number(token) else {
+            return Err(fault(line, OrderFileKind::Number));
+        };
+        if value > u64::from(u32::MAX) {
+            return Err(fault(line, OrderFileKind::Number));
+        }
+        if self.numbers.len() as u64 >= MOST_TASKS {
+            return Err(Refusal::Limit(LimitName::Tasks));
+        }
+        self.numbers.push(value as u32)?;
+        Ok(())
+    }
+}
+
 impl Reader for OrderReader {
     type Kind = OrderFileKind;
 
+    ghost use Rattle.std.specs.Prelude.{Ok};
     ghost use Rattle.ordering.specs.OrderFile.{order_format};
-    ghost use Rattle.ordering.specs.OrderReader.{order_step, order_end, took, step_follows, end_follows as the_end_follows};
+    ghost use Rattle.ordering.specs.Reader.{order_step, took_order, order_follows, order_end_follows};
 
     ghost step = { order_step };
 
-    ghost end_step = { order_end };
+    ghost end_step = { λ s _. Ok s };
 
     ghost format = { λ _. order_format };
 
-    ghost took = { took };
+    ghost took = { took_order };
 
-    #[tactic(auto, unfolding(crate::specs::OrderReader::order_step))]
     fn line(&mut self, line: Line<'_>) -> Result<(), Refusal<OrderFileKind>> {
-        push_line(&mut self.numbers, line.number, line.text)
+        for token in tokens(line.text) {
+            self.take(line.number, token)?;
+        }
+        Ok(())
     }
 
     fn end(&mut self, _past: u64) -> Result<(), Refusal<OrderFileKind>> {
         Ok(())
     }
 
-    ghost line_follows = { step_follows };
+    ghost line_follows = { order_follows };
 
-    ghost end_follows = { the_end_follows };
+    ghost end_follows = { order_end_follows };
 }
 
 /// The task numbers of an order file, or why it is refused. Whether they are a traversal is judged by the replay.

@@ -77,23 +77,13 @@ impl Perm {
     }
 }
 
-// The numbers 0, 1, .., n.
-fn count_up(alloc: Global, n: u32) -> Result<Vec<u32>, NoMemory>
-    ensures { IfOk result (λ numbers. numbers.items ≡ range_with_len 0 (n + 1)) }
-{
-    let mut numbers = Vec::with_capacity(alloc, n as usize + 1)?;
-    for number in 0..=n {
-        numbers.push(number)?;
-    }
-    Ok(numbers)
-}
-
 /// The order 1, 2, .., n.
 pub fn identity(alloc: Global, n: u32) -> Result<Perm, NoMemory>
     ensures order { IfOk result (λ perm. perm ≡ range_with_len 1 n) }
     ensures vertices { IfOk result (λ perm. (k : ℕ) → k ≤ n → vertex_at perm k ≡ k) }
 {
-    let vertices = count_up(alloc, n)?;
-    let places = count_up(alloc, n)?;
+    let mut vertices: Vec<u32> = (0..n).collect(alloc)?;
+    vertices.push(n)?;
+    let places = vertices.clone()?;
     Ok(Perm { vertices, places })
 }

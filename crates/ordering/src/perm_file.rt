@@ -1,21 +1,22 @@
-ghost use Rattle.std.specs.Prelude.{◌≡◌, ◌≤◌, ◌<◌, ℕ, List, [], length, MatchResult, IfOk};
-ghost use Rattle.mp_text.specs.Text.{tokens_of};
-ghost use Rattle.mp_text.specs.Reading.{Gives, Steps, tested, steps_of_all};
+ghost use Rattle.std.specs.Prelude.{◌≡◌, ◌==◌, ◌<◌, [], not, length, MatchResult, IfOk};
+ghost use Rattle.mp_text.specs.Reading.{Gives, Steps, tested};
+ghost use Rattle.ordering.specs.Kinds.{perm_word};
 ghost use Rattle.ordering.specs.OrderFile.{value_of};
-ghost use Rattle.ordering.specs.Perm.{IsVertex, place_of};
-ghost use Rattle.ordering.specs.PermFile.{fault_at, perm_token_tests, ReadsPerm, IsPermRefusal};
-ghost use Rattle.ordering.specs.PermReader.{perm_token_step};
+ghost use Rattle.ordering.specs.Perm.{IsVertex, times};
+ghost use Rattle.ordering.specs.PermFile.{perm_token_tests, ReadsPerm, IsPermRefusal};
+ghost use Rattle.ordering.specs.Reader.{vertex_step};
 
 use crate::perm::{NoMemory, Perm};
-use mp_text::{Fault, Layout, Line, Reader, Refusal, number, read_with, tokens};
+use mp_text::{Kind, Layout, Line, Reader, Refusal, fault, number, read_with, tokens};
 use std::alloc::Global;
+use std::fmt::{self, Display, Formatter, Write};
 use std::marker::Model;
 
 /// What is wrong with a permutation file.
 #[derive(Clone, Copy, Debug, PartialEq, Eq)]
 pub enum PermKind {
     /// A token is no number.
-    Number,
+    Number = 1,
     /// A number is 0 or above the number of vertices.
     Range,
     /// A number stands in the file twice.
@@ -24,10 +25,23 @@ pub enum PermKind {
     Count,
 }
 
-fn fault(line: u64, kind: PermKind) -> Refusal<PermKind>
-    ensures { result ≡ fault_at line kind }
-{
-    Refusal::Format(Fault { line, kind })
+impl Kind for PermKind {
+    ghost word_of = { perm_word };
+
+    fn word(self) -> &'static str {
+        match self {
+            PermKind::Number => "number",
+            PermKind::Range => "range",
+            PermKind::Repeated => "repeated",
+            PermKind::Count => "count",
+        }
+    }
+}
+
+impl Display for PermKind {
+    fn fmt<W: Write>(&self, f: &mut Formatter<W>) -> fmt::Result {
+        f.write_str(self.word())
+    }
 }
 
 // The order that a file states so far, in the tables of a permutation.
@@ -39,7 +53,7 @@ struct PermReader {
 }
 
 impl Model for PermReader {
-    ghost use Rattle.ordering.specs.PermReader.{PermState};
+    ghost use Rattle.ordering.specs.Reader.{PermState};
 
     ghost Value = { PermState };
 
@@ -64,12 +78,21 @@ impl PermReader {
         })
     }
 
+    // Whether a vertex stands in the order so far.
+    #[tactic(auto, using(crate::proofs::PlaceLemmas::times_test))]
+    fn has(&self, vertex: u32) -> bool
+        requires { IsVertex self.now.n vertex }
+        ensures { result ≡ not (times self.now.numbers vertex == 0) }
+    {
+        self.places[vertex as usize] != 0
+    }
+
     // The vertex that a token states, where it passes its tests.
     fn vertex(&self, line: u64, token: &[u8]) -> Result<u32, Refusal<PermKind>>
         ensures vertex { Gives (tested (perm_token_tests self.now.n line self.now.numbers token.now) (value_of token.now)) result }
         ensures room { IfOk result (λ _. length self.now.numbers < self.now.n) }
         ensures range { IfOk result (λ v. IsVertex self.now.n v) }
-        ensures fresh { IfOk result (λ v. place_of self.now.numbers v ≡ 0) }
+        ensures fresh { IfOk result (λ v. times self.now.numbers v ≡ 0) }
     {
         let Some(value) = number(token) else {
             return Err(fault(line, PermKind::Number));
@@ -81,30 +104,21 @@ impl PermReader {
             return Err(fault(line, PermKind::Range));
         }
         let vertex = value as u32;
-        if self.places[vertex as usize] != 0 {
+        if self.has(vertex) {
             return Err(fault(line, PermKind::Repeated));
         }
         Ok(vertex)
     }
 
     // Takes one token more.
-    fn token(&mut self, line: u64, token: &[u8]) -> Result<(), Refusal<PermKind>>
-        ensures { Steps (perm_token_step line self.old token.now) result self.new }
+    #[tactic(auto, using(crate::proofs::TableLemmas::order_push), unfolding(crate::specs::Reader::vertex_step))]
+    fn take(&mut self, line: u64, token: &[u8]) -> Result<(), Refusal<PermKind>>
+        ensures { Steps (vertex_step line self.old token.now) result self.new }
     {
         let vertex = self.vertex(line, token)?;
         let place = self.vertices.len() as u32;
         self.vertices.push(vertex)?;
         self.places[vertex as usize] = place;
-        Ok(())
-    }
-
-    // Takes the tokens of a line.
-    fn tokens(&mut self, line: u64, text: &[u8]) -> Result<(), Refusal<PermKind>>
-        ensures { Steps (steps_of_all (perm_token_step line) self.old (tokens_of text.now)) result self.new }
-    {
-        for token in tokens(text) {
-            self.token(line, token)?;
-        }
         Ok(())
     }
 }
@@ -113,7 +127,7 @@ impl Reader for PermReader {
     type Kind = PermKind;
 
     ghost use Rattle.ordering.specs.PermFile.{perm_format};
-    ghost use Rattle.ordering.specs.PermReader.{perm_step, perm_end, perm_took, perm_step_follows, perm_end_follows};
+    ghost use Rattle.ordering.specs.Reader.{perm_step, perm_end, took_perm, perm_follows, perm_end_follows};
 
     ghost step = { perm_step };
 
@@ -121,14 +135,15 @@ impl Reader for PermReader {
 
     ghost format = { λ s. perm_format s.n };
 
-    ghost took = { perm_took };
+    ghost took = { took_perm };
 
-    #[tactic(auto, unfolding(crate::specs::PermReader::perm_step))]
     fn line(&mut self, line: Line<'_>) -> Result<(), Refusal<PermKind>> {
-        self.tokens(line.number, line.text)
+        for token in tokens(line.text) {
+            self.take(line.number, token)?;
+        }
+        Ok(())
     }
 
-    #[tactic(auto, unfolding(crate::specs::PermReader::perm_end))]
     fn end(&mut self, past: u64) -> Result<(), Refusal<PermKind>> {
         if self.vertices.len() <= self.n as usize {
             return Err(fault(past, PermKind::Count));
@@ -136,7 +151,7 @@ impl Reader for PermReader {
         Ok(())
     }
 
-    ghost line_follows = { perm_step_follows };
+    ghost line_follows = { perm_follows };
 
     ghost end_follows = { perm_end_follows };
 }
@@ -146,8 +161,10 @@ pub fn read_perm(alloc: Global, bytes: &[u8], n: u32) -> Result<Perm, Refusal<Pe
     ensures { MatchResult result (λ perm. ReadsPerm n bytes.now perm) (IsPermRefusal n bytes.now) }
 {
     let reader = read_with(bytes, Layout::Commented, PermReader::new(alloc, n)?)?;
-    Ok(Perm {
-        vertices: reader.vertices,
-        places: reader.places,
-    })
+    let PermReader {
+        vertices,
+        places,
+        ..
+    } = reader;
+    Ok(Perm { vertices, places })
 }

@@ -1,5 +1,6 @@
 use crate::{OrderFileKind, Perm, PermKind, identity, read_order, read_perm};
 use mp_text::{Fault, Refusal};
+use std::process::Abort;
 use std::test::Fail;
 
 #[test]
@@ -29,6 +30,17 @@ fn order_files(rt: HostRuntime) -> Result<(), Fail> {
     Ok(())
 }
 
+// The order has these vertices by place, and these places by vertex.
+fn check_perm(rt: &impl Abort, perm: &Perm, vertices: &[u32], places: &[u32], said: &str) {
+    assert_eq!(rt; perm.len() as usize, vertices.len(), "{said}");
+    assert_eq!(rt; places.len(), vertices.len(), "{said}");
+    assert_eq!(rt; (perm.at(0), perm.place(0)), (0, 0), "{said}");
+    for k in 1..=perm.len() {
+        assert_eq!(rt; perm.at(k), vertices[k as usize - 1], "{said}");
+        assert_eq!(rt; perm.place(k), places[k as usize - 1], "{said}");
+    }
+}
+
 #[test]
 fn permutation_files(rt: HostRuntime) -> Result<(), Fail> {
     // the text, the vertices by place, and the places by vertex
@@ -44,13 +56,19 @@ fn permutation_files(rt: HostRuntime) -> Result<(), Fail> {
     ];
     for (text, vertices, places) in rows {
         let perm = read_perm(rt.alloc(), text.as_bytes(), 4)?;
-        assert_eq!(rt; perm.len(), 4, "{text}");
-        assert_eq!(rt; (perm.at(0), perm.place(0)), (0, 0), "{text}");
-        for k in 1..=4u32 {
-            assert_eq!(rt; perm.at(k), vertices[k as usize - 1], "{text}");
-            assert_eq!(rt; perm.place(k), places[k as usize - 1], "{text}");
-        }
+        check_perm(&rt, &perm, &vertices, &places, text);
     }
+    Ok(())
+}
+
+#[test]
+fn orders_of_tables(rt: HostRuntime) -> Result<(), Fail> {
+    let numbers = identity(rt.alloc(), 3)?;
+    check_perm(&rt, &numbers, &[1, 2, 3], &[1, 2, 3], "the identity");
+    let vertices = vec![in rt.alloc(); 0u32, 2, 3, 1, 4]?;
+    let places = vec![in rt.alloc(); 0u32, 3, 1, 2, 4]?;
+    let perm = Perm::from_tables(vertices, places);
+    check_perm(&rt, &perm, &[2, 3, 1, 4], &[3, 1, 2, 4], "of its tables");
     Ok(())
 }
 
@@ -87,28 +105,16 @@ fn refused_permutation_files(rt: HostRuntime) -> Result<(), Fail> {
 }
 
 #[test]
-fn the_identity(rt: HostRuntime) -> Result<(), Fail> {
-    let perm = identity(rt.alloc(), 3)?;
-    assert_eq!(rt; perm.len(), 3);
-    for k in 0..=3u32 {
-        assert_eq!(rt; (perm.at(k), perm.place(k)), (k, k));
+fn refusals_in_words(rt: HostRuntime) -> Result<(), Fail> {
+    let number = OrderFileKind::Number;
+    assert_eq!(rt; format!(in rt.alloc(); "{number}")?.as_str(), "number");
+    for (kind, word) in [
+        (PermKind::Number, "number"),
+        (PermKind::Range, "range"),
+        (PermKind::Repeated, "repeated"),
+        (PermKind::Count, "count"),
+    ] {
+        assert_eq!(rt; format!(in rt.alloc(); "{kind}")?.as_str(), word);
     }
-    Ok(())
-}
-
-#[test]
-fn an_order_of_its_tables(rt: HostRuntime) -> Result<(), Fail> {
-    let vertices = vec![in rt.alloc(); 0u32, 2, 3, 1, 4]?;
-    let places = vec![in rt.alloc(); 0u32, 3, 1, 2, 4]?;
-    let perm = Perm::from_tables(vertices, places);
-    assert_eq!(rt; perm.len(), 4);
-    assert_eq!(rt;
-        (perm.at(1), perm.at(2), perm.at(3), perm.at(4)),
-        (2, 3, 1, 4)
-    );
-    assert_eq!(rt;
-        (perm.place(1), perm.place(2), perm.place(3), perm.place(4)),
-        (3, 1, 2, 4)
-    );
     Ok(())
 }

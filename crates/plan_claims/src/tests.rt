@@ -7,6 +7,8 @@ use crate::{NoMemory, claims_of};
 use claim_check::{Verdict, check};
 use mp_outside::NoGate;
 use plan_text::{Claim, Dir, read_plan};
+use rand_core::utils::NextWord;
+use rand_pcg::Pcg32;
 use sp_cuts::{Plan, plan_terms};
 use sp_terms::{Position, TermBuilder, Terms, read_workflow, system_of};
 use std::alloc::Global;
@@ -128,12 +130,9 @@ fn the_peaks_of_the_worked_rows_are_certified(rt: HostRuntime) -> Result<(), Fai
     Ok(())
 }
 
-// A number below `below`, by a linear congruential generator.
-fn next(state: &mut u64, below: u64) -> u64 {
-    *state = state
-        .wrapping_mul(6364136223846793005)
-        .wrapping_add(1442695040888963407);
-    (*state >> 33) % below.max(1)
+// A number below `below`.
+fn next(dice: &mut Pcg32, below: u64) -> u64 {
+    u64::from(dice.next_word()) % below.max(1)
 }
 
 // Puts a position in, where it is allowed.
@@ -165,17 +164,17 @@ fn put_task(builder: &mut TermBuilder, extra: u64, share: u64) {
 }
 
 // A random workflow with shares: a data item, a series of the last two terms, or the last terms side by side.
-fn random_workflow(alloc: Global, state: &mut u64, positions: u32) -> Option<Terms> {
+fn random_workflow(alloc: Global, dice: &mut Pcg32, positions: u32) -> Option<Terms> {
     let mut builder = TermBuilder::new(alloc);
     let mut height = 0u32;
     for _ in 0..positions {
-        let kind = next(state, 5);
+        let kind = next(dice, 5);
         if height < 2 || kind < 2 {
-            put(&mut builder, Position::Hold(next(state, 10)));
+            put(&mut builder, Position::Hold(next(dice, 10)));
             height = height.saturating_add(1);
         } else if kind < 4 {
             height = height.saturating_sub(1);
-            put_task(&mut builder, next(state, 8), next(state, 6));
+            put_task(&mut builder, next(dice, 8), next(dice, 6));
         } else {
             put(&mut builder, Position::Par(2));
             height = height.saturating_sub(1);
@@ -190,11 +189,11 @@ fn random_workflow(alloc: Global, state: &mut u64, positions: u32) -> Option<Ter
 #[test]
 fn random_workflows_are_certified(rt: HostRuntime) -> Result<(), Fail> {
     let alloc = rt.alloc();
-    let mut state = 7;
+    let mut dice = Pcg32::new(7, 11);
     let mut done = 0u32;
     for size in 1..=60 {
         for _ in 0..12 {
-            if let Some(terms) = random_workflow(alloc, &mut state, size) {
+            if let Some(terms) = random_workflow(alloc, &mut dice, size) {
                 assert_accepted(&rt, alloc, &terms)?;
                 done = done.saturating_add(1);
             }
@@ -205,18 +204,18 @@ fn random_workflows_are_certified(rt: HostRuntime) -> Result<(), Fail> {
 }
 
 // A chain of so many nodes, or a caterpillar, whose nodes have a leaf each beside the node below.
-fn long_tree(alloc: Global, state: &mut u64, nodes: u32, leaves: bool) -> Option<Terms> {
+fn long_tree(alloc: Global, dice: &mut Pcg32, nodes: u32, leaves: bool) -> Option<Terms> {
     let mut builder = TermBuilder::new(alloc);
     put(&mut builder, Position::Hold(0));
     for node in 0..nodes {
         if leaves && 0 < node {
             put(&mut builder, Position::Hold(0));
-            put(&mut builder, Position::Hold(next(state, 100)));
-            put_task(&mut builder, next(state, 1000), 0);
+            put(&mut builder, Position::Hold(next(dice, 100)));
+            put_task(&mut builder, next(dice, 1000), 0);
             put(&mut builder, Position::Par(2));
         }
-        put(&mut builder, Position::Hold(next(state, 100)));
-        put_task(&mut builder, next(state, 1000), 0);
+        put(&mut builder, Position::Hold(next(dice, 100)));
+        put_task(&mut builder, next(dice, 1000), 0);
     }
     builder.finish().ok()
 }
@@ -224,9 +223,9 @@ fn long_tree(alloc: Global, state: &mut u64, nodes: u32, leaves: bool) -> Option
 #[test]
 fn long_trees_are_certified(rt: HostRuntime) -> Result<(), Fail> {
     let alloc = rt.alloc();
-    let mut state = 3;
+    let mut dice = Pcg32::new(3, 11);
     for leaves in [false, true] {
-        let tree = long_tree(alloc, &mut state, 3000, leaves);
+        let tree = long_tree(alloc, &mut dice, 3000, leaves);
         assert!(rt; tree.is_some());
         if let Some(terms) = tree {
             assert_accepted(&rt, alloc, &terms)?;

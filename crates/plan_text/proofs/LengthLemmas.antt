@@ -1,5 +1,5 @@
 -- A printed plan is never too long for a reader of files: bounds on the bytes of each line, of each section, and of all lines.
-use Rattle.std.proofs.Common.{◌≡◌, ℕ, ◌+◌, ◌*◌, ◌^◌, ◌≤◌, inl, inr, Bool, true, false, List, [], ◌∷◌, ◌++◌, length, map, refl, ap, subst, ◌∙◌, arith, ℤ, pos, negsuc, unsigned_abs, length-append}
+use Rattle.std.proofs.Common.{◌≡◌, ℕ, ◌+◌, ◌*◌, ◌≤◌, inl, inr, List, [], ◌∷◌, ◌++◌, length, map, refl, ap, subst, ◌∙◌, arith, ℤ, pos, negsuc, unsigned_abs, length-append}
 use Rattle.std.specs.Fmt.{decimal, signed_decimal}
 use Rattle.std.specs.Prelude.{codes}
 use Rattle.std.specs.List.{All, join_with_byte}
@@ -9,9 +9,12 @@ use Rattle.std.proofs.lemmas.List.{length-map}
 use Rattle.std.proofs.lemmas.List.Concat.{length-flat_map}
 use Rattle.std.proofs.lemmas.List.Elements.{All-nil, All-map, All-same, All-weaker}
 use Rattle.std.proofs.lemmas.List.Sums.{sum_by-le}
+use Rattle.limits.specs.Limits.{most_bytes, most_tasks, most_positions, most_total}
+use Rattle.mp_text.specs.declared.words.Version.{Version}
+use Rattle.mp_text.specs.declared.words.Version.TheVariants.{One, Two}
 use Rattle.mp_text.specs.Report.{line_text, text_of_lines}
-use Rattle.plan_text.specs.Plan.{PlanText, IsPlan, IsClaimWithin, IsTask, IsPriority}
-use Rattle.plan_text.specs.Printed.{header_line, section_line, task_line, claim_line, dir_word, end_line, task_lines, claim_lines, priority_lines, first_lines, last_lines, text_in}
+use Rattle.plan_text.specs.Plan.{PlanText, most_number, IsPlan, IsClaimWithin, IsTask, IsPriority}
+use Rattle.plan_text.specs.Printed.{header_line, section_line, task_line, claim_line, dir_word, end_line, task_lines, claim_lines, priority_lines, last_lines, text_in}
 use Rattle.plan_text.specs.declared.claim.Claim.{Claim}
 use Rattle.plan_text.specs.declared.claim.Dir.{Dir}
 use Rattle.plan_text.specs.declared.claim.Dir.TheVariants.{F, R}
@@ -45,16 +48,16 @@ text-cons line lines = length-append (line_text line) (text_of_lines lines)
 -- ---- numbers
 
 abbrev IsSmall : ℕ → Type 0
-IsSmall n = n ≤ 4294967295
+IsSmall n = n ≤ most_number
 
 small-decimal : (n : ℕ) → IsSmall n → length (decimal n) ≤ 10
 small-decimal n le = length-decimal-le 10 n (omega arith) (omega arith) (omega arith)
 
-wide-decimal : (n : ℕ) → n ≤ 2 ^ 60 → length (decimal n) ≤ 19
+wide-decimal : (n : ℕ) → n ≤ most_total → length (decimal n) ≤ 19
 wide-decimal n le = length-decimal-le 19 n (omega arith) (omega arith) (omega arith)
 
 -- a sign and 19 digits
-wide-signed : (z : ℤ) → unsigned_abs z ≤ 2 ^ 60 → length (signed_decimal z) ≤ 20
+wide-signed : (z : ℤ) → unsigned_abs z ≤ most_total → length (signed_decimal z) ≤ 20
 wide-signed (pos n) le = length_signed_le 19 (pos n) (omega arith) (omega arith)
 wide-signed (negsuc n) le = length_signed_le 19 (negsuc n) (omega arith) (omega arith)
 
@@ -69,11 +72,11 @@ first-token a b tokens =
     let joined = join_with_byte 32 (b ∷ tokens) in
     omega (arith, length-append (a ++ 32 ∷ joined) (10 ∷ []), length-append a (32 ∷ joined), length-append joined (10 ∷ []))
 
-header-within : (b : Bool) → IsLineWithin 7 (header_line b)
-header-within true = omega arith
-header-within false = omega arith
+header-within : (v : Version) → IsLineWithin 7 (header_line v)
+header-within One = omega arith
+header-within Two = omega arith
 
-section-within : (word : List ℕ) (n : ℕ) → length word ≤ 8 → n ≤ 2 ^ 60 → IsLineWithin 29 (section_line word n)
+section-within : (word : List ℕ) (n : ℕ) → length word ≤ 8 → n ≤ most_total → IsLineWithin 29 (section_line word n)
 section-within word n short le = omega (arith, first-token word (decimal n) [], last-token (decimal n), wide-decimal n le)
 
 task-within : (v : ℕ) → IsSmall v → IsLineWithin 11 (task_line v)
@@ -103,7 +106,7 @@ claim-within c within =
 
 -- ---- sections
 
-tasks-within : (word : List ℕ) (tasks : List ℕ) → length word ≤ 8 → length tasks ≤ 1000000 → All IsSmall tasks
+tasks-within : (word : List ℕ) (tasks : List ℕ) → length word ≤ 8 → length tasks ≤ most_tasks → All IsSmall tasks
     → length (text_of_lines (task_lines word tasks)) ≤ 11000029
 tasks-within word tasks short few small =
     let section = section_line word (length tasks) in
@@ -114,7 +117,7 @@ tasks-within word tasks short few small =
       mapped-within IsSmall task_line 11 task-within tasks small,
     )
 
-claims-within : (claims : List Claim) → length claims ≤ 4000001 → All IsClaimWithin claims
+claims-within : (claims : List Claim) → length claims ≤ most_positions → All IsClaimWithin claims
     → length (text_of_lines (claim_lines claims)) ≤ 216000083
 claims-within claims few within =
     let section = section_line (codes "claims") (length claims) in
@@ -125,12 +128,12 @@ claims-within claims few within =
       mapped-within IsClaimWithin claim_line 54 claim-within claims within,
     )
 
-priority-within : (b : Bool) (n : ℕ) (priority : List ℕ) → n ≤ 1000000 → IsPriority n priority
-    → length (text_of_lines (priority_lines b priority)) ≤ 11000029
-priority-within false n priority few is = omega arith
-priority-within true n priority few (inl none) =
+priority-within : (v : Version) (n : ℕ) (priority : List ℕ) → n ≤ most_tasks → IsPriority n priority
+    → length (text_of_lines (priority_lines v priority)) ≤ 11000029
+priority-within One n priority few is = omega arith
+priority-within Two n priority few (inl none) =
     tasks-within (codes "priority") priority (omega arith) (omega (arith, ap length none)) (All-same IsSmall priority [] none (All-nil IsSmall))
-priority-within true n priority few (inr ranks) =
+priority-within Two n priority few (inr ranks) =
     let len = ranks.len in
     let small = All-weaker (IsTask n) IsSmall (λ v task. let le = task.1 in omega arith) priority ranks.tasks in
     tasks-within (codes "priority") priority (omega arith) (omega arith) small
@@ -138,20 +141,20 @@ priority-within true n priority few (inr ranks) =
 -- ---- all lines
 
 -- the bounds above add up to 238000181
-pub printed-within : (b : Bool) (plan : PlanText) → IsPlan plan → length (text_in b plan) ≤ 268435456
-printed-within b plan is =
+pub printed-within : (v : Version) (plan : PlanText) → IsPlan plan → length (text_in v plan) ≤ most_bytes
+printed-within v plan is =
     let order = task_lines (codes "order") plan.order in
-    let priority = priority_lines b plan.priority in
+    let priority = priority_lines v plan.priority in
     let peak = section_line (codes "peak") plan.peak in
     let claims = claim_lines plan.claims in
     omega (
       arith,
-      text-append (first_lines b plan) (last_lines plan),
-      text-cons (header_line b) (order ++ priority),
-      header-within b,
-      text-append order priority,
+      text-cons (header_line v) (order ++ (priority ++ last_lines plan)),
+      header-within v,
+      text-append order (priority ++ last_lines plan),
       tasks-within (codes "order") plan.order (omega arith) is.few_tasks is.tasks,
-      priority-within b (length plan.order) plan.priority is.few_tasks is.priority,
+      text-append priority (last_lines plan),
+      priority-within v (length plan.order) plan.priority is.few_tasks is.priority,
       text-cons peak (claims ++ end_line ∷ []),
       section-within (codes "peak") plan.peak (omega arith) is.peak,
       text-append claims (end_line ∷ []),

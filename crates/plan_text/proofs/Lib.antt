@@ -1,4 +1,3 @@
-pub mod PrintingLemmas
 pub mod RankLemmas
 pub mod FormLemmas
 pub mod PrintedLemmas

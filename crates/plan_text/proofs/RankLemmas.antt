@@ -1,7 +1,8 @@
 -- What makes a list a priority: n tasks of n, none twice.
-use Rattle.std.proofs.Common.{◌≡◌, ◌≢◌, ℕ, zero, suc, ◌+◌, ◌<◌, ◌≤◌, Bool, cond, eqb, List, [], ◌∷◌, ◌++◌, length, inl, inr, refl, ap, subst, ◌∙◌, arith}
+use Rattle.std.proofs.Common.{◌≡◌, ◌≢◌, ℕ, zero, suc, ◌+◌, ◌<◌, ◌≤◌, Bool, true, ◌&&◌, cond, eqb, leb, List, [], ◌∷◌, ◌++◌, length, get_or, take, drop, inl, inr, refl, sym, ap, subst, ◌∙◌, arith}
 use Rattle.std.specs.List.{All}
-use Rattle.std.proofs.lemmas.Bool.{cases_eq, eq-eqb, ne_eqb}
+use Rattle.std.proofs.lemmas.Bool.{and_from, and_parts, cases_eq, eq-eqb, eqb-true, ne_eqb, le-leb, leb-true}
+use Rattle.std.proofs.lemmas.List.{drop_more, take_more, take-append-drop}
 use Rattle.std.proofs.lemmas.List.Elements.{All-nil, All-head, All-tail, All-push}
 use Rattle.std.proofs.lemmas.List.Sums.{sum_by-cons, sum_by_push, sum_by-append}
 use Rattle.plan_text.specs.Plan.{IsTask, RanksAll, times}
@@ -102,5 +103,23 @@ ranks_from_part n ranked part len = record {
   once = total-full n ranked part.once (total-length n ranked part.tasks ∙ len);
 }
 
-pub length-part : (n : ℕ) (ranked : List ℕ) → IsPart n ranked → length ranked ≤ n
-length-part n ranked part = omega (arith, total-length n ranked part.tasks, total-le n ranked part.once)
+-- ---- one task more of a list
+
+-- whether it can be ranked after those before it
+abbrev pub is_next : ℕ → List ℕ → ℕ → Bool
+is_next n xs i = leb 1 (get_or xs i 0) && leb (get_or xs i 0) n && eqb (times (take i xs) (get_or xs i 0)) 0
+
+pub part-more : (n : ℕ) (xs : List ℕ) (i : ℕ) → i < length xs → IsPart n (take i xs) → is_next n xs i ≡ true → IsPart n (take (i + 1) xs)
+part-more n xs i lt part next =
+    let x = get_or xs i 0 in
+    let all = and_parts (leb 1 x && leb x n) (eqb (times (take i xs) x) 0) next in
+    let task = and_parts (leb 1 x) (leb x n) all.0 in
+    rw (take_more xs i 0 lt) (part-push n (take i xs) x part (leb-true 1 x task.0, leb-true x n task.1) (eqb-true (times (take i xs) x) 0 all.1))
+
+pub next-ranked : (n : ℕ) (xs : List ℕ) (i : ℕ) → i < length xs → RanksAll n xs → is_next n xs i ≡ true
+next-ranked n xs i lt ranks =
+    let x = get_or xs i 0 in
+    let task = ranks.tasks i 0 lt in
+    let split : take i xs ++ x ∷ drop (i + 1) xs ≡ xs = ap (λ (ys : List ℕ). take i xs ++ ys) (sym (drop_more xs i 0 lt)) ∙ take-append-drop i xs in
+    let fresh = times-before (take i xs) x (drop (i + 1) xs) (ap (λ (ys : List ℕ). times ys x) split ∙ ranks.once x task) in
+    and_from _ _ (and_from _ _ (le-leb 1 x task.0) (le-leb x n task.1)) (eq-eqb (times (take i xs) x) 0 fresh)

@@ -1,5 +1,6 @@
 pub mod Plan
 pub mod PlanFile
+pub mod Kinds
 pub mod Printed
 pub mod Reader
 pub mod ReaderLaws

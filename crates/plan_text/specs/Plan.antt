@@ -1,7 +1,8 @@
 -- Plans: an order of the tasks of a term, its peak, claims on the term that certify that no order has a lower peak, and a priority of the
 -- tasks. Plan files are this project's own format.
-use Rattle.std.specs.Prelude.{◌≡◌, ◌==◌, ℕ, ◌^◌, ◌<◌, ◌≤◌, All, List, [], ◌∷◌, length, if◌then◌else◌, Option, Some, None, unsigned_abs, ◌⊎◌}
+use Rattle.std.specs.Prelude.{◌≡◌, ◌==◌, ℕ, ◌<◌, ◌≤◌, All, List, [], ◌∷◌, length, if◌then◌else◌, Option, Some, None, unsigned_abs, ◌⊎◌}
 use Rattle.std.specs.List.{count_by}
+use Rattle.limits.specs.Limits.{most_tasks, most_positions, most_total}
 use Rattle.sp_terms.specs.Term.{Direction, forward, backward}
 use Rattle.claim_rules.specs.Claims.{Claim as RuleClaim}
 use Rattle.plan_text.specs.declared.claim.Claim.{Claim}
@@ -31,11 +32,15 @@ claim_at (c ∷ cs) position = if c.position == position then Some (claim_of c) 
 
 -- ---- plans within the limits
 
+-- the greatest number of a task or of a position: 2^32 - 1
+abbrev pub most_number : ℕ
+most_number = 4294967295
+
 -- what each claim keeps to: its bound is from -2^60 to 2^60
 pub record IsClaimWithin (c : Claim) : Type 0 where
-  pub position : c.position ≤ 4294967295
-  pub bound : unsigned_abs c.bound ≤ 2 ^ 60
-  pub rest : c.rest ≤ 2 ^ 60
+  pub position : c.position ≤ most_number
+  pub bound : unsigned_abs c.bound ≤ most_total
+  pub rest : c.rest ≤ most_total
 
 -- each position is greater than the one before, and the first than this number
 abbrev pub RiseFrom : ℕ → List Claim → Type 0
@@ -60,10 +65,10 @@ abbrev pub IsPriority : ℕ → List ℕ → Type 0
 IsPriority n priority = (priority ≡ []) ⊎ RanksAll n priority
 
 pub record IsPlan (plan : PlanText) : Type 0 where
-  pub few_tasks : length plan.order ≤ 1000000
-  pub tasks : All (λ v. v ≤ 4294967295) plan.order
-  pub peak : plan.peak ≤ 2 ^ 60
-  pub few_claims : length plan.claims ≤ 4000001
+  pub few_tasks : length plan.order ≤ most_tasks
+  pub tasks : All (λ v. v ≤ most_number) plan.order
+  pub peak : plan.peak ≤ most_total
+  pub few_claims : length plan.claims ≤ most_positions
   pub claims : All IsClaimWithin plan.claims
   pub rising : RiseFrom 0 plan.claims
   pub priority : IsPriority (length plan.order) plan.priority

@@ -1,5 +1,5 @@
--- The priority lines so far, as the reader keeps them: the tasks in order, and a table of marks of those that were there. No public clause
--- names this.
+-- No public clause names this.
+-- The priority lines so far, as the reader keeps them: the tasks in order, and a table of marks of those that were there.
 use Rattle.std.specs.Prelude.{◌≡◌, ◌==◌, ℕ, ◌-◌, ◌≤◌, Bool, false, not, List, length, slice_index_or}
 use Rattle.plan_text.specs.Plan.{times}
 

@@ -1,16 +1,19 @@
+-- No public clause names this.
 -- What the reader of plan files does is what the tests of the format say: the two laws of its `impl Reader`. An `impl` takes the proofs of
 -- its laws from specs/, so they stand here and not in proofs/.
-use Rattle.std.specs.Prelude.{◌≡◌, ℕ, ◌<◌, ◌≤◌, ◌⊎◌, true, false, nat_lt, List, [], ◌∷◌, ◌++◌, length, map, take, drop, if◌then◌else◌, refl}
+use Rattle.std.specs.Prelude.{◌≡◌, ℕ, ◌<◌, ◌≤◌, ◌⊎◌, true, false, nat_lt, List, [], ◌∷◌, ◌++◌, length, map, take, drop, codes, refl}
 use Rattle.std.proofs.Common.{sym, ap, ◌∙◌, arith, inl, inr}
 use Rattle.std.proofs.Math.Seq.{take-nil, drop-nil}
 use Rattle.std.proofs.lemmas.Bool.{cases_Bool, ltb-true, ltb-false, le-ltb, lt-ltb}
 use Rattle.std.proofs.lemmas.List.{map_push, length-map, length_push, take_all, drop_all, length-take-le, take-append-le, drop-append-le}
 use Rattle.mp_text.specs.Text.{Row}
+use Rattle.mp_text.specs.declared.words.Version.{Version}
+use Rattle.mp_text.specs.declared.words.Version.TheVariants.{One, Two}
 use Rattle.mp_text.specs.Grammar.{ArePassed}
 use Rattle.mp_text.specs.Reading.{Follows}
 use Rattle.mp_text.specs.ReadingLaws.{tested-follows}
-use Rattle.plan_text.specs.PlanFile.{Stated, stated, nothing, stated_on, task_on, claim_on, has_priority, with_end, with_claims, with_peak, with_ranks, after_order, with_order, plan_format, plan_line_tests, end_tests_after}
-use Rattle.plan_text.specs.Reader.{next, ranks_next, peak_next, plan_step, plan_end, took}
+use Rattle.plan_text.specs.PlanFile.{Stated, stated, nothing, stated_on, task_on, claim_on, version_stated, with_end, with_claims, with_peak, with_ranks, after_order_in, with_order, plan_format, tests_after, end_tests_after}
+use Rattle.plan_text.specs.Reader.{next, after_order_next, plan_step, plan_end, took}
 use Rattle.plan_text.specs.declared.claim.Claim.{Claim}
 use Rattle.plan_text.specs.declared.stage.Stage.TheVariants as stages
 
@@ -67,16 +70,16 @@ abbrev pub at_peak : Stated → ℕ → Stated
 at_peak s peak = record s { stage = stages.ClaimsSection; peak = peak }
 
 claims_push : (s : Stated) (peak : ℕ) (rows : List Row) (row : Row) → s.claims ≡ [] → with_claims (at_peak s peak) (rows ++ row ∷ []) ≡ next (with_claims (at_peak s peak) rows) row
-claims_push s peak [] row fresh = rw (drop-nil (stated_on row), take-nil (stated_on row), fresh) refl
+claims_push s peak [] row fresh = rw (drop-nil (stated_on (codes "claims") row), take-nil (stated_on (codes "claims") row), fresh) refl
 claims_push s peak (section ∷ rows) row fresh =
-    let n = stated_on section in
+    let n = stated_on (codes "claims") section in
     elim (within_or_past claim_on n rows row) [
       | inl w ↦ rw (w.more, w.still_none, w.none, w.open_yet) refl
       | inr p ↦ rw (p.same, p.later) (end_push (at_peak s peak) n (map claim_on (take n rows)) (drop n rows) row p.full)
     ]
 
 peak_push : (s : Stated) (section : Row) (rows : List Row) (row : Row) → s.claims ≡ [] → with_peak s (section ∷ (rows ++ row ∷ [])) ≡ next (with_peak s (section ∷ rows)) row
-peak_push s section rows row fresh = claims_push s (stated_on section) rows row fresh
+peak_push s section rows row fresh = claims_push s (stated_on (codes "peak") section) rows row fresh
 
 abbrev pub at_ranks : Stated → ℕ → List ℕ → Stated
 at_ranks s count priority = record s { stage = stages.Priority; tasks = s.count; count = count; priority = priority }
@@ -88,7 +91,7 @@ ranked_push s count priority (section ∷ rows) row fresh full = peak_push (at_r
 
 ranks_push : (s : Stated) (section : Row) (rows : List Row) (row : Row) → s.claims ≡ [] → with_ranks s (section ∷ (rows ++ row ∷ [])) ≡ next (with_ranks s (section ∷ rows)) row
 ranks_push s section rows row fresh =
-    let n = stated_on section in
+    let n = stated_on (codes "priority") section in
     elim (within_or_past task_on n rows row) [
       | inl w ↦ rw (w.more, w.still_none, w.none, w.open_yet) refl
       | inr p ↦ rw (p.same, p.later) (ranked_push s n (map task_on (take n rows)) (drop n rows) row fresh p.full)
@@ -97,54 +100,51 @@ ranks_push s section rows row fresh =
 abbrev pub at_order : Stated → ℕ → List ℕ → Stated
 at_order s count order = record s { stage = stages.Order; count = count; order = order }
 
-after_none : (s : Stated) → after_order s [] ≡ s
-after_none s = elim s.with_priority as (λ b. (if b then with_ranks s [] else with_peak s []) ≡ s) [ true ↦ refl | false ↦ refl ]
+after_none : (v : Version) (s : Stated) → after_order_in v s [] ≡ s
+after_none One s = refl
+after_none Two s = refl
 
-after_one : (s : Stated) (count : ℕ) (order : List ℕ) (row : Row) → nat_lt (length order) count ≡ false → after_order (at_order s count order) (row ∷ []) ≡ next (at_order s count order) row
-after_one s count order row full =
-    let o = at_order s count order in
-    rw full (elim s.with_priority as (λ b. (if b then with_ranks o (row ∷ []) else with_peak o (row ∷ [])) ≡ (if b then ranks_next o row else peak_next o row)) [
-      | true ↦ rw (drop-nil (stated_on row), take-nil (stated_on row)) refl
-      | false ↦ refl
-    ])
+after_one : (v : Version) (s : Stated) (row : Row) → after_order_in v s (row ∷ []) ≡ after_order_next v s row
+after_one One s row = refl
+after_one Two s row = rw (drop-nil (stated_on (codes "priority") row), take-nil (stated_on (codes "priority") row)) refl
 
-after_more : (s : Stated) (section : Row) (rows : List Row) (row : Row) → s.claims ≡ [] → after_order s (section ∷ (rows ++ row ∷ [])) ≡ next (after_order s (section ∷ rows)) row
-after_more s section rows row fresh =
-    elim s.with_priority as (λ b. (if b then with_ranks s (section ∷ (rows ++ row ∷ [])) else with_peak s (section ∷ (rows ++ row ∷ []))) ≡ next (if b then with_ranks s (section ∷ rows) else with_peak s (section ∷ rows)) row) [
-      | true ↦ ranks_push s section rows row fresh
-      | false ↦ peak_push s section rows row fresh
-    ]
+after_more : (v : Version) (s : Stated) (section : Row) (rows : List Row) (row : Row) → s.claims ≡ []
+    → after_order_in v s (section ∷ (rows ++ row ∷ [])) ≡ next (after_order_in v s (section ∷ rows)) row
+after_more One s section rows row fresh = peak_push s section rows row fresh
+after_more Two s section rows row fresh = ranks_push s section rows row fresh
 
 ordered_push : (s : Stated) (count : ℕ) (order : List ℕ) (rows : List Row) (row : Row) → s.claims ≡ [] → nat_lt (length order) count ≡ false
-    → after_order (at_order s count order) (rows ++ row ∷ []) ≡ next (after_order (at_order s count order) rows) row
-ordered_push s count order [] row fresh full = after_one s count order row full ∙ ap (λ (t : Stated). next t row) (sym (after_none (at_order s count order)))
-ordered_push s count order (section ∷ rows) row fresh full = after_more (at_order s count order) section rows row fresh
+    → after_order_in s.version (at_order s count order) (rows ++ row ∷ []) ≡ next (after_order_in s.version (at_order s count order) rows) row
+ordered_push s count order [] row fresh full =
+    rw (after_none s.version (at_order s count order), full) (after_one s.version (at_order s count order) row)
+ordered_push s count order (section ∷ rows) row fresh full = after_more s.version (at_order s count order) section rows row fresh
 
 order_push : (s : Stated) (section : Row) (rows : List Row) (row : Row) → s.claims ≡ [] → with_order s (section ∷ (rows ++ row ∷ [])) ≡ next (with_order s (section ∷ rows)) row
 order_push s section rows row fresh =
-    let n = stated_on section in
+    let n = stated_on (codes "order") section in
     elim (within_or_past task_on n rows row) [
-      | inl w ↦ rw (w.more, w.still_none, w.none) (rw (after_none (at_order s n (map task_on (take n rows) ++ task_on row ∷ [])), after_none (at_order s n (map task_on (take n rows))), w.open_yet) refl)
+      | inl w ↦ rw (w.more, w.still_none, w.none) (rw (after_none s.version (at_order s n (map task_on (take n rows) ++ task_on row ∷ [])), after_none s.version (at_order s n (map task_on (take n rows))), w.open_yet) refl)
       | inr p ↦ rw (p.same, p.later) (ordered_push s n (map task_on (take n rows)) (drop n rows) row fresh p.full)
     ]
 
 abbrev pub begun : Row → Stated
-begun header = record nothing { stage = stages.OrderSection; with_priority = has_priority header }
+begun header = record nothing { stage = stages.OrderSection; version = version_stated header }
 
 pub stated_push : (rows : List Row) (row : Row) → stated (rows ++ row ∷ []) ≡ next (stated rows) row
 unfolding stated
 stated_push [] row = refl
 stated_push (header ∷ []) row =
-    rw (drop-nil (stated_on row), take-nil (stated_on row)) (after_none (at_order (begun header) (stated_on row) []))
+    let n = stated_on (codes "order") row in
+    rw (drop-nil n, take-nil n) (after_none (version_stated header) (at_order (begun header) n []))
 stated_push (header ∷ section ∷ rows) row = order_push (begun header) section rows row refl
 
 -- ---- the two laws
 
 pub step_follows : (s : Stated) (before : List Row) (row : Row) → took s before → ArePassed plan_format before →
-    Follows (plan_line_tests before row) (λ after. took after (before ++ row ∷ []) × (plan_format ≡ plan_format)) (plan_step s row)
+    Follows (tests_after (stated before) row) (λ after. took after (before ++ row ∷ []) × (plan_format ≡ plan_format)) (plan_step s row)
 unfolding plan_step
 step_follows s before row taken passed =
-    rw taken (tested-follows (plan_line_tests before row) (next (stated before) row) (λ after. took after (before ++ row ∷ []) × (plan_format ≡ plan_format))
+    rw taken (tested-follows (tests_after (stated before) row) (next (stated before) row) (λ after. took after (before ++ row ∷ []) × (plan_format ≡ plan_format))
     (λ _. (sym (stated_push before row), refl)))
 
 pub end_follows : (s : Stated) (rows : List Row) (past : ℕ) → took s rows → ArePassed plan_format rows →

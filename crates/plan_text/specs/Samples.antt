@@ -1,5 +1,6 @@
+-- No public clause names this.
 -- Worked examples: the plan of a tree of five nodes, a plan with a priority, and files that are refused.
-use Rattle.std.specs.Prelude.{◌≡◌, ℕ, true, List, [], ◌∷◌, ◌++◌, Option, Some, None, ℤ, pos, neg_ℤ, codes, refl}
+use Rattle.std.specs.Prelude.{◌≡◌, ℕ, List, [], ◌∷◌, ◌++◌, map, Option, Some, None, ℤ, pos, neg_ℤ, codes, refl}
 use Rattle.std.specs.Fmt.{digits}
 use Rattle.mp_text.specs.declared.layout.Layout.TheVariants.{Commented}
 use Rattle.mp_text.specs.declared.refusals.Refusal.{Refusal}
@@ -7,10 +8,11 @@ use Rattle.mp_text.specs.declared.refusals.Refusal.TheVariants as refusals
 use Rattle.limits.specs.declared.name.LimitName.TheVariants as limits
 use Rattle.mp_text.specs.Text.{lines_of, tokens_of, number_of, number_from, signed_of, rows_from}
 use Rattle.mp_text.specs.Ahead.{rows_of_bytes, past_of_bytes}
-use Rattle.mp_text.specs.Grammar.{first_failure, tests_of_all}
+use Rattle.mp_text.specs.Words.{after_word, version_of}
+use Rattle.mp_text.specs.Grammar.{fault_at, first_failure, tests_of_all}
 use Rattle.sp_terms.specs.Term.{backward}
 use Rattle.plan_text.specs.Plan.{PlanText, claim_at}
-use Rattle.plan_text.specs.PlanFile.{fault_at, stated, plan_of, plan_line_tests, end_tests_after}
+use Rattle.plan_text.specs.PlanFile.{dir_named, stated, plan_of, plan_format}
 use Rattle.plan_text.specs.Printed.{text_of, text2_of}
 use Rattle.plan_text.specs.declared.claim.Claim.{Claim}
 use Rattle.plan_text.specs.declared.claim.Dir.{Dir}
@@ -35,54 +37,38 @@ ranked = record { order = 1 ∷ 2 ∷ []; peak = 6; claims = claim 1 F (neg_ℤ 
 
 -- ---- printing
 
-pub five_text : text_of five ≡ codes "plan 1\norder 5\n1\n3\n2\n4\n5\npeak 11\nclaims 4\n5 R 5 5\n10 R 5 5\n11 R 10 10\n13 R 10 0\nend\n"
+pub printed : text_of five ∷ text2_of five ∷ text_of ranked ∷ []
+    ≡ codes "plan 1\norder 5\n1\n3\n2\n4\n5\npeak 11\nclaims 4\n5 R 5 5\n10 R 5 5\n11 R 10 10\n13 R 10 0\nend\n"
+    ∷ codes "plan 2\norder 5\n1\n3\n2\n4\n5\npriority 0\npeak 11\nclaims 4\n5 R 5 5\n10 R 5 5\n11 R 10 10\n13 R 10 0\nend\n"
+    ∷ codes "plan 2\norder 2\n1\n2\npriority 2\n2\n1\npeak 6\nclaims 1\n1 F -1 0\nend\n"
+    ∷ []
 unfolding digits
-five_text = refl
-
-pub five_text2 : text2_of five ≡ codes "plan 2\norder 5\n1\n3\n2\n4\n5\npriority 0\npeak 11\nclaims 4\n5 R 5 5\n10 R 5 5\n11 R 10 10\n13 R 10 0\nend\n"
-unfolding digits
-five_text2 = refl
-
-pub ranked_text : text_of ranked ≡ codes "plan 2\norder 2\n1\n2\npriority 2\n2\n1\npeak 6\nclaims 1\n1 F -1 0\nend\n"
-unfolding digits
-ranked_text = refl
+printed = refl
 
 -- ---- reading
 
 pub stated_plan : plan_of (stated (rows_of_bytes Commented (codes "# two tasks\nplan 2\norder 2\n1\n2\n\npriority 2\n2\n01\npeak 6\nclaims 1\n1 F -1 0\nend"))) ≡ ranked
-unfolding lines_of tokens_of number_of number_from signed_of rows_from stated
+unfolding lines_of tokens_of number_of number_from signed_of rows_from after_word version_of dir_named stated
 stated_plan = refl
 
 -- the first test of a file's lines and of its end that fails, if one does
 abbrev pub refusal_of : List ℕ → Option (Refusal PlanKind)
 refusal_of bytes =
     let rows = rows_of_bytes Commented bytes in
-    first_failure (tests_of_all plan_line_tests [] rows ++ end_tests_after (stated rows) (past_of_bytes bytes))
+    first_failure (tests_of_all plan_format.line_tests [] rows ++ plan_format.end_tests rows (past_of_bytes bytes))
 
-pub well_formed : refusal_of (codes "plan 1\norder 1\n1\npeak 3\nclaims 1\n3 R 2 0\nend\n") ≡ None
-unfolding lines_of tokens_of number_of number_from signed_of rows_from stated
-well_formed = refl
-
-pub without_end : refusal_of (codes "plan 1\norder 1\n1\npeak 3\nclaims 0\n") ≡ Some (fault_at 6 kinds.NoEnd)
-unfolding lines_of tokens_of number_of number_from signed_of rows_from stated
-without_end = refl
-
-pub three_tokens : refusal_of (codes "plan 1\norder 0\npeak 3\nclaims 1\n3 R 2\nend\n") ≡ Some (fault_at 5 kinds.Claim)
-unfolding lines_of tokens_of number_of number_from signed_of rows_from stated
-three_tokens = refl
-
-pub ranked_twice : refusal_of (codes "plan 2\norder 2\n1\n2\npriority 2\n2\n2\n") ≡ Some (fault_at 7 kinds.Priority)
-unfolding lines_of tokens_of number_of number_from signed_of rows_from stated
-ranked_twice = refl
-
-pub too_many : refusal_of (codes "plan 1\norder 0\npeak 0\nclaims 4000002\n") ≡ Some (refusals.Limit limits.Positions)
-unfolding lines_of tokens_of number_of number_from signed_of rows_from stated
-too_many = refl
+-- a file that is read, one without its last line, a claim of three tokens, a task that is ranked twice, too many claims
+pub refusals_of : map refusal_of (
+    codes "plan 1\norder 1\n1\npeak 3\nclaims 1\n3 R 2 0\nend\n"
+    ∷ codes "plan 1\norder 1\n1\npeak 3\nclaims 0\n"
+    ∷ codes "plan 1\norder 0\npeak 3\nclaims 1\n3 R 2\nend\n"
+    ∷ codes "plan 2\norder 2\n1\n2\npriority 2\n2\n2\n"
+    ∷ codes "plan 1\norder 0\npeak 0\nclaims 4000002\n"
+    ∷ []) ≡ None ∷ Some (fault_at 6 kinds.NoEnd) ∷ Some (fault_at 5 kinds.Claim) ∷ Some (fault_at 7 kinds.Priority) ∷ Some (refusals.Limit limits.Positions) ∷ []
+unfolding lines_of tokens_of number_of number_from signed_of rows_from after_word version_of dir_named stated
+refusals_of = refl
 
 -- ---- claims by position
 
-pub at_position : claim_at five.claims 11 ≡ Some (record { direction = backward; bound = pos 10; rest = 10 })
-at_position = refl
-
-pub nowhere : claim_at five.claims 12 ≡ None
-nowhere = refl
+pub at_positions : map (claim_at five.claims) (11 ∷ 12 ∷ []) ≡ Some (record { direction = backward; bound = pos 10; rest = 10 }) ∷ None ∷ []
+at_positions = refl

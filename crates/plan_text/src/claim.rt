@@ -1,6 +1,10 @@
 ghost use Rattle.std.specs.Prelude.{◌≡◌};
 ghost use Rattle.sp_term_laws.specs.Moves.{other};
+ghost use Rattle.plan_text.specs.Kinds.{word_of};
 ghost use Rattle.plan_text.specs.Plan.{direction_of};
+
+use mp_text::Kind;
+use std::fmt::{self, Display, Formatter, Write};
 
 /// The direction in which a claim is meant.
 #[derive(Clone, Copy, Debug, PartialEq, Eq)]
@@ -41,7 +45,7 @@ pub struct Claim {
 #[derive(Clone, Copy, Debug, PartialEq, Eq)]
 pub enum PlanKind {
     /// Line 1 is not `plan 1` or `plan 2`.
-    Header,
+    Header = 1,
     /// A word is no number, or a number is out of its range.
     Number,
     /// A section does not begin with its word and one word more.
@@ -54,4 +58,26 @@ pub enum PlanKind {
     NoEnd,
     /// A priority ranks neither all tasks nor none, a priority line has not one word, or its task is none or stood before.
     Priority,
+}
+
+impl Kind for PlanKind {
+    ghost word_of = { word_of };
+
+    fn word(self) -> &'static str {
+        match self {
+            PlanKind::Header => "header",
+            PlanKind::Number => "number",
+            PlanKind::Section => "section",
+            PlanKind::Order => "order",
+            PlanKind::Claim => "claim",
+            PlanKind::NoEnd => "no-end",
+            PlanKind::Priority => "priority",
+        }
+    }
+}
+
+impl Display for PlanKind {
+    fn fmt<W: Write>(&self, f: &mut Formatter<W>) -> fmt::Result {
+        f.write_str(self.word())
+    }
 }

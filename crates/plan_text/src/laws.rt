@@ -1,6 +1,7 @@
 //! Laws of plan files: what holds of each, without a call.
 
 ghost use Rattle.std.specs.Prelude.{◌≡◌, ◌⊎◌, ◌≤◌, ℕ, List, length};
+ghost use Rattle.limits.specs.Limits.{most_bytes};
 ghost use Rattle.mp_text.specs.declared.refusals.Refusal.{Refusal};
 ghost use Rattle.plan_text.specs.declared.claim.PlanKind.{PlanKind};
 ghost use Rattle.plan_text.specs.Plan.{PlanText, IsPlan};
@@ -37,8 +38,8 @@ pub fn printed_plan()
     text_laws::printed_file();
 }
 
-/// The text of a plan, and its text in version 2, have at most 2^28 bytes, so that a file of it can be read whole.
+/// The text of a plan, and its text in version 2, are within the limit of bytes, so that a file of it can be read whole.
 pub fn printed_length()
-    ensures text { (plan : PlanText) → IsPlan plan → length (text_of plan) ≤ 268435456 }
-    ensures text_2 { (plan : PlanText) → IsPlan plan → length (text2_of plan) ≤ 268435456 }
+    ensures text { (plan : PlanText) → IsPlan plan → length (text_of plan) ≤ most_bytes }
+    ensures text_2 { (plan : PlanText) → IsPlan plan → length (text2_of plan) ≤ most_bytes }
 {}

@@ -4,6 +4,7 @@
 mod claim;
 pub mod laws;
 mod lines;
+mod parts;
 mod plan;
 mod printing;
 mod ranking;
@@ -13,6 +14,7 @@ mod stage;
 mod tests;
 
 pub use claim::{Claim, Dir, PlanKind};
+pub use parts::is_plan;
 pub use plan::{PlanFile, read_plan};
 pub use printing::{print_plan, print_plan_2};
 use std::alloc::AllocError;

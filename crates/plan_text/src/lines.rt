@@ -1,107 +1,26 @@
 //! One function for each kind of line of a plan file: its tests in the order of the format's table.
 
-ghost use Rattle.std.specs.Prelude.{◌≡◌, ◌==◌, ◌≤◌, ◌^◌, ℕ, List, [], ◌∷◌, length, MatchOption, MatchResult, IfOk, Some, None, true, false, unsigned_abs, if◌then◌else◌};
-ghost use Rattle.std.specs.Cmp.Lexicographic.{pointwise};
-ghost use Rattle.std.specs.Str.{bytes_eq};
-ghost use Rattle.mp_text.specs.Text.{tokens_of, number_of, signed_of};
+ghost use Rattle.std.specs.Prelude.{◌≡◌, ◌≤◌, MatchOption, IfOk, Some, false, unsigned_abs, codes};
+ghost use Rattle.limits.specs.Limits.{most_tasks, most_positions, most_total};
+ghost use Rattle.mp_text.specs.Text.{number_of, signed_of};
 ghost use Rattle.mp_text.specs.Ahead.{row};
-ghost use Rattle.mp_text.specs.Grammar.{Test};
 ghost use Rattle.mp_text.specs.Reading.{Gives, tested};
-ghost use Rattle.plan_text.specs.PlanFile.{fault_at, token_at, is_number_up_to, is_dir, dir_of, is_bound, bound_of, has_priority, header_tests, section_test, stated_on, order_section_tests, priority_section_tests, peak_tests, claims_section_tests, task_on, order_tests, priority_tests, last_position, claim_on, claim_form, claim_tests, last_tests};
+ghost use Rattle.plan_text.specs.Plan.{IsTask};
+ghost use Rattle.plan_text.specs.PlanFile.{is_number_up_to, dir_named, is_bound, header_tests, version_stated, section_form, stated_on, order_section_tests, priority_section_tests, peak_tests, claims_section_tests, task_on, order_tests, priority_tests, last_position, claim_on, claim_form, claim_tests, last_tests};
 
 use crate::claim::{Claim, Dir, PlanKind};
 use crate::ranking::Ranking;
-use limits::LimitName;
-use mp_text::{Fault, Line, Refusal, number, signed, tokens};
-
-const MOST_TASKS: u64 = 1_000_000;
-
-const MOST_CLAIMS: u64 = 4_000_001;
+use limits::{LimitName, MOST_POSITIONS, MOST_TASKS, MOST_TOTAL};
+use mp_text::{
+    Line, Refusal, Version, after_word, fault, is_word, number, signed, tokens, version_of,
+};
 
 // The greatest number of a task or a position.
 const MOST_NUMBER: u64 = 4_294_967_295;
 
-// The greatest peak, rest and bound.
-const MOST_MEMORY: u64 = 1_152_921_504_606_846_976;
-
-/// The refusal of a line.
-pub fn fault(line: u64, kind: PlanKind) -> Refusal<PlanKind>
-    ensures { result ≡ fault_at line kind }
-{
-    Refusal::Format(Fault { line, kind })
-}
-
-// Whether a line has these two tokens alone.
-fn are_words(text: &[u8], first: &[u8], second: &[u8]) -> bool
-    ensures { result ≡ pointwise bytes_eq (tokens_of text.now) (first.now ∷ second.now ∷ []) }
-{
-    let mut words = tokens(text);
-    let Some(word) = words.next() else {
-        return false;
-    };
-    if word != first {
-        return false;
-    }
-    let Some(word) = words.next() else {
-        return false;
-    };
-    word == second && words.next().is_none()
-}
-
-// Whether a line has this token alone.
-fn is_word(text: &[u8], only: &[u8]) -> bool
-    ensures { result ≡ pointwise bytes_eq (tokens_of text.now) (only.now ∷ []) }
-{
-    let mut words = tokens(text);
-    let Some(word) = words.next() else {
-        return false;
-    };
-    word == only && words.next().is_none()
-}
-
-// The token of a line that has one.
-fn only_token(text: &[u8]) -> Option<&[u8]>
-    ensures { MatchOption result ((length (tokens_of text.now) == 1) ≡ false) (λ t. tokens_of text.now ≡ t.now ∷ []) }
-{
-    let mut words = tokens(text);
-    let only = words.next()?;
-    match words.next() {
-        Some(_) => None,
-        None => Some(only),
-    }
-}
-
-// The tokens of a line that has two.
-fn two_tokens(text: &[u8]) -> Option<(&[u8], &[u8])>
-    ensures { MatchOption result ((length (tokens_of text.now) == 2) ≡ false) (λ p. tokens_of text.now ≡ p.0.now ∷ p.1.now ∷ []) }
-{
-    let mut words = tokens(text);
-    let first = words.next()?;
-    let second = words.next()?;
-    match words.next() {
-        Some(_) => None,
-        None => Some((first, second)),
-    }
-}
-
-// The tokens of a line that has four.
-fn four_tokens(text: &[u8]) -> Option<(&[u8], &[u8], &[u8], &[u8])>
-    ensures { MatchOption result ((length (tokens_of text.now) == 4) ≡ false) (λ p. tokens_of text.now ≡ p.0.now ∷ p.1.now ∷ p.2.now ∷ p.3.now ∷ []) }
-{
-    let mut words = tokens(text);
-    let first = words.next()?;
-    let second = words.next()?;
-    let third = words.next()?;
-    let fourth = words.next()?;
-    match words.next() {
-        Some(_) => None,
-        None => Some((first, second, third, fourth)),
-    }
-}
-
 // The number that a token spells, if it is at most this.
 fn number_up_to(most: u64, token: &[u8]) -> Option<u64>
-    ensures number { MatchOption result (is_number_up_to most token.now ≡ false) (λ n. (number_of token.now ≡ Some n) × (n ≤ most)) }
+    ensures { MatchOption result (is_number_up_to most token.now ≡ false) (λ n. (number_of token.now ≡ Some n) × (n ≤ most)) }
 {
     let value = number(token)?;
     if value > most { None } else { Some(value) }
@@ -109,10 +28,10 @@ fn number_up_to(most: u64, token: &[u8]) -> Option<u64>
 
 // The bound that a token spells, if it is from -2^60 to 2^60.
 fn bound_of(token: &[u8]) -> Option<i64>
-    ensures { MatchOption result (is_bound token.now ≡ false) (λ z. (signed_of token.now ≡ Some z) × (unsigned_abs z ≤ 2 ^ 60)) }
+    ensures { MatchOption result (is_bound token.now ≡ false) (λ z. (signed_of token.now ≡ Some z) × (unsigned_abs z ≤ most_total)) }
 {
     let value = signed(token)?;
-    if value.unsigned_abs() > MOST_MEMORY {
+    if value.unsigned_abs() > MOST_TOTAL {
         None
     } else {
         Some(value)
@@ -120,8 +39,9 @@ fn bound_of(token: &[u8]) -> Option<i64>
 }
 
 // The direction that a token names.
-fn dir_of(token: &[u8]) -> Option<Dir>
-    ensures { MatchOption result (is_dir token.now ≡ false) (λ d. (is_dir token.now ≡ true) × (d ≡ dir_of token.now)) }
+#[tactic(auto, unfolding(crate::specs::PlanFile::dir_named))]
+fn dir_named(token: &[u8]) -> Option<Dir>
+    ensures { result ≡ dir_named token.now }
 {
     if token == b"F".as_slice() {
         return Some(Dir::F);
@@ -132,42 +52,35 @@ fn dir_of(token: &[u8]) -> Option<Dir>
     None
 }
 
-/// Line 1: whether there is a priority.
-pub fn header_on(line: Line<'_>) -> Result<bool, Refusal<PlanKind>>
-    ensures { let r = row line.entry.number line.entry.text.now in Gives (tested (header_tests r) (has_priority r)) result }
+/// Line 1: the version.
+pub fn header_on(line: Line<'_>) -> Result<Version, Refusal<PlanKind>>
+    ensures { let r = row line.entry.number line.entry.text.now in Gives (tested (header_tests r) (version_stated r)) result }
 {
-    let with_priority = are_words(line.text, b"plan", b"2");
-    if !are_words(line.text, b"plan", b"1") && !with_priority {
-        return Err(fault(line.number, PlanKind::Header));
+    match version_of(line.text, b"plan") {
+        Some(version) => Ok(version),
+        None => Err(fault(line.number, PlanKind::Header)),
     }
-    Ok(with_priority)
 }
 
-// The second token of a line that begins a section.
-fn section_on<'a>(line: Line<'a>, name: &[u8]) -> Result<&'a [u8], Refusal<PlanKind>>
-    ensures { let r = row line.entry.number line.entry.text.now in
-        MatchResult result
-        (λ t. ((section_test name.now r).holds ≡ true) × (token_at 1 r ≡ t.now))
-        (λ e. ((section_test name.now r).holds ≡ false) × (e ≡ fault_at line.entry.number PlanKind.Section)) }
+// The number of a line that begins a section.
+fn section_on(line: Line<'_>, word: &[u8]) -> Result<u64, Refusal<PlanKind>>
+    ensures { let r = row line.entry.number line.entry.text.now in Gives (tested (section_form word.now r) (stated_on word.now r)) result }
 {
-    let Some((word, stated)) = two_tokens(line.text) else {
+    let Some(stated) = after_word(line.text, word) else {
         return Err(fault(line.number, PlanKind::Section));
     };
-    if word != name {
-        return Err(fault(line.number, PlanKind::Section));
+    match number(stated) {
+        Some(stated) => Ok(stated),
+        None => Err(fault(line.number, PlanKind::Number)),
     }
-    Ok(stated)
 }
 
 /// `order N`: the number of tasks.
 pub fn order_section_on(line: Line<'_>) -> Result<u64, Refusal<PlanKind>>
-    ensures judged { let r = row line.entry.number line.entry.text.now in Gives (tested (order_section_tests r) (stated_on r)) result }
-    ensures few { IfOk result (λ n. n ≤ 4000001) }
+    ensures judged { let r = row line.entry.number line.entry.text.now in Gives (tested (order_section_tests r) (stated_on (codes "order") r)) result }
+    ensures few { IfOk result (λ n. n ≤ most_tasks) }
 {
-    let stated = section_on(line, b"order")?;
-    let Some(count) = number(stated) else {
-        return Err(fault(line.number, PlanKind::Number));
-    };
+    let count = section_on(line, b"order")?;
     if count > MOST_TASKS {
         return Err(Refusal::Limit(LimitName::Tasks));
     }
@@ -176,14 +89,10 @@ pub fn order_section_on(line: Line<'_>) -> Result<u64, Refusal<PlanKind>>
 
 /// `priority M`: the number of tasks that it ranks, all or none.
 pub fn priority_section_on(tasks: u64, line: Line<'_>) -> Result<u64, Refusal<PlanKind>>
-    requires { tasks ≤ 4000001 }
-    ensures judged { let r = row line.entry.number line.entry.text.now in Gives (tested (priority_section_tests tasks r) (stated_on r)) result }
-    ensures few { IfOk result (λ n. n ≤ 4000001) }
+    ensures judged { let r = row line.entry.number line.entry.text.now in Gives (tested (priority_section_tests tasks r) (stated_on (codes "priority") r)) result }
+    ensures few { IfOk result (λ n. n ≤ tasks) }
 {
-    let stated = section_on(line, b"priority")?;
-    let Some(count) = number(stated) else {
-        return Err(fault(line.number, PlanKind::Number));
-    };
+    let count = section_on(line, b"priority")?;
     if count != 0 && count != tasks {
         return Err(fault(line.number, PlanKind::Priority));
     }
@@ -192,25 +101,22 @@ pub fn priority_section_on(tasks: u64, line: Line<'_>) -> Result<u64, Refusal<Pl
 
 /// `peak P`: the peak.
 pub fn peak_on(line: Line<'_>) -> Result<u64, Refusal<PlanKind>>
-    ensures { let r = row line.entry.number line.entry.text.now in Gives (tested (peak_tests r) (stated_on r)) result }
+    ensures { let r = row line.entry.number line.entry.text.now in Gives (tested (peak_tests r) (stated_on (codes "peak") r)) result }
 {
-    let stated = section_on(line, b"peak")?;
-    match number_up_to(MOST_MEMORY, stated) {
-        Some(peak) => Ok(peak),
-        None => Err(fault(line.number, PlanKind::Number)),
+    let peak = section_on(line, b"peak")?;
+    if peak > MOST_TOTAL {
+        return Err(fault(line.number, PlanKind::Number));
     }
+    Ok(peak)
 }
 
 /// `claims C`: the number of claims.
 pub fn claims_section_on(line: Line<'_>) -> Result<u64, Refusal<PlanKind>>
-    ensures judged { let r = row line.entry.number line.entry.text.now in Gives (tested (claims_section_tests r) (stated_on r)) result }
-    ensures few { IfOk result (λ n. n ≤ 4000001) }
+    ensures judged { let r = row line.entry.number line.entry.text.now in Gives (tested (claims_section_tests r) (stated_on (codes "claims") r)) result }
+    ensures few { IfOk result (λ n. n ≤ most_positions) }
 {
-    let stated = section_on(line, b"claims")?;
-    let Some(count) = number(stated) else {
-        return Err(fault(line.number, PlanKind::Number));
-    };
-    if count > MOST_CLAIMS {
+    let count = section_on(line, b"claims")?;
+    if count > MOST_POSITIONS {
         return Err(Refusal::Limit(LimitName::Positions));
     }
     Ok(count)
@@ -220,7 +126,7 @@ pub fn claims_section_on(line: Line<'_>) -> Result<u64, Refusal<PlanKind>>
 pub fn order_on(line: Line<'_>) -> Result<u32, Refusal<PlanKind>>
     ensures { let r = row line.entry.number line.entry.text.now in Gives (tested (order_tests r) (task_on r)) result }
 {
-    let Some(token) = only_token(line.text) else {
+    let Some(token) = tokens(line.text).one() else {
         return Err(fault(line.number, PlanKind::Order));
     };
     match number_up_to(MOST_NUMBER, token) {
@@ -232,25 +138,18 @@ pub fn order_on(line: Line<'_>) -> Result<u32, Refusal<PlanKind>>
 /// A priority line, after those that the ranking holds: the task.
 pub fn priority_on(ranking: &Ranking, line: Line<'_>) -> Result<u32, Refusal<PlanKind>>
     ensures judged { let r = row line.entry.number line.entry.text.now in Gives (tested (priority_tests ranking.now.tasks ranking.now.ranked r) (task_on r)) result }
-    ensures task { IfOk result (λ v. (1 ≤ v) × (v ≤ ranking.now.tasks)) }
+    ensures task { IfOk result (IsTask ranking.now.tasks) }
 {
-    let Some(token) = only_token(line.text) else {
+    let Some(token) = tokens(line.text).one() else {
         return Err(fault(line.number, PlanKind::Priority));
     };
     let Some(task) = number(token) else {
         return Err(fault(line.number, PlanKind::Number));
     };
-    if task < 1 {
+    if !ranking.takes(task) {
         return Err(fault(line.number, PlanKind::Priority));
     }
-    if task > u64::from(ranking.tasks()) {
-        return Err(fault(line.number, PlanKind::Priority));
-    }
-    let task = task as u32;
-    if ranking.has(task) {
-        return Err(fault(line.number, PlanKind::Priority));
-    }
-    Ok(task)
+    Ok(task as u32)
 }
 
 // The position of the last claim, 0 where there is none.
@@ -267,10 +166,10 @@ fn last_position(claims: &[Claim]) -> u32
 fn claim_stated(line: Line<'_>) -> Result<Claim, Refusal<PlanKind>>
     ensures { let r = row line.entry.number line.entry.text.now in Gives (tested (claim_form r) (claim_on r)) result }
 {
-    let Some((position, dir, bound, rest)) = four_tokens(line.text) else {
+    let Some((position, dir, bound, rest)) = tokens(line.text).four() else {
         return Err(fault(line.number, PlanKind::Claim));
     };
-    let Some(dir) = dir_of(dir) else {
+    let Some(dir) = dir_named(dir) else {
         return Err(fault(line.number, PlanKind::Claim));
     };
     let Some(position) = number_up_to(MOST_NUMBER, position) else {
@@ -279,7 +178,7 @@ fn claim_stated(line: Line<'_>) -> Result<Claim, Refusal<PlanKind>>
     let Some(bound) = bound_of(bound) else {
         return Err(fault(line.number, PlanKind::Number));
     };
-    let Some(rest) = number_up_to(MOST_MEMORY, rest) else {
+    let Some(rest) = number_up_to(MOST_TOTAL, rest) else {
         return Err(fault(line.number, PlanKind::Number));
     };
     Ok(Claim {

@@ -30,7 +30,7 @@ impl Model for PlanFile {
 impl PlanFile {
     ghost use Rattle.plan_text.specs.Plan.{PlanText, IsPlan};
 
-    /// A plan of these parts.
+    /// A plan of these parts. `is_plan` tells whether they make one.
     pub fn new(order: Vec<u32>, peak: u64, claims: Vec<Claim>, priority: Vec<u32>) -> PlanFile
         requires { IsPlan (record { order = order.items; peak = peak; claims = claims.items; priority = priority.items }) }
         ensures { result ≡ record { order = order.items; peak = peak; claims = claims.items; priority = priority.items } }

@@ -2,19 +2,13 @@
 
 ghost use Rattle.std.specs.Prelude.{◌≡◌, ◌++◌, map, length, take, IsTrue, OnOk, OnErr};
 ghost use Rattle.mp_text.specs.Report.{is_line_start, is_token, text_of_lines};
-ghost use Rattle.plan_text.specs.Printed.{version, task_line, dir_word, claim_line, task_lines, claim_lines, priority_lines, first_lines, last_lines, text_in, is_ranked, text_of, text2_of};
+ghost use Rattle.plan_text.specs.Printed.{task_line, dir_word, claim_line, task_lines, claim_lines, priority_lines, last_lines, text_in, version_for, text_of, text2_of};
 
 use crate::NoMemory;
 use crate::claim::{Claim, Dir};
 use crate::plan::PlanFile;
 use mp_text::laws::printed_lines;
-use mp_text::{Report, Token};
-
-fn version_word(with_priority: bool) -> &'static str
-    ensures { result.now ≡ version with_priority }
-{
-    if with_priority { "2" } else { "1" }
-}
+use mp_text::{Report, Token, Version};
 
 fn dir_word(dir: Dir) -> &'static str
     ensures { result.now ≡ dir_word dir }
@@ -25,26 +19,30 @@ fn dir_word(dir: Dir) -> &'static str
     }
 }
 
-fn print_each_task(tasks: &[u32], report: &mut Report) -> Result<(), NoMemory>
-    requires { IsTrue (is_line_start report.old) }
-    ensures ok { OnOk result (report.new ≡ report.old ++ text_of_lines (map task_line tasks.now)) }
+// How many tasks there are, and each on a line.
+fn print_tasks(word: &str, tasks: &[u32], report: &mut Report) -> Result<(), NoMemory>
+    requires token { IsTrue (is_token word.now) }
+    requires start { IsTrue (is_line_start report.old) }
+    ensures ok { OnOk result (report.new ≡ report.old ++ text_of_lines (task_lines word.now tasks.now)) }
     ensures start { OnOk result (IsTrue (is_line_start report.new)) }
     ensures err { OnErr result (take (length report.old) report.new ≡ report.old) }
 {
     printed_lines();
+    report.line(&[Token::Word(word), Token::Number(tasks.len() as u64)])?;
     for task in tasks {
         report.line(&[Token::Number(u64::from(*task))])?;
     }
     Ok(())
 }
 
-fn print_each_claim(claims: &[Claim], report: &mut Report) -> Result<(), NoMemory>
+fn print_claims(claims: &[Claim], report: &mut Report) -> Result<(), NoMemory>
     requires { IsTrue (is_line_start report.old) }
-    ensures ok { OnOk result (report.new ≡ report.old ++ text_of_lines (map claim_line claims.now)) }
+    ensures ok { OnOk result (report.new ≡ report.old ++ text_of_lines (claim_lines claims.now)) }
     ensures start { OnOk result (IsTrue (is_line_start report.new)) }
     ensures err { OnErr result (take (length report.old) report.new ≡ report.old) }
 {
     printed_lines();
+    report.line(&[Token::Word("claims"), Token::Number(claims.len() as u64)])?;
     for claim in claims {
         report.line(&[
             Token::Number(u64::from(claim.position)),
@@ -54,61 +52,6 @@ fn print_each_claim(claims: &[Claim], report: &mut Report) -> Result<(), NoMemor
         ])?;
     }
     Ok(())
-}
-
-// How many tasks there are, and each on a line.
-fn print_tasks(word: &str, tasks: &[u32], report: &mut Report) -> Result<(), NoMemory>
-    requires token { IsTrue (is_token word.now) }
-    requires start { IsTrue (is_line_start report.old) }
-    ensures ok { OnOk result (report.new ≡ report.old ++ text_of_lines (task_lines word.now tasks.now)) }
-    ensures start { OnOk result (IsTrue (is_line_start report.new)) }
-    ensures err { OnErr result (take (length report.old) report.new ≡ report.old) }
-{
-    report.line(&[Token::Word(word), Token::Number(tasks.len() as u64)])?;
-    print_each_task(tasks, report)
-}
-
-fn print_claims(claims: &[Claim], report: &mut Report) -> Result<(), NoMemory>
-    requires { IsTrue (is_line_start report.old) }
-    ensures ok { OnOk result (report.new ≡ report.old ++ text_of_lines (claim_lines claims.now)) }
-    ensures start { OnOk result (IsTrue (is_line_start report.new)) }
-    ensures err { OnErr result (take (length report.old) report.new ≡ report.old) }
-{
-    report.line(&[Token::Word("claims"), Token::Number(claims.len() as u64)])?;
-    print_each_claim(claims, report)
-}
-
-fn print_priority(
-    with_priority: bool,
-    priority: &[u32],
-    report: &mut Report,
-) -> Result<(), NoMemory>
-    requires { IsTrue (is_line_start report.old) }
-    ensures ok { OnOk result (report.new ≡ report.old ++ text_of_lines (priority_lines with_priority priority.now)) }
-    ensures start { OnOk result (IsTrue (is_line_start report.new)) }
-    ensures err { OnErr result (take (length report.old) report.new ≡ report.old) }
-{
-    if with_priority {
-        print_tasks("priority", priority, report)
-    } else {
-        Ok(())
-    }
-}
-
-// The lines up to the priority.
-fn print_first(with_priority: bool, plan: &PlanFile, report: &mut Report) -> Result<(), NoMemory>
-    requires { IsTrue (is_line_start report.old) }
-    ensures ok { OnOk result (report.new ≡ report.old ++ text_of_lines (first_lines with_priority plan.now)) }
-    ensures start { OnOk result (IsTrue (is_line_start report.new)) }
-    ensures err { OnErr result (take (length report.old) report.new ≡ report.old) }
-{
-    printed_lines();
-    report.line(&[
-        Token::Word("plan"),
-        Token::Word(version_word(with_priority)),
-    ])?;
-    print_tasks("order", plan.order(), report)?;
-    print_priority(with_priority, plan.priority(), report)
 }
 
 // The lines after the priority.
@@ -123,34 +66,55 @@ fn print_last(plan: &PlanFile, report: &mut Report) -> Result<(), NoMemory>
     report.line(&[Token::Word("end")])
 }
 
-// Appends the lines of a version, or some bytes.
-fn print_part(with_priority: bool, plan: &PlanFile, report: &mut Report) -> Result<(), NoMemory>
+// The priority, which only version 2 has, and the lines after it.
+fn print_rest(version: Version, plan: &PlanFile, report: &mut Report) -> Result<(), NoMemory>
     requires { IsTrue (is_line_start report.old) }
-    ensures ok { OnOk result (report.new ≡ report.old ++ text_in with_priority plan.now) }
+    ensures ok { OnOk result (report.new ≡ report.old ++ text_of_lines (priority_lines version plan.now.priority ++ last_lines plan.now)) }
     ensures err { OnErr result (take (length report.old) report.new ≡ report.old) }
 {
     printed_lines();
-    print_first(with_priority, plan, report)?;
-    print_last(plan, report)
+    match version {
+        Version::One => print_last(plan, report),
+        Version::Two => {
+            print_tasks("priority", plan.priority(), report)?;
+            print_last(plan, report)
+        }
+    }
 }
 
-fn print_in(with_priority: bool, plan: &PlanFile, report: &mut Report) -> Result<(), NoMemory>
+// Appends the lines of a version, or some bytes.
+fn print_lines(version: Version, plan: &PlanFile, report: &mut Report) -> Result<(), NoMemory>
     requires { IsTrue (is_line_start report.old) }
-    ensures ok { OnOk result (report.new ≡ report.old ++ text_in with_priority plan.now) }
+    ensures ok { OnOk result (report.new ≡ report.old ++ text_in version plan.now) }
+    ensures err { OnErr result (take (length report.old) report.new ≡ report.old) }
+{
+    printed_lines();
+    report.line(&[Token::Word("plan"), Token::Word(version.word())])?;
+    print_tasks("order", plan.order(), report)?;
+    print_rest(version, plan, report)
+}
+
+fn print_in(version: Version, plan: &PlanFile, report: &mut Report) -> Result<(), NoMemory>
+    requires { IsTrue (is_line_start report.old) }
+    ensures ok { OnOk result (report.new ≡ report.old ++ text_in version plan.now) }
     ensures err { OnErr result (report.new ≡ report.old) }
 {
     let start = report.len();
-    let printed = print_part(with_priority, plan, report);
+    let printed = print_lines(version, plan, report);
     if printed.is_err() {
         report.cut(start);
     }
     printed
 }
 
-fn is_ranked(priority: &[u32]) -> bool
-    ensures { result ≡ is_ranked priority.now }
+fn version_for(priority: &[u32]) -> Version
+    ensures { result ≡ version_for priority.now }
 {
-    !priority.is_empty()
+    if priority.is_empty() {
+        Version::One
+    } else {
+        Version::Two
+    }
 }
 
 /// Appends the lines of a plan file, of version 1 where the priority is empty, else of version 2. Linear in the tasks and the claims.
@@ -161,7 +125,7 @@ pub fn print_plan(plan: &PlanFile, report: &mut Report) -> Result<(), NoMemory>
     ensures ok { OnOk result (report.new ≡ report.old ++ text_of plan.now) }
     ensures err { OnErr result (report.new ≡ report.old) }
 {
-    print_in(is_ranked(plan.priority()), plan, report)
+    print_in(version_for(plan.priority()), plan, report)
 }
 
 /// Appends the lines of a plan file of version 2. Linear in the tasks and the claims.
@@ -172,5 +136,5 @@ pub fn print_plan_2(plan: &PlanFile, report: &mut Report) -> Result<(), NoMemory
     ensures ok { OnOk result (report.new ≡ report.old ++ text2_of plan.now) }
     ensures err { OnErr result (report.new ≡ report.old) }
 {
-    print_in(true, plan, report)
+    print_in(Version::Two, plan, report)
 }

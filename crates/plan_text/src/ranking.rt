@@ -1,5 +1,5 @@
-ghost use Rattle.std.specs.Prelude.{◌≡◌, ◌==◌, ◌+◌, ◌≤◌, ℕ, [], ◌∷◌, ◌++◌, length, not, OnOk};
-ghost use Rattle.plan_text.specs.Plan.{times};
+ghost use Rattle.std.specs.Prelude.{◌≡◌, ◌==◌, ◌&&◌, [], ◌∷◌, ◌++◌, ◌≤◌, length, nat_le, IsTrue, OnOk};
+ghost use Rattle.plan_text.specs.Plan.{IsTask, most_number, times};
 
 use crate::NoMemory;
 use std::alloc::Global;
@@ -47,18 +47,18 @@ impl Ranking {
         Ok(())
     }
 
-    /// Whether a task was ranked.
-    pub fn has(&self, task: u32) -> bool
-        requires { (1 ≤ task) × (task ≤ self.now.tasks) }
-        ensures { result ≡ not (times self.now.ranked task == 0) }
+    /// Whether a task can be ranked next: it is one of them, and was not ranked.
+    pub fn takes(&self, task: u64) -> bool
+        ensures value { result ≡ (nat_le 1 task && nat_le task self.now.tasks && (times self.now.ranked task == 0)) }
+        ensures number { IsTrue result → task ≤ most_number }
     {
-        self.marks[task as usize - 1]
+        1 <= task && task <= u64::from(self.tasks) && !self.marks[task as usize - 1]
     }
 
     /// Ranks a task.
     pub fn push(&mut self, task: u32) -> Result<(), NoMemory>
-        requires { (1 ≤ task) × (task ≤ self.old.tasks) }
-        ensures ok { OnOk result (self.new ≡ record { tasks = self.old.tasks; ranked = self.old.ranked ++ task ∷ [] }) }
+        requires { IsTask self.old.tasks task }
+        ensures { OnOk result (self.new ≡ record { tasks = self.old.tasks; ranked = self.old.ranked ++ task ∷ [] }) }
     {
         self.ranked.push(task)?;
         self.marks[task as usize - 1] = true;
@@ -70,13 +70,6 @@ impl Ranking {
         ensures { result ≡ length self.now.ranked }
     {
         self.ranked.len()
-    }
-
-    /// How many tasks there are.
-    pub fn tasks(&self) -> u32
-        ensures { result ≡ self.now.tasks }
-    {
-        self.tasks
     }
 
     /// The tasks that were ranked.

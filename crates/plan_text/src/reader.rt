@@ -4,12 +4,12 @@ ghost use Rattle.mp_text.specs.Reading.{Steps, tested};
 
 use crate::claim::{Claim, PlanKind};
 use crate::lines::{
-    claim_on, claims_section_on, fault, header_on, last_on, order_on, order_section_on, peak_on,
+    claim_on, claims_section_on, header_on, last_on, order_on, order_section_on, peak_on,
     priority_on, priority_section_on,
 };
 use crate::ranking::Ranking;
 use crate::stage::Stage;
-use mp_text::{Line, Reader, Refusal};
+use mp_text::{Line, Reader, Refusal, Version, fault};
 use std::alloc::Global;
 use std::marker::Model;
 
@@ -17,7 +17,7 @@ use std::marker::Model;
 #[derive(Drop)]
 pub struct PlanReader {
     stage: Stage,
-    with_priority: bool,
+    version: Version,
     count: u64,
     pub order: Vec<u32>,
     pub ranking: Ranking,
@@ -30,11 +30,12 @@ impl Model for PlanReader {
 
     ghost Value = { Stated };
 
-    ghost view = { λ s. record { stage = s.stage; with_priority = s.with_priority; count = s.count; tasks = s.ranking.tasks; order = s.order.items; priority = s.ranking.ranked; peak = s.peak; claims = s.claims.items } };
+    ghost view = { λ s. record { stage = s.stage; version = s.version; count = s.count; tasks = s.ranking.tasks; order = s.order.items; priority = s.ranking.ranked; peak = s.peak; claims = s.claims.items } };
 
     ghost use Rattle.std.specs.Prelude.{◌≤◌};
+    ghost use Rattle.limits.specs.Limits.{most_positions};
 
-    ghost invariant = { λ s. s.count ≤ 4000001 };
+    ghost invariant = { λ s. s.count ≤ most_positions };
 }
 
 impl PlanReader {
@@ -47,7 +48,7 @@ impl PlanReader {
     {
         PlanReader {
             stage: Stage::Header,
-            with_priority: false,
+            version: Version::One,
             count: 0,
             order: Vec::new(alloc),
             ranking: Ranking::new(alloc),
@@ -76,37 +77,20 @@ impl PlanReader {
         Ok(())
     }
 
-    // Takes an order line.
-    fn task_line(&mut self, line: Line<'_>) -> Result<(), Refusal<PlanKind>>
-        ensures { let r = row line.entry.number line.entry.text.now in Steps (tested (order_tests r) (with_task self.old r)) result self.new }
-    {
-        let task = order_on(line)?;
-        self.order.push(task)?;
-        Ok(())
-    }
-
     // Takes a line after `order N`.
     fn order_line(&mut self, line: Line<'_>) -> Result<(), Refusal<PlanKind>>
         requires { self.old.stage ≡ Stage.Order }
         ensures { let r = row line.entry.number line.entry.text.now in Steps (tested (staged_tests Stage.Order self.old r) (staged_next Stage.Order self.old r)) result self.new }
     {
         if (self.order.len() as u64) < self.count {
-            return self.task_line(line);
+            let task = order_on(line)?;
+            self.order.push(task)?;
+            return Ok(());
         }
-        if self.with_priority {
-            self.priority_section(line)
-        } else {
-            self.peak_line(line)
+        match self.version {
+            Version::One => self.peak_line(line),
+            Version::Two => self.priority_section(line),
         }
-    }
-
-    // Takes a priority line.
-    fn rank_line(&mut self, line: Line<'_>) -> Result<(), Refusal<PlanKind>>
-        ensures { let r = row line.entry.number line.entry.text.now in Steps (tested (priority_tests self.old.tasks self.old.priority r) (with_rank self.old r)) result self.new }
-    {
-        let task = priority_on(&self.ranking, line)?;
-        self.ranking.push(task)?;
-        Ok(())
     }
 
     // Takes a line after `priority M`.
@@ -115,19 +99,11 @@ impl PlanReader {
         ensures { let r = row line.entry.number line.entry.text.now in Steps (tested (staged_tests Stage.Priority self.old r) (staged_next Stage.Priority self.old r)) result self.new }
     {
         if (self.ranking.len() as u64) < self.count {
-            self.rank_line(line)
-        } else {
-            self.peak_line(line)
+            let task = priority_on(&self.ranking, line)?;
+            self.ranking.push(task)?;
+            return Ok(());
         }
-    }
-
-    // Takes a claim line.
-    fn claim_line(&mut self, line: Line<'_>) -> Result<(), Refusal<PlanKind>>
-        ensures { let r = row line.entry.number line.entry.text.now in Steps (tested (claim_tests self.old.claims r) (with_claim self.old r)) result self.new }
-    {
-        let claim = claim_on(&self.claims, line)?;
-        self.claims.push(claim)?;
-        Ok(())
+        self.peak_line(line)
     }
 
     // Takes a line after `claims C`.
@@ -136,7 +112,9 @@ impl PlanReader {
         ensures { let r = row line.entry.number line.entry.text.now in Steps (tested (staged_tests Stage.Claims self.old r) (staged_next Stage.Claims self.old r)) result self.new }
     {
         if (self.claims.len() as u64) < self.count {
-            return self.claim_line(line);
+            let claim = claim_on(&self.claims, line)?;
+            self.claims.push(claim)?;
+            return Ok(());
         }
         last_on(line)?;
         self.stage = Stage::Ended;
@@ -163,7 +141,7 @@ impl Reader for PlanReader {
     fn line(&mut self, line: Line<'_>) -> Result<(), Refusal<PlanKind>> {
         match self.stage {
             Stage::Header => {
-                self.with_priority = header_on(line)?;
+                self.version = header_on(line)?;
                 self.stage = Stage::OrderSection;
                 Ok(())
             }

@@ -1,7 +1,7 @@
-use crate::{Claim, Dir, PlanFile, PlanKind, laws, print_plan, print_plan_2, read_plan};
-use limits::LimitName;
+use crate::{Claim, Dir, PlanFile, PlanKind, is_plan, laws, print_plan, print_plan_2, read_plan};
 use mp_text::{Fault, Refusal, Report};
 use std::alloc::Global;
+use std::process::Abort;
 use std::test::Fail;
 
 const FIVE: &[u8] =
@@ -26,10 +26,6 @@ fn claim(position: u32, dir: Dir, bound: i64, rest: u64) -> Claim {
         bound,
         rest,
     }
-}
-
-fn refusal_of(alloc: Global, text: &[u8]) -> Option<Refusal<PlanKind>> {
-    read_plan(alloc, text).err()
 }
 
 fn read(alloc: Global, text: &[u8]) -> Result<PlanFile, Fail> {
@@ -102,166 +98,133 @@ fn gives_the_parts(rt: HostRuntime) -> Result<(), Fail> {
     Ok(())
 }
 
-// The plan of five nodes is cut off before each of its lines.
 #[test]
-fn refuses_what_ends_early(rt: HostRuntime) {
-    let alloc = rt.alloc();
-    for (line, bytes) in [
-        (1, 0),
-        (2, 7),
-        (3, 15),
-        (4, 17),
-        (5, 19),
-        (6, 21),
-        (7, 23),
-        (8, 25),
-        (9, 33),
-        (10, 42),
-        (11, 50),
-        (12, 59),
-        (13, 70),
-        (14, 80),
-    ] {
-        let part = FIVE.get(..bytes).expect(&rt, "a part of the file");
-        let want = Some(Refusal::Format(Fault {
-            line,
-            kind: PlanKind::NoEnd,
-        }));
-        assert_eq!(rt; refusal_of(alloc, part), want, "before line {line}");
+fn tells_which_parts_make_a_plan(rt: HostRuntime) -> Result<(), Fail> {
+    let most = 1_152_921_504_606_846_976;
+    let claims = [claim(2, Dir::F, -5, 0), claim(7, Dir::R, 0, most)];
+    let (low, high) = (
+        claim(2, Dir::F, -1_152_921_504_606_846_977, 0),
+        claim(2, Dir::F, 0, most + 1),
+    );
+    let rows: [(u64, &[Claim], &[u32], bool); 11] = [
+        (most, &claims, &[2, 3, 1], true),
+        (0, &[], &[], true),
+        (most + 1, &claims, &[], false),
+        (9, &[claims[1], claims[0]], &[], false),
+        (9, &[claims[0], claims[0]], &[], false),
+        (9, &[claim(0, Dir::F, 0, 0)], &[], false),
+        (9, &[low], &[], false),
+        (9, &[high], &[], false),
+        (9, &claims, &[2, 3], false),
+        (9, &claims, &[2, 3, 2], false),
+        (9, &claims, &[2, 3, 4], false),
+    ];
+    for (peak, claims, priority, want) in rows {
+        let told = is_plan(rt.alloc(), &[3, 1, 2], peak, claims, priority)?;
+        assert_eq!(rt; told, want, "{claims:?} {priority:?}");
     }
+    Ok(())
 }
 
-const REFUSED_TEXTS: [(&[u8], u64, PlanKind); 40] = [
-    (b"plan 3\n", 1, PlanKind::Header),
-    (b"plan\n", 1, PlanKind::Header),
-    (b"plan 1 1\n", 1, PlanKind::Header),
-    (b"tree 1\n", 1, PlanKind::Header),
-    (b"# a\nplan 01\n", 2, PlanKind::Header),
-    (b"plan 1\npeak 0\n", 2, PlanKind::Section),
-    (b"plan 1\norder\n", 2, PlanKind::Section),
-    (b"plan 1\norder 1 1\n", 2, PlanKind::Section),
-    (b"plan 1\norder x\n", 2, PlanKind::Number),
-    (b"plan 1\norder 1\n1 1\n", 3, PlanKind::Order),
-    (b"plan 1\norder 1\nx\n", 3, PlanKind::Number),
-    (b"plan 1\norder 1\nend\n", 3, PlanKind::Number),
-    (b"plan 1\norder 1\n4294967296\n", 3, PlanKind::Number),
-    (b"plan 1\norder 1\n1\n2\n", 4, PlanKind::Section),
-    (b"plan 1\norder 0\npriority 0\n", 3, PlanKind::Section),
-    (b"plan 2\norder 0\npeak 0\n", 3, PlanKind::Section),
-    (b"plan 2\norder 0\npriority x\n", 3, PlanKind::Number),
-    (b"plan 2\norder 1\n1\npriority 2\n", 4, PlanKind::Priority),
+// The plan of five nodes is cut off before each of its lines.
+#[test]
+fn refuses_what_ends_early(rt: HostRuntime) -> Result<(), Fail> {
+    let alloc = rt.alloc();
+    let ends = [0, 7, 15, 17, 19, 21, 23, 25, 33, 42, 50, 59, 70, 80];
+    for (before, bytes) in ends.iter().enumerate() {
+        let part = FIVE.get(..*bytes).ok_or("a part of the file")?;
+        let want = Fault {
+            line: before as u64 + 1,
+            kind: PlanKind::NoEnd,
+        };
+        assert_eq!(rt; read_plan(alloc, part).err(), Some(Refusal::Format(want)));
+    }
+    Ok(())
+}
+
+// Texts, and the words of their refusals.
+const REFUSED: [(&str, &str); 18] = [
+    ("plan 3\n", "header at line 1"),
+    ("plan\n", "header at line 1"),
+    ("plan 1 1\n", "header at line 1"),
+    ("tree 1\n", "header at line 1"),
+    ("# a\nplan 01\n", "header at line 2"),
+    ("plan 1\npeak 0\n", "section at line 2"),
+    ("plan 1\norder\n", "section at line 2"),
+    ("plan 1\norder 1 1\n", "section at line 2"),
+    ("plan 1\norder x\n", "number at line 2"),
+    ("plan 1\norder 0\npriority 0\n", "section at line 3"),
+    ("plan 2\norder 0\npeak 0\n", "section at line 3"),
+    ("plan 2\norder 0\npriority x\n", "number at line 3"),
+    ("plan 2\norder 2\n1\n2\npriority 1\n", "priority at line 5"),
     (
-        b"plan 2\norder 2\n1\n2\npriority 1\n",
-        5,
-        PlanKind::Priority,
+        "plan 2\norder 4\n1\n2\n3\n4\npriority 4\n3\n3\n1\n4\npeak 6\nclaims 0\nend\n",
+        "priority at line 9",
     ),
+    ("plan 1\norder 0\nclaims 0\n", "section at line 3"),
+    ("plan 1\norder 0\npeak -1\n", "number at line 3"),
     (
-        b"plan 2\norder 1\n1\npriority 1\n1 1\n",
-        5,
-        PlanKind::Priority,
+        "plan 1\norder 0\npeak 1152921504606846977\n",
+        "number at line 3",
     ),
-    (b"plan 2\norder 1\n1\npriority 1\nx\n", 5, PlanKind::Number),
-    (
-        b"plan 2\norder 1\n1\npriority 1\n0\n",
-        5,
-        PlanKind::Priority,
-    ),
-    (
-        b"plan 2\norder 1\n1\npriority 1\n2\n",
-        5,
-        PlanKind::Priority,
-    ),
-    (
-        b"plan 2\norder 4\n1\n2\n3\n4\npriority 4\n3\n3\n1\n4\npeak 6\nclaims 0\nend\n",
-        9,
-        PlanKind::Priority,
-    ),
-    (b"plan 1\norder 0\nclaims 0\n", 3, PlanKind::Section),
-    (b"plan 1\norder 0\npeak -1\n", 3, PlanKind::Number),
-    (
-        b"plan 1\norder 0\npeak 1152921504606846977\n",
-        3,
-        PlanKind::Number,
-    ),
-    (b"plan 1\norder 0\npeak 0\nend\n", 4, PlanKind::Section),
-    (b"plan 1\norder 0\npeak 0\nclaims x\n", 4, PlanKind::Number),
-    (
-        b"plan 1\norder 0\npeak 0\nclaims 1\n1 F 0\n",
-        5,
-        PlanKind::Claim,
-    ),
-    (
-        b"plan 1\norder 0\npeak 0\nclaims 1\n1 f 0 0\n",
-        5,
-        PlanKind::Claim,
-    ),
-    (
-        b"plan 1\norder 0\npeak 0\nclaims 1\nend\n",
-        5,
-        PlanKind::Claim,
-    ),
-    (
-        b"plan 1\norder 0\npeak 0\nclaims 1\nx F 0 0\n",
-        5,
-        PlanKind::Number,
-    ),
-    (
-        b"plan 1\norder 0\npeak 0\nclaims 1\n1 F -1152921504606846977 0\n",
-        5,
-        PlanKind::Number,
-    ),
-    (
-        b"plan 1\norder 0\npeak 0\nclaims 1\n1 F 0 1152921504606846977\n",
-        5,
-        PlanKind::Number,
-    ),
-    (
-        b"plan 1\norder 0\npeak 0\nclaims 1\n0 F 0 0\n",
-        5,
-        PlanKind::Claim,
-    ),
-    (
-        b"plan 1\norder 0\npeak 0\nclaims 2\n2 F 0 0\n2 R 0 0\n",
-        6,
-        PlanKind::Claim,
-    ),
-    (
-        b"plan 1\norder 0\npeak 0\nclaims 0\nend end\n",
-        5,
-        PlanKind::NoEnd,
-    ),
-    (
-        b"plan 1\norder 0\npeak 0\nclaims 0\n1 F 0 0\n",
-        5,
-        PlanKind::NoEnd,
-    ),
-    (
-        b"plan 1\norder 0\npeak 0\nclaims 0\nend\n\nend\n",
-        7,
-        PlanKind::NoEnd,
-    ),
+    ("plan 1\norder 1000001\n", "limit tasks"),
 ];
 
-const LIMITS: [(&[u8], LimitName); 2] = [
-    (b"plan 1\norder 1000001\n", LimitName::Tasks),
-    (
-        b"plan 1\norder 0\npeak 0\nclaims 4000002\n",
-        LimitName::Positions,
-    ),
+// The rest of texts that begin with an order of one task, and the words of their refusals.
+const REFUSED_ORDERS: [(&str, &str); 5] = [
+    ("1 1\n", "order at line 3"),
+    ("x\n", "number at line 3"),
+    ("end\n", "number at line 3"),
+    ("4294967296\n", "number at line 3"),
+    ("1\n2\n", "section at line 4"),
 ];
+
+// The rest of texts that begin with an order of one task, in version 2, and the words of their refusals.
+const REFUSED_PRIORITIES: [(&str, &str); 5] = [
+    ("priority 2\n", "priority at line 4"),
+    ("priority 1\n1 1\n", "priority at line 5"),
+    ("priority 1\nx\n", "number at line 5"),
+    ("priority 1\n0\n", "priority at line 5"),
+    ("priority 1\n2\n", "priority at line 5"),
+];
+
+// The rest of texts that begin with an order of no task and a peak, and the words of their refusals.
+const REFUSED_CLAIMS: [(&str, &str); 14] = [
+    ("end\n", "section at line 4"),
+    ("claims x\n", "number at line 4"),
+    ("claims 1\n1 F 0\n", "claim at line 5"),
+    ("claims 1\n1 f 0 0\n", "claim at line 5"),
+    ("claims 1\nend\n", "claim at line 5"),
+    ("claims 1\nx F 0 0\n", "number at line 5"),
+    ("claims 1\n1 F -1152921504606846977 0\n", "number at line 5"),
+    ("claims 1\n1 F 0 1152921504606846977\n", "number at line 5"),
+    ("claims 1\n0 F 0 0\n", "claim at line 5"),
+    ("claims 2\n2 F 0 0\n2 R 0 0\n", "claim at line 6"),
+    ("claims 0\nend end\n", "no-end at line 5"),
+    ("claims 0\n1 F 0 0\n", "no-end at line 5"),
+    ("claims 0\nend\n\nend\n", "no-end at line 7"),
+    ("claims 4000002\n", "limit positions"),
+];
+
+fn check_refusals(
+    rt: &impl Abort,
+    alloc: Global,
+    start: &str,
+    rows: &[(&str, &str)],
+) -> Result<(), Fail> {
+    for (rest, said) in rows {
+        let text = format!(in alloc; "{start}{rest}")?;
+        let refusal = read_plan(alloc, text.as_bytes()).err().ok_or("a refusal")?;
+        assert_eq!(rt; format!(in alloc; "{refusal}")?.as_str(), *said, "{text}");
+    }
+    Ok(())
+}
 
 #[test]
-fn refuses_with_the_kind_and_the_line(rt: HostRuntime) {
+fn refuses_with_the_kind_and_the_line(rt: HostRuntime) -> Result<(), Fail> {
     let alloc = rt.alloc();
-    for (text, line, kind) in REFUSED_TEXTS {
-        let want = Some(Refusal::Format(Fault { line, kind }));
-        assert_eq!(rt; refusal_of(alloc, text), want, "at line {line}, {kind:?}");
-    }
-    for (text, name) in LIMITS {
-        assert_eq!(rt;
-            refusal_of(alloc, text),
-            Some(Refusal::Limit(name)),
-            "{name:?}"
-        );
-    }
+    check_refusals(&rt, alloc, "", &REFUSED)?;
+    check_refusals(&rt, alloc, "plan 1\norder 1\n", &REFUSED_ORDERS)?;
+    check_refusals(&rt, alloc, "plan 2\norder 1\n1\n", &REFUSED_PRIORITIES)?;
+    check_refusals(&rt, alloc, "plan 1\norder 0\npeak 0\n", &REFUSED_CLAIMS)
 }

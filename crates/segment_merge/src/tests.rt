@@ -10,6 +10,8 @@ ghost use Rattle.segment_merge.specs.Merging.{AllHaveRopes, net_sum_all, segment
 
 use crate::{NoMemory, merge};
 use hill_valley::{Ropes, Side, laws as run_laws};
+use rand_core::utils::NextWord;
+use rand_pcg::Pcg32;
 use std::alloc::Global;
 use std::marker::Brand;
 use std::process::Abort;
@@ -207,26 +209,23 @@ fn row_at(alloc: Global, up: u64, lists: &[Vec<One>]) -> Result<Row, NoMemory> {
     Ok(Row { up, net, tasks })
 }
 
-// A number below `below`, by a linear congruential generator.
-fn next(state: &mut u64, below: u64) -> u64 {
-    *state = state
-        .wrapping_mul(6364136223846793005)
-        .wrapping_add(1442695040888963407);
-    (*state >> 33) % below.max(1)
+// A number below `below`.
+fn next(dice: &mut Pcg32, below: u64) -> u64 {
+    u64::from(dice.next_word()) % below.max(1)
 }
 
 // At most five lists of at most six segments, whose `up` values rise below 19.
-fn random_lists(alloc: Global, state: &mut u64) -> Result<Vec<Vec<One>>, NoMemory> {
+fn random_lists(alloc: Global, dice: &mut Pcg32) -> Result<Vec<Vec<One>>, NoMemory> {
     let mut lists = Vec::new(alloc);
     let mut task = 0u32;
-    for _ in 0..next(state, 6) {
+    for _ in 0..next(dice, 6) {
         let mut list = Vec::new(alloc);
         let mut up = 0u64;
-        for _ in 0..next(state, 7) {
-            up = up.saturating_add(next(state, 3)).saturating_add(1);
+        for _ in 0..next(dice, 7) {
+            up = up.saturating_add(next(dice, 3)).saturating_add(1);
             list.push(One {
                 up,
-                net: next(state, 4),
+                net: next(dice, 4),
                 task,
             })?;
             task = task.saturating_add(1);
@@ -255,9 +254,9 @@ fn compare(rt: &impl Abort, alloc: Global, lists: &[Vec<One>]) -> Result<(), Fai
 #[test]
 fn random_sides_are_merged_as_plainly(rt: HostRuntime) -> Result<(), Fail> {
     let alloc = rt.alloc();
-    let mut state = 1;
+    let mut dice = Pcg32::new(1, 11);
     for _ in 0..100 {
-        let lists = random_lists(alloc, &mut state)?;
+        let lists = random_lists(alloc, &mut dice)?;
         compare(&rt, alloc, &lists)?;
     }
     Ok(())

@@ -6,6 +6,8 @@ ghost use Rattle.sp_terms.specs.Builder.{IsPosition};
 use crate::{NoMemory, Plan, plan_terms};
 use hill_valley::Side;
 use mp_system::{Item, System, replay};
+use rand_core::utils::NextWord;
+use rand_pcg::Pcg32;
 use sp_terms::{Position, TermBuilder, Terms, read_workflow, system_of};
 use std::alloc::Global;
 use std::marker::Brand;
@@ -109,12 +111,9 @@ fn a_part_of_two_chains_is_cut_in_both(rt: HostRuntime) -> Result<(), Fail> {
     Ok(())
 }
 
-// A number below `below`, by a linear congruential generator.
-fn next(state: &mut u64, below: u64) -> u64 {
-    *state = state
-        .wrapping_mul(6364136223846793005)
-        .wrapping_add(1442695040888963407);
-    (*state >> 33) % below.max(1)
+// A number below `below`.
+fn next(dice: &mut Pcg32, below: u64) -> u64 {
+    u64::from(dice.next_word()) % below.max(1)
 }
 
 // Puts a position in, where it is allowed.
@@ -143,35 +142,35 @@ fn put_node(builder: &mut TermBuilder, children: u32, out: u64, extra: u64) {
 }
 
 // A random tree in postorder: each node takes some of the last subtrees as its children, and the root all.
-fn random_tree(alloc: Global, state: &mut u64, nodes: u32) -> Option<Terms> {
+fn random_tree(alloc: Global, dice: &mut Pcg32, nodes: u32) -> Option<Terms> {
     let mut builder = TermBuilder::new(alloc);
     let mut roots = 0u32;
     for node in 1..=nodes {
         let children = if node == nodes {
             roots
         } else {
-            next(state, u64::from(roots).saturating_add(1)).min(1000) as u32
+            next(dice, u64::from(roots).saturating_add(1)).min(1000) as u32
         };
-        put_node(&mut builder, children, next(state, 10), next(state, 10));
+        put_node(&mut builder, children, next(dice, 10), next(dice, 10));
         roots = roots.saturating_sub(children).saturating_add(1);
     }
     builder.finish().ok()
 }
 
 // A random workflow with shares: a data item, a series of the last two terms, or the last terms side by side.
-fn random_workflow(alloc: Global, state: &mut u64, tasks: u64) -> Option<Terms> {
+fn random_workflow(alloc: Global, dice: &mut Pcg32, tasks: u64) -> Option<Terms> {
     let mut builder = TermBuilder::new(alloc);
     let mut height = 0u32;
     let mut left = tasks;
     for _ in 0..40 {
-        let kind = next(state, 3);
+        let kind = next(dice, 3);
         if height < 2 || kind == 0 {
-            put(&mut builder, Position::Hold(next(state, 10)));
+            put(&mut builder, Position::Hold(next(dice, 10)));
             height = height.saturating_add(1);
         } else if kind == 1 && 0 < left {
             left -= 1;
             height = height.saturating_sub(1);
-            put_task(&mut builder, next(state, 8), next(state, 6));
+            put_task(&mut builder, next(dice, 8), next(dice, 6));
         } else {
             put(&mut builder, Position::Par(2));
             height = height.saturating_sub(1);
@@ -303,11 +302,11 @@ fn compare(rt: &impl Abort, alloc: Global, terms: &Terms) -> Result<(), Fail> {
 #[test]
 fn small_trees_have_the_least_peaks(rt: HostRuntime) -> Result<(), Fail> {
     let alloc = rt.alloc();
-    let mut state = 1;
+    let mut dice = Pcg32::new(1, 11);
     let mut compared = 0u32;
     for nodes in 1..=6 {
         for _ in 0..60 {
-            if let Some(terms) = random_tree(alloc, &mut state, nodes) {
+            if let Some(terms) = random_tree(alloc, &mut dice, nodes) {
                 compare(&rt, alloc, &terms)?;
                 compared = compared.saturating_add(1);
             }
@@ -320,11 +319,11 @@ fn small_trees_have_the_least_peaks(rt: HostRuntime) -> Result<(), Fail> {
 #[test]
 fn small_workflows_with_shares_have_the_least_peaks(rt: HostRuntime) -> Result<(), Fail> {
     let alloc = rt.alloc();
-    let mut state = 7;
+    let mut dice = Pcg32::new(7, 11);
     let mut compared = 0u32;
     for tasks in 0..=7 {
         for _ in 0..40 {
-            if let Some(terms) = random_workflow(alloc, &mut state, tasks) {
+            if let Some(terms) = random_workflow(alloc, &mut dice, tasks) {
                 compare(&rt, alloc, &terms)?;
                 compared = compared.saturating_add(1);
             }

@@ -1,8 +1,9 @@
 -- What a builder keeps, one position further.
-use Rattle.std.proofs.Common.{◌≡◌, ℕ, zero, suc, ◌+◌, ◌-◌, ◌≤◌, ◌^◌, Bool, true, false, refl, sym, subst, ap, arith, ◌∙◌, List, [], ◌∷◌, ◌++◌, length, length-append, take, drop, get_or, Option, Some, None, append_assoc, length-take, slice_set}
-use Rattle.std.specs.Prelude.{◌||◌, nat_lt, nat_le, if◌then◌else◌, option_and_then}
+use Rattle.std.proofs.Common.{◌≡◌, ℕ, zero, suc, ◌+◌, ◌-◌, ◌≤◌, false, refl, sym, subst, ap, arith, ◌∙◌, List, [], ◌∷◌, ◌++◌, length, length-append, take, drop, get_or, Some, None, append_assoc, length-take, slice_set}
+use Rattle.std.specs.Prelude.{◌||◌, nat_lt, if◌then◌else◌, option_and_then}
 use Rattle.std.specs.List.{sum_by}
 use Rattle.std.proofs.lemmas.List.{append-nil, take-take, take_rest, get_or_read}
+use Rattle.std.proofs.lemmas.Bool.{ltb-false, or_parts}
 use Rattle.std.proofs.lemmas.List.Elements.{All-push}
 use Rattle.std.proofs.Math.Seq.{take-append_seam, get_or-append_seam, drop-append_seam}
 use Rattle.std.proofs.lemmas.List.Sums.{sum_by-append, sum_by-cons, sum_by-take-drop}
@@ -10,14 +11,12 @@ use Rattle.sp_terms.specs.declared.position.Position.{Position}
 use Rattle.sp_terms.specs.declared.position.Position.TheVariants.{Hold, Par}
 use Rattle.sp_terms.specs.declared.position.Position.TheVariants as at
 use Rattle.sp_terms.specs.declared.builder.Ends.{Ends}
-use Rattle.limits.specs.Limits.{most_tasks, most_positions}
-use Rattle.limits.specs.declared.name.LimitName.{LimitName}
-use Rattle.limits.specs.declared.name.LimitName.TheVariants.{Positions, Tasks, Size, Time, Total}
-use Rattle.sp_terms.specs.declared.builder.PushRefusal.TheVariants.{Short, Limit, Share}
+use Rattle.limits.specs.Limits.{most_tasks, most_positions, most_total}
+use Rattle.sp_terms.specs.declared.builder.PushRefusal.TheVariants.{Short}
 use Rattle.sp_terms.specs.Term.{Term, hold, series, par, Parts, no_parts, part, count, forward, backward, first_memory, first_memory_of_parts, AreAllowed}
 use Rattle.sp_terms.specs.Postfix.{gather, push, push_all, postfix}
 use Rattle.sp_terms.specs.Values.{stack_from, stack_of, last_term, Leaves, IsTerms, AllAllowed, IsWithinLimits, added_tasks, added_size}
-use Rattle.sp_terms.specs.Builder.{IsPosition, is_short, total_limit, own_limit, passed_limit, is_overshared, share_refusal, limit_or, refusal_of}
+use Rattle.sp_terms.specs.Builder.{IsPosition, is_short, passed_limit, limit_of, is_overshared, share_refusal, limit_or, refusal_of}
 use Rattle.sp_terms.specs.Ends.{ends_of, all_ends, IsBuilder, initial_at, fin_at, no_ends, beside, par_ends, series_ends, next_ends, over_ends}
 use Rattle.sp_terms.proofs.Stacks.{onto, Pushed, held, ran, beside as abreast, pushed, push_then, stack_postfix, all_pushed}
 use Rattle.sp_terms.proofs.Standing.{stack_few}
@@ -63,19 +62,13 @@ gather_some zero stack us le = ((us, stack), refl)
 gather_some (suc k) [] us le = absurd (omega arith)
 gather_some (suc k) (t ∷ stack) us le = gather_some k stack (part t us) (omega arith)
 
-lt_false : (a b : ℕ) → nat_lt a b ≡ false → b ≤ a
-lt_false a b e = grind arith
-
-le_false : (a b : ℕ) → nat_le a b ≡ false → b + 1 ≤ a
-le_false a b e = grind arith
-
 pub push_some : (p : Position) (stack : List Term) → is_short (length stack) p ≡ false → (out : List Term) × (push p stack ≡ Some out)
 push_some (Hold size) stack e = (hold size ∷ stack, refl)
-push_some (at.Task x s t) [] e = absurd (omega (arith, lt_false 0 2 e))
-push_some (at.Task x s t) (b ∷ []) e = absurd (omega (arith, lt_false (length (b ∷ [])) 2 e))
+push_some (at.Task x s t) [] e = absurd (omega (arith, ltb-false 0 2 e))
+push_some (at.Task x s t) (b ∷ []) e = absurd (omega (arith, ltb-false (length (b ∷ [])) 2 e))
 push_some (at.Task x s t) (b ∷ (a ∷ stack)) e = (series a (record { extra = x; share = s; time = t }) b ∷ stack, refl)
 push_some (Par k) stack e =
-    let (r, g) = gather_some k stack no_parts (lt_false (length stack) k e) in
+    let (r, g) = gather_some k stack no_parts (ltb-false (length stack) k e) in
     (par r.0 ∷ r.1, ap (λ o. option_and_then (λ (p : Parts × List Term). Some (par p.0 ∷ p.1)) o) g)
 
 -- the ends after a position
@@ -125,32 +118,20 @@ ends_push p stack out (abreast ts st g) =
 
 -- shares
 
-or_false : (x y : Bool) → (x || y) ≡ false → (x ≡ false) × (y ≡ false)
-or_false true y e = absurd (no_true e)
-  where
-    no_true : true ≡ false → ⊥
-    no_true e = cc
-or_false false y e = (refl, e)
-
 onto-good : (ts : Parts) (stack : List Term) → AllAllowed (onto ts stack) → AreAllowed ts × AllAllowed stack
 onto-good no_parts stack h = (tt, h)
 onto-good (part t ts) stack h = let k = onto-good ts (t ∷ stack) h in ((k.1.0, k.0), k.1.1)
 
-good_push : (p : Position) (stack out : List Term) → Pushed p stack out → IsPosition p → is_overshared stack p ≡ false → AllAllowed stack → AllAllowed out
+good_push : (p : Position) (stack out : List Term) → Pushed p stack out → IsPosition p → is_overshared p stack ≡ false → AllAllowed stack → AllAllowed out
 good_push p stack out (held size st) a o g = (tt, g)
 good_push p stack out (ran v x b st) a o g =
-    let k = or_false _ _ o in ((lt_false _ _ k.0, lt_false _ _ k.1, g.1.0, g.0), g.1.1)
+    let k = or_parts _ _ o in ((ltb-false _ _ k.0, ltb-false _ _ k.1, g.1.0, g.0), g.1.1)
 good_push p stack out (abreast ts st f) a o g = let k = onto-good ts st g in ((a, k.0), k.1)
 
-pub over_same : (p : Position) (stack : List Term) → is_short (length stack) p ≡ false → over_ends (all_ends stack) p ≡ is_overshared stack p
-over_same (Hold size) stack e = hold_none size stack
-  where
-    hold_none : (size : ℕ) (stack : List Term) → false ≡ is_overshared stack (Hold size)
-    hold_none size [] = refl
-    hold_none size (b ∷ []) = refl
-    hold_none size (b ∷ (a ∷ stack)) = refl
-over_same (at.Task x s t) [] e = absurd (omega (arith, lt_false 0 2 e))
-over_same (at.Task x s t) (b ∷ []) e = absurd (omega (arith, lt_false (length (b ∷ [])) 2 e))
+pub over_same : (p : Position) (stack : List Term) → is_short (length stack) p ≡ false → over_ends (all_ends stack) p ≡ is_overshared p stack
+over_same (Hold size) stack e = refl
+over_same (at.Task x s t) [] e = absurd (omega (arith, ltb-false 0 2 e))
+over_same (at.Task x s t) (b ∷ []) e = absurd (omega (arith, ltb-false (length (b ∷ [])) 2 e))
 over_same (at.Task x s t) (b ∷ (a ∷ stack)) e =
     let xs = all_ends stack in
     let all = (xs ++ ends_of a ∷ []) ++ ends_of b ∷ [] in
@@ -160,54 +141,18 @@ over_same (at.Task x s t) (b ∷ (a ∷ stack)) e =
     let first : get_or all (length all - 2) no_ends ≡ ends_of a = (λ i. get_or (same i) (n i) no_ends) ∙ get_or-append_seam xs (ends_of a) (ends_of b ∷ []) no_ends in
     let last : get_or all (length all - 1) no_ends ≡ ends_of b = ap (λ k. get_or all k no_ends) m ∙ get_or-append_seam (xs ++ ends_of a ∷ []) (ends_of b) [] no_ends in
     λ i. nat_lt (first i).fin s || nat_lt (x + (last i).initial) s
-over_same (Par k) stack e = par_none k stack
-  where
-    par_none : (k : ℕ) (stack : List Term) → false ≡ is_overshared stack (Par k)
-    par_none k [] = refl
-    par_none k (b ∷ []) = refl
-    par_none k (b ∷ (a ∷ stack)) = refl
+over_same (Par k) stack e = refl
 
 -- limits
 
-some_none : {A : Type 0} {x : A} → Some x ≡ None → ⊥
-some_none e = cc
-
-if_none : {A : Type 0} (b : Bool) (x : A) (y : Option A) → (if b then Some x else y) ≡ None → (b ≡ false) × (y ≡ None)
-if_none true x y e = absurd (some_none e)
-if_none false x y e = (refl, e)
-
 pub record Fits (ps tasks total : ℕ) (p : Position) : Type 0 where
   pub within : IsWithinLimits p
-  pub light : added_size p ≤ 2 ^ 40
   pub few : ps + 1 ≤ most_positions
   pub few_tasks : tasks + added_tasks p ≤ most_tasks
-  pub total_is : total + added_size p ≤ 2 ^ 60
+  pub total_is : total + added_size p ≤ most_total
 
-total_fits : (total size : ℕ) → total_limit total size ≡ None → total + size ≤ 2 ^ 60
-total_fits total size e = lt_false (2 ^ 60) (total + size) (if_none (nat_lt (2 ^ 60) (total + size)) Total None e).0
-
-count_fits : (n tasks total : ℕ) (p : Position) → passed_limit n tasks total p ≡ None → (n + 1 ≤ most_positions) × (own_limit tasks total p ≡ None)
-count_fits n tasks total p e =
-    let x = if_none (nat_le most_positions n) Positions (own_limit tasks total p) e in (le_false most_positions n x.0, x.1)
-
-pub fits : (n tasks total : ℕ) (p : Position) → IsPosition p → tasks ≤ most_tasks → total ≤ 2 ^ 60 → passed_limit n tasks total p ≡ None → Fits n tasks total p
-fits n tasks total (Hold size) a l m e =
-    let x = count_fits n tasks total (Hold size) e in
-    let y = if_none (nat_lt (2 ^ 40) size) Size (total_limit total size) x.1 in
-    let le : size ≤ 2 ^ 40 = lt_false (2 ^ 40) size y.0 in
-    record { within = le; light = le; few = x.0; few_tasks = omega arith; total_is = total_fits total size y.1 }
-fits n tasks total (at.Task x s t) a l m e =
-    let x1 = count_fits n tasks total (at.Task x s t) e in
-    let x2 = if_none (nat_le most_tasks tasks) Tasks (if nat_lt (2 ^ 40) x then Some Size else (if nat_lt (2 ^ 40) t then Some Time else total_limit total x)) x1.1 in
-    let x3 = if_none (nat_lt (2 ^ 40) x) Size (if nat_lt (2 ^ 40) t then Some Time else total_limit total x) x2.1 in
-    let x4 = if_none (nat_lt (2 ^ 40) t) Time (total_limit total x) x3.1 in
-    let le : x ≤ 2 ^ 40 = lt_false (2 ^ 40) x x3.0 in
-    let le_time : t ≤ 2 ^ 40 = lt_false (2 ^ 40) t x4.0 in
-    let le_tasks : tasks + 1 ≤ most_tasks = le_false most_tasks tasks x2.0 in
-    record { within = (le, a, le_time); light = le; few = x1.0; few_tasks = omega (arith, le_tasks); total_is = total_fits total x x4.1 }
-fits n tasks total (Par k) a l m e =
-    let x = count_fits n tasks total (Par k) e in
-    record { within = a; light = omega arith; few = x.0; few_tasks = omega arith; total_is = omega arith }
+pub fits : (n tasks total : ℕ) (p : Position) → IsPosition p → tasks ≤ most_tasks → total ≤ most_total → passed_limit n tasks total p ≡ None → Fits n tasks total p
+fits n tasks total p a l m e = grind arith
 
 -- the sums of the ends
 
@@ -220,7 +165,7 @@ ends-weight (t ∷ stack) =
       omega (arith, k.1, s, sum_by-append fin_at (all_ends stack) (ends_of t ∷ []), first-le-weight backward t),
     )
 
-pub light : (ps : List Position) (ends : List Ends) (tasks total : ℕ) → IsBuilder ps ends tasks total → (sum_by initial_at ends ≤ 2 ^ 60) × (sum_by fin_at ends ≤ 2 ^ 60)
+pub light : (ps : List Position) (ends : List Ends) (tasks total : ℕ) → IsBuilder ps ends tasks total → (sum_by initial_at ends ≤ most_total) × (sum_by fin_at ends ≤ most_total)
 light ps ends tasks total h =
     let eq : ps ≡ stack_postfix (stack_of ps) = all_pushed ps [] (stack_of ps) h.leave.is in
     let k = ends-weight (stack_of ps) in (
@@ -239,29 +184,15 @@ module _ (ps : List Position) (ends : List Ends) (tasks total : ℕ) (p : Positi
   same_short : is_short (length ends) p ≡ is_short (length (stack_of ps)) p
   same_short = ap (λ n. is_short n p) (height ps ends tasks total h)
 
-  same_limit : passed_limit (length ps) tasks total p ≡ passed_limit (length ps) (sum_by added_tasks ps) (sum_by added_size ps) p
+  same_limit : passed_limit (length ps) tasks total p ≡ limit_of ps p
   same_limit = λ i. passed_limit (length ps) (h.tasks_are i) (h.total_is i) p
 
-  same_over : is_short (length ends) p ≡ false → over_ends ends p ≡ is_overshared (stack_of ps) p
+  same_over : is_short (length ends) p ≡ false → over_ends ends p ≡ is_overshared p (stack_of ps)
   same_over e = ap (λ z. over_ends z p) h.ends_are ∙ over_same p (stack_of ps) (sym same_short ∙ e)
 
-  pub refused_short : is_short (length ends) p ≡ true → refusal_of ps p ≡ Some Short
-  refused_short e = ap (λ b. if b then Some Short else limit_or (passed_limit (length ps) (sum_by added_tasks ps) (sum_by added_size ps) p) (share_refusal (is_overshared (stack_of ps) p))) (sym same_short ∙ e)
-
-  not_short : is_short (length ends) p ≡ false → refusal_of ps p ≡ limit_or (passed_limit (length ps) (sum_by added_tasks ps) (sum_by added_size ps) p) (share_refusal (is_overshared (stack_of ps) p))
-  not_short e = ap (λ b. if b then Some Short else limit_or (passed_limit (length ps) (sum_by added_tasks ps) (sum_by added_size ps) p) (share_refusal (is_overshared (stack_of ps) p))) (sym same_short ∙ e)
-
-  pub refused_limit : is_short (length ends) p ≡ false → (name : LimitName) → passed_limit (length ps) tasks total p ≡ Some name → refusal_of ps p ≡ Some (Limit name)
-  refused_limit e name l = not_short e ∙ ap (λ o. limit_or o (share_refusal (is_overshared (stack_of ps) p))) (sym same_limit ∙ l)
-
-  pub refused_share : is_short (length ends) p ≡ false → passed_limit (length ps) tasks total p ≡ None → over_ends ends p ≡ true → refusal_of ps p ≡ Some Share
-  refused_share e l o = not_short e ∙ ap (λ x. limit_or x (share_refusal (is_overshared (stack_of ps) p))) (sym same_limit ∙ l) ∙ ap share_refusal (sym (same_over e) ∙ o)
-
-  pub taken : is_short (length ends) p ≡ false → passed_limit (length ps) tasks total p ≡ None → over_ends ends p ≡ false → refusal_of ps p ≡ None
-  taken e l o = not_short e ∙ ap (λ x. limit_or x (share_refusal (is_overshared (stack_of ps) p))) (sym same_limit ∙ l) ∙ ap share_refusal (sym (same_over e) ∙ o)
-
-  pub fits_now : IsPosition p → passed_limit (length ps) tasks total p ≡ None → Fits (length ps) tasks total p
-  fits_now a l = fits (length ps) tasks total p a (omega (arith, h.tasks_are, h.leave.few_tasks)) (omega (arith, h.total_is, h.leave.total)) l
+  -- the refusal, told from what the builder keeps
+  pub refusal_is : refusal_of ps p ≡ (if is_short (length ends) p then Some Short else limit_or (passed_limit (length ps) tasks total p) (share_refusal (over_ends ends p)))
+  refusal_is = let short = same_short in let limit = same_limit in let over = same_over in grind arith
 
   pub builder_more : IsPosition p → is_short (length ends) p ≡ false → passed_limit (length ps) tasks total p ≡ None → over_ends ends p ≡ false
       → IsBuilder (ps ++ p ∷ []) (next_ends p ends) (tasks + added_tasks p) (total + added_size p)
@@ -270,7 +201,7 @@ module _ (ps : List Position) (ends : List Ends) (tasks total : ℕ) (p : Positi
       let step = pushed p (stack_of ps) out k in
       let all : push_all (ps ++ p ∷ []) [] ≡ Some out = push_then ps (p ∷ []) [] (stack_of ps) h.leave.is ∙ ap (option_and_then (push_all [])) k in
       let is_out : out ≡ stack_of (ps ++ p ∷ []) = sym (ap stack_from all) in
-      let f = fits_now a l in
+      let f = fits (length ps) tasks total p a (omega (arith, h.tasks_are, h.leave.few_tasks)) (omega (arith, h.total_is, h.leave.total)) l in
       let n = length-append ps (p ∷ []) in
       let r = sum_by-append added_tasks ps (p ∷ []) in
       let w = sum_by-append added_size ps (p ∷ []) in
@@ -297,8 +228,8 @@ par_is xs ds cut k n m all e f a b d c g =
     cut_set xs cut (n - k) (n - k + 1) all (omega arith) (omega (arith, len)) c
     ∙ (λ i. take (len i - k) xs ++ (g ∙ ap (λ z. beside (take (length z - (n - k)) (drop (n - k) z))) d ∙ ap beside (take_rest xs (n - k)) ∙ ap (λ q. beside (drop (q - k) xs)) len) i ∷ [])
 
-pub rest_light : (xs ds : List Ends) (m : ℕ) → ds ≡ xs → (sum_by initial_at xs ≤ 2 ^ 60) × (sum_by fin_at xs ≤ 2 ^ 60)
-    → (sum_by initial_at (take (length ds - m) (drop m ds)) ≤ 2 ^ 60) × (sum_by fin_at (take (length ds - m) (drop m ds)) ≤ 2 ^ 60)
+pub rest_light : (xs ds : List Ends) (m : ℕ) → ds ≡ xs → (sum_by initial_at xs ≤ most_total) × (sum_by fin_at xs ≤ most_total)
+    → (sum_by initial_at (take (length ds - m) (drop m ds)) ≤ most_total) × (sum_by fin_at (take (length ds - m) (drop m ds)) ≤ most_total)
 rest_light xs ds m d h =
     let e : take (length ds - m) (drop m ds) ≡ drop m xs = take_rest ds m ∙ ap (drop m) d in (
       omega (arith, h.0, ap (sum_by initial_at) e, sum_by-take-drop initial_at xs m),

@@ -4,7 +4,6 @@ pub mod PendingLemmas
 pub mod SystemLemmas
 pub mod BuilderLemmas
 pub mod ReadLemmas
-pub mod PrintingLemmas
 pub mod Standing
 pub mod PrintedLemmas
 pub mod Positions

@@ -5,6 +5,7 @@ use Rattle.std.specs.List.{sum_by}
 use Rattle.std.proofs.lemmas.Bool.{le-ltb}
 use Rattle.std.proofs.lemmas.List.Elements.{All-head}
 use Rattle.std.proofs.lemmas.List.Sums.{sum_by-append, sum_by-cons}
+use Rattle.limits.specs.Limits.{most_positions, most_total}
 use Rattle.mp_system.specs.declared.system.Task.{Task}
 use Rattle.sp_terms.specs.declared.position.Position.{Position}
 use Rattle.sp_terms.specs.Term.{Term, series, Parts, no_parts, part, count, backward, AreAllowed, IsAllowed}
@@ -41,8 +42,8 @@ pub record Standing (ps first : List Position) (p : Position) : Type 0 where
   pub step : Pushed p stack after
   pub allowed : AllAllowed after
   pub within : IsWithinLimits p
-  pub few : length first < 4000001
-  pub total : sum_by added_size first + added_size p ≤ 2 ^ 60
+  pub few : length first < most_positions
+  pub total : sum_by added_size first + added_size p ≤ most_total
   pub tasks : sum_by added_tasks first + added_tasks p ≤ sum_by added_tasks ps
 
 pub standing : (ps first : List Position) (p : Position) (rest : List Position) → IsTerms ps → ps ≡ first ++ p ∷ rest → Standing ps first p
@@ -69,14 +70,14 @@ standing ps first p rest terms split =
 
 -- a task whose series is allowed does not share too much
 
-pub not_over : (first : List Position) (v : Task) (a b : Term) (stack : List Term) → push_all first [] ≡ Some (b ∷ a ∷ stack) → IsAllowed (series a v b) → is_overshared (stack_of first) (at_task v) ≡ false
+pub not_over : (first : List Position) (v : Task) (a b : Term) (stack : List Term) → push_all first [] ≡ Some (b ∷ a ∷ stack) → IsAllowed (series a v b) → is_overshared (at_task v) (stack_of first) ≡ false
 not_over first v a b stack before (x, y, ga, gb) =
-    let own : is_overshared (b ∷ a ∷ stack) (at_task v) ≡ false = rw (le-ltb _ _ x, le-ltb _ _ y) refl in
-    ap (λ (st : List Term). is_overshared st (at_task v)) (ap stack_from before) ∙ own
+    let own : is_overshared (at_task v) (b ∷ a ∷ stack) ≡ false = rw (le-ltb _ _ x, le-ltb _ _ y) refl in
+    ap (λ (st : List Term). is_overshared (at_task v) st) (ap stack_from before) ∙ own
 
 -- its share is small
 
-pub small_share : (first : List Position) (v : Task) (a b : Term) (stack : List Term) → push_all first [] ≡ Some (b ∷ a ∷ stack) → IsAllowed (series a v b) → sum_by added_size first ≤ 2 ^ 60 → v.share < 2 ^ 64
+pub small_share : (first : List Position) (v : Task) (a b : Term) (stack : List Term) → push_all first [] ≡ Some (b ∷ a ∷ stack) → IsAllowed (series a v b) → sum_by added_size first ≤ most_total → v.share < 2 ^ 64
 small_share first v a b stack before (x, y, ga, gb) light =
     let is = ap (sum_by added_size) (all_pushed first [] (b ∷ a ∷ stack) before) in
     let two = sum_by-append added_size (stack_postfix stack ++ postfix a) (postfix b) in

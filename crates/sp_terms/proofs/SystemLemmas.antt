@@ -1,5 +1,5 @@
 -- The system of a term is a system within the limits.
-use Rattle.std.proofs.Common.{◌≡◌, ℕ, suc, ◌+◌, ◌-◌, ◌<◌, ◌≤◌, Bool, true, false, inl, inr, refl, sym, subst, ap, arith, ◌∙◌, ◌^◌, List, [], ◌∷◌, ◌++◌, length, length-append, take, get_or, Option, Some, None}
+use Rattle.std.proofs.Common.{◌≡◌, ℕ, suc, ◌+◌, ◌-◌, ◌<◌, ◌≤◌, Bool, true, false, inl, inr, refl, sym, subst, ap, arith, ◌∙◌, List, [], ◌∷◌, ◌++◌, length, length-append, take, get_or, Option, Some, None}
 use Rattle.std.specs.Prelude.{if◌then◌else◌, ◌⊎◌}
 use Rattle.std.specs.Option.{ForSome}
 use Rattle.std.specs.List.{All}
@@ -8,6 +8,7 @@ use Rattle.std.specs.List.{sum_by}
 use Rattle.std.proofs.lemmas.List.{append-nil, get_or_append_left, get_or-append-add, take_more}
 use Rattle.std.proofs.Math.Seq.{get_or-append_seam}
 use Rattle.std.proofs.lemmas.List.Sums.{sum_by-append, sum_by-cons}
+use Rattle.limits.specs.Limits.{most_size}
 use Rattle.mp_system.specs.declared.system.Task.{Task}
 use Rattle.mp_system.specs.declared.system.Item.{Item}
 use Rattle.mp_system.specs.System.{IsSystem, IsTaskWithin, extra_size, item_size, is_named, is_input, is_output, size_if, size_where}
@@ -100,7 +101,7 @@ some_same' : {u v : ℕ} → Some u ≡ Some v → u ≡ v
 some_same' e = cc
 
 abbrev Ends : ℕ → Item → Type 0
-Ends n item = (item.size ≤ 2 ^ 40) × Within n item.from × Within n item.to
+Ends n item = (item.size ≤ most_size) × Within n item.from × Within n item.to
 
 mutual
   items-within : (n base : ℕ) (from to : Option ℕ) (t : Term) → All IsWithinLimits (postfix t) → 1 ≤ base → base + task_count t ≤ suc n → Within n from → Within n to → All (Ends n) (items_of_term base from to t)

@@ -1,9 +1,10 @@
 -- The values of the term that ends at a position, from those of the terms that end before it.
-use Rattle.std.proofs.Common.{◌≡◌, ℕ, suc, ◌+◌, ◌-◌, ◌<◌, ◌≤◌, ◌^◌, min, refl, sym, subst, ap, arith, ◌∙◌, List, [], ◌∷◌, ◌++◌, length, length-append, take, get_or, Some, append_assoc, length-take}
+use Rattle.std.proofs.Common.{◌≡◌, ℕ, suc, ◌+◌, ◌-◌, ◌<◌, ◌≤◌, min, refl, sym, subst, ap, arith, ◌∙◌, List, [], ◌∷◌, ◌++◌, length, length-append, take, get_or, Some, append_assoc, length-take}
 use Rattle.std.specs.List.{sum_by}
 use Rattle.std.proofs.lemmas.List.{append-nil}
 use Rattle.std.proofs.lemmas.Grind.{common_steps}
 use Rattle.std.proofs.lemmas.List.Sums.{sum_by-append, sum_by-take-le}
+use Rattle.limits.specs.Limits.{most_total}
 use Rattle.mp_system.specs.declared.system.Task.{Task}
 use Rattle.sp_terms.specs.declared.position.Position.{Position}
 use Rattle.sp_terms.specs.declared.position.Values.{Values}
@@ -170,9 +171,9 @@ pub record Take (ps : List Position) (at left end : ℕ) (all next : Values) : T
   pub some : 0 < end
   pub room : next.width ≤ end
   pub few : all.width + next.width ≤ at + 1
-  pub initial : all.initial + next.initial ≤ 2 ^ 60
-  pub fin : all.fin + next.fin ≤ 2 ^ 60
-  pub least : all.least + next.least ≤ 2 ^ 60
+  pub initial : all.initial + next.initial ≤ most_total
+  pub fin : all.fin + next.fin ≤ most_total
+  pub least : all.least + next.least ≤ most_total
   pub taken : Taken ps at (left - 1) (end - next.width) (record { initial = all.initial + next.initial; fin = all.fin + next.fin; least = all.least + next.least; width = all.width + next.width })
 
 pub take_next : (ps : List Position) (values : List Values) (at left end : ℕ) (all : Values) → IsTerms ps → at < length ps → AreValues ps values at → 0 < left → Taken ps at left end all → Take ps at left end all (right_at values end)
@@ -186,16 +187,16 @@ take_next ps values at left end all h lt known some_left k =
         let u = under ps end t stack (omega (arith, k.few)) e in
         let top_is : term_at ps (end - 1) ≡ t = ends ps end t stack (omega (arith, u.room, u.some)) e in
         let cut : take (end - width_of t) ps ++ (postfix t ++ all_postfix k.parts) ≡ take at ps = sym (append_assoc (take (end - width_of t) ps) (postfix t) (all_postfix k.parts)) ∙ ap (λ z. z ++ all_postfix k.parts) u.cut ∙ k.cut in
-        let total : sum_by added_size (take at ps) ≤ 2 ^ 60 = omega (arith, sum_by-take-le added_size ps at, h.total) in
-        let fits : sum_by added_size (postfix t ++ all_postfix k.parts) ≤ 2 ^ 60 = omega (arith, total, ap (sum_by added_size) cut, sum_by-append added_size (take (end - width_of t) ps) (postfix t ++ all_postfix k.parts)) in
+        let total : sum_by added_size (take at ps) ≤ most_total = omega (arith, sum_by-take-le added_size ps at, h.total) in
+        let fits : sum_by added_size (postfix t ++ all_postfix k.parts) ≤ most_total = omega (arith, total, ap (sum_by added_size) cut, sum_by-append added_size (take (end - width_of t) ps) (postfix t ++ all_postfix k.parts)) in
         let lens : end + width_of_parts k.parts ≡ at = omega (arith, ap length k.cut, length-append (take end ps) (all_postfix k.parts), length-take end ps, length-take at ps, k.few, length-all_postfix k.parts) in
         let a_initial : all.initial ≡ first_memory_of_parts forward k.parts = ap (λ (v : Values). v.initial) k.all_is in
         let a_fin : all.fin ≡ first_memory_of_parts backward k.parts = ap (λ (v : Values). v.fin) k.all_is in
         let a_least : all.least ≡ least_of_parts k.parts = ap (λ (v : Values). v.least) k.all_is in
         let a_width : all.width ≡ suc (width_of_parts k.parts) = ap (λ (v : Values). v.width) k.all_is in
-        let b_initial : first_memory_of_parts forward (part t k.parts) ≤ 2 ^ 60 = omega (arith, fits, all_first-le-weight forward (part t k.parts)) in
-        let b_fin : first_memory_of_parts backward (part t k.parts) ≤ 2 ^ 60 = omega (arith, fits, all_first-le-weight backward (part t k.parts)) in
-        let b_least : least_of_parts (part t k.parts) ≤ 2 ^ 60 = omega (arith, b_initial, all_least-le-first (part t k.parts)) in
+        let b_initial : first_memory_of_parts forward (part t k.parts) ≤ most_total = omega (arith, fits, all_first-le-weight forward (part t k.parts)) in
+        let b_fin : first_memory_of_parts backward (part t k.parts) ≤ most_total = omega (arith, fits, all_first-le-weight backward (part t k.parts)) in
+        let b_least : least_of_parts (part t k.parts) ≤ most_total = omega (arith, b_initial, all_least-le-first (part t k.parts)) in
         let e_initial : all.initial + first_memory forward t ≡ first_memory_of_parts forward (part t k.parts) = omega (arith, a_initial) in
         let e_fin : all.fin + first_memory backward t ≡ first_memory_of_parts backward (part t k.parts) = omega (arith, a_fin) in
         let e_least : all.least + least_of t ≡ least_of_parts (part t k.parts) = omega (arith, a_least) in

@@ -42,10 +42,14 @@ own_limit tasks total (Par k) = None
 abbrev pub passed_limit : ℕ → ℕ → ℕ → Position → Option LimitName
 passed_limit count tasks total p = if nat_le most_positions count then Some Positions else own_limit tasks total p
 
+-- the first limit that a position passes after others
+abbrev pub limit_of : List Position → Position → Option LimitName
+limit_of ps p = passed_limit (length ps) (sum_by added_tasks ps) (sum_by added_size ps) p
+
 -- the share of a task is greater than what its first part leaves, or than its extra and what its second part starts with
-abbrev pub is_overshared : List Term → Position → Bool
-is_overshared (b ∷ a ∷ stack) (at.Task extra share time) = nat_lt (final_of a) share || nat_lt (extra + initial_of b) share
-is_overshared stack p = false
+abbrev pub is_overshared : Position → List Term → Bool
+is_overshared (at.Task extra share time) (b ∷ a ∷ stack) = nat_lt (final_of a) share || nat_lt (extra + initial_of b) share
+is_overshared p stack = false
 
 -- the refusal of a share that does not fit
 abbrev pub share_refusal : Bool → Option PushRefusal
@@ -61,7 +65,7 @@ limit_or (Some name) other = Some (Limit name)
 abbrev pub refusal_of : List Position → Position → Option PushRefusal
 refusal_of ps p =
     if is_short (length (stack_of ps)) p then Some Short
-    else limit_or (passed_limit (length ps) (sum_by added_tasks ps) (sum_by added_size ps) p) (share_refusal (is_overshared (stack_of ps) p))
+    else limit_or (limit_of ps p) (share_refusal (is_overshared p (stack_of ps)))
 
 -- an answer that refuses a position; want of memory says nothing of it
 abbrev pub IsPushRefusal : List Position → Position → PushRefusal → Type 0

@@ -6,7 +6,7 @@ pub mod Places
 pub mod Builder
 pub mod Ends
 pub mod Pending
-pub mod Fields
+pub mod Kinds
 pub mod WorkflowFile
 pub mod Reader
 pub mod ReaderLaws

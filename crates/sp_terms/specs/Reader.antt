@@ -1,34 +1,35 @@
--- What the reader of workflow files does with a line, from what it keeps of the lines before.
-use Rattle.std.specs.Prelude.{◌≡◌, ℕ, ◌≤◌, Bool, true, false, Option, Some, None, List, [], ◌∷◌, ◌++◌, length, map, Result, Ok, Err}
+-- No public clause names this.
+-- What the reader of workflow files does with a line, from what it keeps of the lines before. The format itself stands in
+-- WorkflowFile.antt.
+use Rattle.std.specs.Prelude.{◌≡◌, ℕ, true, false, if◌then◌else◌, Option, Some, None, List, [], ◌∷◌, ◌++◌, length, map, Result, Ok, Err}
 use Rattle.std.specs.List.{sum_by, list_any}
 use Rattle.mp_text.specs.declared.refusals.Refusal.{Refusal}
 use Rattle.mp_text.specs.declared.refusals.Refusal.TheVariants as refusals
+use Rattle.mp_text.specs.declared.words.Version.{Version}
+use Rattle.mp_text.specs.declared.words.Version.TheVariants.{One}
 use Rattle.mp_text.specs.Text.{Row}
+use Rattle.mp_text.specs.Grammar.{fault, fault_at}
 use Rattle.mp_text.specs.Reading.{tested, ◌>>=◌}
 use Rattle.sp_terms.specs.declared.builder.PushRefusal.{PushRefusal}
 use Rattle.sp_terms.specs.declared.builder.PushRefusal.TheVariants as pushes
 use Rattle.sp_terms.specs.declared.kind.WorkflowKind.{WorkflowKind}
 use Rattle.sp_terms.specs.declared.kind.WorkflowKind.TheVariants as kinds
-use Rattle.sp_terms.specs.declared.kind.Word.{Word}
-use Rattle.sp_terms.specs.declared.kind.Word.TheVariants as words
-use Rattle.sp_terms.specs.declared.kind.Stage.{Stage}
-use Rattle.sp_terms.specs.declared.kind.Stage.TheVariants as stages
+use Rattle.sp_terms.specs.declared.stage.Stage.{Stage}
+use Rattle.sp_terms.specs.declared.stage.Stage.TheVariants as stages
 use Rattle.sp_terms.specs.declared.position.Position.{Position}
-use Rattle.sp_terms.specs.declared.position.Position.TheVariants.{Hold, Par}
-use Rattle.sp_terms.specs.Postfix.{at_task}
 use Rattle.sp_terms.specs.Values.{stack_of, added_tasks}
 use Rattle.sp_terms.specs.Builder.{refusal_of}
-use Rattle.sp_terms.specs.WorkflowFile.{fault, fault_at, header_tests, has_shares, count_tests, count_stated, word_of, number_on, task_on, position_of, data_form, task_form, par_form, last_tests, is_end}
+use Rattle.sp_terms.specs.WorkflowFile.{header_tests, version_stated, count_tests, count_stated, position_of, form_tests, last_tests, is_end}
 
--- what the reader keeps: what comes next, whether tasks have shares, their stated number, and the positions
+-- what the reader keeps: what comes next, the version, the stated number of tasks, and the positions
 pub record ReaderState : Type 0 where
   pub stage : Stage
-  pub with_share : Bool
+  pub version : Version
   pub count : ℕ
   pub positions : List Position
 
 abbrev pub start : ReaderState
-start = record { stage = stages.Header; with_share = false; count = 0; positions = [] }
+start = record { stage = stages.Header; version = One; count = 0; positions = [] }
 
 -- the refusal of a line whose position is not taken
 abbrev pub refusal_at : ℕ → PushRefusal → Refusal WorkflowKind
@@ -46,22 +47,20 @@ pushed_or (Some refusal) line next = Err (refusal_at line refusal)
 abbrev pub pushed : ReaderState → ℕ → Position → Result ReaderState (Refusal WorkflowKind)
 pushed s line p = pushed_or (refusal_of s.positions p) line (record s { positions = s.positions ++ p ∷ [] })
 
--- a line that begins with this word, where positions are read
-abbrev pub worded_step : Option Word → ReaderState → Row → Result ReaderState (Refusal WorkflowKind)
-worded_step (Some words.Data) s row = tested (data_form row) (Hold (number_on row)) >>= pushed s row.number
-worded_step (Some words.Task) s row =
-    tested (task_form s.with_share s.count (length (stack_of s.positions)) (sum_by added_tasks s.positions) row) (at_task (task_on s.with_share row))
-    >>= pushed s row.number
-worded_step (Some words.Par) s row = tested (par_form (length (stack_of s.positions)) row) (Par (number_on row)) >>= pushed s row.number
-worded_step (Some words.End) s row =
-    tested (last_tests s.count (length (stack_of s.positions)) (sum_by added_tasks s.positions) row) (record s { stage = stages.Ended })
-worded_step None s row = Err (fault kinds.Word row)
+-- a line where positions are read: one more of them, or the end
+abbrev pub body_step : ReaderState → Row → Result ReaderState (Refusal WorkflowKind)
+body_step s row =
+    let height = length (stack_of s.positions) in
+    let tasks = sum_by added_tasks s.positions in
+    if is_end row
+    then tested (last_tests s.count height tasks row) (record s { stage = stages.Ended })
+    else tested (form_tests s.version s.count height tasks row) (position_of s.version row) >>= pushed s row.number
 
 -- a line, by what is expected
 abbrev pub staged_step : Stage → ReaderState → Row → Result ReaderState (Refusal WorkflowKind)
-staged_step stages.Header s row = tested (header_tests row) (record s { stage = stages.Count; with_share = has_shares row })
+staged_step stages.Header s row = tested (header_tests row) (record s { stage = stages.Count; version = version_stated row })
 staged_step stages.Count s row = tested (count_tests row) (record s { stage = stages.Positions; count = count_stated row })
-staged_step stages.Positions s row = worded_step (word_of row) s row
+staged_step stages.Positions s row = body_step s row
 staged_step stages.Ended s row = Err (fault kinds.Word row)
 
 unfoldable pub workflow_step : ReaderState → Row → Result ReaderState (Refusal WorkflowKind)
@@ -79,17 +78,16 @@ workflow_end s past = staged_end s.stage s past
 
 -- the reader took a header, a count and these position lines
 pub record TookPositions (s : ReaderState) (header counted : Row) (rows : List Row) : Type 0 where
-  pub with_share : s.with_share ≡ has_shares header
+  pub version : s.version ≡ version_stated header
   pub count : s.count ≡ count_stated counted
-  pub positions : s.positions ≡ map (position_of (has_shares header)) rows
+  pub positions : s.positions ≡ map (position_of (version_stated header)) rows
   pub unended : list_any is_end rows ≡ false
-  pub few : count_stated counted ≤ 1000000
 
 -- the reader took a header
 pub record TookHeader (s : ReaderState) (rows : List Row) : Type 0 where
   pub header : Row
   pub rows_are : rows ≡ header ∷ []
-  pub with_share : s.with_share ≡ has_shares header
+  pub version : s.version ≡ version_stated header
   pub fresh : s.positions ≡ []
 
 -- the reader took a header, a count, and some position lines

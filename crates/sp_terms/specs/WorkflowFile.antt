@@ -1,181 +1,168 @@
--- Workflow files of version 1 and of version 2, whose tasks have a share: what a file reads as, and what it is refused with. The
--- format is this project's own.
-use Rattle.std.specs.Prelude.{◌≡◌, ◌==◌, ℕ, ◌+◌, ◌-◌, ◌^◌, Bool, true, false, ◌&&◌, ◌||◌, not, nat_lt, nat_le, is_some, unwrap_or, Option, Some, None, List, [], ◌∷◌, ◌++◌, length, map, take, drop, codes, if◌then◌else◌, slice_index_or}
+-- Workflow files of version 1, and of version 2, whose tasks have a share: what a file reads as, and what it is refused with. They are
+-- this project's own format.
+use Rattle.std.specs.Prelude.{◌≡◌, ◌==◌, ℕ, ◌-◌, Bool, true, false, ◌&&◌, not, nat_le, is_some, unwrap_or, Option, Some, None, List, [], ◌∷◌, ◌++◌, length, map, take, drop, codes, if◌then◌else◌}
 use Rattle.std.specs.List.{sum_by, list_any}
+use Rattle.std.specs.Option.{option_and_then, option_map}
 use Rattle.std.specs.Str.{bytes_eq}
-use Rattle.std.specs.Cmp.Lexicographic.{pointwise}
 use Rattle.mp_system.specs.declared.system.Task.{Task}
+use Rattle.limits.specs.Limits.{most_tasks}
+use Rattle.limits.specs.declared.name.LimitName.{LimitName}
 use Rattle.limits.specs.declared.name.LimitName.TheVariants as limits
 use Rattle.mp_text.specs.declared.layout.Layout.TheVariants.{Commented}
 use Rattle.mp_text.specs.declared.refusals.Refusal.{Refusal}
 use Rattle.mp_text.specs.declared.refusals.Refusal.TheVariants as refusals
-use Rattle.mp_text.specs.Text.{Row, number_of}
+use Rattle.mp_text.specs.declared.words.Version.{Version}
+use Rattle.mp_text.specs.declared.words.Version.TheVariants.{One, Two}
+use Rattle.mp_text.specs.Text.{Row, number_of, numbers_of}
+use Rattle.mp_text.specs.Words.{after_word, version_of}
 use Rattle.mp_text.specs.Ahead.{rows_of_bytes, past_of_bytes}
-use Rattle.mp_text.specs.Grammar.{Test, test, Format, IsWellFormed, Refuses}
+use Rattle.mp_text.specs.Grammar.{Test, test, Format, IsWellFormed, Refuses, fault, fault_at, token_at}
 use Rattle.sp_terms.specs.declared.kind.WorkflowKind.{WorkflowKind}
 use Rattle.sp_terms.specs.declared.kind.WorkflowKind.TheVariants as kinds
-use Rattle.sp_terms.specs.declared.kind.Word.{Word}
-use Rattle.sp_terms.specs.declared.kind.Word.TheVariants as words
+use Rattle.sp_terms.specs.declared.word.Word.{Word}
+use Rattle.sp_terms.specs.declared.word.Word.TheVariants as words
 use Rattle.sp_terms.specs.declared.position.Position.{Position}
 use Rattle.sp_terms.specs.declared.position.Position.TheVariants.{Hold, Par}
 use Rattle.sp_terms.specs.declared.position.Position.TheVariants as at
-use Rattle.sp_terms.specs.Fields.{number_stated, task_stated}
 use Rattle.sp_terms.specs.Postfix.{at_task}
-use Rattle.sp_terms.specs.Values.{stack_of, added_tasks, added_size}
-use Rattle.sp_terms.specs.Builder.{is_overshared}
-
-abbrev pub fault_at : ℕ → WorkflowKind → Refusal WorkflowKind
-fault_at line kind = refusals.Format (record { line = line; kind = kind })
-
-abbrev pub fault : WorkflowKind → Row → Refusal WorkflowKind
-fault kind row = fault_at row.number kind
-
--- the token at a place, counted from 0
-abbrev pub token_at : ℕ → Row → List ℕ
-token_at place row = slice_index_or row.tokens place []
+use Rattle.sp_terms.specs.Values.{stack_of, added_tasks}
+use Rattle.sp_terms.specs.Builder.{is_short, limit_of, is_overshared}
 
 -- ---- line 1: `workflow 1` or `workflow 2`
 
-abbrev pub is_header : List ℕ → Row → Bool
-is_header version row = pointwise bytes_eq row.tokens (codes "workflow" ∷ version ∷ [])
-
 abbrev pub header_tests : Row → List (Test WorkflowKind)
-header_tests row = test (is_header (codes "1") row || is_header (codes "2") row) (fault kinds.Header row) ∷ []
+header_tests row = test (is_some (version_of (codes "workflow") row.tokens)) (fault kinds.Header row) ∷ []
 
--- whether the task lines have a share: those of version 2 do
-abbrev pub has_shares : Row → Bool
-has_shares header = is_header (codes "2") header
+abbrev pub version_stated : Row → Version
+version_stated header = unwrap_or (version_of (codes "workflow") header.tokens) One
 
 -- ---- line 2: `tasks N`
 
+abbrev pub count_number : Row → Option ℕ
+count_number row = option_and_then number_of (after_word (codes "tasks") row.tokens)
+
 abbrev pub count_stated : Row → ℕ
-count_stated row = unwrap_or (number_of (token_at 1 row)) 0
+count_stated row = unwrap_or (count_number row) 0
 
 abbrev pub count_tests : Row → List (Test WorkflowKind)
 count_tests row =
-    test ((length row.tokens == 2) && bytes_eq (token_at 0 row) (codes "tasks")) (fault kinds.Header row)
-    ∷ test (is_some (number_of (token_at 1 row))) (fault kinds.Number row)
-    ∷ test (nat_le (count_stated row) 1000000) (refusals.Limit limits.Tasks)
+    test (is_some (after_word (codes "tasks") row.tokens)) (fault kinds.Header row)
+    ∷ test (is_some (count_number row)) (fault kinds.Number row)
+    ∷ test (nat_le (count_stated row) most_tasks) (refusals.Limit limits.Tasks)
     ∷ []
 
--- ---- position lines: `data D`, `task X T`, in version 2 `task X S T`, and `par K`
+-- ---- a position line: `data D`, `task X T`, in version 2 `task X S T`, or `par K`
 
 abbrev pub word_spelled : List ℕ → Option Word
 word_spelled token =
     if bytes_eq token (codes "data") then Some words.Data
     else (if bytes_eq token (codes "task") then Some words.Task
     else (if bytes_eq token (codes "par") then Some words.Par
-    else (if bytes_eq token (codes "end") then Some words.End
-    else None)))
+    else None))
 
 -- the word that a line begins with
-abbrev pub word_of : Row → Option Word
-word_of row = word_spelled (token_at 0 row)
+abbrev pub word_stated : Row → Option Word
+word_stated row = word_spelled (token_at 0 row)
 
--- the tokens after it
-abbrev pub tokens_after : Row → List (List ℕ)
-tokens_after row = drop 1 row.tokens
+-- the number of a line that has just one
+abbrev pub only : Option (List ℕ) → Option ℕ
+only (Some (n ∷ [])) = Some n
+only _ = None
 
--- the number of a `data` or a `par`
-abbrev pub number_on : Row → ℕ
-number_on row = unwrap_or (number_stated (tokens_after row)) 0
+-- a task of just these numbers: extra and time, in version 2 extra, share and time
+abbrev pub task_from : Version → Option (List ℕ) → Option Task
+task_from One (Some (extra ∷ time ∷ [])) = Some (record { extra = extra; share = 0; time = time })
+task_from Two (Some (extra ∷ share ∷ time ∷ [])) = Some (record { extra = extra; share = share; time = time })
+task_from _ _ = None
 
-abbrev pub task_on : Bool → Row → Task
-task_on with_share row = unwrap_or (task_stated with_share (tokens_after row)) (record { extra = 0; share = 0; time = 0 })
+-- the position that a word and the numbers after it state
+abbrev pub position_from : Version → Option Word → Option (List ℕ) → Option Position
+position_from version (Some words.Data) numbers = option_map Hold (only numbers)
+position_from version (Some words.Task) numbers = option_map at_task (task_from version numbers)
+position_from version (Some words.Par) numbers = option_map Par (only numbers)
+position_from version None numbers = None
 
--- the position that a line states
-abbrev pub position_worded : Option Word → Bool → Row → Position
-position_worded (Some words.Data) with_share row = Hold (number_on row)
-position_worded (Some words.Task) with_share row = at_task (task_on with_share row)
-position_worded (Some words.Par) with_share row = Par (number_on row)
-position_worded (Some words.End) with_share row = Hold 0
-position_worded None with_share row = Hold 0
+abbrev pub position_stated : Version → Row → Option Position
+position_stated version row = position_from version (word_stated row) (numbers_of (drop 1 row.tokens))
 
-abbrev pub position_of : Bool → Row → Position
-position_of with_share row = position_worded (word_of row) with_share row
+-- where none is stated, a test before those of a position fails
+abbrev pub stated_or : Option Position → Position
+stated_or stated = unwrap_or stated (Hold 0)
 
--- the form of a line, with the number of tasks of the file, and the height of the stack and the number of tasks of the lines before
+abbrev pub position_of : Version → Row → Position
+position_of version row = stated_or (position_stated version row)
 
-abbrev pub data_form : Row → List (Test WorkflowKind)
-data_form row = test (is_some (number_stated (tokens_after row))) (fault kinds.Number row) ∷ []
+-- a time of at least 1, two parts or more
+abbrev pub is_position : Position → Bool
+is_position (Hold size) = true
+is_position (at.Task extra share time) = not (time == 0)
+is_position (Par parts) = nat_le 2 parts
 
-abbrev pub task_form : Bool → ℕ → ℕ → ℕ → Row → List (Test WorkflowKind)
-task_form with_share count height tasks row =
-    test (is_some (task_stated with_share (tokens_after row)) && not ((task_on with_share row).time == 0)) (fault kinds.Number row)
-    ∷ test (nat_le 2 height) (fault kinds.StackShort row)
-    ∷ test (nat_lt tasks count) (fault kinds.TaskCount row)
+-- a task more than line 2 says
+abbrev pub is_too_many : ℕ → ℕ → Position → Bool
+is_too_many count tasks (at.Task extra share time) = nat_le count tasks
+is_too_many _ _ _ = false
+
+-- the form of a position that is stated, in a file of so many tasks, after lines that left so many terms and had so many tasks
+abbrev pub stated_tests : ℕ → ℕ → ℕ → Option Position → ℕ → List (Test WorkflowKind)
+stated_tests count height tasks stated line =
+    test (is_some stated && is_position (stated_or stated)) (fault_at line kinds.Number)
+    ∷ test (not (is_short height (stated_or stated))) (fault_at line kinds.StackShort)
+    ∷ test (not (is_too_many count tasks (stated_or stated))) (fault_at line kinds.TaskCount)
     ∷ []
 
-abbrev pub par_form : ℕ → Row → List (Test WorkflowKind)
-par_form height row =
-    test (is_some (number_stated (tokens_after row)) && nat_le 2 (number_on row)) (fault kinds.Number row)
-    ∷ test (nat_le (number_on row) height) (fault kinds.StackShort row)
-    ∷ []
+-- the form of a position line
+abbrev pub form_tests : Version → ℕ → ℕ → ℕ → Row → List (Test WorkflowKind)
+form_tests version count height tasks row =
+    test (is_some (word_stated row)) (fault kinds.Word row) ∷ stated_tests count height tasks (position_stated version row) row.number
+
+-- no limit is passed; those of a position are the builder's
+abbrev pub limit_tests : Option LimitName → List (Test WorkflowKind)
+limit_tests None = []
+limit_tests (Some name) = test false (refusals.Limit name) ∷ []
 
 -- the limits that a position keeps to after others, and its share
-abbrev pub limit_tests : ℕ → List Position → Position → List (Test WorkflowKind)
-limit_tests line before (Hold size) =
-    test (nat_lt (length before) 4000001) (refusals.Limit limits.Positions)
-    ∷ test (nat_le size (2 ^ 40)) (refusals.Limit limits.Size)
-    ∷ test (nat_le (sum_by added_size before + size) (2 ^ 60)) (refusals.Limit limits.Total)
-    ∷ []
-limit_tests line before (at.Task extra share time) =
-    test (nat_lt (length before) 4000001) (refusals.Limit limits.Positions)
-    ∷ test (nat_le extra (2 ^ 40)) (refusals.Limit limits.Size)
-    ∷ test (nat_le time (2 ^ 40)) (refusals.Limit limits.Time)
-    ∷ test (nat_le (sum_by added_size before + extra) (2 ^ 60)) (refusals.Limit limits.Total)
-    ∷ test (not (is_overshared (stack_of before) (at.Task extra share time))) (fault_at line kinds.Share)
-    ∷ []
-limit_tests line before (Par parts) = test (nat_lt (length before) 4000001) (refusals.Limit limits.Positions) ∷ []
+abbrev pub room_tests : List Position → Position → ℕ → List (Test WorkflowKind)
+room_tests before p line =
+    limit_tests (limit_of before p) ++ test (not (is_overshared p (stack_of before))) (fault_at line kinds.Share) ∷ []
+
+-- a position line after lines that state these positions
+abbrev pub position_tests : Version → ℕ → List Position → Row → List (Test WorkflowKind)
+position_tests version count before row =
+    form_tests version count (length (stack_of before)) (sum_by added_tasks before) row
+    ++ room_tests before (position_of version row) row.number
 
 -- ---- the last line, `end`, where one term is left and the tasks are as many as stated; then no line
 
-abbrev pub has_no_more : List (List ℕ) → Bool
-has_no_more [] = true
-has_no_more (token ∷ tokens) = false
+abbrev pub is_end : Row → Bool
+is_end row = bytes_eq (token_at 0 row) (codes "end")
 
 abbrev pub last_tests : ℕ → ℕ → ℕ → Row → List (Test WorkflowKind)
 last_tests count height tasks row =
-    test (has_no_more (tokens_after row)) (fault kinds.Number row)
+    test (length row.tokens == 1) (fault kinds.Number row)
     ∷ test (height == 1) (fault kinds.NotOneTerm row)
     ∷ test (tasks == count) (fault kinds.TaskCount row)
     ∷ []
 
-abbrev pub no_tests : Row → List (Test WorkflowKind)
-no_tests row = test false (fault kinds.Word row) ∷ []
+abbrev pub further_tests : Row → List (Test WorkflowKind)
+further_tests row = test false (fault kinds.Word row) ∷ []
 
--- ---- the lines after the second
+-- ---- all lines
 
--- a line that begins with this word, after lines that state these positions
-abbrev pub worded_tests : Option Word → Bool → ℕ → List Position → Row → List (Test WorkflowKind)
-worded_tests (Some words.Data) with_share count before row = data_form row ++ limit_tests row.number before (Hold (number_on row))
-worded_tests (Some words.Task) with_share count before row =
-    task_form with_share count (length (stack_of before)) (sum_by added_tasks before) row
-    ++ limit_tests row.number before (at_task (task_on with_share row))
-worded_tests (Some words.Par) with_share count before row =
-    par_form (length (stack_of before)) row ++ limit_tests row.number before (Par (number_on row))
-worded_tests (Some words.End) with_share count before row = last_tests count (length (stack_of before)) (sum_by added_tasks before) row
-worded_tests None with_share count before row = no_tests row
-
-abbrev pub is_end_word : Option Word → Bool
-is_end_word (Some words.End) = true
-is_end_word (Some words.Data) = false
-is_end_word (Some words.Task) = false
-is_end_word (Some words.Par) = false
-is_end_word None = false
-
-abbrev pub is_end : Row → Bool
-is_end row = is_end_word (word_of row)
-
-abbrev pub body_tests : Bool → ℕ → List Row → Row → List (Test WorkflowKind)
-body_tests with_share count rows row =
-    if list_any is_end rows then no_tests row
-    else worded_tests (word_of row) with_share count (map (position_of with_share) rows) row
+-- a line after the second, after lines that state these positions
+abbrev pub body_tests : Version → ℕ → List Position → Row → List (Test WorkflowKind)
+body_tests version count before row =
+    if is_end row
+    then last_tests count (length (stack_of before)) (sum_by added_tasks before) row
+    else position_tests version count before row
 
 abbrev pub workflow_line_tests : List Row → Row → List (Test WorkflowKind)
 workflow_line_tests [] row = header_tests row
 workflow_line_tests (header ∷ []) row = count_tests row
-workflow_line_tests (header ∷ counted ∷ rows) row = body_tests (has_shares header) (count_stated counted) rows row
+workflow_line_tests (header ∷ counted ∷ rows) row =
+    if list_any is_end rows
+    then further_tests row
+    else body_tests (version_stated header) (count_stated counted) (map (position_of (version_stated header)) rows) row
 
 -- whether the text has come to its `end`
 abbrev pub is_complete : List Row → Bool
@@ -195,7 +182,7 @@ workflow_format = record { line_tests = workflow_line_tests; end_tests = workflo
 abbrev pub positions_stated : List Row → List Position
 positions_stated [] = []
 positions_stated (header ∷ []) = []
-positions_stated (header ∷ counted ∷ rows) = map (position_of (has_shares header)) (take (length rows - 1) rows)
+positions_stated (header ∷ counted ∷ rows) = map (position_of (version_stated header)) (take (length rows - 1) rows)
 
 -- every line passes, and the positions are those stated
 pub record ReadsWorkflow (bytes : List ℕ) (positions : List Position) : Type 0 where

@@ -1,46 +1,50 @@
 -- The text of a workflow: the file, of version 1 or 2, that is printed for it. Workflow files are this project's own format.
-use Rattle.std.specs.Prelude.{◌≡◌, ◌==◌, ℕ, Bool, true, false, not, if◌then◌else◌, List, [], ◌∷◌, ◌++◌, map, take, codes}
+use Rattle.std.specs.Prelude.{◌==◌, ℕ, Bool, false, not, if◌then◌else◌, List, [], ◌∷◌, ◌++◌, map, codes}
 use Rattle.std.specs.Fmt.{decimal}
 use Rattle.std.specs.List.{list_any, sum_by}
+use Rattle.mp_text.specs.declared.words.Version.{Version}
+use Rattle.mp_text.specs.declared.words.Version.TheVariants.{One, Two}
+use Rattle.mp_text.specs.Words.{version_word}
 use Rattle.mp_text.specs.Report.{text_of_lines}
 use Rattle.sp_terms.specs.declared.position.Position.{Position}
 use Rattle.sp_terms.specs.declared.position.Position.TheVariants.{Hold, Par}
 use Rattle.sp_terms.specs.declared.position.Position.TheVariants as at
 use Rattle.sp_terms.specs.Values.{added_tasks}
 
--- the word that names the version: 2 where the task lines have a share
-abbrev pub version : Bool → List ℕ
-version with_share = if with_share then codes "2" else codes "1"
+-- the line of a position: `data D`, `task X T` or `task X S T`, or `par K`
+abbrev pub position_word : Position → List ℕ
+position_word (Hold size) = codes "data"
+position_word (at.Task extra share time) = codes "task"
+position_word (Par parts) = codes "par"
 
--- line 1
-abbrev pub header_line : Bool → List (List ℕ)
-header_line with_share = codes "workflow" ∷ version with_share ∷ []
+abbrev pub task_numbers : Version → ℕ → ℕ → ℕ → List ℕ
+task_numbers One extra share time = extra ∷ time ∷ []
+task_numbers Two extra share time = extra ∷ share ∷ time ∷ []
 
--- line 2
+abbrev pub position_numbers : Version → Position → List ℕ
+position_numbers version (Hold size) = size ∷ []
+position_numbers version (at.Task extra share time) = task_numbers version extra share time
+position_numbers version (Par parts) = parts ∷ []
+
+abbrev pub position_line : Version → Position → List (List ℕ)
+position_line version p = position_word p ∷ map decimal (position_numbers version p)
+
+abbrev pub header_line : Version → List (List ℕ)
+header_line version = codes "workflow" ∷ version_word version ∷ []
+
 abbrev pub count_line : ℕ → List (List ℕ)
 count_line count = codes "tasks" ∷ decimal count ∷ []
 
--- the share of a task line, which only version 2 has
-abbrev pub share_tokens : Bool → ℕ → List (List ℕ)
-share_tokens with_share share = if with_share then decimal share ∷ [] else []
-
--- the line of a position: `data D`, `task X T` or `task X S T`, or `par K`
-abbrev pub position_line : Bool → Position → List (List ℕ)
-position_line with_share (Hold size) = codes "data" ∷ decimal size ∷ []
-position_line with_share (at.Task extra share time) = codes "task" ∷ decimal extra ∷ (share_tokens with_share share ++ decimal time ∷ [])
-position_line with_share (Par parts) = codes "par" ∷ decimal parts ∷ []
-
--- the last line
 abbrev pub end_line : List (List ℕ)
 end_line = codes "end" ∷ []
 
--- the lines of a file of version 2, or of version 1
-abbrev pub lines_in : Bool → List Position → List (List (List ℕ))
-lines_in with_share positions =
-    header_line with_share ∷ count_line (sum_by added_tasks positions) ∷ (map (position_line with_share) positions ++ end_line ∷ [])
+-- the lines of a file of this version
+abbrev pub lines_in : Version → List Position → List (List (List ℕ))
+lines_in version positions =
+    header_line version ∷ count_line (sum_by added_tasks positions) ∷ (map (position_line version) positions ++ end_line ∷ [])
 
-abbrev pub text_in : Bool → List Position → List ℕ
-text_in with_share positions = text_of_lines (lines_in with_share positions)
+abbrev pub text_in : Version → List Position → List ℕ
+text_in version positions = text_of_lines (lines_in version positions)
 
 -- whether the position is a task with a share other than 0
 abbrev pub is_sharing : Position → Bool
@@ -48,10 +52,13 @@ is_sharing (Hold size) = false
 is_sharing (at.Task extra share time) = not (share == 0)
 is_sharing (Par parts) = false
 
--- the text of a workflow: version 1 where every share is 0, else version 2
-abbrev pub text_of : List Position → List ℕ
-text_of positions = text_in (list_any is_sharing positions) positions
+-- the version that a workflow needs: 1 where every share is 0, else 2
+abbrev pub version_for : List Position → Version
+version_for positions = if list_any is_sharing positions then Two else One
 
--- the text of version 2
+-- the text of a workflow, and its text in version 2
+abbrev pub text_of : List Position → List ℕ
+text_of positions = text_in (version_for positions) positions
+
 abbrev pub text2_of : List Position → List ℕ
-text2_of positions = text_in true positions
+text2_of positions = text_in Two positions

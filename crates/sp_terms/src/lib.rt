@@ -5,18 +5,19 @@
 #![tactic(auto)]
 
 mod builder;
-mod fields;
 mod kind;
 pub mod laws;
 mod lines;
 mod position;
 mod printing;
 mod reader;
+mod stage;
 mod system;
 mod terms;
 #[cfg(test)]
 mod tests;
 mod value;
+mod word;
 
 pub use builder::{PushRefusal, TermBuilder};
 pub use kind::WorkflowKind;

@@ -1,178 +1,146 @@
-//! One function for each kind of line of a workflow file: its tests in the order of the format's table.
+//! One function for each line of a workflow file: its tests in the order of the format's table.
 
-ghost use Rattle.std.specs.Prelude.{◌≡◌, ◌==◌, ◌≤◌, ℕ, List, [], ◌∷◌, length, MatchOption, IfOk, false, ◌||◌, codes};
-ghost use Rattle.std.specs.Cmp.Lexicographic.{pointwise};
-ghost use Rattle.std.specs.Str.{bytes_eq};
-ghost use Rattle.mp_text.specs.Text.{tokens_of};
+ghost use Rattle.std.specs.Prelude.{◌≡◌, ◌≤◌, Some, IfOk};
+ghost use Rattle.limits.specs.Limits.{most_positions};
+ghost use Rattle.mp_text.specs.Text.{numbers_of};
 ghost use Rattle.mp_text.specs.Ahead.{row};
 ghost use Rattle.mp_text.specs.Reading.{Gives, tested};
 ghost use Rattle.sp_terms.specs.Builder.{IsPosition};
 ghost use Rattle.sp_terms.specs.Postfix.{at_task};
-ghost use Rattle.sp_terms.specs.declared.position.Position.TheVariants.{Hold, Par};
-ghost use Rattle.sp_terms.specs.WorkflowFile.{fault_at, header_tests, has_shares, count_tests, count_stated, word_of, tokens_after, data_form, task_form, par_form, last_tests, number_on, task_on};
+ghost use Rattle.sp_terms.specs.declared.position.Position.TheVariants.{Par};
+ghost use Rattle.sp_terms.specs.WorkflowFile.{header_tests, version_stated, count_tests, count_stated, only, task_from, stated_tests, form_tests, position_of, is_end, last_tests};
 
-use crate::fields::{only_number, only_task};
-use crate::kind::{Word, WorkflowKind};
+use crate::kind::WorkflowKind;
 use crate::position::Position;
-use limits::LimitName;
-use mp_text::{Fault, Line, Refusal, Tokens, number, tokens};
+use crate::word::{Word, next_word};
+use limits::{LimitName, MOST_TASKS};
+use mp_system::Task;
+use mp_text::{Line, Refusal, Tokens, Version, after_word, fault, number, tokens, version_of};
 
-const MOST_TASKS: u64 = 1_000_000;
-
-/// The refusal of a line.
-pub fn fault(line: u64, kind: WorkflowKind) -> Refusal<WorkflowKind>
-    ensures { result ≡ fault_at line kind }
+/// Line 1: the version.
+pub fn header_on(line: Line<'_>) -> Result<Version, Refusal<WorkflowKind>>
+    ensures { let r = row line.entry.number line.entry.text.now in Gives (tested (header_tests r) (version_stated r)) result }
 {
-    Refusal::Format(Fault { line, kind })
-}
-
-// Whether a line has these two tokens alone.
-fn are_words(text: &[u8], first: &[u8], second: &[u8]) -> bool
-    ensures { result ≡ pointwise bytes_eq (tokens_of text.now) (first.now ∷ second.now ∷ []) }
-{
-    let mut words = tokens(text);
-    let Some(word) = words.next() else {
-        return false;
-    };
-    if word != first {
-        return false;
-    }
-    let Some(word) = words.next() else {
-        return false;
-    };
-    word == second && words.next().is_none()
-}
-
-// The tokens of a line that has two.
-fn two_tokens(text: &[u8]) -> Option<(&[u8], &[u8])>
-    ensures { MatchOption result ((length (tokens_of text.now) == 2) ≡ false) (λ p. tokens_of text.now ≡ p.0.now ∷ p.1.now ∷ []) }
-{
-    let mut words = tokens(text);
-    let first = words.next()?;
-    let second = words.next()?;
-    match words.next() {
-        Some(_) => None,
-        None => Some((first, second)),
-    }
-}
-
-/// Line 1: whether the tasks have shares.
-pub fn header_on(line: Line<'_>) -> Result<bool, Refusal<WorkflowKind>>
-    ensures { let r = row line.entry.number line.entry.text.now in Gives (tested (header_tests r) (has_shares r)) result }
-{
-    let with_share = are_words(line.text, b"workflow", b"2");
-    if !are_words(line.text, b"workflow", b"1") && !with_share {
-        return Err(fault(line.number, WorkflowKind::Header));
-    }
-    Ok(with_share)
+    version_of(line.text, b"workflow").ok_or(fault(line.number, WorkflowKind::Header))
 }
 
 /// Line 2: the number of tasks.
 pub fn count_on(line: Line<'_>) -> Result<u64, Refusal<WorkflowKind>>
     ensures { let r = row line.entry.number line.entry.text.now in Gives (tested (count_tests r) (count_stated r)) result }
 {
-    let Some((word, count)) = two_tokens(line.text) else {
-        return Err(fault(line.number, WorkflowKind::Header));
-    };
-    if word != b"tasks".as_slice() {
-        return Err(fault(line.number, WorkflowKind::Header));
-    }
-    let Some(count) = number(count) else {
-        return Err(fault(line.number, WorkflowKind::Number));
-    };
+    let count = after_word(line.text, b"tasks").ok_or(fault(line.number, WorkflowKind::Header))?;
+    let count = number(count).ok_or(fault(line.number, WorkflowKind::Number))?;
     if count > MOST_TASKS {
         return Err(Refusal::Limit(LimitName::Tasks));
     }
     Ok(count)
 }
 
-/// The word that a line begins with.
-pub fn word_on(line: Line<'_>) -> Option<Word>
-    ensures { result ≡ word_of (row line.entry.number line.entry.text.now) }
+// The number of a line that has just one.
+fn only_number(words: Tokens<'_>) -> Option<u64>
+    ensures { result ≡ only (numbers_of words.entry) }
 {
-    let word = tokens(line.text).next()?;
-    if word == b"data".as_slice() {
-        Some(Word::Data)
-    } else if word == b"task".as_slice() {
-        Some(Word::Task)
-    } else if word == b"par".as_slice() {
-        Some(Word::Par)
-    } else if word == b"end".as_slice() {
-        Some(Word::End)
-    } else {
-        None
+    let [number] = words.numbers::<1>()?;
+    Some(number)
+}
+
+// The numbers of a task line that has just these.
+fn task_numbers(version: Version, words: Tokens<'_>) -> Option<Task>
+    ensures { result ≡ task_from version (numbers_of words.entry) }
+{
+    match version {
+        Version::One => {
+            let [extra, time] = words.numbers::<2>()?;
+            Some(Task {
+                extra,
+                share: 0,
+                time,
+            })
+        }
+        Version::Two => {
+            let [extra, share, time] = words.numbers::<3>()?;
+            Some(Task { extra, share, time })
+        }
     }
 }
 
-// The tokens after the first.
-fn words_after<'a>(line: Line<'a>) -> Tokens<'a>
-    ensures { result ≡ tokens_after (row line.entry.number line.entry.text.now) }
-{
-    let mut words = tokens(line.text);
-    let _first = words.next();
-    words
-}
-
-/// A `data` line.
-pub fn data_on(line: Line<'_>) -> Result<Position, Refusal<WorkflowKind>>
-    ensures judged { let r = row line.entry.number line.entry.text.now in Gives (tested (data_form r) (Hold (number_on r))) result }
+// A task of a file of so many tasks, after lines that left so many terms and had so many tasks.
+fn task_on(
+    count: u64,
+    height: u64,
+    tasks: u64,
+    line: u64,
+    task: Task,
+) -> Result<Position, Refusal<WorkflowKind>>
+    ensures judged { Gives (tested (stated_tests count height tasks (Some (at_task task)) line) (at_task task)) result }
     ensures position { IfOk result IsPosition }
 {
-    match only_number(&mut words_after(line)) {
-        Some(size) => Ok(Position::Hold(size)),
-        None => Err(fault(line.number, WorkflowKind::Number)),
+    let Task { extra, share, time } = task;
+    if time == 0 {
+        return Err(fault(line, WorkflowKind::Number));
     }
+    if height < 2 {
+        return Err(fault(line, WorkflowKind::StackShort));
+    }
+    if tasks >= count {
+        return Err(fault(line, WorkflowKind::TaskCount));
+    }
+    Ok(Position::Task { extra, share, time })
 }
 
-/// A `task` line of a file of so many tasks, after lines that left so many terms and had so many tasks.
-pub fn task_on(
-    with_share: bool,
+// So many of the last terms side by side, after lines that left so many terms; it is no task, so numbers of tasks do not matter.
+fn par_on(height: u64, line: u64, parts: u64) -> Result<Position, Refusal<WorkflowKind>>
+    requires { height ≤ most_positions }
+    ensures judged { Gives (tested (stated_tests 0 height 0 (Some (Par parts)) line) (Par parts)) result }
+    ensures position { IfOk result IsPosition }
+{
+    if parts < 2 {
+        return Err(fault(line, WorkflowKind::Number));
+    }
+    if parts > height {
+        return Err(fault(line, WorkflowKind::StackShort));
+    }
+    Ok(Position::Par(parts as u32))
+}
+
+/// A position line of a file of so many tasks, after lines that left so many terms and had so many tasks. Its limits and its share are
+/// judged where the position is taken.
+pub fn position_on(
+    version: Version,
     count: u64,
     height: u64,
     tasks: u64,
     line: Line<'_>,
 ) -> Result<Position, Refusal<WorkflowKind>>
-    ensures judged { let r = row line.entry.number line.entry.text.now in Gives (tested (task_form with_share count height tasks r) (at_task (task_on with_share r))) result }
+    requires { height ≤ most_positions }
+    ensures judged { let r = row line.entry.number line.entry.text.now in
+        Gives (tested (form_tests version count height tasks r) (position_of version r)) result }
     ensures position { IfOk result IsPosition }
 {
-    let Some(task) = only_task(with_share, &mut words_after(line)) else {
-        return Err(fault(line.number, WorkflowKind::Number));
-    };
-    if task.time == 0 {
-        return Err(fault(line.number, WorkflowKind::Number));
+    let mut words = tokens(line.text);
+    let word = next_word(&mut words).ok_or(fault(line.number, WorkflowKind::Word))?;
+    let no_numbers = fault(line.number, WorkflowKind::Number);
+    match word {
+        Word::Data => Ok(Position::Hold(only_number(words).ok_or(no_numbers)?)),
+        Word::Task => {
+            let task = task_numbers(version, words).ok_or(no_numbers)?;
+            task_on(count, height, tasks, line.number, task)
+        }
+        Word::Par => par_on(height, line.number, only_number(words).ok_or(no_numbers)?),
     }
-    if height < 2 {
-        return Err(fault(line.number, WorkflowKind::StackShort));
-    }
-    if tasks >= count {
-        return Err(fault(line.number, WorkflowKind::TaskCount));
-    }
-    Ok(Position::Task {
-        extra: task.extra,
-        share: task.share,
-        time: task.time,
-    })
 }
 
-/// A `par` line, after lines that left so many terms.
-pub fn par_on(height: u64, line: Line<'_>) -> Result<Position, Refusal<WorkflowKind>>
-    requires { height ≤ 4000001 }
-    ensures judged { let r = row line.entry.number line.entry.text.now in Gives (tested (par_form height r) (Par (number_on r))) result }
-    ensures position { IfOk result IsPosition }
+/// Whether a line begins with the word `end`.
+pub fn is_end(line: Line<'_>) -> bool
+    ensures { result ≡ is_end (row line.entry.number line.entry.text.now) }
 {
-    let Some(parts) = only_number(&mut words_after(line)) else {
-        return Err(fault(line.number, WorkflowKind::Number));
-    };
-    if parts < 2 {
-        return Err(fault(line.number, WorkflowKind::Number));
+    match tokens(line.text).next() {
+        Some(word) => word == b"end".as_slice(),
+        None => false,
     }
-    if parts > height {
-        return Err(fault(line.number, WorkflowKind::StackShort));
-    }
-    Ok(Position::Par(parts as u32))
 }
 
-/// The line `end`, after lines that left so many terms and had so many tasks.
+/// A line that begins with `end`, in a file of so many tasks, after lines that left so many terms and had so many tasks.
 pub fn last_on(
     count: u64,
     height: u64,
@@ -181,7 +149,7 @@ pub fn last_on(
 ) -> Result<(), Refusal<WorkflowKind>>
     ensures { Gives (tested (last_tests count height tasks (row line.entry.number line.entry.text.now)) tt) result }
 {
-    if words_after(line).next().is_some() {
+    if tokens(line.text).one().is_none() {
         return Err(fault(line.number, WorkflowKind::Number));
     }
     if height != 1 {

@@ -5,39 +5,30 @@ ghost use Rattle.std.specs.List.{list_any, sum_by};
 ghost use Rattle.limits.specs.Limits.{most_tasks};
 ghost use Rattle.mp_text.specs.Report.{is_line_start, line_text, text_of_lines};
 ghost use Rattle.sp_terms.specs.Values.{added_tasks};
-ghost use Rattle.sp_terms.specs.WorkflowText.{version, position_line, text_in, is_sharing, text_of, text2_of};
+ghost use Rattle.sp_terms.specs.WorkflowText.{position_line, text_in, is_sharing, version_for, text_of, text2_of};
 
 use crate::NoMemory;
 use crate::builder::count;
 use crate::position::Position;
 use crate::terms::Terms;
 use mp_text::laws::printed_lines;
-use mp_text::{Report, Token};
+use mp_text::{Report, Token, Version};
 
-fn version_word(with_share: bool) -> &'static str
-    ensures { result.now ≡ version with_share }
-{
-    if with_share { "2" } else { "1" }
-}
-
-fn print_position(with_share: bool, position: Position, report: &mut Report) -> Result<(), NoMemory>
+fn print_position(version: Version, position: Position, report: &mut Report) -> Result<(), NoMemory>
     requires { IsTrue (is_line_start report.old) }
-    ensures ok { OnOk result (report.new ≡ report.old ++ line_text (position_line with_share position)) }
+    ensures ok { OnOk result (report.new ≡ report.old ++ line_text (position_line version position)) }
     ensures start { OnOk result (IsTrue (is_line_start report.new)) }
     ensures err { OnErr result (report.new ≡ report.old) }
 {
     match position {
         Position::Hold(size) => report.line(&[Token::Word("data"), Token::Number(size)]),
         Position::Task { extra, share, time } => {
-            let (word, extra, time) = (
-                Token::Word("task"),
-                Token::Number(extra),
-                Token::Number(time),
-            );
-            if with_share {
-                report.line(&[word, extra, Token::Number(share), time])
-            } else {
-                report.line(&[word, extra, time])
+            let word = Token::Word("task");
+            let extra = Token::Number(extra);
+            let time = Token::Number(time);
+            match version {
+                Version::One => report.line(&[word, extra, time]),
+                Version::Two => report.line(&[word, extra, Token::Number(share), time]),
             }
         }
         Position::Par(parts) => report.line(&[Token::Word("par"), Token::Number(u64::from(parts))]),
@@ -45,18 +36,18 @@ fn print_position(with_share: bool, position: Position, report: &mut Report) -> 
 }
 
 fn print_positions(
-    with_share: bool,
+    version: Version,
     positions: &[Position],
     report: &mut Report,
 ) -> Result<(), NoMemory>
     requires { IsTrue (is_line_start report.old) }
-    ensures ok { OnOk result (report.new ≡ report.old ++ text_of_lines (map (position_line with_share) positions.now)) }
+    ensures ok { OnOk result (report.new ≡ report.old ++ text_of_lines (map (position_line version) positions.now)) }
     ensures start { OnOk result (IsTrue (is_line_start report.new)) }
     ensures err { OnErr result (take (length report.old) report.new ≡ report.old) }
 {
     printed_lines();
     for position in positions {
-        print_position(with_share, *position, report)?;
+        print_position(version, *position, report)?;
     }
     Ok(())
 }
@@ -66,38 +57,31 @@ fn count_tasks(positions: &[Position]) -> u64
     requires { sum_by added_tasks positions.now ≤ most_tasks }
     ensures { result ≡ sum_by added_tasks positions.now }
 {
-    let mut tasks: u64 = 0;
-    for position in positions {
-        tasks += count(*position);
-    }
-    tasks
+    positions.iter().map(|position| count(*position)).sum()
 }
 
 // Appends the lines of a version, or some bytes.
-fn print_part(with_share: bool, positions: &[Position], report: &mut Report) -> Result<(), NoMemory>
+fn print_part(version: Version, positions: &[Position], report: &mut Report) -> Result<(), NoMemory>
     requires few { sum_by added_tasks positions.now ≤ most_tasks }
     requires start { IsTrue (is_line_start report.old) }
-    ensures ok { OnOk result (report.new ≡ report.old ++ text_in with_share positions.now) }
+    ensures ok { OnOk result (report.new ≡ report.old ++ text_in version positions.now) }
     ensures err { OnErr result (take (length report.old) report.new ≡ report.old) }
 {
     printed_lines();
-    report.line(&[
-        Token::Word("workflow"),
-        Token::Word(version_word(with_share)),
-    ])?;
+    report.line(&[Token::Word("workflow"), Token::Word(version.word())])?;
     report.line(&[Token::Word("tasks"), Token::Number(count_tasks(positions))])?;
-    print_positions(with_share, positions, report)?;
+    print_positions(version, positions, report)?;
     report.line(&[Token::Word("end")])
 }
 
-fn print_in(with_share: bool, positions: &[Position], report: &mut Report) -> Result<(), NoMemory>
+fn print_in(version: Version, positions: &[Position], report: &mut Report) -> Result<(), NoMemory>
     requires few { sum_by added_tasks positions.now ≤ most_tasks }
     requires start { IsTrue (is_line_start report.old) }
-    ensures ok { OnOk result (report.new ≡ report.old ++ text_in with_share positions.now) }
+    ensures ok { OnOk result (report.new ≡ report.old ++ text_in version positions.now) }
     ensures err { OnErr result (report.new ≡ report.old) }
 {
     let start = report.len();
-    let printed = print_part(with_share, positions, report);
+    let printed = print_part(version, positions, report);
     if printed.is_err() {
         report.cut(start);
     }
@@ -119,6 +103,16 @@ fn has_share(positions: &[Position]) -> bool
     positions.iter().any(|position| is_sharing(*position))
 }
 
+fn version_for(positions: &[Position]) -> Version
+    ensures { result ≡ version_for positions.now }
+{
+    if has_share(positions) {
+        Version::Two
+    } else {
+        Version::One
+    }
+}
+
 /// Appends the lines of a workflow file, of version 1 where every share is 0, else of version 2. Linear in the positions.
 ///
 /// Where memory runs out, the report stays as it was.
@@ -128,7 +122,7 @@ pub fn print_workflow(terms: &Terms, report: &mut Report) -> Result<(), NoMemory
     ensures err { OnErr result (report.new ≡ report.old) }
 {
     let positions = terms.positions();
-    print_in(has_share(positions), positions, report)
+    print_in(version_for(positions), positions, report)
 }
 
 /// Appends the lines of a workflow file of version 2. Linear in the positions.
@@ -139,5 +133,5 @@ pub fn print_workflow_2(terms: &Terms, report: &mut Report) -> Result<(), NoMemo
     ensures ok { OnOk result (report.new ≡ report.old ++ text2_of terms.now) }
     ensures err { OnErr result (report.new ≡ report.old) }
 {
-    print_in(true, terms.positions(), report)
+    print_in(Version::Two, terms.positions(), report)
 }

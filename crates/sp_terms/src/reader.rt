@@ -4,11 +4,12 @@ ghost use Rattle.sp_terms.specs.Reader.{refusal_at};
 ghost use Rattle.sp_terms.specs.WorkflowFile.{ReadsWorkflow, IsWorkflowRefusal};
 
 use crate::builder::{PushRefusal, TermBuilder};
-use crate::kind::{Stage, Word, WorkflowKind};
-use crate::lines::{count_on, data_on, fault, header_on, last_on, par_on, task_on, word_on};
+use crate::kind::WorkflowKind;
+use crate::lines::{count_on, header_on, is_end, last_on, position_on};
 use crate::position::Position;
+use crate::stage::Stage;
 use crate::terms::Terms;
-use mp_text::{Layout, Line, Reader, Refusal, read_with};
+use mp_text::{Layout, Line, Reader, Refusal, Version, fault, read_with};
 use std::alloc::Global;
 use std::marker::Model;
 
@@ -16,7 +17,7 @@ use std::marker::Model;
 #[derive(Drop)]
 struct WorkflowReader {
     stage: Stage,
-    with_share: bool,
+    version: Version,
     count: u64,
     builder: TermBuilder,
 }
@@ -26,7 +27,7 @@ impl Model for WorkflowReader {
 
     ghost Value = { ReaderState };
 
-    ghost view = { λ s. record { stage = s.stage; with_share = s.with_share; count = s.count; positions = s.builder } };
+    ghost view = { λ s. record { stage = s.stage; version = s.version; count = s.count; positions = s.builder } };
 }
 
 // The refusal of a line whose position is not taken.
@@ -43,8 +44,7 @@ fn refusal_at(line: u64, refusal: PushRefusal) -> Refusal<WorkflowKind>
 
 impl WorkflowReader {
     ghost use Rattle.sp_terms.specs.Builder.{IsPosition};
-    ghost use Rattle.sp_terms.specs.Reader.{pushed, worded_step, start};
-    ghost use Rattle.sp_terms.specs.WorkflowFile.{word_of};
+    ghost use Rattle.sp_terms.specs.Reader.{pushed, body_step, start};
     ghost use Rattle.mp_text.specs.Reading.{Steps};
 
     // A reader of which nothing was read.
@@ -53,7 +53,7 @@ impl WorkflowReader {
     {
         WorkflowReader {
             stage: Stage::Header,
-            with_share: false,
+            version: Version::One,
             count: 0,
             builder: TermBuilder::new(alloc),
         }
@@ -72,32 +72,17 @@ impl WorkflowReader {
 
     // Takes a line after the second, where positions are read.
     fn body_line(&mut self, line: Line<'_>) -> Result<(), Refusal<WorkflowKind>>
-        ensures { let r = row line.entry.number line.entry.text.now in Steps (worded_step (word_of r) self.old r) result self.new }
+        ensures { Steps (body_step self.old (row line.entry.number line.entry.text.now)) result self.new }
     {
-        let Some(word) = word_on(line) else {
-            return Err(fault(line.number, WorkflowKind::Word));
-        };
         let height = self.builder.height();
         let tasks = self.builder.tasks();
-        match word {
-            Word::Data => {
-                let position = data_on(line)?;
-                self.push(line.number, position)
-            }
-            Word::Task => {
-                let position = task_on(self.with_share, self.count, height, tasks, line)?;
-                self.push(line.number, position)
-            }
-            Word::Par => {
-                let position = par_on(height, line)?;
-                self.push(line.number, position)
-            }
-            Word::End => {
-                last_on(self.count, height, tasks, line)?;
-                self.stage = Stage::Ended;
-                Ok(())
-            }
+        if is_end(line) {
+            last_on(self.count, height, tasks, line)?;
+            self.stage = Stage::Ended;
+            return Ok(());
         }
+        let position = position_on(self.version, self.count, height, tasks, line)?;
+        self.push(line.number, position)
     }
 }
 
@@ -120,7 +105,7 @@ impl Reader for WorkflowReader {
     fn line(&mut self, line: Line<'_>) -> Result<(), Refusal<WorkflowKind>> {
         match self.stage {
             Stage::Header => {
-                self.with_share = header_on(line)?;
+                self.version = header_on(line)?;
                 self.stage = Stage::Count;
                 Ok(())
             }

@@ -5,18 +5,12 @@ ghost use Rattle.limits.specs.Limits.{most_workers};
 
 use crate::tests::plain::{Given, plain_run};
 use crate::tests::systems::{arrow, star, still, tree};
-use crate::{Core, CoreRefusal, Event, EventKind, Trace, holds_each, simulate};
+use crate::{Core, CoreRefusal, EventKind, Simulator, Trace, holds_each};
 use mp_system::{OrderFault, OrderKind, System};
 use std::alloc::Global;
 use std::process::Abort;
 use std::rt::HostRuntime;
 use std::test::Fail;
-
-const ACTIVATE: EventKind = EventKind::Activate;
-
-const START: EventKind = EventKind::Start;
-
-const FINISH: EventKind = EventKind::Finish;
 
 // The simulated run.
 fn run(alloc: Global, given: Given) -> Result<Trace, Fail>
@@ -26,7 +20,7 @@ fn run(alloc: Global, given: Given) -> Result<Trace, Fail>
     if !holds_each(alloc, given.system, given.priority)? {
         return Err("a priority that does not hold each task once".into());
     }
-    Ok(simulate(core, given.priority))
+    Ok(Simulator::new(alloc, core)?.run(given.priority))
 }
 
 /// The simulated run, which is that of the plain simulator.
@@ -42,103 +36,28 @@ pub fn compare(rt: &impl Abort, alloc: Global, given: Given) -> Result<Trace, Fa
     Ok(trace)
 }
 
-// A run's trace is this one; an event is its moment, its kind and its task.
-fn is_trace(trace: &Trace, numbers: (u64, u64, u64), events: &[(u64, EventKind, u32)]) -> bool {
-    if (trace.makespan, trace.used, trace.booked) != numbers {
-        return false;
+// A run in one line: its makespan, used and booked memory, and its events, each as its moment, the first letter of its kind, and its task.
+fn line_of(alloc: Global, trace: &Trace) -> Result<String, Fail> {
+    let mut line = format!(in alloc; "{} {} {}", trace.makespan, trace.used, trace.booked)?;
+    for event in &trace.events {
+        let kind = match event.kind {
+            EventKind::Activate => 'a',
+            EventKind::Start => 's',
+            EventKind::Finish => 'f',
+        };
+        line.push_str(format!(in alloc; " {}{kind}{}", event.time, event.task)?.as_str())?;
     }
-    if trace.events.len() != events.len() {
-        return false;
-    }
-    for (found, wanted) in trace.events.iter().zip(events.iter()) {
-        let (time, kind, task) = *wanted;
-        if *found != (Event { time, kind, task }) {
-            return false;
-        }
-    }
-    true
+    Ok(line)
 }
 
-const TIGHT: [(u64, EventKind, u32); 15] = [
-    (0, ACTIVATE, 1),
-    (0, START, 1),
-    (1, FINISH, 1),
-    (1, ACTIVATE, 3),
-    (1, START, 3),
-    (2, FINISH, 3),
-    (2, ACTIVATE, 2),
-    (2, START, 2),
-    (3, FINISH, 2),
-    (3, ACTIVATE, 4),
-    (3, ACTIVATE, 5),
-    (3, START, 4),
-    (4, FINISH, 4),
-    (4, START, 5),
-    (5, FINISH, 5),
-];
-
-const WIDE: [(u64, EventKind, u32); 15] = [
-    (0, ACTIVATE, 1),
-    (0, ACTIVATE, 3),
-    (0, START, 1),
-    (0, START, 3),
-    (1, FINISH, 1),
-    (1, FINISH, 3),
-    (1, ACTIVATE, 2),
-    (1, ACTIVATE, 4),
-    (1, ACTIVATE, 5),
-    (1, START, 2),
-    (1, START, 4),
-    (2, FINISH, 2),
-    (2, FINISH, 4),
-    (2, START, 5),
-    (3, FINISH, 5),
-];
-
-const ENDLESS: [(u64, EventKind, u32); 15] = [
-    (0, ACTIVATE, 1),
-    (0, ACTIVATE, 3),
-    (0, ACTIVATE, 2),
-    (0, ACTIVATE, 4),
-    (0, ACTIVATE, 5),
-    (0, START, 1),
-    (0, START, 3),
-    (1, FINISH, 1),
-    (1, FINISH, 3),
-    (1, START, 2),
-    (1, START, 4),
-    (2, FINISH, 2),
-    (2, FINISH, 4),
-    (2, START, 5),
-    (3, FINISH, 5),
-];
-
-const RANKED: [(u64, EventKind, u32); 12] = [
-    (0, ACTIVATE, 1),
-    (0, ACTIVATE, 2),
-    (0, ACTIVATE, 3),
-    (0, ACTIVATE, 4),
-    (0, START, 3),
-    (1, FINISH, 3),
-    (1, START, 2),
-    (2, FINISH, 2),
-    (2, START, 1),
-    (3, FINISH, 1),
-    (3, START, 4),
-    (4, FINISH, 4),
-];
-
-const IN_PLACE: [(u64, EventKind, u32); 9] = [
-    (0, ACTIVATE, 1),
-    (0, START, 1),
-    (1, FINISH, 1),
-    (1, ACTIVATE, 2),
-    (1, START, 2),
-    (2, FINISH, 2),
-    (2, ACTIVATE, 3),
-    (2, START, 3),
-    (4, FINISH, 3),
-];
+// The simulated run is that of the plain simulator, and this one.
+fn check_run(rt: &impl Abort, alloc: Global, given: Given, wanted: &str) -> Result<(), Fail>
+    requires { (1 ≤ given.workers) × (given.workers ≤ most_workers) }
+{
+    let trace = compare(rt, alloc, given)?;
+    assert_eq!(rt; line_of(alloc, &trace)?.as_str(), wanted);
+    Ok(())
+}
 
 // The tree's runs are along one order, which is the priority too.
 fn of_tree(tree: &System, bound: u64, workers: u32) -> Given<'_>
@@ -153,16 +72,19 @@ fn of_tree(tree: &System, bound: u64, workers: u32) -> Given<'_>
     }
 }
 
+const TIGHT: &str = "5 11 11 0a1 0s1 1f1 1a3 1s3 2f3 2a2 2s2 3f2 3a4 3a5 3s4 4f4 4s5 5f5";
+
+const WIDE: &str = "3 20 20 0a1 0a3 0s1 0s3 1f1 1f3 1a2 1a4 1a5 1s2 1s4 2f2 2f4 2s5 3f5";
+
+const ENDLESS: &str = "3 20 30 0a1 0a3 0a2 0a4 0a5 0s1 0s3 1f1 1f3 1s2 1s4 2f2 2f4 2s5 3f5";
+
 #[test]
 fn runs_of_a_tree(rt: HostRuntime) -> Result<(), Fail> {
     let alloc = rt.alloc();
     let tree = tree(alloc)?;
-    let trace = compare(&rt, alloc, of_tree(&tree, 11, 2))?;
-    assert!(rt; is_trace(&trace, (5, 11, 11), &TIGHT));
-    let trace = compare(&rt, alloc, of_tree(&tree, 22, 2))?;
-    assert!(rt; is_trace(&trace, (3, 20, 20), &WIDE));
-    let trace = compare(&rt, alloc, of_tree(&tree, u64::MAX, 2))?;
-    assert!(rt; is_trace(&trace, (3, 20, 30), &ENDLESS));
+    check_run(&rt, alloc, of_tree(&tree, 11, 2), TIGHT)?;
+    check_run(&rt, alloc, of_tree(&tree, 22, 2), WIDE)?;
+    check_run(&rt, alloc, of_tree(&tree, u64::MAX, 2), ENDLESS)?;
     assert_eq!(rt; compare(&rt, alloc, of_tree(&tree, 22, 1))?.makespan, 5);
     assert_eq!(rt; compare(&rt, alloc, of_tree(&tree, 22, 4096))?.makespan, 3);
     Ok(())
@@ -171,46 +93,32 @@ fn runs_of_a_tree(rt: HostRuntime) -> Result<(), Fail> {
 #[test]
 fn runs_of_other_systems(rt: HostRuntime) -> Result<(), Fail> {
     let alloc = rt.alloc();
-    let system = star(alloc)?;
-    let trace = compare(
-        &rt,
-        alloc,
-        Given {
-            system: &system,
-            order: &[1, 2, 3, 4],
-            bound: 6,
-            workers: 1,
-            priority: &[3, 2, 1, 4],
-        },
-    )?;
-    assert!(rt; is_trace(&trace, (4, 6, 6), &RANKED));
-    let system = arrow(alloc)?;
-    let trace = compare(
-        &rt,
-        alloc,
-        Given {
-            system: &system,
-            order: &[1, 2, 3],
-            bound: 4,
-            workers: 2,
-            priority: &[1, 2, 3],
-        },
-    )?;
-    assert!(rt; is_trace(&trace, (4, 4, 4), &IN_PLACE));
-    let system = still(alloc)?;
-    let trace = compare(
-        &rt,
-        alloc,
-        Given {
-            system: &system,
-            order: &[],
-            bound: 20,
-            workers: 1,
-            priority: &[],
-        },
-    )?;
-    assert!(rt; is_trace(&trace, (0, 20, 20), &[]));
-    Ok(())
+    let ranked = Given {
+        system: &star(alloc)?,
+        order: &[1, 2, 3, 4],
+        bound: 6,
+        workers: 1,
+        priority: &[3, 2, 1, 4],
+    };
+    let wanted = "4 6 6 0a1 0a2 0a3 0a4 0s3 1f3 1s2 2f2 2s1 3f1 3s4 4f4";
+    check_run(&rt, alloc, ranked, wanted)?;
+    let in_place = Given {
+        system: &arrow(alloc)?,
+        order: &[1, 2, 3],
+        bound: 4,
+        workers: 2,
+        priority: &[1, 2, 3],
+    };
+    let wanted = "4 4 4 0a1 0s1 1f1 1a2 1s2 2f2 2a3 2s3 4f3";
+    check_run(&rt, alloc, in_place, wanted)?;
+    let empty = Given {
+        system: &still(alloc)?,
+        order: &[],
+        bound: 20,
+        workers: 1,
+        priority: &[],
+    };
+    check_run(&rt, alloc, empty, "0 20 20")
 }
 
 fn refusal(alloc: Global, system: &System, order: &[u32], bound: u64) -> Option<CoreRefusal> {

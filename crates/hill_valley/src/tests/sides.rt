@@ -2,6 +2,8 @@
 
 use crate::tests::plain::{PlainSeg, PlainSide, are_same};
 use crate::tests::roped::RopedSide;
+use rand_core::utils::NextWord;
+use rand_pcg::Pcg32;
 use std::alloc::Global;
 use std::process::Abort;
 use std::test::Fail;
@@ -87,12 +89,9 @@ fn segments_are_put_in_at_their_places(rt: HostRuntime) -> Result<(), Fail> {
     assert_first(&rt, alloc, &mut side, 9, 4, &[4])
 }
 
-// A number below `below`, by a linear congruential generator.
-fn next(state: &mut u64, below: u64) -> u64 {
-    *state = state
-        .wrapping_mul(6364136223846793005)
-        .wrapping_add(1442695040888963407);
-    (*state >> 33) % below.max(1)
+// A number below `below`.
+fn next(dice: &mut Pcg32, below: u64) -> u64 {
+    u64::from(dice.next_word()) % below.max(1)
 }
 
 // Both sides say the same under each limit, and the steps are where the plain one gets lower.
@@ -127,17 +126,17 @@ fn compare(
 fn change(
     rt: &impl Abort,
     alloc: Global,
-    state: &mut u64,
+    dice: &mut Pcg32,
     task: u32,
     side: &mut RopedSide,
     plain: &mut PlainSide,
 ) -> Result<(), Fail> {
-    let up = next(state, 12);
-    let net = next(state, 4);
+    let up = next(dice, 12);
+    let net = next(dice, 4);
     let mut tasks = Vec::new(alloc);
     tasks.push(task)?;
     let run = PlainSeg { up, net, tasks };
-    let kind = next(state, 6);
+    let kind = next(dice, 6);
     if kind == 0 {
         let first = side.take_first(alloc)?;
         assert!(rt; are_same(&first, &plain.take_first()));
@@ -152,12 +151,12 @@ fn change(
 }
 
 // Twenty changes of a new side, and what is left of it taken out.
-fn compare_one(rt: &impl Abort, alloc: Global, state: &mut u64) -> Result<(), Fail> {
+fn compare_one(rt: &impl Abort, alloc: Global, dice: &mut Pcg32) -> Result<(), Fail> {
     let mut side = RopedSide::new(alloc);
     let mut plain = PlainSide::new(alloc);
     for task in 0..20 {
-        change(rt, alloc, state, task, &mut side, &mut plain)?;
-        compare(rt, alloc, next(state, 5), &side, &plain)?;
+        change(rt, alloc, dice, task, &mut side, &mut plain)?;
+        compare(rt, alloc, next(dice, 5), &side, &plain)?;
     }
     for _ in 0..20 {
         let first = side.take_first(alloc)?;
@@ -169,9 +168,9 @@ fn compare_one(rt: &impl Abort, alloc: Global, state: &mut u64) -> Result<(), Fa
 #[test]
 fn random_sides_are_as_the_plain_ones(rt: HostRuntime) -> Result<(), Fail> {
     let alloc = rt.alloc();
-    let mut state = 1;
+    let mut dice = Pcg32::new(1, 11);
     for _ in 0..30 {
-        compare_one(&rt, alloc, &mut state)?;
+        compare_one(&rt, alloc, &mut dice)?;
     }
     Ok(())
 }

@@ -24,7 +24,7 @@ use crate::request::{
 use crate::stop::Stop;
 use crate::words::{Given, value_of};
 use activation::laws::schedule_law;
-use activation::{Core, CoreRefusal, Event, EventKind, Trace, simulate};
+use activation::{CoreRefusal, Event, EventKind, Simulator, Trace};
 use mp_outside::Files;
 use mp_text::laws::printed_lines;
 use mp_text::{Report, Token};
@@ -208,9 +208,12 @@ fn simulation_page(
         (answer_of page).text) }
 {
     schedule_law();
-    let (system, order) = (ordered.problem.system(), ordered.order.numbers());
-    match Core::new(alloc, system, order, bound, workers) {
-        Ok(core) => trace_page(alloc, &simulate(core, priority)),
+    let order = ordered.order.numbers();
+    match ordered.problem.core(alloc, order, bound, workers) {
+        Ok(core) => {
+            let simulator = Simulator::new(alloc, core)?;
+            trace_page(alloc, &simulator.run(priority))
+        }
         Err(CoreRefusal::Order(fault)) => order_page(alloc, fault),
         Err(CoreRefusal::BoundBelow { bound, peak }) => {
             let (bound, peak) = (Token::Number(bound), Token::Number(peak));

@@ -6,6 +6,8 @@ use super::{
 };
 use crate::Status::Done;
 use mp_outside::{MemFiles, MemSink};
+use rand_core::utils::NextWord;
+use rand_pcg::Pcg32;
 use std::alloc::{AllocError, Global};
 use std::process::Abort;
 use std::str;
@@ -89,21 +91,18 @@ fn plans_of_least_peak(rt: HostRuntime) -> Result<(), Fail> {
 
 // ---- random inputs
 
-// A number below `below`, by a linear congruential generator.
-fn next(state: &mut u64, below: u64) -> u64 {
-    *state = state
-        .wrapping_mul(6364136223846793005)
-        .wrapping_add(1442695040888963407);
-    (*state >> 33) % below.max(1)
+// A number below `below`.
+fn next(dice: &mut Pcg32, below: u64) -> u64 {
+    u64::from(dice.next_word()) % below.max(1)
 }
 
 // A random tree: the parent of a node is one of the few nodes after it, or none.
-fn random_tree(alloc: Global, state: &mut u64, nodes: u64) -> Result<String, Fail> {
+fn random_tree(alloc: Global, dice: &mut Pcg32, nodes: u64) -> Result<String, Fail> {
     let mut text = format!(in alloc; "tree 1\nnodes {nodes}\n")?;
     for node in 1..=nodes {
-        let up = node.saturating_add(next(state, 12));
+        let up = node.saturating_add(next(dice, 12));
         let parent = if node < up && up <= nodes { up } else { 0 };
-        let line = format!(in alloc; "{parent} {} {} 1\n", next(state, 40), next(state, 60))?;
+        let line = format!(in alloc; "{parent} {} {} 1\n", next(dice, 40), next(dice, 60))?;
         text.push_str(&line)?;
     }
     text.push_str("end\n")?;
@@ -111,17 +110,17 @@ fn random_tree(alloc: Global, state: &mut u64, nodes: u64) -> Result<String, Fai
 }
 
 // A random workflow: so many branches of a few tasks, side by side in pairs, with a task after each pair but the last.
-fn random_workflow(alloc: Global, state: &mut u64, branches: u64) -> Result<String, Fail> {
-    let mut body = format!(in alloc; "data {}\n", next(state, 40))?;
+fn random_workflow(alloc: Global, dice: &mut Pcg32, branches: u64) -> Result<String, Fail> {
+    let mut body = format!(in alloc; "data {}\n", next(dice, 40))?;
     let mut tasks = 0u64;
     for _ in 1..branches {
-        let size = next(state, 40);
+        let size = next(dice, 40);
         let line = format!(in alloc;
             "data {}\ndata {size}\ntask {} 1\npar 2\ndata {}\ntask {} 1\n",
-            next(state, 40),
-            next(state, 60),
-            next(state, 40),
-            next(state, 60)
+            next(dice, 40),
+            next(dice, 60),
+            next(dice, 40),
+            next(dice, 60)
         )?;
         body.push_str(&line)?;
         tasks = tasks.saturating_add(2);
@@ -131,14 +130,11 @@ fn random_workflow(alloc: Global, state: &mut u64, branches: u64) -> Result<Stri
 
 #[test]
 fn plans_of_random_trees_and_workflows(rt: HostRuntime) -> Result<(), Fail> {
-    let mut state = 11;
+    let mut dice = Pcg32::new(11, 11);
     for _ in 0..20 {
         let mut files = MemFiles::new(rt.alloc())?;
-        files.put("t", random_tree(rt.alloc(), &mut state, 300)?.as_bytes())?;
-        files.put(
-            "w",
-            random_workflow(rt.alloc(), &mut state, 150)?.as_bytes(),
-        )?;
+        files.put("t", random_tree(rt.alloc(), &mut dice, 300)?.as_bytes())?;
+        files.put("w", random_workflow(rt.alloc(), &mut dice, 150)?.as_bytes())?;
         check_plan(&rt, rt.alloc(), "--tree t", &mut files, None)?;
         check_plan(&rt, rt.alloc(), "--workflow w", &mut files, None)?;
     }

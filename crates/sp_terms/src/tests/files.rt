@@ -217,3 +217,21 @@ fn a_text_that_ends_early_has_no_end(rt: HostRuntime) {
     assert_eq!(rt; lines, 13);
     assert_eq!(rt; read_workflow(alloc, WORKFLOW).err(), None);
 }
+
+#[test]
+fn refusals_in_words(rt: HostRuntime) -> Result<(), Fail> {
+    for (kind, said) in [
+        (WorkflowKind::Header, "header at line 3"),
+        (WorkflowKind::Word, "word at line 3"),
+        (WorkflowKind::Number, "number at line 3"),
+        (WorkflowKind::StackShort, "stack-short at line 3"),
+        (WorkflowKind::NotOneTerm, "not-one-term at line 3"),
+        (WorkflowKind::TaskCount, "task-count at line 3"),
+        (WorkflowKind::NoEnd, "no-end at line 3"),
+        (WorkflowKind::Share, "share at line 3"),
+    ] {
+        let refusal = Refusal::Format(Fault { line: 3, kind });
+        assert_eq!(rt; format!(in rt.alloc(); "{refusal}")?.as_str(), said);
+    }
+    Ok(())
+}

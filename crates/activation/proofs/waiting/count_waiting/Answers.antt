@@ -15,8 +15,8 @@ loop-i-init c =
       counts = λ t. rw e (number_replicate (length c.tasks.result.now) t);
     }
 
-pub raise-requires : goal.raise-requires
-raise-requires c = λ t is.
+pub add_size-requires : goal.add_size-requires
+add_size-requires c = λ t is.
     let items = c.items-items.result.now in
     let r = consumer_is_task c.args.system.now c.items-items.ensures.system items c.items-items.ensures.value c.loop-i.i no_item c.loop-i-test.true t is in
     let few = count_by-le-length (is_awaited (λ _. false) t) (take c.loop-i.i items) in

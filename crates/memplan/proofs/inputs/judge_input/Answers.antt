@@ -3,7 +3,7 @@ use Rattle.std.specs.Prelude.{codes}
 use Rattle.sp_terms.specs.WorkflowFile.{RefusesWorkflow}
 use Rattle.memplan.specs.Answer.{IsRefusedFile, IsFirstRefusal}
 use Rattle.memplan.specs.Judged.{IsStop}
-use Rattle.memplan.specs.Refusals.{workflow_word}
+use Rattle.sp_terms.specs.Kinds.{word_of as workflow_word}
 use Rattle.memplan.specs.Request.{NamedFile, workflow_file, input_files}
 use Rattle.memplan.specs.RequestViews.{input_view}
 use Rattle.memplan.specs.declared.request.Input.{Input}

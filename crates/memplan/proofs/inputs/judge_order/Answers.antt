@@ -4,7 +4,8 @@ use Rattle.ordering.specs.OrderFile.{RefusesOrder}
 use Rattle.plan_text.specs.PlanFile.{RefusesPlan}
 use Rattle.memplan.specs.Answer.{IsRefusedFile}
 use Rattle.memplan.specs.Judged.{IsStop, IsRefusedSource}
-use Rattle.memplan.specs.Refusals.{order_file_word, plan_word}
+use Rattle.ordering.specs.Kinds.{order_file_word}
+use Rattle.plan_text.specs.Kinds.{word_of as plan_word}
 use Rattle.memplan.specs.Request.{order_named, plan_named, source_file}
 use Rattle.memplan.specs.RequestViews.{source_view}
 use Rattle.memplan.specs.declared.request.OrderSource.{OrderSource}

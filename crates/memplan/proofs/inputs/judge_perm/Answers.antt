@@ -4,7 +4,7 @@ use Rattle.std.specs.Prelude.{codes}
 use Rattle.ordering.specs.PermFile.{RefusesPerm}
 use Rattle.memplan.specs.Answer.{IsRefusedFile}
 use Rattle.memplan.specs.Judged.{IsStop, IsRefusedOrder}
-use Rattle.memplan.specs.Refusals.{perm_word}
+use Rattle.ordering.specs.Kinds.{perm_word}
 use Rattle.memplan.specs.Request.{perm_file, perm_files}
 use Rattle.memplan.proofs.StepLemmas.{passed, alone_stop}
 use Rattle.memplan.proofs.inputs.judge_perm.Goals as goal

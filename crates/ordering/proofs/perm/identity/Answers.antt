@@ -1,17 +1,21 @@
-use Rattle.std.proofs.Common.{◌≡◌, ◌+◌, ℕ, List, suc, drop, ap, ◌∙◌, add-one}
-use Rattle.std.specs.List.{range_with_len}
+use Rattle.std.proofs.Common.{◌≡◌, suc, List, ℕ, ◌∷◌, ◌++◌, [], drop, refl, ap, ◌∙◌, arith}
+use Rattle.std.specs.List.{range_with_len, each_same}
+use Rattle.std.proofs.lemmas.Iterator.{items_from_collect, YieldsList-from_range}
 use Rattle.ordering.specs.Perm.{vertex_at}
-use Rattle.ordering.proofs.IdentityLemmas.{tables_identity, vertex_identity}
+use Rattle.ordering.proofs.IdentityLemmas.{range_count, tables_identity, vertex_identity}
 use Rattle.ordering.proofs.perm.identity.Goals as goal
 
-counted : (n : ℕ) (numbers : List ℕ) → numbers ≡ range_with_len 0 (n + 1) → numbers ≡ range_with_len 0 (suc n)
-counted n numbers e = e ∙ ap (range_with_len 0) (add-one n)
+numbers : (c : goal.In_ok-places) → c.push.new.self.items ≡ range_with_len 0 (suc c.args.n)
+numbers c =
+    let below = items_from_collect c.collect.result c.collect.ensures.ran (YieldsList-from_range 0 c.args.n c.args.n refl (omega arith)) in
+    c.in_ok-push.ensures.items ∙ ap (λ (xs : List ℕ). xs ++ c.args.n ∷ []) (rw c.in_ok-vertices.was at below) ∙ range_count c.args.n
 
 pub invariant_of-result : goal.invariant_of-result
-invariant_of-result c = tables_identity c.args.n c.in_ok-vertices.vertices.items c.in_ok-places.places.items c.ranges.n.fits (counted c.args.n c.in_ok-vertices.vertices.items c.in_ok-vertices.ensures) (counted c.args.n c.in_ok-places.places.items c.in_ok-places.ensures)
+invariant_of-result c =
+    tables_identity c.args.n c.push.new.self.items c.in_ok-places.places.items c.ranges.n.fits (numbers c) (each_same _ _ c.in_ok-places.ensures.cases.0 ∙ numbers c)
 
 pub returns-clause-order : goal.returns-clause-order
-returns-clause-order c = ap (drop 1) (counted c.args.n c.in_ok-vertices.vertices.items c.in_ok-vertices.ensures)
+returns-clause-order c = ap (drop 1) (numbers c)
 
 pub returns-clause-vertices : goal.returns-clause-vertices
-returns-clause-vertices c = λ k le. ap (λ (vertices : List ℕ). vertex_at (drop 1 vertices) k) (counted c.args.n c.in_ok-vertices.vertices.items c.in_ok-vertices.ensures) ∙ vertex_identity c.args.n k le
+returns-clause-vertices c = λ k le. ap (λ (vertices : List ℕ). vertex_at (drop 1 vertices) k) (numbers c) ∙ vertex_identity c.args.n k le

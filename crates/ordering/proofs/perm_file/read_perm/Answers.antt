@@ -1,7 +1,7 @@
 use Rattle.std.proofs.Common.{ap, ◌∙◌, arith}
 use Rattle.std.proofs.lemmas.Result.{err_from_is_err_and}
 use Rattle.ordering.specs.PermFile.{ReadsPerm, perm_format}
-use Rattle.ordering.specs.PermReader.{PermState}
+use Rattle.ordering.specs.Reader.{PermState}
 use Rattle.ordering.specs.PermTables.{order_in}
 use Rattle.ordering.proofs.PermFileLemmas.{perm_from_read, perm_refusal}
 use Rattle.ordering.proofs.perm_file.read_perm.Goals as goal

@@ -1,4 +1,4 @@
-use Rattle.std.proofs.Common.{true, refl, inl, inr}
+use Rattle.std.proofs.Common.{refl, inl, inr}
 use Rattle.mp_text.specs.declared.layout.Layout.TheVariants.{Commented}
 use Rattle.mp_text.specs.Ahead.{rows_of_bytes, past_of_bytes}
 use Rattle.plan_text.specs.PlanFile.{plan_format, plan_of, stated}

@@ -6,6 +6,6 @@ use Rattle.sp_terms.proofs.printing.print_positions.Given as goal
 
 abbrev pub invariant-loop-position : goal.invariant-loop-position
 invariant-loop-position l = record {
-  text : l.report ≡ l.fn.report ++ text_of_lines (map (position_line l.with_share) (take l.position-index l.positions));
+  text : l.report ≡ l.fn.report ++ text_of_lines (map (position_line l.version) (take l.position-index l.positions));
   start : IsTrue (is_line_start l.report);
 }

@@ -1,5 +1,6 @@
 use Rattle.std.proofs.Common.{arith, ap, ◌∙◌, List, length, ◌≤◌}
 use Rattle.std.specs.Prelude.{None}
+use Rattle.limits.specs.Limits.{most_tasks}
 use Rattle.sp_terms.specs.declared.position.Position.{Position}
 use Rattle.sp_terms.specs.SystemOfTerm.{task_count, tasks_of_term, items_of_term}
 use Rattle.sp_terms.specs.Values.{term_of}
@@ -9,7 +10,7 @@ use Rattle.sp_terms.proofs.system.system_of.Goals as goal
 
 pub overflow_cast-len : goal.overflow_cast-len
 overflow_cast-len c =
-    let few : length (tasks_of_term (term_of c.args.terms.now)) ≤ 1000000 = (is_system c.args.terms.now c.positions-positions.ensures.terms).few_tasks in
+    let few : length (tasks_of_term (term_of c.args.terms.now)) ≤ most_tasks = (is_system c.args.terms.now c.positions-positions.ensures.terms).few_tasks in
     let same = ap length c.in_ok-tasks.ensures in
     let as_terms = ap (λ (l : List Position). length (tasks_in l)) c.positions-positions.ensures.value in
     let as_tasks = ap length (tasks-of c.args.terms.now c.positions-positions.ensures.terms) in

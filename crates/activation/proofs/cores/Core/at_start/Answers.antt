@@ -1,4 +1,4 @@
-use Rattle.std.proofs.Common.{◌≡◌, ℕ, ◌≤◌, List, length, drop, arith, ap, refl, rules, ◌∙◌}
+use Rattle.std.proofs.Common.{◌≡◌, ℕ, ◌≤◌, List, length, drop, arith, ap, refl, rules}
 use Rattle.std.specs.Prelude.{replicate, slice_index}
 use Rattle.std.proofs.lemmas.List.{take_at}
 use Rattle.activation.specs.declared.events.Phase.TheVariants.{Idle}
@@ -42,4 +42,4 @@ invariant_of-result c =
     })
     c.in_ok-waiting.waiting.items c.in_ok-waiting.ensures.len c.in_ok-waiting.ensures.counts c.start_memory-memory.result c.start_memory-memory.ensures in
     rw (take_at places (drop (length places) c.in_ok-places.places.items) c.in_ok-places.places.len len, c.in_ok-running.ensures, count, phases, c.in_ok-order.ensures.items, c.in_ok-system.ensures)
-    (tables, λ r e. let same : (c.in_ok-room.room, c.in_ok-events.events) ≡ r = cc in rw (← same) (rw count at c.in_ok-room.ensures, search rules, omega (arith, count, c.in_ok-events.ensures)))
+    tables

@@ -13,45 +13,45 @@ use Rattle.activation.proofs.cores.Core.finish.Goals as goal
 pub overflow_sub-at : goal.overflow_sub-at
 overflow_sub-at c =
     let h = rw (← c.self.view_is) at c.may_finish.ensures.0 c.if-not-may_finish.false in
-    (finish_is_task c.self.invariant.0 c.args.task h).0
+    (finish_is_task c.self.invariant c.args.task h).0
 
 pub index-frees-requires : goal.index-frees-requires
 index-frees-requires c =
     let h = rw (← c.self.view_is) at c.may_finish.ensures.0 c.if-not-may_finish.false in
-    omega (arith, finish_is_task c.self.invariant.0 c.args.task h, c.self.invariant.0.fixed.frees_length)
+    omega (arith, finish_is_task c.self.invariant c.args.task h, c.self.invariant.fixed.frees_length)
 
 pub index_mut-requires : goal.index_mut-requires
 index_mut-requires c =
     let h = rw (← c.self.view_is) at c.may_finish.ensures.0 c.if-not-may_finish.false in
-    omega (arith, finish_is_task c.self.invariant.0 c.args.task h, c.self.invariant.0.safe.phases)
+    omega (arith, finish_is_task c.self.invariant c.args.task h, c.self.invariant.safe.phases)
 
 pub overflow_sub-self : goal.overflow_sub-self
 overflow_sub-self c =
-    let a = c.self.invariant.0 in
+    let a = c.self.invariant in
     let h = rw (← c.self.view_is) at c.may_finish.ensures.0 c.if-not-may_finish.false in
     (finish_frees a h c.index-frees.ensures (c.event_law.ensures.change _ a.setting _ a.safe Finish c.args.task h)).0
 
 pub overflow_sub-self-2 : goal.overflow_sub-self-2
 overflow_sub-self-2 c =
-    let a = c.self.invariant.0 in
+    let a = c.self.invariant in
     let h = rw (← c.self.view_is) at c.may_finish.ensures.0 c.if-not-may_finish.false in
     (finish_frees a h c.index-frees.ensures (c.event_law.ensures.change _ a.setting _ a.safe Finish c.args.task h)).1
 
 pub row-requires : goal.row-requires
 row-requires c =
     let h = rw (← c.self.view_is) at c.may_finish.ensures.0 c.if-not-may_finish.false in
-    omega (arith, finish_is_task c.self.invariant.0 c.args.task h, c.self.invariant.0.fixed.outputs_are.long)
+    omega (arith, finish_is_task c.self.invariant c.args.task h, c.self.invariant.fixed.outputs_are.long)
 
 pub release-requires-clause-places : goal.release-requires-clause-places
 release-requires-clause-places c =
     let items = c.self.inside.system.items in
     let h = rw (← c.self.view_is) at c.may_finish.ensures.0 c.if-not-may_finish.false in
-    let row = c.row.ensures ∙ c.self.invariant.0.fixed.outputs_are.rows_are c.args.task (finish_is_task c.self.invariant.0 c.args.task h) in
+    let row = c.row.ensures ∙ c.self.invariant.fixed.outputs_are.rows_are c.args.task (finish_is_task c.self.invariant c.args.task h) in
     rw row (λ k d w. let p = c.numbers_law.ensures.each (map producer_of items) 0 c.args.task k d w in omega (arith, p.1, length-map items producer_of))
 
 pub release-requires-clause-enough : goal.release-requires-clause-enough
 release-requires-clause-enough c =
-    let a = c.self.invariant.0 in
+    let a = c.self.invariant in
     let items = c.self.inside.system.items in
     let h = rw (← c.self.view_is) at c.may_finish.ensures.0 c.if-not-may_finish.false in
     let is = finish_is_task a c.args.task h in
@@ -62,21 +62,19 @@ release-requires-clause-enough c =
 pub invariant_of-self : goal.invariant_of-self
 invariant_of-self c =
     let f = c.self.inside in
-    let a = c.self.invariant.0 in
+    let a = c.self.invariant in
     let h = rw (← c.self.view_is) at c.may_finish.ensures.0 c.if-not-may_finish.false in
     let is = finish_is_task a c.args.task h in
     let now = c.release.new.waiting in
     let len : length now ≡ f.waiting.len = omega (arith, c.release.auto.waiting, c.deref_mut.ensures.len) in
     let released = rw (c.row.ensures ∙ a.fixed.outputs_are.rows_are c.args.task is, c.deref_mut.ensures.value) at c.release.ensures in
     let counts : (u : ℕ) → task_entry now u + count_by (is_edge c.args.task u) f.system.items ≡ task_entry f.waiting.items u = λ u. omega (arith, released u, consumed_row f.system.items c.args.task u is.0) in
-    rw (take_at now (drop (length now) f.waiting.items) f.waiting.len len) (
-      finished_tables a h c.index-frees.ensures (c.event_law.ensures.change _ a.setting _ a.safe Finish c.args.task h) (c.event_law.ensures.kept _ a.setting _ a.safe Finish c.args.task h) c.remove.new.self
-          c.remove.ensures.members c.remove.ensures.shorter c.remove.ensures.room c.remove.ensures.count now
-          (omega (arith, len, c.deref_mut.ensures.len, ap length c.deref_mut.ensures.value)) counts,
-      c.self.invariant.1,
-    )
+    rw (take_at now (drop (length now) f.waiting.items) f.waiting.len len)
+    (finished_tables a h c.index-frees.ensures (c.event_law.ensures.change _ a.setting _ a.safe Finish c.args.task h) (c.event_law.ensures.kept _ a.setting _ a.safe Finish c.args.task h) c.remove.new.self
+    c.remove.ensures.members c.remove.ensures.shorter c.remove.ensures.room c.remove.ensures.count now
+    (omega (arith, len, c.deref_mut.ensures.len, ap length c.deref_mut.ensures.value)) counts)
 
 pub returns-clause-next : goal.returns-clause-next
 returns-clause-next c =
     let h = rw (← c.self.view_is) at c.may_finish.ensures.0 c.if-not-may_finish.false in
-    rw (← c.self.view_is, phase_written c.self.inside.phases.items c.args.task Done (finish_is_task c.self.invariant.0 c.args.task h).0)
+    rw (← c.self.view_is, phase_written c.self.inside.phases.items c.args.task Done (finish_is_task c.self.invariant c.args.task h).0)

@@ -9,9 +9,9 @@ returns-else-has_room c =
     rw (← c.self.view_is) (
       λ z. absurd (true≢false (sym z ∙ c.if-has_room.false)),
       λ h.
-          let is = start_is_task c.self.invariant.0 c.args.task h in
+          let is = start_is_task c.self.invariant c.args.task h in
           elim c.if-is_number.branch [
-            | then-is_number w ↦ w.value-is ∙ w.has_room.ensures.1 (start_room c.self.invariant.0 c.args.task h)
+            | then-is_number w ↦ w.value-is ∙ w.has_room.ensures.1 (start_room c.self.invariant c.args.task h)
             | else-is_number w ↦ absurd (true≢false (sym (c.is_number.ensures.1 (is.0, omega (arith, is.1, ap length c.tasks.ensures.value))) ∙ w.if-is_number.false))
           ],
     )

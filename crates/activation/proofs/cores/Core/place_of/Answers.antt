@@ -5,9 +5,9 @@ use Rattle.activation.proofs.cores.Core.place_of.Goals as goal
 pub returns-clause-within : goal.returns-clause-within
 returns-clause-within c =
     let is : IsTask c.self.inside.system c.args.task = rw (← c.self.view_is) at c.requires in
-    rw (← c.self.view_is) (place_found c.self.invariant.0 c.args.task c.index.result.now is c.index.ensures).0
+    rw (← c.self.view_is) (place_found c.self.invariant c.args.task c.index.result.now is c.index.ensures).0
 
 pub returns-clause-there : goal.returns-clause-there
 returns-clause-there c =
     let is : IsTask c.self.inside.system c.args.task = rw (← c.self.view_is) at c.requires in
-    rw (← c.self.view_is) (place_found c.self.invariant.0 c.args.task c.index.result.now is c.index.ensures).1
+    rw (← c.self.view_is) (place_found c.self.invariant c.args.task c.index.result.now is c.index.ensures).1

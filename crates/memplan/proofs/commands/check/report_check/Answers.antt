@@ -3,7 +3,7 @@ use Rattle.std.specs.Prelude.{codes}
 use Rattle.plan_text.specs.PlanFile.{RefusesPlan}
 use Rattle.memplan.specs.Answer.{IsReport, IsFirstRefusal, IsRefusedFile}
 use Rattle.memplan.specs.Pages.{answer_of}
-use Rattle.memplan.specs.Refusals.{plan_word}
+use Rattle.plan_text.specs.Kinds.{word_of as plan_word}
 use Rattle.memplan.specs.Request.{NamedFile, plan_file, check, input_files}
 use Rattle.memplan.specs.RequestViews.{input_view}
 use Rattle.memplan.specs.Sound.{IsSound}

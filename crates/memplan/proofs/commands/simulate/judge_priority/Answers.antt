@@ -4,7 +4,7 @@ use Rattle.ordering.specs.Perm.{IsPerm}
 use Rattle.ordering.specs.PermFile.{RefusesPerm}
 use Rattle.memplan.specs.Answer.{IsRefusedFile}
 use Rattle.memplan.specs.Judged.{IsStop, IsRefusedRanking}
-use Rattle.memplan.specs.Refusals.{perm_word}
+use Rattle.ordering.specs.Kinds.{perm_word}
 use Rattle.memplan.specs.Request.{priority_file, priority_files}
 use Rattle.memplan.proofs.StepLemmas.{passed, alone_stop}
 use Rattle.memplan.proofs.commands.simulate.judge_priority.Goals as goal

@@ -2,7 +2,6 @@ use Rattle.std.proofs.Common.{◌≡◌, ◌∙◌, ℕ, List, ap, subst}
 use Rattle.std.proofs.lemmas.Result.{IfOk-weaker}
 use Rattle.activation.specs.Machine.{Setting}
 use Rattle.least_peak.specs.Problem.{system_of}
-use Rattle.mp_system.specs.System.{TaskSystem}
 use Rattle.mp_text.specs.Report.{text_of_lines}
 use Rattle.memplan.specs.Answer.{Answer}
 use Rattle.memplan.specs.Pages.{answer_of}
@@ -16,15 +15,14 @@ use Rattle.memplan.proofs.commands.simulate.simulation_page.Goals as goal
 pub returns-in-Ok-clause-run : goal.returns-in-Ok-clause-run
 returns-in-Ok-clause-run c =
     let core = c.in-Ok.ensures in
-    let trace = c.simulate.result in
-    let run = c.simulate.ensures in
+    let trace = c.run.result in
+    let run = rw c.in_ok-simulator.ensures at c.run.ensures in
     let laws : Laws = record { legal = c.schedule_law.ensures.legal; within = c.schedule_law.ensures.within } in
-    let same : c.in-Ok.core.setting ≡ record { system = c.system-system.result.now; order = c.numbers-order.result.now; bound = c.args.bound; workers = c.args.workers } = core.setting in
+    let same : c.in-Ok.core.setting ≡ record { system = system_of c.args.ordered.now.problem; order = c.numbers-order.result.now; bound = c.args.bound; workers = c.args.workers } = core.setting in
     let text = λ (page : Page). answer_of page ≡ record { status = Done; text = text_of_lines (report_lines trace.makespan trace.used trace.booked trace.events.items) } in
     IfOk-weaker c.trace_page.result text _
     (λ page is done. subst (λ (setting : Setting). IsRun setting page.report)
-    (same ∙ ap (λ (system : TaskSystem). record { system = system; order = c.numbers-order.result.now; bound = c.args.bound; workers = c.args.workers }) c.system-system.ensures
-    ∙ ap (λ (order : List ℕ). record { system = system_of c.args.ordered.now.problem; order = order; bound = c.args.bound; workers = c.args.workers }) c.numbers-order.ensures)
+    (same ∙ ap (λ (order : List ℕ). record { system = system_of c.args.ordered.now.problem; order = order; bound = c.args.bound; workers = c.args.workers }) c.numbers-order.ensures)
     (is_run c.in-Ok.core.setting trace.events.items trace.makespan trace.used trace.booked run.makespan run.used run.booked laws core.within
     c.args.priority.now run.schedule run.each_once page.report (ap (λ (a : Answer). a.text) is)))
     c.trace_page.ensures
