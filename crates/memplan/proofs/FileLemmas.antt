@@ -5,7 +5,7 @@ use Rattle.mp_text.specs.declared.refusals.Refusal.{Refusal}
 use Rattle.mp_text.specs.declared.refusals.Fault.{Fault}
 use Rattle.limits.specs.declared.name.LimitName.{LimitName}
 use Rattle.mp_text.specs.declared.refusals.Refusal.TheVariants.{Format, Limit, NoMemory}
-use Rattle.memplan.specs.Answer.{Answer, IsRefusedFile, IsWithinBytes, limit_refused}
+use Rattle.memplan.specs.Files.{Answer, IsRefusedFile, IsWithinBytes, limit_refused}
 use Rattle.memplan.specs.Judged.{IsRefusalOf, IsStopFor, IsStopAt}
 use Rattle.memplan.specs.Pages.{answer_of}
 use Rattle.memplan.specs.declared.stop.Stop.{Stop}

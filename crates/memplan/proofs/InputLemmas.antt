@@ -9,7 +9,7 @@ use Rattle.mp_system.specs.System.{TaskSystem}
 use Rattle.sp_terms.specs.declared.position.Position.{Position}
 use Rattle.sp_terms.specs.Values.{term_of}
 use Rattle.tree_input.specs.declared.node.Node.{Node}
-use Rattle.memplan.specs.Answer.{Answer, IsAccepted, IsPerm, IsMatrix, IsOrderOf, IsOrderFrom, IsMatrixTree, IsTreeOf, IsSystemOf, IsSystemWithTerm, IsRefused, IsFirstRefusal, AreAccepted}
+use Rattle.memplan.specs.Files.{Answer, IsAccepted, IsPerm, IsMatrix, IsOrderOf, IsOrderFrom, IsMatrixTree, IsTreeOf, IsSystemOf, IsSystemWithTerm, IsRefused, IsFirstRefusal, AreAccepted}
 use Rattle.memplan.specs.Clauses.{AreTold}
 use Rattle.memplan.specs.Judged.{IsRefusedOrder, IsProblemOf, IsOrderRead, IsOrderedOf, IsRefusedSource, numbers_of}
 use Rattle.memplan.specs.declared.inputs.Order.{Order}

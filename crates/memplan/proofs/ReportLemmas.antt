@@ -13,10 +13,11 @@ use Rattle.claim_check.specs.declared.verdict.Verdict.{Verdict}
 use Rattle.claim_check.specs.declared.verdict.Verdict.TheVariants as verdicts
 use Rattle.claim_check.specs.declared.verdict.Verdict.TheVariants.{Yes}
 use Rattle.memplan.specs.declared.status.Status.TheVariants as status
-use Rattle.memplan.specs.Answer.{Answer, IsPlanFile, IsReport, IsPlanOf, yes_line, verdict_answer, plan_answer}
-use Rattle.memplan.specs.Certified.{IsCertified}
+use Rattle.memplan.specs.Answer.{IsReport}
+use Rattle.memplan.specs.Check.{yes_line, verdict_answer, IsCertified}
+use Rattle.memplan.specs.Files.{Answer, IsPlanFile}
+use Rattle.memplan.specs.Plan.{IsPlanOf, plan_answer, IsBestPlan}
 use Rattle.memplan.specs.Judged.{IsProblemOf}
-use Rattle.memplan.specs.Planned.{IsBestPlan}
 use Rattle.memplan.specs.Request.{Input, check, planning}
 use Rattle.memplan.specs.Sound.{IsSound}
 use Rattle.memplan.proofs.InputLemmas.{problem_has_system, problem_has_term}

@@ -1,7 +1,9 @@
 -- A simulation over the texts of the input, of the order and of the priority, and what a printed trace says of its run.
 use Rattle.std.proofs.Common.{◌≡◌, ◌∙◌, ℕ, ◌≤◌, List, [], ◌∷◌, ◌++◌, Option, Some, None, length, refl, sym, ap, subst, inl, inr, arith, append_assoc}
 use Rattle.least_peak.specs.Problem.{system_of}
-use Rattle.memplan.specs.Answer.{Answer, IsFirstRefusal, AreAccepted, IsOwnPriority, IsPriorityFrom, IsReport, IsSimulation, setting_of}
+use Rattle.memplan.specs.Answer.{IsReport}
+use Rattle.memplan.specs.Files.{Answer, IsFirstRefusal, AreAccepted}
+use Rattle.memplan.specs.Simulate.{IsOwnPriority, IsPriorityFrom, IsSimulation, setting_of, priority_or, simulation_answer, IsRun, report_lines}
 use Rattle.memplan.specs.Clauses.{AreTold}
 use Rattle.memplan.specs.Judged.{IsStop, IsOrderedOf, IsPriorityOf, IsRefusedRanking, numbers_of, own_priority, priority_beside}
 use Rattle.memplan.specs.Request.{Input, OrderSource, Simulation, NamedFile, simulate, input_files, source_file, priority_files, files_of}
@@ -15,14 +17,10 @@ use Rattle.memplan.specs.declared.stop.Stop.{Stop}
 use Rattle.memplan.proofs.StepLemmas.{over_both}
 use Rattle.memplan.proofs.InputLemmas.{problem_has_system}
 use Rattle.activation.specs.Machine.{Setting, IsSetting, start_state}
-use Rattle.activation.specs.Runs.{AreLegal, state_after_all, IsWithinBound, EachOnce}
+use Rattle.activation.specs.Runs.{AreLegal, StaysWithinBound, EachOnce}
 use Rattle.activation.specs.Schedule.{HoldsEach}
-use Rattle.activation.specs.Schedule.{IsSchedule, first_moment, last_time, most_used, most_booked}
+use Rattle.activation.specs.Schedule.{last_time, most_used, most_booked}
 use Rattle.activation.specs.declared.events.Event.{Event}
-use Rattle.memplan.specs.Answer.{priority_or}
-use Rattle.memplan.specs.Answer.{simulation_answer}
-use Rattle.memplan.specs.Simulated.{IsRun}
-use Rattle.memplan.specs.Traces.{report_lines}
 use Rattle.mp_system.specs.System.{TaskSystem}
 use Rattle.mp_system.specs.Traversal.{IsTraversal}
 use Rattle.mp_text.specs.Report.{text_of_lines}
@@ -49,28 +47,18 @@ of_own system order (v ∷ vs) traversal long (inr ranks) = of_ranks system (v �
 
 -- ---- a printed trace
 
--- the laws of schedules
-pub record Laws : Type 0 where
-  pub legal : (c : Setting) (priority : List ℕ) (events : List Event) → IsSchedule c priority (first_moment c) events → AreLegal c (start_state c) events
-  pub within : (c : Setting) → IsSetting c → (priority : List ℕ) (before rest : List Event) → IsSchedule c priority (first_moment c) (before ++ rest)
-      → IsWithinBound c (state_after_all (start_state c) before)
-
-module _ (c : Setting) (events : List Event) (makespan used booked : ℕ) (is_makespan : makespan ≡ last_time 0 events)
-    (is_used : used ≡ most_used c (start_state c) events) (is_booked : booked ≡ most_booked c (start_state c) events) where
-  pub trace-text : text_of_lines (report_lines makespan used booked events) ≡ (simulation_answer c events).text
-  trace-text = rw (is_makespan, is_used, is_booked)
-
-  pub is_run : Laws → IsSetting c → (priority : List ℕ) → IsSchedule c priority (first_moment c) events → EachOnce c events
-      → (printed : List ℕ) → printed ≡ text_of_lines (report_lines makespan used booked events) → IsRun c printed
-  is_run laws setting priority schedule each_once printed is = record {
-    traversal = setting.traversal;
-    peak_within = setting.bound;
-    events = events;
-    legal = laws.legal c priority events schedule;
-    each_once = each_once;
-    within = λ before rest split. laws.within c setting priority before rest (subst (IsSchedule c priority (first_moment c)) split schedule);
-    printed_is = is ∙ trace-text;
-  }
+pub is_run : (c : Setting) (events : List Event) (makespan used booked : ℕ) → makespan ≡ last_time 0 events → used ≡ most_used c (start_state c) events
+    → booked ≡ most_booked c (start_state c) events → IsSetting c → AreLegal c (start_state c) events → EachOnce c events → StaysWithinBound c (start_state c) events
+    → (printed : List ℕ) → printed ≡ text_of_lines (report_lines makespan used booked events) → IsRun c printed
+is_run c events makespan used booked is_makespan is_used is_booked setting legal each_once within printed is = record {
+  traversal = setting.traversal;
+  peak_within = setting.bound;
+  events = events;
+  legal = legal;
+  each_once = each_once;
+  within = within;
+  printed_is = is ∙ rw (is_makespan, is_used, is_booked);
+}
 
 -- ---- the priority
 

@@ -4,7 +4,7 @@ use Rattle.std.proofs.lemmas.List.{append-nil}
 use Rattle.std.proofs.lemmas.Result.{err_from_is_err_and, MatchResult-weaker}
 use Rattle.std.specs.Prelude.{IsErrAnd}
 use Rattle.mp_outside.specs.Outside.{Rose}
-use Rattle.memplan.specs.Answer.{Answer, IsAccepted, IsFirstRefusal, AreAccepted}
+use Rattle.memplan.specs.Files.{Answer, IsAccepted, IsFirstRefusal, AreAccepted}
 use Rattle.memplan.specs.Clauses.{AreTold, HasFailed, AreQuiet}
 use Rattle.memplan.specs.Judged.{IsStopAt, IsStop, IsJudged, AreJudged}
 use Rattle.memplan.specs.Pages.{answer_of}

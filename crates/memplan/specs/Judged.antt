@@ -11,7 +11,9 @@ use Rattle.ordering.specs.Perm.{IsPerm as IsPermutation}
 use Rattle.ordering.specs.PermFile.{RefusesPerm}
 use Rattle.sp_terms.specs.Postfix.{Denotes}
 use Rattle.sp_terms.specs.Values.{term_of}
-use Rattle.memplan.specs.Answer.{Answer, IsRefused, IsRefusedAs, IsRefusedFile, IsFirstRefusal, IsOrderFrom, IsOwnPriority, IsPerm, IsReport, IsTreeOf, IsWorkflow, AreAccepted, priority_or}
+use Rattle.memplan.specs.Answer.{IsReport}
+use Rattle.memplan.specs.Files.{Answer, IsRefused, IsRefusedAs, IsRefusedFile, IsFirstRefusal, IsOrderFrom, IsPerm, IsTreeOf, IsWorkflow, AreAccepted}
+use Rattle.memplan.specs.Simulate.{IsOwnPriority, priority_or}
 use Rattle.memplan.specs.Clauses.{AreTold, HasFailed}
 use Rattle.memplan.specs.Pages.{answer_of}
 use Rattle.ordering.specs.Kinds.{perm_word}
@@ -63,7 +65,8 @@ rank_word Tasks = codes "priority"
 -- ---- files in turn
 
 -- the page of a refusal, or the count of one of them rose
-abbrev pub IsStop : (List ℕ → Option (List ℕ)) → (List ℕ → ℕ) → (List ℕ → ℕ) → List NamedFile → (List (List ℕ) → Answer → Type 0) → Stop → Type 0
+abbrev pub IsStop : (List ℕ → Option (List ℕ)) → (List ℕ → ℕ) → (List ℕ → ℕ) → List NamedFile
+    → (List (List ℕ) → Answer → Type 0) → Stop → Type 0
 IsStop told before after files refuses (stops.Refused page) =
     (texts : List (List ℕ)) → AreTold told files texts → refuses texts (answer_of page)
 IsStop told before after files refuses stops.ReadFault = HasFailed told before after files
@@ -73,7 +76,8 @@ IsStop told before after files refuses stops.NoMemory = Unit {0}
 abbrev pub AreJudged : {A : Type 0} → (List ℕ → Option (List ℕ)) → (List ℕ → ℕ) → (List ℕ → ℕ) → List NamedFile
     → (List (List ℕ) → A → Type 0) → (List (List ℕ) → Answer → Type 0) → Result A Stop → Type 0
 AreJudged told before after files takes refuses result =
-    MatchResult result (λ value. (texts : List (List ℕ)) → AreTold told files texts → takes texts value) (IsStop told before after files refuses)
+    MatchResult result (λ value. (texts : List (List ℕ)) → AreTold told files texts → takes texts value)
+    (IsStop told before after files refuses)
 
 -- a permutation file of n vertices is refused
 abbrev pub IsRefusedOrder : ℕ → List (List ℕ) → Answer → Type 0
@@ -83,7 +87,8 @@ IsRefusedOrder n (text ∷ texts) answer = IsRefusedFile (codes "perm") perm_wor
 -- what an input is read as
 abbrev pub IsProblemOf : Input → List (List ℕ) → Origin → Type 0
 IsProblemOf (tree_input input) texts (origins.Tree nodes) = IsTreeOf input texts nodes
-IsProblemOf (workflow_named name) (text ∷ []) (origins.Workflow positions) = IsWorkflow text positions × Denotes positions (term_of positions)
+IsProblemOf (workflow_named name) (text ∷ []) (origins.Workflow positions) =
+    IsWorkflow text positions × Denotes positions (term_of positions)
 IsProblemOf input texts origin = ⊥
 
 -- the tasks of an order that was read
@@ -98,7 +103,8 @@ own_priority (orders.Planned plan) = priority_or plan.order plan.priority
 
 -- the order that a source gives, and the priority that comes with it
 abbrev pub IsOrderRead : OrderSource → List (List ℕ) → Order → Type 0
-IsOrderRead source (text ∷ []) order = IsOrderFrom source text (numbers_of order) × IsOwnPriority source text (numbers_of order) (own_priority order)
+IsOrderRead source (text ∷ []) order =
+    IsOrderFrom source text (numbers_of order) × IsOwnPriority source text (numbers_of order) (own_priority order)
 IsOrderRead source texts order = ⊥
 
 -- the file of a source is refused, after any others
@@ -143,5 +149,6 @@ priority_beside order (priorities.Given numbers) = numbers.items
 -- the page of a report, or why there is none
 abbrev pub IsReported : (List ℕ → Option (List ℕ)) → (List ℕ → ℕ) → (List ℕ → ℕ) → Request → Result Page Stop → Type 0
 IsReported told before after request result =
-    AreJudged told before after (files_of request) (λ texts page. IsReport request texts (answer_of page) × IsSound request texts (answer_of page))
+    AreJudged told before after (files_of request)
+    (λ texts page. IsReport request texts (answer_of page) × IsSound request texts (answer_of page))
     (IsFirstRefusal (files_of request) []) result

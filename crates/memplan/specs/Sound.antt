@@ -2,11 +2,11 @@
 -- What a report says beside being an answer.
 use Rattle.std.specs.Prelude.{◌≡◌, ℕ, List}
 use Rattle.memplan.specs.declared.status.Status.TheVariants.{Done}
-use Rattle.memplan.specs.Answer.{Answer}
-use Rattle.memplan.specs.Certified.{IsCertified}
-use Rattle.memplan.specs.Planned.{IsBestPlan}
+use Rattle.memplan.specs.Check.{IsCertified}
+use Rattle.memplan.specs.Files.{Answer}
+use Rattle.memplan.specs.Plan.{IsBestPlan}
+use Rattle.memplan.specs.Simulate.{IsSimulated}
 use Rattle.memplan.specs.Request.{Request, replay, tree, post, check, planning, simulate}
-use Rattle.memplan.specs.Simulated.{IsSimulated}
 
 -- a yes certifies, a plan is best, and a run was simulated
 abbrev pub IsSound : Request → List (List ℕ) → Answer → Type 0

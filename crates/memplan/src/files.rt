@@ -9,7 +9,7 @@ ghost use Rattle.ordering.specs.PermFile.{ReadsPerm, RefusesPerm};
 ghost use Rattle.plan_text.specs.PlanFile.{ReadsPlan, RefusesPlan};
 ghost use Rattle.sp_terms.specs.WorkflowFile.{ReadsWorkflow, RefusesWorkflow};
 ghost use Rattle.tree_input.specs.TreeFile.{ReadsTree, RefusesTree};
-ghost use Rattle.memplan.specs.Answer.{IsRefusedFile, IsWithinBytes, limit_refused};
+ghost use Rattle.memplan.specs.Files.{IsRefusedFile, IsWithinBytes, limit_refused};
 ghost use Rattle.memplan.specs.Judged.{IsStopAt, IsStopFor, IsJudged, IsRefusalOf, rank_word};
 
 use crate::page::{format_page, limit_page};

@@ -5,7 +5,8 @@ ghost use Rattle.activation.specs.Schedule.{HoldsEach};
 ghost use Rattle.mp_system.specs.System.{TaskSystem};
 ghost use Rattle.mp_system.specs.Traversal.{IsTraversal};
 ghost use Rattle.plan_text.specs.Plan.{IsPlan};
-ghost use Rattle.memplan.specs.Answer.{IsOrderOf, IsMatrixTree, IsTreeOf, IsFirstRefusal, priority_or};
+ghost use Rattle.memplan.specs.Files.{IsOrderOf, IsMatrixTree, IsTreeOf, IsFirstRefusal};
+ghost use Rattle.memplan.specs.Simulate.{priority_or};
 ghost use Rattle.memplan.specs.Judged.{AreJudged, IsRefusedOrder, IsProblemOf, IsOrderedOf, IsOrderRead, IsRefusedSource, numbers_of, own_priority};
 ghost use Rattle.memplan.specs.Request.{matrix_files, perm_files, tree_input_files, input_files, source_file};
 ghost use Rattle.memplan.specs.RequestViews.{matrix_view, tree_input_view, input_view, source_view};
@@ -61,8 +62,8 @@ pub fn judge_matrix<F: Files>(
     files: &mut F,
     matrix: Matrix<'_>,
 ) -> Result<Tree, Stop>
-    ensures judged { AreJudged (F.bytes_of files.old) (F.faults_of files.old) (F.faults_of files.new) (matrix_files (matrix_view matrix.entry))
-        (IsMatrixTree (matrix_view matrix.entry)) (IsFirstRefusal (matrix_files (matrix_view matrix.entry)) []) result }
+    ensures judged { AreJudged (F.bytes_of files.old) (F.faults_of files.old) (F.faults_of files.new)
+        (matrix_files (matrix_view matrix.entry)) (IsMatrixTree (matrix_view matrix.entry)) (IsFirstRefusal (matrix_files (matrix_view matrix.entry)) []) result }
     ensures same { (other : List ℕ) → F.bytes_of files.new other ≡ F.bytes_of files.old other }
     ensures later { (other : List ℕ) → F.faults_of files.old other ≤ F.faults_of files.new other }
 {
@@ -164,8 +165,8 @@ fn judge_order<F: Files>(
     files: &mut F,
     source: OrderSource<'_>,
 ) -> Result<Order, Stop>
-    ensures judged { AreJudged (F.bytes_of files.old) (F.faults_of files.old) (F.faults_of files.new) (source_file (source_view source.entry) ∷ [])
-        (IsOrderRead (source_view source.entry)) (IsRefusedSource (source_view source.entry)) result }
+    ensures judged { AreJudged (F.bytes_of files.old) (F.faults_of files.old) (F.faults_of files.new)
+        (source_file (source_view source.entry) ∷ []) (IsOrderRead (source_view source.entry)) (IsRefusedSource (source_view source.entry)) result }
     ensures same { (other : List ℕ) → F.bytes_of files.new other ≡ F.bytes_of files.old other }
     ensures later { (other : List ℕ) → F.faults_of files.old other ≤ F.faults_of files.new other }
 {

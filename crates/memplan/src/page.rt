@@ -4,7 +4,7 @@ ghost use Rattle.std.specs.Prelude.{◌≡◌, ◌++◌, ◌∷◌, [], map, cod
 ghost use Rattle.std.specs.List.{list_all};
 ghost use Rattle.limits.specs.Limits.{word_of};
 ghost use Rattle.mp_text.specs.Report.{is_token, is_line_start, is_printable, line_text, text_of_lines, token_text};
-ghost use Rattle.memplan.specs.Answer.{format_refused, limit_refused, order_refused};
+ghost use Rattle.memplan.specs.Files.{format_refused, limit_refused, order_refused};
 ghost use Rattle.memplan.specs.Pages.{answer_of, status_of};
 
 use limits::LimitName;

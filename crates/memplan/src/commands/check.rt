@@ -1,7 +1,7 @@
 //! `check`: whether a plan is accepted for an input.
 
 ghost use Rattle.std.specs.Prelude.{◌≡◌, ◌≤◌, ◌∷◌, [], ◌++◌, ℕ, List, IfOk, IfSome, option_map};
-ghost use Rattle.memplan.specs.Answer.{verdict_answer};
+ghost use Rattle.memplan.specs.Check.{verdict_answer};
 ghost use Rattle.memplan.specs.Judged.{IsReported};
 ghost use Rattle.memplan.specs.GivenViews.{given_views};
 ghost use Rattle.memplan.specs.Pages.{answer_of};

@@ -1,7 +1,7 @@
 //! `plan`: a traversal of least peak, with its certificate.
 
 ghost use Rattle.std.specs.Prelude.{◌≡◌, ◌≤◌, ℕ, List, IfOk, IfSome, option_map};
-ghost use Rattle.memplan.specs.Answer.{plan_answer};
+ghost use Rattle.memplan.specs.Plan.{plan_answer};
 ghost use Rattle.memplan.specs.Judged.{IsReported};
 ghost use Rattle.memplan.specs.GivenViews.{given_views};
 ghost use Rattle.memplan.specs.Pages.{answer_of};
@@ -42,7 +42,8 @@ fn plan_page(alloc: Global, plan: &PlanFile) -> Result<Page, AllocError>
 
 /// The plan of the input, as a file.
 pub fn report_plan<F: Files>(alloc: Global, files: &mut F, input: Input<'_>) -> Result<Page, Stop>
-    ensures told { IsReported (F.bytes_of files.old) (F.faults_of files.old) (F.faults_of files.new) (planning (input_view input.entry)) result }
+    ensures told { IsReported (F.bytes_of files.old) (F.faults_of files.old) (F.faults_of files.new)
+        (planning (input_view input.entry)) result }
     ensures same { (other : List ℕ) → F.bytes_of files.new other ≡ F.bytes_of files.old other }
     ensures later { (other : List ℕ) → F.faults_of files.old other ≤ F.faults_of files.new other }
 {

@@ -1,7 +1,7 @@
 //! `post`: the best postorder of a tree, and its peak.
 
 ghost use Rattle.std.specs.Prelude.{◌≡◌, ◌≤◌, ℕ, List, IfOk, IfSome, option_map};
-ghost use Rattle.memplan.specs.Answer.{IsPost, post_answer};
+ghost use Rattle.memplan.specs.Post.{IsPost, post_answer};
 ghost use Rattle.memplan.specs.Judged.{IsReported};
 ghost use Rattle.memplan.specs.GivenViews.{given_views};
 ghost use Rattle.memplan.specs.Pages.{answer_of};
@@ -59,7 +59,8 @@ pub fn report_post<F: Files>(
     files: &mut F,
     input: TreeInput<'_>,
 ) -> Result<Page, Stop>
-    ensures told { IsReported (F.bytes_of files.old) (F.faults_of files.old) (F.faults_of files.new) (post (tree_input_view input.entry)) result }
+    ensures told { IsReported (F.bytes_of files.old) (F.faults_of files.old) (F.faults_of files.new)
+        (post (tree_input_view input.entry)) result }
     ensures same { (other : List ℕ) → F.bytes_of files.new other ≡ F.bytes_of files.old other }
     ensures later { (other : List ℕ) → F.faults_of files.old other ≤ F.faults_of files.new other }
 {

@@ -1,7 +1,7 @@
 //! `replay`: the peak of an order of an input's tasks.
 
 ghost use Rattle.std.specs.Prelude.{◌≡◌, ◌≤◌, ℕ, List, [], IfOk, IfSome, option_map};
-ghost use Rattle.memplan.specs.Answer.{IsReplay};
+ghost use Rattle.memplan.specs.Replay.{IsReplay};
 ghost use Rattle.memplan.specs.Judged.{IsReported};
 ghost use Rattle.memplan.specs.GivenViews.{given_views};
 ghost use Rattle.memplan.specs.Pages.{answer_of};

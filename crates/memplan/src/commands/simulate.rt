@@ -5,14 +5,12 @@ ghost use Rattle.activation.specs.Schedule.{HoldsEach};
 ghost use Rattle.least_peak.specs.Problem.{system_of};
 ghost use Rattle.mp_system.specs.Traversal.{IsTraversal};
 ghost use Rattle.mp_text.specs.Report.{is_token, is_line_start, line_text, text_of_lines};
-ghost use Rattle.memplan.specs.Answer.{IsSimulation};
+ghost use Rattle.memplan.specs.Simulate.{IsSimulation, IsRun, event_word as event_text, event_line, report_lines};
 ghost use Rattle.memplan.specs.GivenViews.{given_views};
 ghost use Rattle.memplan.specs.Judged.{AreJudged, IsReported, IsPriorityOf, IsRefusedRanking, IsRanking, priority_beside, numbers_of};
 ghost use Rattle.memplan.specs.Pages.{answer_of};
 ghost use Rattle.memplan.specs.Request.{AreWorkers, HasWorkers, Input as AnyInput, simulate as simulation, simulate_of, priority_files};
 ghost use Rattle.memplan.specs.RequestViews.{input_view, source_view, simulation_view, request_view};
-ghost use Rattle.memplan.specs.Simulated.{IsRun};
-ghost use Rattle.memplan.specs.Traces.{event_word as event_text, event_line, report_lines};
 ghost use Rattle.memplan.specs.declared.status.Status.TheVariants.{Done};
 
 use crate::files::{PermFile, Ranked, judge};
@@ -23,7 +21,6 @@ use crate::request::{
 };
 use crate::stop::Stop;
 use crate::words::{Given, value_of};
-use activation::laws::schedule_law;
 use activation::{CoreRefusal, Event, EventKind, Simulator, Trace};
 use mp_outside::Files;
 use mp_text::laws::printed_lines;
@@ -105,8 +102,10 @@ fn print_events(events: &[Event], report: &mut Report) -> Result<(), AllocError>
 
 // `makespan T`, `used U`, `booked B`, `events E`, the events, `end`
 fn trace_page(alloc: Global, trace: &Trace) -> Result<Page, AllocError>
-    ensures { IfOk result (λ page. answer_of page
-        ≡ record { status = Done; text = text_of_lines (report_lines trace.now.makespan trace.now.used trace.now.booked trace.now.events.items) }) }
+    ensures { IfOk result (λ page. answer_of page ≡ record {
+      status = Done;
+      text = text_of_lines (report_lines trace.now.makespan trace.now.used trace.now.booked trace.now.events.items);
+    }) }
 {
     printed_lines();
     let mut report = Report::new(alloc);
@@ -207,7 +206,6 @@ fn simulation_page(
         (record { system = system_of ordered.now.problem; order = numbers_of ordered.now.order; bound = bound; workers = workers })
         (answer_of page).text) }
 {
-    schedule_law();
     let order = ordered.order.numbers();
     match ordered.problem.core(alloc, order, bound, workers) {
         Ok(core) => {

@@ -1,7 +1,7 @@
 //! `tree`: the tree of the fronts of a matrix.
 
 ghost use Rattle.std.specs.Prelude.{◌≡◌, ◌≤◌, ℕ, List, IfOk, IfSome, option_map};
-ghost use Rattle.memplan.specs.Answer.{tree_answer};
+ghost use Rattle.memplan.specs.Tree.{tree_answer};
 ghost use Rattle.memplan.specs.Judged.{IsReported};
 ghost use Rattle.memplan.specs.GivenViews.{given_views};
 ghost use Rattle.memplan.specs.Pages.{answer_of};
@@ -41,7 +41,8 @@ fn tree_page(alloc: Global, tree: &Tree) -> Result<Page, AllocError>
 
 /// The tree of the matrix, as a file.
 pub fn report_tree<F: Files>(alloc: Global, files: &mut F, matrix: Matrix<'_>) -> Result<Page, Stop>
-    ensures told { IsReported (F.bytes_of files.old) (F.faults_of files.old) (F.faults_of files.new) (tree (matrix_view matrix.entry)) result }
+    ensures told { IsReported (F.bytes_of files.old) (F.faults_of files.old) (F.faults_of files.new)
+        (tree (matrix_view matrix.entry)) result }
     ensures same { (other : List ℕ) → F.bytes_of files.new other ≡ F.bytes_of files.old other }
     ensures later { (other : List ℕ) → F.faults_of files.old other ≤ F.faults_of files.new other }
 {

@@ -1,6 +1,6 @@
 use Rattle.std.proofs.Common.{◌≡◌, ◌∙◌, ℕ, List, Some, subst}
 use Rattle.std.proofs.lemmas.Result.{MatchResult-weaker, MatchResult-at_ok}
-use Rattle.memplan.specs.Answer.{IsWithinBytes}
+use Rattle.memplan.specs.Files.{IsWithinBytes}
 use Rattle.memplan.proofs.StepLemmas.{passed}
 use Rattle.memplan.proofs.FileLemmas.{too_long, refused}
 use Rattle.memplan.proofs.files.judge.Goals as goal

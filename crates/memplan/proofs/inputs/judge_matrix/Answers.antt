@@ -2,7 +2,7 @@ use Rattle.std.proofs.Common.{◌≡◌, ◌∙◌, ℕ, ◌≤◌, List, [], �
 use Rattle.std.specs.Prelude.{codes}
 use Rattle.matrix_market.specs.Kinds.{word_of}
 use Rattle.matrix_market.specs.MatrixFile.{RefusesPattern}
-use Rattle.memplan.specs.Answer.{IsFirstRefusal, IsMatrix, IsMatrixTree, IsOrderOf, IsRefusedFile, AreAccepted}
+use Rattle.memplan.specs.Files.{IsFirstRefusal, IsMatrix, IsMatrixTree, IsOrderOf, IsRefusedFile, AreAccepted}
 use Rattle.memplan.specs.Clauses.{AreTold}
 use Rattle.memplan.specs.Judged.{IsStop, IsRefusedOrder}
 use Rattle.memplan.specs.Request.{perm_files}

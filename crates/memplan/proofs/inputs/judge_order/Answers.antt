@@ -2,7 +2,7 @@ use Rattle.std.proofs.Common.{ℕ, List, [], ◌∷◌, sym, subst}
 use Rattle.std.specs.Prelude.{codes}
 use Rattle.ordering.specs.OrderFile.{RefusesOrder}
 use Rattle.plan_text.specs.PlanFile.{RefusesPlan}
-use Rattle.memplan.specs.Answer.{IsRefusedFile}
+use Rattle.memplan.specs.Files.{IsRefusedFile}
 use Rattle.memplan.specs.Judged.{IsStop, IsRefusedSource}
 use Rattle.ordering.specs.Kinds.{order_file_word}
 use Rattle.plan_text.specs.Kinds.{word_of as plan_word}

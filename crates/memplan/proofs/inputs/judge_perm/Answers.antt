@@ -2,7 +2,7 @@ use Rattle.std.proofs.Common.{◌∙◌, ℕ, List, Option, length, sym, ap, sub
 use Rattle.std.proofs.lemmas.List.FromFn.{length-range_with_len}
 use Rattle.std.specs.Prelude.{codes}
 use Rattle.ordering.specs.PermFile.{RefusesPerm}
-use Rattle.memplan.specs.Answer.{IsRefusedFile}
+use Rattle.memplan.specs.Files.{IsRefusedFile}
 use Rattle.memplan.specs.Judged.{IsStop, IsRefusedOrder}
 use Rattle.ordering.specs.Kinds.{perm_word}
 use Rattle.memplan.specs.Request.{perm_file, perm_files}

@@ -2,7 +2,7 @@ use Rattle.std.proofs.Common.{ℕ, List, [], ◌∷◌, inl, sym, subst}
 use Rattle.std.specs.Prelude.{codes}
 use Rattle.tree_input.specs.Kinds.{word_of}
 use Rattle.tree_input.specs.TreeFile.{RefusesTree}
-use Rattle.memplan.specs.Answer.{IsTree, IsTreeOf, IsRefusedFile, IsFirstRefusal}
+use Rattle.memplan.specs.Files.{IsTree, IsTreeOf, IsRefusedFile, IsFirstRefusal}
 use Rattle.memplan.specs.Judged.{AreJudged}
 use Rattle.memplan.specs.Request.{NamedFile, tree_file, tree_named, tree_input_files}
 use Rattle.memplan.specs.RequestViews.{tree_input_view}

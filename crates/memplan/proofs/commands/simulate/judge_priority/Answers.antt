@@ -2,7 +2,7 @@ use Rattle.std.proofs.Common.{ℕ, List, Option, sym, ap, subst, option_map}
 use Rattle.std.specs.Prelude.{codes}
 use Rattle.ordering.specs.Perm.{IsPerm}
 use Rattle.ordering.specs.PermFile.{RefusesPerm}
-use Rattle.memplan.specs.Answer.{IsRefusedFile}
+use Rattle.memplan.specs.Files.{IsRefusedFile}
 use Rattle.memplan.specs.Judged.{IsStop, IsRefusedRanking}
 use Rattle.ordering.specs.Kinds.{perm_word}
 use Rattle.memplan.specs.Request.{priority_file, priority_files}

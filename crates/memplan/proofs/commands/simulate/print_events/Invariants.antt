@@ -1,7 +1,7 @@
 use Rattle.std.proofs.Common.{◌≡◌, ◌++◌, take, map}
 use Rattle.std.specs.Bool.{IsTrue}
 use Rattle.mp_text.specs.Report.{is_line_start, text_of_lines}
-use Rattle.memplan.specs.Traces.{event_line}
+use Rattle.memplan.specs.Simulate.{event_line}
 use Rattle.memplan.proofs.commands.simulate.print_events.Given as goal
 
 abbrev pub invariant-loop-event : goal.invariant-loop-event

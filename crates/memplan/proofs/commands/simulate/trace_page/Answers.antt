@@ -1,7 +1,7 @@
 use Rattle.std.proofs.Common.{◌≡◌, ◌∙◌, ℕ, List, [], ◌∷◌, ◌++◌, ap, map, length, codes, vec_len, arith}
 use Rattle.activation.specs.declared.events.Event.{Event}
 use Rattle.mp_text.specs.Report.{line_text, text_of_lines}
-use Rattle.memplan.specs.Traces.{count_line, event_line}
+use Rattle.memplan.specs.Simulate.{count_line, event_line}
 use Rattle.memplan.specs.declared.status.Status.TheVariants as status
 use Rattle.memplan.proofs.PageLemmas.{trace-lines}
 use Rattle.memplan.proofs.commands.simulate.trace_page.Goals as goal
