@@ -39,7 +39,8 @@ CanMarkUp row i start parents counts marks =
 -- it is marked, and whoever was marked still is
 abbrev pub IsMarkedUp : Row → ℕ → ℕ → List ℕ → List ℕ → List ℕ → List ℕ → Type 0
 IsMarkedUp row i start parents marked counts marks =
-    IsMarked row (parent_at parents) i i (slice_index counts) (slice_index marks) × (slice_index marks start ≡ i) × ((x : ℕ) → slice_index marked x ≡ i → slice_index marks x ≡ i)
+    IsMarked row (parent_at parents) i i (slice_index counts) (slice_index marks) × (slice_index marks start ≡ i)
+    × ((x : ℕ) → slice_index marked x ≡ i → slice_index marks x ≡ i)
 
 -- row i may be marked from this list of neighbours
 abbrev pub CanMarkRow : Row → ℕ → List ℕ → List ℕ → List ℕ → List ℕ → List ℕ → Type 0

@@ -5,7 +5,8 @@ ghost use Rattle.std.specs.List.{range_with_len};
 ghost use Rattle.limits.specs.Limits.{most_order};
 ghost use Rattle.matrix_market.specs.Pattern.{is_joined};
 ghost use Rattle.ordering.specs.Fill.{renumbered, count_of, parents_of};
-ghost use Rattle.column_counts.specs.Leaves.{IsFirsts, AreSpans, with_entry, AreEmpty, AreReady, HoldLeaves, CanTakeColumn, AreLeavesBefore, AreAtMost, growth, AreBalanced, AreSums, HasCount};
+ghost use Rattle.column_counts.specs.Leaves.{IsFirsts, AreSpans, with_entry, AreEmpty, AreReady, HoldLeaves, CanTakeColumn};
+ghost use Rattle.column_counts.specs.Leaves.{AreLeavesBefore, AreAtMost, growth, AreBalanced, AreSums, HasCount};
 
 use crate::NoMemory;
 use crate::ancestors::Ancestors;
@@ -54,7 +55,8 @@ impl Leaves {
         requires spans { AreSpans (slice_index firsts.now) }
         requires ready { AreReady firsts.now j self.old }
         requires before { 0 < slice_index self.old.last.items i → slice_index firsts.now i ≤ slice_index self.old.last.items i }
-        ensures taken { (taken : ℕ → ℕ → Bool) → HoldLeaves firsts.now j taken self.old → HoldLeaves firsts.now j (with_entry taken i j) self.new }
+        ensures taken { (taken : ℕ → ℕ → Bool) → HoldLeaves firsts.now j taken self.old →
+            HoldLeaves firsts.now j (with_entry taken i j) self.new }
         ensures ready { AreReady firsts.now j self.new }
         ensures growth { (bound : ℕ) → AreAtMost bound self.old → AreAtMost (bound + 1) self.new }
     {
@@ -141,7 +143,8 @@ impl Leaves {
     // The counts, of the sums up to each column: over the span of a column, leaves less meetings are its count and one for each column
     // below it.
     pub(crate) fn counts(&self, alloc: Global, firsts: &[u32]) -> Result<Vec<u32>, NoMemory>
-        requires lengths { (0 < length firsts.now) × (length self.now.leaves.items ≡ length firsts.now) × (length self.now.meetings.items ≡ length firsts.now) }
+        requires lengths { (0 < length firsts.now) × (length self.now.leaves.items ≡ length firsts.now)
+            × (length self.now.meetings.items ≡ length firsts.now) }
         requires counts { (count : ℕ → ℕ) × ((x : ℕ) → 0 < x → x < length firsts.now → HasCount firsts.now self.now x (count x)) }
         ensures { (count : ℕ → ℕ) → ((x : ℕ) → 0 < x → x < length firsts.now → HasCount firsts.now self.now x (count x)) →
             IfOk result (λ counts. counts.items ≡ map count (range_with_len 1 (length firsts.now - 1))) }

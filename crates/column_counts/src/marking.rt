@@ -16,7 +16,8 @@ use std::alloc::Global;
 
 // Marks with i and counts the columns on the way up from `start`, as far as none is marked.
 fn mark_up(counts: &mut [u32], marks: &mut [u32], parents: &Parents, start: u32, i: u32)
-    requires lengths { (length counts.old ≡ length parents.now + 1) × (length marks.old ≡ length parents.now + 1) × (i ≤ length parents.now) }
+    requires lengths { (length counts.old ≡ length parents.now + 1) × (length marks.old ≡ length parents.now + 1)
+        × (i ≤ length parents.now) }
     requires row { (row : Row) × CanMarkUp row i start parents.now counts.old marks.old }
     ensures { (row : Row) → CanMarkUp row i start parents.now counts.old marks.old →
         IsMarkedUp row i start parents.now marks.old counts.new marks.new }
@@ -38,7 +39,8 @@ fn mark_row(
     perm: &Perm,
     i: u32,
 )
-    requires lengths { (length counts.old ≡ length parents.now + 1) × (length marks.old ≡ length parents.now + 1) × (i ≤ length parents.now) }
+    requires lengths { (length counts.old ≡ length parents.now + 1) × (length marks.old ≡ length parents.now + 1)
+        × (i ≤ length parents.now) }
     requires vertices { (j : ℕ) → j < length row.now → slice_index row.now j ≤ length perm.now }
     requires row { (factor : Row) × CanMarkRow factor i row.now perm.now parents.now counts.old marks.old }
     ensures { (factor : Row) → CanMarkRow factor i row.now perm.now parents.now counts.old marks.old →
