@@ -10,8 +10,7 @@ use Rattle.mp_system.specs.Memory.{stands_in, is_ready}
 use Rattle.activation.specs.declared.events.Phase.{Phase}
 use Rattle.activation.specs.declared.events.Phase.TheVariants.{Idle, Running, Done}
 use Rattle.activation.specs.declared.events.EventKind.TheVariants.{Activate, Start, Finish}
-use Rattle.activation.specs.Numbers.{IsNumber}
-use Rattle.activation.specs.Running.{RunningValue}
+use Rattle.activation.specs.Running.{IsNumber, RunningValue}
 use Rattle.activation.specs.Machine.{Setting, State, phase_in, is_idle_phase, is_running_phase, is_done_phase, is_done, is_running, activated_tasks, MayActivate, MayStart, MayFinish, state_after}
 use Rattle.activation.specs.Safe.{IsSafe}
 use Rattle.activation.specs.Schedule.{task_entry}

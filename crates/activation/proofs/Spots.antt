@@ -7,8 +7,7 @@ use Rattle.std.proofs.lemmas.Bool.{cases_eq, eq-eqb, ne_eqb, true≢false, and_p
 use Rattle.std.proofs.lemmas.Bool.Decides.{Decides-eqb}
 use Rattle.std.proofs.lemmas.Map.Made.{IsDistinct-from_AllPairs}
 use Rattle.mp_system.specs.Memory.{stands_in}
-use Rattle.activation.specs.Numbers.{IsNumber}
-use Rattle.activation.specs.Running.{AreSpots}
+use Rattle.activation.specs.Running.{IsNumber, AreSpots}
 use Rattle.activation.specs.Schedule.{task_entry}
 use Rattle.activation.proofs.Totals.{place_in, in_at}
 use Rattle.activation.proofs.Numbers.{number_set_same, number_set_other}
