@@ -1,5 +1,5 @@
 -- The trees and tables of a run after each event.
-use Rattle.std.proofs.Common.{◌≡◌, ◌≢◌, ℕ, ◌+◌, ◌-◌, ◌*◌, ◌<◌, ◌≤◌, Bool, true, false, cond, ◌&&◌, List, length, take, get_or, set, get_or-set_same, get_or-set_other, refl, sym, ◌∙◌, ap, arith, ⊎_elim, Some}
+use Rattle.std.proofs.Common.{◌≡◌, ◌≢◌, ℕ, ◌+◌, ◌-◌, ◌*◌, ◌<◌, ◌≤◌, Bool, cond, ◌&&◌, List, length, take, get_or, set, get_or-set_same, get_or-set_other, refl, sym, ◌∙◌, ap, arith, ⊎_elim, Some}
 use Rattle.std.specs.Prelude.{slice_index, count_by, ◌==◌, ◌||◌}
 use Rattle.std.proofs.lemmas.List.{length-set, take_more}
 use Rattle.std.proofs.lemmas.Bool.{cases_eq, cases_lt, eq-eqb, ne_eqb, and_parts, cases_Bool, true≢false, false_from_ne_true}
@@ -23,13 +23,13 @@ use Rattle.activation.proofs.Orders.{each, task_in_order, in_front, stands_once}
 use Rattle.activation.proofs.Changes.{is_changed, finishes_front, finish_adds, same_done}
 use Rattle.activation.proofs.Counting.{count_step}
 use Rattle.activation.proofs.Awaiting.{awaited_same, awaited_later, ready_from, awaits_none}
-use Rattle.activation.proofs.Spots.{same_test}
+use Rattle.std.specs.Cmp.{both_ways}
 use Rattle.activation.proofs.Keeping.{stands_appended}
 
 -- tasks that wait for as many items are ready alike
 ready_alike : (s : TaskSystem) (d e : ℕ → Bool) (t : ℕ) → awaited s e t ≡ awaited s d t → is_ready s e t ≡ is_ready s d t
 ready_alike s d e t same =
-    same_test _ _ (λ h. ready_from s d t (sym same ∙ awaits_none s e t h)) (λ h. ready_from s e t (same ∙ awaits_none s d t h))
+    both_ways _ _ (λ h. ready_from s d t (sym same ∙ awaits_none s e t h)) (λ h. ready_from s e t (same ∙ awaits_none s d t h))
 
 module _ {c : Setting} {st : State} {time : ℕ} {x : RunTables} (set' : IsSetting c) (safe : IsSafe c st) (r : IsRun c st time x) where
   -- a bound that grows

@@ -10,7 +10,7 @@ use Rattle.activation.specs.declared.events.EventKind.{EventKind}
 use Rattle.activation.specs.declared.events.EventKind.TheVariants.{Activate, Start, Finish}
 use Rattle.activation.specs.declared.events.Event.{Event}
 use Rattle.mp_system.specs.Memory.{stands_in}
-use Rattle.activation.specs.Machine.{Setting, IsSetting, State, phase_in, with_phase, activated_tasks, start_state, MayHappen, state_after, is_done_phase, AllDone}
+use Rattle.activation.specs.Machine.{Setting, IsSetting, State, phase_in, with_phase, activated_tasks, start_state, MayHappen, state_after, AllDone}
 use Rattle.activation.specs.Runs.{AreLegal, state_after_all, is_kind, times_of, AtMostOnce, EachOnce}
 use Rattle.activation.specs.Safe.{IsSafe}
 use Rattle.activation.specs.Run.{steps_of, event_count}

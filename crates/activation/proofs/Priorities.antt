@@ -1,11 +1,10 @@
 -- Which tasks a list holds, marked one after the other.
 use Rattle.std.proofs.Common.{◌≡◌, ℕ, ◌+◌, ◌-◌, ◌<◌, Bool, true, false, cond, List, length, take, get_or, set, get_or-set_same, get_or-set_other, refl, sym, subst, add-zero, ◌∙◌, ap, arith, ⊎_elim}
-use Rattle.std.specs.Prelude.{All, count_by, ◌==◌, replicate}
-use Rattle.std.specs.List.{list_all}
+use Rattle.std.specs.Prelude.{count_by, ◌==◌, replicate}
 use Rattle.std.proofs.lemmas.List.{length-set, length-replicate, get_or-replicate, take_all}
 use Rattle.std.proofs.lemmas.List.Elements.{All-get_or, All-from_get_or}
 use Rattle.std.proofs.lemmas.List.Sums.{sum_by_more, sum_by-take-le}
-use Rattle.std.proofs.lemmas.Bool.{cases_eq, cases_Bool, eq-eqb, ne_eqb, true≢false}
+use Rattle.std.proofs.lemmas.Bool.{cases_eq, cases_Bool, eq-eqb, ne_eqb}
 use Rattle.mp_system.specs.System.{TaskSystem, IsTask}
 use Rattle.activation.specs.Schedule.{HoldsEach}
 

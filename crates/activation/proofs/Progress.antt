@@ -5,7 +5,6 @@ use Rattle.std.proofs.lemmas.List.{length-take, get_or-take, take-take, take_all
 use Rattle.std.proofs.lemmas.Bool.{not-true, not-false, cases_Bool, cases_lt, eqb-true, or_cases, true≢false, false_from_ne_true}
 use Rattle.activation.specs.declared.events.Phase.{Phase}
 use Rattle.activation.specs.declared.events.Phase.TheVariants.{Idle, Running, Done}
-use Rattle.activation.specs.declared.events.EventKind.{EventKind}
 use Rattle.activation.specs.declared.events.EventKind.TheVariants.{Activate, Start, Finish}
 use Rattle.mp_system.specs.System.{need_of}
 use Rattle.mp_system.specs.Memory.{state_memory, stands_in, is_ready}

@@ -5,7 +5,7 @@ use Rattle.std.specs.Option.{ForSome}
 use Rattle.std.proofs.lemmas.List.Sums.{sum_by-le}
 use Rattle.mp_system.specs.declared.system.Task.{Task}
 use Rattle.mp_system.specs.declared.system.Item.{Item}
-use Rattle.mp_system.specs.System.{IsSystem, task_at, extra_size, item_size}
+use Rattle.mp_system.specs.System.{IsSystem, extra_size, item_size}
 
 pub record IsSmallTask (task : Task) : Type 0 where
   pub extra : task.extra < 10

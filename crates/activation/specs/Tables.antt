@@ -1,6 +1,6 @@
 -- No public clause names this.
 -- The tables of a core: what its code keeps beside the state, and what each number stands for.
-use Rattle.std.specs.Prelude.{◌≡◌, ℕ, ◌+◌, ◌<◌, ◌≤◌, Bool, true, not, ◌&&◌, None, List, length, map, slice_index, slice_index_or, unwrap_or}
+use Rattle.std.specs.Prelude.{◌≡◌, ℕ, ◌+◌, ◌<◌, ◌≤◌, Bool, not, ◌&&◌, None, List, length, map, slice_index, slice_index_or, unwrap_or}
 use Rattle.std.specs.Prelude.{count_by}
 use Rattle.limits.specs.Limits.{most_workers}
 use Rattle.row_table.specs.Rows.{row_at, numbers_with}

@@ -72,8 +72,7 @@ fn of_tree(tree: &System, bound: u64, workers: u32) -> Given<'_>
     }
 }
 
-const TIGHT: &str =
-    "5 11 11 0a1 0s1 1f1 1a3 1s3 2f3 2a2 2s2 3f2 3a4 3a5 3s4 4f4 4s5 5f5";
+const TIGHT: &str = "5 11 11 0a1 0s1 1f1 1a3 1s3 2f3 2a2 2s2 3f2 3a4 3a5 3s4 4f4 4s5 5f5";
 
 const WIDE: &str = "3 20 20 0a1 0a3 0s1 0s3 1f1 1f3 1a2 1a4 1a5 1s2 1s4 2f2 2f4 2s5 3f5";
 

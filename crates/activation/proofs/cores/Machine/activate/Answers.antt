@@ -12,8 +12,8 @@ pub invariant_of-self : goal.invariant_of-self
 invariant_of-self c =
     let a = c.self.invariant in
     let legal = may_activate a (omega (arith, a.safe.prefix)) c.index-task.ensures c.index-need.ensures c.if-self-need.false in
-      activated_tables a (omega (arith, a.safe.prefix)) c.index-task.ensures c.index-need.ensures
-          (c.event_law.ensures.kept _ a.setting _ a.safe Activate _ legal) (c.event_law.ensures.change _ a.setting _ a.safe Activate _ legal)
+    activated_tables a (omega (arith, a.safe.prefix)) c.index-task.ensures c.index-need.ensures
+    (c.event_law.ensures.kept _ a.setting _ a.safe Activate _ legal) (c.event_law.ensures.change _ a.setting _ a.safe Activate _ legal)
 
 pub returns-then-self-need-clause-none : goal.returns-then-self-need-clause-none
 returns-then-self-need-clause-none c =

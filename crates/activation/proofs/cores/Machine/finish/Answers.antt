@@ -70,9 +70,9 @@ invariant_of-self c =
     let released = rw (c.row.ensures ∙ a.fixed.outputs_are.rows_are c.args.task is, c.deref_mut.ensures.value) at c.release.ensures in
     let counts : (u : ℕ) → task_entry now u + count_by (is_edge c.args.task u) f.system.items ≡ task_entry f.waiting.items u = λ u. omega (arith, released u, consumed_row f.system.items c.args.task u is.0) in
     rw (take_at now (drop (length now) f.waiting.items) f.waiting.len len)
-      (finished_tables a h c.index-frees.ensures (c.event_law.ensures.change _ a.setting _ a.safe Finish c.args.task h) (c.event_law.ensures.kept _ a.setting _ a.safe Finish c.args.task h) c.remove.new.self
-          c.remove.ensures.members c.remove.ensures.shorter c.remove.ensures.room c.remove.ensures.count now
-          (omega (arith, len, c.deref_mut.ensures.len, ap length c.deref_mut.ensures.value)) counts)
+    (finished_tables a h c.index-frees.ensures (c.event_law.ensures.change _ a.setting _ a.safe Finish c.args.task h) (c.event_law.ensures.kept _ a.setting _ a.safe Finish c.args.task h) c.remove.new.self
+    c.remove.ensures.members c.remove.ensures.shorter c.remove.ensures.room c.remove.ensures.count now
+    (omega (arith, len, c.deref_mut.ensures.len, ap length c.deref_mut.ensures.value)) counts)
 
 pub returns-clause-next : goal.returns-clause-next
 returns-clause-next c =

@@ -1,4 +1,4 @@
-use Rattle.std.proofs.Common.{length, arith, ap, ◌∙◌}
+use Rattle.std.proofs.Common.{arith, ap, ◌∙◌}
 use Rattle.activation.specs.Run.{mark}
 use Rattle.activation.specs.Tables.{is_startable}
 use Rattle.activation.proofs.Numbers.{named}

@@ -1,9 +1,8 @@
-use Rattle.std.proofs.Common.{◌≡◌, ℕ, length, map, take, ◌∙◌, ap, arith}
-use Rattle.std.specs.Prelude.{count_by}
+use Rattle.std.proofs.Common.{map, ◌∙◌, ap, arith}
 use Rattle.row_table.specs.Rows.{numbers_with}
 use Rattle.mp_system.specs.System.{IsTask}
 use Rattle.activation.specs.Machine.{CoreValue}
-use Rattle.activation.specs.Tables.{is_edge, consumed_by, producer_of}
+use Rattle.activation.specs.Tables.{producer_of}
 use Rattle.activation.proofs.Producing.{consumed_all}
 use Rattle.activation.proofs.cores.Machine.refresh_consumers.Goals as goal
 

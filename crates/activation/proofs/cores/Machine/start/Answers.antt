@@ -37,8 +37,8 @@ pub invariant_of-self : goal.invariant_of-self
 invariant_of-self c =
     let a = c.self.invariant in
     let h = rw (← c.self.view_is) at c.may_start.ensures.0 c.if-not-may_start.false in
-      started_tables a h c.index-need.ensures (c.event_law.ensures.change _ a.setting _ a.safe Start c.args.task h) (c.event_law.ensures.kept _ a.setting _ a.safe Start c.args.task h) c.add.new.self
-          (ap (λ r. r.listed) c.add.ensures) (ap (λ r. r.room) c.add.ensures) (ap (λ r. r.count) c.add.ensures)
+    started_tables a h c.index-need.ensures (c.event_law.ensures.change _ a.setting _ a.safe Start c.args.task h) (c.event_law.ensures.kept _ a.setting _ a.safe Start c.args.task h) c.add.new.self
+    (ap (λ r. r.listed) c.add.ensures) (ap (λ r. r.room) c.add.ensures) (ap (λ r. r.count) c.add.ensures)
 
 pub returns-clause-next : goal.returns-clause-next
 returns-clause-next c =

@@ -1,10 +1,9 @@
-use Rattle.std.proofs.Common.{◌≡◌, ℕ, ◌+◌, false, cond, Some, sym, refl, ◌∙◌, arith}
-use Rattle.std.specs.Prelude.{slice_index}
+use Rattle.std.proofs.Common.{◌≡◌, ℕ, ◌+◌, false, sym, refl, ◌∙◌, arith}
 use Rattle.std.proofs.lemmas.Bool.{OnTrue_at, true≢false}
-use Rattle.mp_system.specs.System.{IsTask, is_named}
-use Rattle.activation.specs.Schedule.{task_entry, Moment, NoneDue, NoneActivates}
+use Rattle.mp_system.specs.System.{IsTask}
+use Rattle.activation.specs.Schedule.{Moment, NoneDue, NoneActivates}
 use Rattle.activation.specs.Tables.{is_startable}
-use Rattle.activation.specs.Run.{mark, IsFirstStartable}
+use Rattle.activation.specs.Run.{IsFirstStartable}
 use Rattle.activation.proofs.Numbers.{number_written}
 use Rattle.activation.proofs.Advancing.{started_run, no_start, may_start_task}
 use Rattle.activation.proofs.Keeping.{start_startable}
