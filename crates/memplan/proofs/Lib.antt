@@ -1,9 +1,8 @@
-pub mod AnalysisLemmas
-pub mod AnswerLemmas
+pub mod StepLemmas
+pub mod FileLemmas
+pub mod InputLemmas
+pub mod ReportLemmas
+pub mod SimulationLemmas
+pub mod RunLemmas
 pub mod PageLemmas
 pub mod WordLemmas
-pub mod CertifiedLemmas
-pub mod PlanningLemmas
-pub mod SimulatingLemmas
-pub mod PriorityLemmas
-pub mod RunLemmas

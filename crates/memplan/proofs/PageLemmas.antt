@@ -4,18 +4,6 @@ use Rattle.std.specs.Bool.{IsTrue}
 use Rattle.std.specs.List.{list_all}
 use Rattle.mp_text.specs.Report.{is_line_start, is_token, with_tokens, line_text, text_of_lines}
 
-abbrev pub AreLines : Type 0
-AreLines = (text : List ℕ) (tokens : List (List ℕ)) → IsTrue (is_line_start text) → IsTrue (list_all is_token tokens)
-    → with_tokens text tokens ++ 10 ∷ [] ≡ text ++ line_text tokens
-
-pub line-ended : AreLines → (text : List ℕ) (tokens : List (List ℕ)) (made after : List ℕ) → IsTrue (is_line_start text) → IsTrue (list_all is_token tokens)
-    → made ≡ with_tokens text tokens → after ≡ made ++ 10 ∷ [] → after ≡ text ++ line_text tokens
-line-ended are text tokens made after start all is ended = ended ∙ ap (λ (t : List ℕ). t ++ 10 ∷ []) is ∙ are text tokens start all
-
-pub line-starts : ((text : List ℕ) (tokens : List (List ℕ)) → IsTrue (is_line_start (text ++ line_text tokens))) → (text : List ℕ) (tokens : List (List ℕ)) (after : List ℕ)
-    → after ≡ text ++ line_text tokens → IsTrue (is_line_start after)
-line-starts starts text tokens after is = subst (λ (t : List ℕ). IsTrue (is_line_start t)) (sym is) (starts text tokens)
-
 -- two lines, many, and a last one
 pub page-lines : ((text : List ℕ) (lines : List (List (List ℕ))) (line : List (List ℕ)) → (text ++ text_of_lines lines) ++ line_text line ≡ text ++ text_of_lines (lines ++ line ∷ []))
     → (one two last : List (List ℕ)) (lines : List (List (List ℕ))) (a b c d : List ℕ) → a ≡ line_text one → b ≡ a ++ line_text two → c ≡ b ++ text_of_lines lines → d ≡ c ++ line_text last

@@ -1,33 +1,91 @@
--- What a printed trace says of its run.
-use Rattle.std.proofs.Common.{◌≡◌, ◌∙◌, ℕ, List, ◌++◌, subst}
-use Rattle.activation.specs.declared.events.Event.{Event}
-use Rattle.activation.specs.Machine.{Setting, IsSetting, start_state}
-use Rattle.activation.specs.Runs.{AreLegal, state_after_all, IsWithinBound, EachOnce}
-use Rattle.activation.specs.Schedule.{IsSchedule, first_moment, last_time, most_used, most_booked}
-use Rattle.mp_text.specs.Report.{text_of_lines}
-use Rattle.memplan.specs.Answer.{simulation_answer}
-use Rattle.memplan.specs.Simulated.{IsRun}
-use Rattle.memplan.specs.Traces.{report_lines}
+-- What a page that answers a request says: a report, or a first refusal, which is not done.
+use Rattle.std.proofs.Common.{◌≡◌, ◌∙◌, ℕ, ◌<◌, List, [], ◌∷◌, ◌++◌, Option, length, take, refl, sym, ap, subst, inl, inr}
+use Rattle.std.specs.Prelude.{codes}
+use Rattle.mp_outside.specs.Outside.{Appended}
+use Rattle.mp_text.specs.declared.refusals.Refusal.{Refusal}
+use Rattle.mp_text.specs.declared.refusals.Refusal.TheVariants as refusals
+use Rattle.ordering.specs.OrderFile.{RefusesOrder}
+use Rattle.ordering.specs.PermFile.{RefusesPerm}
+use Rattle.tree_input.specs.Kinds.{word_of as tree_word}
+use Rattle.tree_input.specs.TreeFile.{RefusesTree}
+use Rattle.sp_terms.specs.WorkflowFile.{RefusesWorkflow}
+use Rattle.matrix_market.specs.Kinds.{word_of as matrix_word}
+use Rattle.matrix_market.specs.MatrixFile.{RefusesPattern}
+use Rattle.plan_text.specs.PlanFile.{RefusesPlan}
+use Rattle.memplan.specs.Answer.{IsAnswer, IsReport}
+use Rattle.memplan.specs.Files.{Answer, IsRefusedAs, IsRefusedFile, IsRefusedPerm, IsRefused, IsFirstRefusal}
+use Rattle.memplan.specs.Clauses.{AreTold, IsAnswered, IsCutShort}
+use Rattle.sp_terms.specs.Kinds.{word_of as workflow_word}
+use Rattle.ordering.specs.Kinds.{perm_word}
+use Rattle.ordering.specs.Kinds.{order_file_word}
+use Rattle.plan_text.specs.Kinds.{word_of as plan_word}
+use Rattle.memplan.specs.Request.{Request, replay, tree, post, check, planning, simulate, FileRole, NamedFile, tree_file, workflow_file, matrix_file, perm_file, order_file, plan_file, priority_file, files_of}
+use Rattle.memplan.specs.Sound.{IsSound}
+use Rattle.memplan.specs.declared.status.Status.{Status}
+use Rattle.memplan.specs.declared.status.Status.TheVariants as status
 
--- the laws of schedules
-pub record Laws : Type 0 where
-  pub legal : (c : Setting) (priority : List ℕ) (events : List Event) → IsSchedule c priority (first_moment c) events → AreLegal c (start_state c) events
-  pub within : (c : Setting) → IsSetting c → (priority : List ℕ) (before rest : List Event) → IsSchedule c priority (first_moment c) (before ++ rest)
-      → IsWithinBound c (state_after_all (start_state c) before)
+-- ---- no refusal is done
 
-module _ (c : Setting) (events : List Event) (makespan used booked : ℕ) (is_makespan : makespan ≡ last_time 0 events)
-    (is_used : used ≡ most_used c (start_state c) events) (is_booked : booked ≡ most_booked c (start_state c) events) where
-  pub trace-text : text_of_lines (report_lines makespan used booked events) ≡ (simulation_answer c events).text
-  trace-text = rw (is_makespan, is_used, is_booked)
+refused_as : {K : Type 0} (file : List ℕ) (word : K → List ℕ) (refusal : Refusal K) (answer : Answer) → IsRefusedAs file word refusal answer → answer.status ≡ status.Done → ⊥
+refused_as file word (refusals.Format fault) answer is done = absurd (cc (sym (ap (λ (a : Answer). a.status) is) ∙ done))
+refused_as file word (refusals.Limit limit) answer is done = absurd (cc (sym (ap (λ (a : Answer). a.status) is) ∙ done))
+refused_as file word refusals.NoMemory answer is done = is
 
-  pub is_run : Laws → IsSetting c → (priority : List ℕ) → IsSchedule c priority (first_moment c) events → EachOnce c events
-      → (printed : List ℕ) → printed ≡ text_of_lines (report_lines makespan used booked events) → IsRun c printed
-  is_run laws setting priority schedule each_once printed is = record {
-    traversal = setting.traversal;
-    peak_within = setting.bound;
-    events = events;
-    legal = laws.legal c priority events schedule;
-    each_once = each_once;
-    within = λ before rest split. laws.within c setting priority before rest (subst (IsSchedule c priority (first_moment c)) split schedule);
-    printed_is = is ∙ trace-text;
-  }
+refused_file : {K : Type 0} (file : List ℕ) (word : K → List ℕ) (refuses : Refusal K → Type 0) (text : List ℕ) (answer : Answer)
+    → IsRefusedFile file word refuses text answer → answer.status ≡ status.Done → ⊥
+refused_file file word refuses text answer (inl (long, is)) done = absurd (cc (sym (ap (λ (a : Answer). a.status) is) ∙ done))
+refused_file file word refuses text answer (inr (within, (refusal, refused, is))) done = refused_as file word refusal answer is done
+
+refused_perm : (earlier : List (List ℕ)) (text : List ℕ) (answer : Answer) → IsRefusedPerm earlier text answer → answer.status ≡ status.Done → ⊥
+refused_perm [] text answer refused done = refused
+refused_perm (matrix ∷ earlier) text answer (rows, is, refused) done = refused_file (codes "perm") perm_word (RefusesPerm (length rows) text) text answer refused done
+
+refused : (role : FileRole) (earlier : List (List ℕ)) (text : List ℕ) (answer : Answer) → IsRefused role earlier text answer → answer.status ≡ status.Done → ⊥
+refused tree_file earlier text answer r done = refused_file (codes "tree") tree_word (RefusesTree text) text answer r done
+refused workflow_file earlier text answer r done = refused_file (codes "workflow") workflow_word (RefusesWorkflow text) text answer r done
+refused matrix_file earlier text answer r done = refused_file (codes "matrix") matrix_word (RefusesPattern text) text answer r done
+refused perm_file earlier text answer r done = refused_perm earlier text answer r done
+refused order_file earlier text answer r done = refused_file (codes "order") order_file_word (RefusesOrder text) text answer r done
+refused plan_file earlier text answer r done = refused_file (codes "plan") plan_word (RefusesPlan text) text answer r done
+refused (priority_file input) earlier text answer (mine, one, system, split, is, r) done =
+    refused_file (codes "priority") perm_word (RefusesPerm (length system.tasks) text) text answer r done
+
+first_refusal : (files : List NamedFile) (earlier texts : List (List ℕ)) (answer : Answer) → IsFirstRefusal files earlier texts answer → answer.status ≡ status.Done → ⊥
+first_refusal [] earlier texts answer r done = r
+first_refusal (file ∷ files) earlier [] answer r done = r
+first_refusal (file ∷ files) earlier (text ∷ texts) answer (inl r) done = refused file.role earlier text answer r done
+first_refusal (file ∷ files) earlier (text ∷ texts) answer (inr (accepted, r)) done = first_refusal files (earlier ++ text ∷ []) texts answer r done
+
+-- ---- a page that answers
+
+-- the answer to a request, and what it says beside that
+abbrev pub IsSoundAnswer : (List ℕ → Option (List ℕ)) → Request → Answer → Type 0
+IsSoundAnswer told request answer = (texts : List (List ℕ)) → AreTold told (files_of request) texts → IsAnswer request texts answer × IsSound request texts answer
+
+pub reported : (told : List ℕ → Option (List ℕ)) (request : Request) (answer : Answer)
+    → ((texts : List (List ℕ)) → AreTold told (files_of request) texts → IsReport request texts answer × IsSound request texts answer) → IsSoundAnswer told request answer
+reported told request answer h texts are = let t = h texts are in (inr t.0, t.1)
+
+sound_refusal : (request : Request) (texts : List (List ℕ)) (answer : Answer) → (answer.status ≡ status.Done → ⊥) → IsSound request texts answer
+sound_refusal (replay input source) texts answer not_done = tt
+sound_refusal (tree m) texts answer not_done = tt
+sound_refusal (post input) texts answer not_done = tt
+sound_refusal (check input plan workers) texts answer not_done = λ done. absurd (not_done done)
+sound_refusal (planning input) texts answer not_done = λ done. absurd (not_done done)
+sound_refusal (simulate input source s) texts answer not_done = λ done. absurd (not_done done)
+
+pub was_refused : (told : List ℕ → Option (List ℕ)) (request : Request) (answer : Answer)
+    → ((texts : List (List ℕ)) → AreTold told (files_of request) texts → IsFirstRefusal (files_of request) [] texts answer) → IsSoundAnswer told request answer
+was_refused told request answer h texts are =
+    let refusal = h texts are in
+    (inl refusal, sound_refusal request texts answer (first_refusal (files_of request) [] texts answer refusal))
+
+module _ (told : List ℕ → Option (List ℕ)) (request : Request) (answer : Answer) (sound : IsSoundAnswer told request answer) where
+  pub answers : (ended : Status) (old new : Option (List ℕ)) → ended ≡ answer.status → Appended old new answer.text → IsAnswered told request ended old new
+  answers ended old new is appended = λ texts are. (answer, (sound texts are).0, (sym is, appended))
+
+  pub is_cut : (old new : Option (List ℕ)) → ((n : ℕ) × (n < length answer.text) × Appended old new (take n answer.text)) → IsCutShort told request old new
+  is_cut old new prefix = λ texts are. (answer, (sound texts are).0, prefix)
+
+  pub says : (asked : Request) → request ≡ asked → (texts : List (List ℕ)) → AreTold told (files_of asked) texts → IsSound asked texts answer
+  says asked is texts are = subst (λ (r : Request). AreTold told (files_of r) texts → IsSound r texts answer) is (λ told_so. (sound texts told_so).1) are

@@ -1,10 +1,18 @@
 -- The words of the contract of the top call.
-use Rattle.std.specs.Prelude.{◌≡◌, ℕ, ◌<◌, List, [], ◌∷◌, ◌++◌, length, take, Option, Some}
+use Rattle.std.specs.Prelude.{◌≡◌, ℕ, ◌<◌, List, [], ◌∷◌, ◌++◌, length, map, take, Option, Some, None, String, string_bytes}
 use Rattle.mp_outside.specs.Outside.{Rose, Appended}
-use Rattle.memplan.specs.Request.{Request, NamedFile, files_of}
-use Rattle.memplan.specs.Answer.{Answer, IsAnswer, AreAccepted}
+use Rattle.memplan.specs.Request.{Request, NamedFile, files_of, request_of}
+use Rattle.memplan.specs.Answer.{IsAnswer}
+use Rattle.memplan.specs.Files.{Answer, AreAccepted}
 use Rattle.memplan.specs.declared.status.Status.{Status}
 use Rattle.memplan.specs.declared.status.Status.TheVariants as status
+
+-- the words ask for this, or for nothing that the program does
+abbrev pub Asks : {Z : Type 0} → List (String Z) → Request → Type 0
+Asks words request = request_of (map (λ w. string_bytes w) words) ≡ Some request
+
+abbrev pub AsksNothing : {Z : Type 0} → List (String Z) → Type 0
+AsksNothing words = request_of (map (λ w. string_bytes w) words) ≡ None
 
 -- the statuses that come with a text
 abbrev pub HasText : Status → Type 0

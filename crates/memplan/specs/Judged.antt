@@ -1,60 +1,95 @@
--- What a judgement of files says of their texts.
-use Rattle.std.specs.Prelude.{◌≡◌, ℕ, ◌<◌, ◌≤◌, List, [], ◌∷◌, ◌++◌, Option, Some, None, length, map, codes}
+-- No public clause names this.
+-- What a step over files says of their texts: a value, or why there is none.
+use Rattle.std.specs.Prelude.{◌≡◌, ℕ, List, [], ◌∷◌, ◌++◌, Option, Some, None, Ok, Err, Result, MatchResult, length, codes}
 use Rattle.mp_outside.specs.Outside.{Rose}
-use Rattle.mp_system.specs.Renaming.{IsRenamed, name_in}
-use Rattle.mp_system.specs.System.{TaskSystem}
-use Rattle.sp_terms.specs.SystemOfTerm.{system_of_term}
-use Rattle.sp_terms.specs.Values.{IsTerms, term_of}
-use Rattle.memplan.specs.declared.inputs.Order.{Order}
-use Rattle.memplan.specs.declared.inputs.Order.TheVariants as orders
-use Rattle.memplan.specs.declared.inputs.OrderedSystem.{OrderedSystem}
-use Rattle.memplan.specs.declared.inputs.Work.{Work}
-use Rattle.memplan.specs.declared.judge.Judged.{Judged}
-use Rattle.memplan.specs.declared.judge.Judged.TheVariants.{Taken, Refused}
-use Rattle.memplan.specs.declared.judge.Loaded.{Loaded}
-use Rattle.memplan.specs.declared.judge.Loaded.TheVariants.{Whole, TooLong}
-use Rattle.memplan.specs.declared.simulating.Priority.{Priority}
-use Rattle.memplan.specs.declared.simulating.Priority.TheVariants as priorities
-use Rattle.memplan.specs.Request.{Input, NamedFile, OrderSource, input_files, source_file}
+use Rattle.mp_text.specs.declared.refusals.Refusal.{Refusal}
+use Rattle.mp_text.specs.declared.refusals.Refusal.TheVariants as refusals
+use Rattle.least_peak.specs.Problem.{system_of}
+use Rattle.least_peak.specs.declared.problem.Origin.{Origin}
+use Rattle.least_peak.specs.declared.problem.Origin.TheVariants as origins
 use Rattle.ordering.specs.Perm.{IsPerm as IsPermutation}
 use Rattle.ordering.specs.PermFile.{RefusesPerm}
-use Rattle.memplan.specs.Refusals.{perm_word}
-use Rattle.memplan.specs.Answer.{Answer, IsRefusedFile, IsFirstRefusal, IsSystemWithTerm, IsSystemOf, IsOrderFrom, IsOwnPriority, IsPerm, AreAccepted, priority_or}
-use Rattle.memplan.specs.Clauses.{AreTold}
+use Rattle.sp_terms.specs.Postfix.{Denotes}
+use Rattle.sp_terms.specs.Values.{term_of}
+use Rattle.memplan.specs.Answer.{IsReport}
+use Rattle.memplan.specs.Files.{Answer, IsRefused, IsRefusedAs, IsRefusedFile, IsFirstRefusal, IsOrderFrom, IsPerm, IsTreeOf, IsWorkflow, AreAccepted}
+use Rattle.memplan.specs.Simulate.{IsOwnPriority, priority_or}
+use Rattle.memplan.specs.Clauses.{AreTold, HasFailed}
 use Rattle.memplan.specs.Pages.{answer_of}
+use Rattle.ordering.specs.Kinds.{perm_word}
+use Rattle.memplan.specs.Request.{Input, tree_input, workflow_named, NamedFile, OrderSource, Request, input_files, source_file, files_of}
+use Rattle.memplan.specs.Sound.{IsSound}
+use Rattle.memplan.specs.declared.commands.simulate.Priority.{Priority}
+use Rattle.memplan.specs.declared.commands.simulate.Priority.TheVariants as priorities
+use Rattle.memplan.specs.declared.files.Ranked.{Ranked}
+use Rattle.memplan.specs.declared.files.Ranked.TheVariants.{Vertices, Tasks}
+use Rattle.memplan.specs.declared.inputs.Order.{Order}
+use Rattle.memplan.specs.declared.inputs.Order.TheVariants as orders
+use Rattle.memplan.specs.declared.inputs.OrderedProblem.{OrderedProblem}
+use Rattle.memplan.specs.declared.page.Page.{Page}
+use Rattle.memplan.specs.declared.stop.Stop.{Stop}
+use Rattle.memplan.specs.declared.stop.Stop.TheVariants as stops
 
--- a text of at most 2^28 bytes, or one that is longer
-abbrev pub IsLoaded : List ℕ → Loaded → Type 0
-IsLoaded text (Whole bytes) = (bytes.items ≡ text) × (length text ≤ 268435456)
-IsLoaded text TooLong = 268435456 < length text
+-- ---- one file
 
--- a value, or the page of a refusal
-abbrev pub IsJudged : {A : Type 0} → (A → Type 0) → (Answer → Type 0) → Judged A → Type 0
-IsJudged takes refuses (Taken value) = takes value
-IsJudged takes refuses (Refused page) = refuses (answer_of page)
+-- what a reader answers without a value: a refusal of the format, or that memory ran out
+abbrev pub IsRefusalOf : {K : Type 0} → (Refusal K → Type 0) → Refusal K → Type 0
+IsRefusalOf refuses refusals.NoMemory = Unit {0}
+IsRefusalOf refuses (refusals.Format fault) = refuses (refusals.Format fault)
+IsRefusalOf refuses (refusals.Limit limit) = refuses (refusals.Limit limit)
 
--- the same over any texts that the files tell
-abbrev pub AreJudged : {A : Type 0} → (List ℕ → Option (List ℕ)) → List NamedFile → (List (List ℕ) → A → Type 0) → Judged A → Type 0
-AreJudged told files takes judged =
-    (texts : List (List ℕ)) → AreTold told files texts → IsJudged (takes texts) (IsFirstRefusal files [] texts) judged
+-- the page of what was read, where it is no value
+abbrev pub IsStopFor : {T K : Type 0} → List ℕ → (K → List ℕ) → Result T (Refusal K) → Stop → Type 0
+IsStopFor file word (Err refusal) (stops.Refused page) = IsRefusedAs file word refusal (answer_of page)
+IsStopFor file word (Ok value) (stops.Refused page) = ⊥
+IsStopFor file word read stops.ReadFault = ⊥
+IsStopFor file word read stops.NoMemory = Unit {0}
 
--- the system and the term of an input
-abbrev pub IsWorkOf : Input → List (List ℕ) → Work → Type 0
-IsWorkOf input texts work = IsSystemWithTerm input texts work.system work.terms
+-- the page that refuses a file, or its count rose
+abbrev pub IsStopAt : (List ℕ → Option (List ℕ)) → (List ℕ → ℕ) → (List ℕ → ℕ) → List ℕ → (List ℕ → Answer → Type 0) → Stop → Type 0
+IsStopAt told before after name refuses (stops.Refused page) = (text : List ℕ) → told name ≡ Some text → refuses text (answer_of page)
+IsStopAt told before after name refuses stops.ReadFault = Rose (before name) (after name)
+IsStopAt told before after name refuses stops.NoMemory = Unit {0}
 
--- the system is the term's own, or the same under these names of its tasks
-abbrev pub IsNamedBy : Option (List ℕ) → TaskSystem → TaskSystem → Type 0
-IsNamedBy None own system = own ≡ system
-IsNamedBy (Some names) own system = IsRenamed names own system
+-- the value of a file, or why there is none
+abbrev pub IsJudged : {A : Type 0} → (List ℕ → Option (List ℕ)) → (List ℕ → ℕ) → (List ℕ → ℕ) → List ℕ → (List ℕ → A → Type 0)
+    → (List ℕ → Answer → Type 0) → Result A Stop → Type 0
+IsJudged told before after name takes refuses result =
+    MatchResult result (λ value. (text : List ℕ) → told name ≡ Some text → takes text value) (IsStopAt told before after name refuses)
 
--- the positions are a term within the limits, and the system is that of the term, under the names
-abbrev pub HasTerm : Work → Type 0
-HasTerm work = IsTerms work.terms × IsNamedBy work.names (system_of_term (term_of work.terms)) work.system
+-- the word for a file of a permutation
+abbrev pub rank_word : Ranked → List ℕ
+rank_word Vertices = codes "perm"
+rank_word Tasks = codes "priority"
 
--- the tasks of an order, each by its name
-abbrev pub order_named : Option (List ℕ) → List ℕ → List ℕ
-order_named None order = order
-order_named (Some names) order = map (name_in names) order
+-- ---- files in turn
+
+-- the page of a refusal, or the count of one of them rose
+abbrev pub IsStop : (List ℕ → Option (List ℕ)) → (List ℕ → ℕ) → (List ℕ → ℕ) → List NamedFile
+    → (List (List ℕ) → Answer → Type 0) → Stop → Type 0
+IsStop told before after files refuses (stops.Refused page) =
+    (texts : List (List ℕ)) → AreTold told files texts → refuses texts (answer_of page)
+IsStop told before after files refuses stops.ReadFault = HasFailed told before after files
+IsStop told before after files refuses stops.NoMemory = Unit {0}
+
+-- the value of files, or why there is none
+abbrev pub AreJudged : {A : Type 0} → (List ℕ → Option (List ℕ)) → (List ℕ → ℕ) → (List ℕ → ℕ) → List NamedFile
+    → (List (List ℕ) → A → Type 0) → (List (List ℕ) → Answer → Type 0) → Result A Stop → Type 0
+AreJudged told before after files takes refuses result =
+    MatchResult result (λ value. (texts : List (List ℕ)) → AreTold told files texts → takes texts value)
+    (IsStop told before after files refuses)
+
+-- a permutation file of n vertices is refused
+abbrev pub IsRefusedOrder : ℕ → List (List ℕ) → Answer → Type 0
+IsRefusedOrder n [] answer = ⊥
+IsRefusedOrder n (text ∷ texts) answer = IsRefusedFile (codes "perm") perm_word (RefusesPerm n text) text answer
+
+-- what an input is read as
+abbrev pub IsProblemOf : Input → List (List ℕ) → Origin → Type 0
+IsProblemOf (tree_input input) texts (origins.Tree nodes) = IsTreeOf input texts nodes
+IsProblemOf (workflow_named name) (text ∷ []) (origins.Workflow positions) =
+    IsWorkflow text positions × Denotes positions (term_of positions)
+IsProblemOf input texts origin = ⊥
 
 -- the tasks of an order that was read
 abbrev pub numbers_of : Order → List ℕ
@@ -66,25 +101,25 @@ abbrev pub own_priority : Order → List ℕ
 own_priority (orders.Listed numbers) = numbers.items
 own_priority (orders.Planned plan) = priority_or plan.order plan.priority
 
--- the system of an input, and the order of a source with the priority that comes with it
-pub record IsOrderedOf (input : Input) (source : OrderSource) (texts : List (List ℕ)) (work : OrderedSystem) : Type 0 where
+-- the order that a source gives, and the priority that comes with it
+abbrev pub IsOrderRead : OrderSource → List (List ℕ) → Order → Type 0
+IsOrderRead source (text ∷ []) order =
+    IsOrderFrom source text (numbers_of order) × IsOwnPriority source text (numbers_of order) (own_priority order)
+IsOrderRead source texts order = ⊥
+
+-- the file of a source is refused, after any others
+abbrev pub IsRefusedSource : OrderSource → List (List ℕ) → Answer → Type 0
+IsRefusedSource source (text ∷ []) answer = (earlier : List (List ℕ)) → IsRefused (source_file source).role earlier text answer
+IsRefusedSource source texts answer = ⊥
+
+-- the problem of an input, and the order of a source
+pub record IsOrderedOf (input : Input) (source : OrderSource) (texts : List (List ℕ)) (ordered : OrderedProblem) : Type 0 where
   pub mine : List (List ℕ)
   pub text : List ℕ
   pub texts_are : texts ≡ mine ++ text ∷ []
-  pub is_system : IsSystemOf input mine work.system
-  pub is_order : IsOrderFrom source text (numbers_of work.order)
-  pub own : IsOwnPriority source text (numbers_of work.order) (own_priority work.order)
+  pub is_problem : IsProblemOf input mine ordered.problem
+  pub is_order : IsOrderRead source (text ∷ []) ordered.order
   pub accepted : AreAccepted (input_files input ++ source_file source ∷ []) [] texts
-
--- a permutation file of n vertices is refused
-abbrev pub IsRefusedOrder : ℕ → List (List ℕ) → Answer → Type 0
-IsRefusedOrder n [] answer = ⊥
-IsRefusedOrder n (text ∷ texts) answer = IsRefusedFile (codes "perm") perm_word (RefusesPerm n text) text answer
-
--- the count of the file rose, if one is named
-abbrev pub HasRisen : Option (List ℕ) → (List ℕ → ℕ) → (List ℕ → ℕ) → Type 0
-HasRisen None before after = ⊥
-HasRisen (Some name) before after = Rose (before name) (after name)
 
 -- ---- simulated runs
 
@@ -92,7 +127,7 @@ HasRisen (Some name) before after = Rose (before name) (after name)
 abbrev pub IsPriorityOf : Option (List ℕ) → ℕ → List (List ℕ) → Priority → Type 0
 IsPriorityOf None n [] priorities.Own = Unit {0}
 IsPriorityOf (Some name) n (text ∷ []) (priorities.Given numbers) = IsPerm n text numbers.items
-IsPriorityOf _ n texts priority = ⊥
+IsPriorityOf name n texts priority = ⊥
 
 -- a priority file of n tasks is refused
 abbrev pub IsRefusedRanking : ℕ → List (List ℕ) → Answer → Type 0
@@ -108,3 +143,12 @@ IsRanking n (priorities.Given numbers) = IsPermutation n numbers.items
 abbrev pub priority_beside : Order → Priority → List ℕ
 priority_beside order priorities.Own = own_priority order
 priority_beside order (priorities.Given numbers) = numbers.items
+
+-- ---- reports
+
+-- the page of a report, or why there is none
+abbrev pub IsReported : (List ℕ → Option (List ℕ)) → (List ℕ → ℕ) → (List ℕ → ℕ) → Request → Result Page Stop → Type 0
+IsReported told before after request result =
+    AreJudged told before after (files_of request)
+    (λ texts page. IsReport request texts (answer_of page) × IsSound request texts (answer_of page))
+    (IsFirstRefusal (files_of request) []) result

@@ -4,7 +4,7 @@ use Rattle.memplan.specs.declared.page.PageKind.{PageKind}
 use Rattle.memplan.specs.declared.page.PageKind.TheVariants as kinds
 use Rattle.memplan.specs.declared.status.Status.{Status}
 use Rattle.memplan.specs.declared.status.Status.TheVariants as status
-use Rattle.memplan.specs.Answer.{Answer}
+use Rattle.memplan.specs.Files.{Answer}
 
 abbrev pub status_of : PageKind → Status
 status_of kinds.Done = status.Done

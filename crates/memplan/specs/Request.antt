@@ -5,6 +5,7 @@ use Rattle.std.specs.Str.{bytes_eq}
 use Rattle.mp_text.specs.Text.{number_of}
 use Rattle.assembly_tree.specs.declared.front.Shape.{Shape}
 use Rattle.assembly_tree.specs.declared.front.Shape.TheVariants as shapes
+use Rattle.symbolic.specs.declared.options.FrontOptions.{FrontOptions}
 use Rattle.memplan.specs.Words.{Given, options_of, value_of, are_distinct, are_among}
 
 -- a matrix, by the name of its file, and how it becomes a tree of fronts
@@ -12,10 +13,7 @@ pub record Matrix : Type 0 where
   pub name : List ℕ
   -- the name of a permutation file; with none, the order of elimination is that of the file
   pub perm : Option (List ℕ)
-  pub shape : Shape
-  -- how many explicit zeros a merge of two fronts may add; with none, no fronts are merged
-  pub zeros : Option ℕ
-  pub inplace : Bool
+  pub fronts : FrontOptions
 
 -- what becomes a tree
 pub data TreeInput : Type 0 where
@@ -90,7 +88,11 @@ matrix_of options =
     option_and_then (λ zeros.
     option_and_then (λ inplace.
     if chooses_order (value_of (codes "--perm") options) (value_of (codes "--ordering") options)
-    then Some (record { name = name; perm = value_of (codes "--perm") options; shape = shape_of square; zeros = zeros; inplace = inplace })
+    then Some (record {
+      name = name;
+      perm = value_of (codes "--perm") options;
+      fronts = record { shape = shape_of square; zeros = zeros; inplace = inplace };
+    })
     else None)
     (is_second (codes "no") (codes "yes") (value_of (codes "--inplace") options)))
     (zeros_of (value_of (codes "--amalgamate") options)))

@@ -8,12 +8,12 @@ use Rattle.memplan.specs.declared.request.OrderSource.{OrderSource}
 use Rattle.memplan.specs.declared.request.OrderSource.TheVariants as sources
 use Rattle.memplan.specs.declared.request.Request.{Request}
 use Rattle.memplan.specs.declared.request.Request.TheVariants as commands
-use Rattle.memplan.specs.declared.request.SimulateNames.{SimulateNames}
+use Rattle.memplan.specs.declared.commands.simulate.Simulation.{Simulation}
 use Rattle.memplan.specs.declared.request.TreeInput.{TreeInput}
 use Rattle.memplan.specs.declared.request.TreeInput.TheVariants as trees
 
 abbrev pub matrix_view : Matrix → requests.Matrix
-matrix_view m = record { name = m.name.now; perm = option_map (λ name. name.now) m.perm; shape = m.shape; zeros = m.zeros; inplace = m.inplace }
+matrix_view m = record { name = m.name.now; perm = option_map (λ name. name.now) m.perm; fronts = m.fronts }
 
 abbrev pub tree_input_view : TreeInput → requests.TreeInput
 tree_input_view (trees.Tree name) = requests.tree_named name.now
@@ -27,7 +27,7 @@ abbrev pub source_view : OrderSource → requests.OrderSource
 source_view (sources.Order name) = requests.order_named name.now
 source_view (sources.Plan name) = requests.plan_named name.now
 
-abbrev pub simulation_view : SimulateNames → requests.Simulation
+abbrev pub simulation_view : Simulation → requests.Simulation
 simulation_view names = record { bound = names.bound; workers = names.workers; priority = option_map (λ name. name.now) names.priority }
 
 abbrev pub request_view : Request → requests.Request

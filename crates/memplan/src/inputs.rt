@@ -1,36 +1,31 @@
-//! The files of an input are read and judged one after the other, and come to a tree or a system.
+//! The files of an input are read and judged one after the other, and come to a tree or a problem; and so is the order of its tasks.
 
-ghost use Rattle.std.specs.Prelude.{◌≡◌, ◌≤◌, ℕ, List, [], ◌∷◌, ◌++◌, Some, IfOk, Err, length, option_map};
-ghost use Rattle.mp_outside.specs.Outside.{Rose};
-ghost use Rattle.memplan.specs.Request as spec;
-ghost use Rattle.sp_terms.specs.SystemOfTerm.{system_of_term};
-ghost use Rattle.sp_terms.specs.Values.{IsTerms, term_of};
-ghost use Rattle.tree_input.specs.Forest.{Forest, IsForestOf};
-ghost use Rattle.tree_input.specs.TreeTerm.{forest_positions};
-ghost use Rattle.tree_input.specs.Tree.{system_of_nodes};
-ghost use Rattle.memplan.specs.Request.{matrix_files, perm_files, tree_input_files, input_files, source_file};
-ghost use Rattle.memplan.specs.RequestViews.{matrix_view, tree_input_view, input_view, source_view};
-ghost use Rattle.memplan.specs.Answer.{IsOrderOf, IsMatrixTree, IsTreeOf, IsSystemOf, IsOrderFrom, IsRefused, IsOwnPriority, priority_or};
-ghost use Rattle.memplan.specs.Clauses.{AreTold, HasFailed};
+ghost use Rattle.std.specs.Prelude.{◌≡◌, ◌≤◌, ℕ, List, [], ◌∷◌, ◌++◌, IfOk, length, option_map};
 ghost use Rattle.activation.specs.Schedule.{HoldsEach};
 ghost use Rattle.mp_system.specs.System.{TaskSystem};
 ghost use Rattle.mp_system.specs.Traversal.{IsTraversal};
 ghost use Rattle.plan_text.specs.Plan.{IsPlan};
-ghost use Rattle.memplan.specs.Judged.{IsJudged, AreJudged, IsRefusedOrder, HasRisen, IsWorkOf, IsOrderedOf, HasTerm, numbers_of, own_priority};
+ghost use Rattle.memplan.specs.Files.{IsOrderOf, IsMatrixTree, IsTreeOf, IsFirstRefusal};
+ghost use Rattle.memplan.specs.Simulate.{priority_or};
+ghost use Rattle.memplan.specs.Judged.{AreJudged, IsRefusedOrder, IsProblemOf, IsOrderedOf, IsOrderRead, IsRefusedSource, numbers_of, own_priority};
+ghost use Rattle.memplan.specs.Request.{matrix_files, perm_files, tree_input_files, input_files, source_file};
+ghost use Rattle.memplan.specs.RequestViews.{matrix_view, tree_input_view, input_view, source_view};
 
-use crate::analysis::front_tree;
-use crate::judge::{Judged, load, order_of, pattern_of, perm_of, plan_of, tree_of, workflow_of};
-use crate::report::Stop;
+use crate::files::{
+    MatrixFile, OrderFile, PermFile, PlanTextFile, Ranked, TreeFile, WorkflowFile, judge,
+};
 use crate::request::{Input, Matrix, OrderSource, TreeInput};
+use crate::stop::Stop;
+use least_peak::Problem;
 use mp_outside::Files;
-use mp_system::System;
 use mp_system::laws::traversal_law;
+use ordering::laws::read_is_perm;
 use ordering::{Perm, identity};
 use plan_text::PlanFile;
-use sp_terms::{Terms, system_of};
-use std::alloc::{AllocError, Global};
-use tree_input::laws::{forest_law, tree_term};
-use tree_input::{Names, Tree, system_of_tree, terms_of_tree};
+use sp_terms::laws::terms_law;
+use std::alloc::Global;
+use symbolic::front_tree;
+use tree_input::Tree;
 
 // The order of elimination of a matrix of `n` vertices: of a permutation file, if one is named, or 1, 2, .., n.
 fn judge_perm<F: Files>(
@@ -38,45 +33,43 @@ fn judge_perm<F: Files>(
     files: &mut F,
     name: Option<&str>,
     n: u32,
-) -> Result<Judged<Perm>, Stop>
-    ensures told { IfOk result (λ judged. (texts : List (List ℕ)) → AreTold (F.bytes_of files.old) (perm_files (option_map (λ s. s.now) name.entry)) texts
-        → IsJudged (IsOrderOf (option_map (λ s. s.now) name.entry) n texts) (IsRefusedOrder n texts) judged) }
-    ensures len { IfOk result (λ judged. IsJudged (λ order. length order ≡ n) (λ _. Unit {0}) judged) }
-    ensures cause { result ≡ Err Stop.ReadFault → HasRisen (option_map (λ s. s.now) name.entry) (F.faults_of files.old) (F.faults_of files.new) }
+) -> Result<Perm, Stop>
+    ensures judged { AreJudged (F.bytes_of files.old) (F.faults_of files.old) (F.faults_of files.new)
+        (perm_files (option_map (λ s. s.now) name.entry)) (IsOrderOf (option_map (λ s. s.now) name.entry) n) (IsRefusedOrder n) result }
+    ensures len { IfOk result (λ order. length order ≡ n) }
     ensures same { (other : List ℕ) → F.bytes_of files.new other ≡ F.bytes_of files.old other }
     ensures later { (other : List ℕ) → F.faults_of files.old other ≤ F.faults_of files.new other }
 {
-    match name {
-        Some(name) => {
-            let loaded = load(alloc, files, name)?;
-            Ok(perm_of(alloc, loaded, n)?)
-        }
-        None => Ok(Judged::Taken(identity(alloc, n)?)),
-    }
+    read_is_perm();
+    let Some(name) = name else {
+        return Ok(identity(alloc, n)?);
+    };
+    let perm = judge(
+        alloc,
+        files,
+        name,
+        &PermFile {
+            ranked: Ranked::Vertices,
+            n,
+        },
+    )?;
+    Ok(perm)
 }
 
-// The tree of a matrix.
+/// The tree of the fronts of a matrix.
 pub fn judge_matrix<F: Files>(
     alloc: Global,
     files: &mut F,
     matrix: Matrix<'_>,
-) -> Result<Judged<Tree>, Stop>
-    ensures told { IfOk result (AreJudged (F.bytes_of files.old) (matrix_files (matrix_view matrix.entry)) (IsMatrixTree (matrix_view matrix.entry))) }
-    ensures cause { result ≡ Err Stop.ReadFault → HasFailed (F.bytes_of files.old) (F.faults_of files.old) (F.faults_of files.new) (matrix_files (matrix_view matrix.entry)) }
+) -> Result<Tree, Stop>
+    ensures judged { AreJudged (F.bytes_of files.old) (F.faults_of files.old) (F.faults_of files.new)
+        (matrix_files (matrix_view matrix.entry)) (IsMatrixTree (matrix_view matrix.entry)) (IsFirstRefusal (matrix_files (matrix_view matrix.entry)) []) result }
     ensures same { (other : List ℕ) → F.bytes_of files.new other ≡ F.bytes_of files.old other }
     ensures later { (other : List ℕ) → F.faults_of files.old other ≤ F.faults_of files.new other }
 {
-    let loaded = load(alloc, files, matrix.name)?;
-    let pattern = match pattern_of(alloc, loaded)? {
-        Judged::Taken(pattern) => pattern,
-        Judged::Refused(page) => return Ok(Judged::Refused(page)),
-    };
-    let perm = match judge_perm(alloc, files, matrix.perm, pattern.order())? {
-        Judged::Taken(perm) => perm,
-        Judged::Refused(page) => return Ok(Judged::Refused(page)),
-    };
-    let tree = front_tree(alloc, &matrix, &pattern, &perm)?;
-    Ok(Judged::Taken(tree))
+    let pattern = judge(alloc, files, matrix.name, &MatrixFile)?;
+    let perm = judge_perm(alloc, files, matrix.perm, pattern.order())?;
+    Ok(front_tree(alloc, &pattern, &perm, matrix.fronts)?)
 }
 
 /// The tree of an input.
@@ -84,139 +77,41 @@ pub fn judge_tree<F: Files>(
     alloc: Global,
     files: &mut F,
     input: TreeInput<'_>,
-) -> Result<Judged<Tree>, Stop>
-    ensures told { IfOk result (AreJudged (F.bytes_of files.old) (tree_input_files (tree_input_view input.entry)) (IsTreeOf (tree_input_view input.entry))) }
-    ensures cause { result ≡ Err Stop.ReadFault → HasFailed (F.bytes_of files.old) (F.faults_of files.old) (F.faults_of files.new) (tree_input_files (tree_input_view input.entry)) }
+) -> Result<Tree, Stop>
+    ensures judged { AreJudged (F.bytes_of files.old) (F.faults_of files.old) (F.faults_of files.new)
+        (tree_input_files (tree_input_view input.entry)) (IsTreeOf (tree_input_view input.entry))
+        (IsFirstRefusal (tree_input_files (tree_input_view input.entry)) []) result }
     ensures same { (other : List ℕ) → F.bytes_of files.new other ≡ F.bytes_of files.old other }
     ensures later { (other : List ℕ) → F.faults_of files.old other ≤ F.faults_of files.new other }
 {
     match input {
-        TreeInput::Tree(name) => {
-            let loaded = load(alloc, files, name)?;
-            Ok(tree_of(alloc, loaded)?)
-        }
+        TreeInput::Tree(name) => judge(alloc, files, name, &TreeFile),
         TreeInput::Matrix(matrix) => judge_matrix(alloc, files, matrix),
     }
 }
 
-// The system of a workflow file.
-fn judge_workflow<F: Files>(
+/// The problem of an input.
+pub fn judge_input<F: Files>(
     alloc: Global,
     files: &mut F,
-    name: &str,
-) -> Result<Judged<System>, Stop>
-    ensures told { IfOk result (AreJudged (F.bytes_of files.old) (input_files (spec.workflow_named name.now)) (IsSystemOf (spec.workflow_named name.now))) }
-    ensures cause { result ≡ Err Stop.ReadFault → HasFailed (F.bytes_of files.old) (F.faults_of files.old) (F.faults_of files.new) (input_files (spec.workflow_named name.now)) }
+    input: Input<'_>,
+) -> Result<Problem, Stop>
+    ensures judged { AreJudged (F.bytes_of files.old) (F.faults_of files.old) (F.faults_of files.new) (input_files (input_view input.entry))
+        (IsProblemOf (input_view input.entry)) (IsFirstRefusal (input_files (input_view input.entry)) []) result }
     ensures same { (other : List ℕ) → F.bytes_of files.new other ≡ F.bytes_of files.old other }
     ensures later { (other : List ℕ) → F.faults_of files.old other ≤ F.faults_of files.new other }
 {
-    let loaded = load(alloc, files, name)?;
-    match workflow_of(alloc, loaded)? {
-        Judged::Taken(terms) => {
-            let _positions = terms.len();
-            Ok(Judged::Taken(system_of(alloc, &terms)?))
+    match input {
+        Input::Tree(input) => {
+            let tree = judge_tree(alloc, files, input)?;
+            Ok(Problem::of_tree(alloc, tree)?)
         }
-        Judged::Refused(page) => Ok(Judged::Refused(page)),
-    }
-}
-
-// The system of an input.
-fn judge_input<F: Files>(
-    alloc: Global,
-    files: &mut F,
-    input: Input<'_>,
-) -> Result<Judged<System>, Stop>
-    ensures told { IfOk result (AreJudged (F.bytes_of files.old) (input_files (input_view input.entry)) (IsSystemOf (input_view input.entry))) }
-    ensures cause { result ≡ Err Stop.ReadFault → HasFailed (F.bytes_of files.old) (F.faults_of files.old) (F.faults_of files.new) (input_files (input_view input.entry)) }
-    ensures same { (other : List ℕ) → F.bytes_of files.new other ≡ F.bytes_of files.old other }
-    ensures later { (other : List ℕ) → F.faults_of files.old other ≤ F.faults_of files.new other }
-{
-    match input {
-        Input::Tree(input) => match judge_tree(alloc, files, input)? {
-            Judged::Taken(tree) => Ok(Judged::Taken(system_of_tree(alloc, &tree)?)),
-            Judged::Refused(page) => Ok(Judged::Refused(page)),
-        },
-        Input::Workflow(name) => judge_workflow(alloc, files, name),
-    }
-}
-
-/// A system of tasks, and its term.
-#[derive(Drop)]
-pub struct Work {
-    pub system: System,
-    pub terms: Terms,
-    /// What the tasks of the term are called in the system; without names each has its own number.
-    pub names: Option<Names>,
-}
-
-fn work_of_tree(alloc: Global, tree: &Tree) -> Result<Work, AllocError>
-    ensures system { IfOk result (λ work. work.system ≡ system_of_nodes tree.now) }
-    ensures terms { IfOk result (λ work. (forest : Forest) × IsForestOf tree.now forest × (work.terms ≡ forest_positions tree.now forest)) }
-    ensures names { IfOk result HasTerm }
-{
-    forest_law();
-    tree_term();
-    let _nodes = tree.nodes();
-    let system = system_of_tree(alloc, tree)?;
-    let named = terms_of_tree(alloc, tree)?;
-    Ok(Work {
-        system,
-        terms: named.terms,
-        names: Some(named.names),
-    })
-}
-
-fn work_of_terms(alloc: Global, terms: Terms) -> Result<Work, AllocError>
-    ensures system { IfOk result (λ work. work.system ≡ system_of_term (term_of terms)) }
-    ensures terms { IfOk result (λ work. (work.terms ≡ terms) × IsTerms terms) }
-    ensures names { IfOk result HasTerm }
-{
-    let _positions = terms.len();
-    let system = system_of(alloc, &terms)?;
-    Ok(Work {
-        system,
-        terms,
-        names: None,
-    })
-}
-
-// The system and the term of a workflow file.
-fn judge_workflow_work<F: Files>(
-    alloc: Global,
-    files: &mut F,
-    name: &str,
-) -> Result<Judged<Work>, Stop>
-    ensures told { IfOk result (AreJudged (F.bytes_of files.old) (input_files (spec.workflow_named name.now)) (IsWorkOf (spec.workflow_named name.now))) }
-    ensures names { IfOk result (IsJudged HasTerm (λ _. Unit {0})) }
-    ensures cause { result ≡ Err Stop.ReadFault → HasFailed (F.bytes_of files.old) (F.faults_of files.old) (F.faults_of files.new) (input_files (spec.workflow_named name.now)) }
-    ensures same { (other : List ℕ) → F.bytes_of files.new other ≡ F.bytes_of files.old other }
-    ensures later { (other : List ℕ) → F.faults_of files.old other ≤ F.faults_of files.new other }
-{
-    let loaded = load(alloc, files, name)?;
-    match workflow_of(alloc, loaded)? {
-        Judged::Taken(terms) => Ok(Judged::Taken(work_of_terms(alloc, terms)?)),
-        Judged::Refused(page) => Ok(Judged::Refused(page)),
-    }
-}
-
-/// The system and the term of an input.
-pub fn judge_work<F: Files>(
-    alloc: Global,
-    files: &mut F,
-    input: Input<'_>,
-) -> Result<Judged<Work>, Stop>
-    ensures told { IfOk result (AreJudged (F.bytes_of files.old) (input_files (input_view input.entry)) (IsWorkOf (input_view input.entry))) }
-    ensures names { IfOk result (IsJudged HasTerm (λ _. Unit {0})) }
-    ensures cause { result ≡ Err Stop.ReadFault → HasFailed (F.bytes_of files.old) (F.faults_of files.old) (F.faults_of files.new) (input_files (input_view input.entry)) }
-    ensures same { (other : List ℕ) → F.bytes_of files.new other ≡ F.bytes_of files.old other }
-    ensures later { (other : List ℕ) → F.faults_of files.old other ≤ F.faults_of files.new other }
-{
-    match input {
-        Input::Tree(input) => match judge_tree(alloc, files, input)? {
-            Judged::Taken(tree) => Ok(Judged::Taken(work_of_tree(alloc, &tree)?)),
-            Judged::Refused(page) => Ok(Judged::Refused(page)),
-        },
-        Input::Workflow(name) => judge_workflow_work(alloc, files, name),
+        Input::Workflow(name) => {
+            terms_law();
+            let terms = judge(alloc, files, name, &WorkflowFile)?;
+            terms.keeps();
+            Ok(Problem::of_workflow(alloc, terms)?)
+        }
     }
 }
 
@@ -269,59 +164,46 @@ fn judge_order<F: Files>(
     alloc: Global,
     files: &mut F,
     source: OrderSource<'_>,
-) -> Result<Judged<Order>, Stop>
-    ensures told { IfOk result (λ judged. (text : List ℕ) (earlier : List (List ℕ))
-        → F.bytes_of files.old (source_file (source_view source.entry)).name ≡ Some text
-        → IsJudged (λ order. IsOrderFrom (source_view source.entry) text (numbers_of order)) (IsRefused (source_file (source_view source.entry)).role earlier text) judged) }
-    ensures own { IfOk result (λ judged. (text : List ℕ) → F.bytes_of files.old (source_file (source_view source.entry)).name ≡ Some text
-        → IsJudged (λ order. IsOwnPriority (source_view source.entry) text (numbers_of order) (own_priority order)) (λ _. Unit {0}) judged) }
-    ensures cause { result ≡ Err Stop.ReadFault → Rose (F.faults_of files.old (source_file (source_view source.entry)).name) (F.faults_of files.new (source_file (source_view source.entry)).name) }
+) -> Result<Order, Stop>
+    ensures judged { AreJudged (F.bytes_of files.old) (F.faults_of files.old) (F.faults_of files.new)
+        (source_file (source_view source.entry) ∷ []) (IsOrderRead (source_view source.entry)) (IsRefusedSource (source_view source.entry)) result }
     ensures same { (other : List ℕ) → F.bytes_of files.new other ≡ F.bytes_of files.old other }
     ensures later { (other : List ℕ) → F.faults_of files.old other ≤ F.faults_of files.new other }
 {
     match source {
         OrderSource::Order(name) => {
-            let loaded = load(alloc, files, name)?;
-            match order_of(alloc, loaded)? {
-                Judged::Taken(numbers) => Ok(Judged::Taken(Order::Listed(numbers))),
-                Judged::Refused(page) => Ok(Judged::Refused(page)),
-            }
+            let numbers = judge(alloc, files, name, &OrderFile)?;
+            Ok(Order::Listed(numbers))
         }
         OrderSource::Plan(name) => {
-            let loaded = load(alloc, files, name)?;
-            match plan_of(alloc, loaded)? {
-                Judged::Taken(plan) => Ok(Judged::Taken(Order::Planned(plan))),
-                Judged::Refused(page) => Ok(Judged::Refused(page)),
-            }
+            let plan = judge(alloc, files, name, &PlanTextFile)?;
+            Ok(Order::Planned(plan))
         }
     }
 }
 
-/// A system, and an order of its tasks.
+/// A problem, and an order of its tasks.
 #[derive(Drop)]
-pub struct OrderedSystem {
-    pub system: System,
+pub struct OrderedProblem {
+    pub problem: Problem,
     pub order: Order,
 }
 
-/// The system of an input, and the order of a source.
+/// The problem of an input, and the order of a source.
 pub fn judge_ordered<F: Files>(
     alloc: Global,
     files: &mut F,
     input: Input<'_>,
     source: OrderSource<'_>,
-) -> Result<Judged<OrderedSystem>, Stop>
-    ensures told { IfOk result (AreJudged (F.bytes_of files.old) (input_files (input_view input.entry) ++ source_file (source_view source.entry) ∷ []) (IsOrderedOf (input_view input.entry) (source_view source.entry))) }
-    ensures cause { result ≡ Err Stop.ReadFault → HasFailed (F.bytes_of files.old) (F.faults_of files.old) (F.faults_of files.new) (input_files (input_view input.entry) ++ source_file (source_view source.entry) ∷ []) }
+) -> Result<OrderedProblem, Stop>
+    ensures judged { AreJudged (F.bytes_of files.old) (F.faults_of files.old) (F.faults_of files.new)
+        (input_files (input_view input.entry) ++ source_file (source_view source.entry) ∷ [])
+        (IsOrderedOf (input_view input.entry) (source_view source.entry))
+        (IsFirstRefusal (input_files (input_view input.entry) ++ source_file (source_view source.entry) ∷ []) []) result }
     ensures same { (other : List ℕ) → F.bytes_of files.new other ≡ F.bytes_of files.old other }
     ensures later { (other : List ℕ) → F.faults_of files.old other ≤ F.faults_of files.new other }
 {
-    let system = match judge_input(alloc, files, input)? {
-        Judged::Taken(system) => system,
-        Judged::Refused(page) => return Ok(Judged::Refused(page)),
-    };
-    match judge_order(alloc, files, source)? {
-        Judged::Taken(order) => Ok(Judged::Taken(OrderedSystem { system, order })),
-        Judged::Refused(page) => Ok(Judged::Refused(page)),
-    }
+    let problem = judge_input(alloc, files, input)?;
+    let order = judge_order(alloc, files, source)?;
+    Ok(OrderedProblem { problem, order })
 }

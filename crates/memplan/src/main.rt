@@ -1,43 +1,24 @@
 //! memplan orders tasks so that their temporary data needs as little memory as possible, and proves it.
 #![tactic(auto)]
 
-mod analysis;
+mod commands;
+mod files;
 mod inputs;
-mod judge;
-mod kind_words;
 mod page;
-mod planning;
-mod report;
 mod request;
 mod run;
-mod simulating;
 mod status;
+mod stop;
 #[cfg(test)]
 mod tests;
 mod words;
 
 use mp_outside::{NoGate, RealFiles, RealSink};
 pub use run::run_words;
-pub use status::Status;
+pub use status::{Status, code_of, complaint};
 use std::alloc::AllocError;
 use std::process::ExitCode;
 use std::{env, io};
-
-// The number with which the program ends.
-fn code_of(status: Status) -> u8 {
-    status as u8
-}
-
-// What is said of a run that wrote no report.
-fn complaint(status: Status) -> Option<&'static str> {
-    match status {
-        Status::Usage => Some("memplan: usage"),
-        Status::ReadFault => Some("memplan: read fault"),
-        Status::WriteFault => Some("memplan: write fault"),
-        Status::NoMemory => Some("memplan: no memory"),
-        _ => None,
-    }
-}
 
 fn main(rt: HostRuntime) -> ExitCode {
     let words: Result<Vec<String>, AllocError> = match env::args(&rt) {

@@ -4,10 +4,17 @@ ghost use Rattle.memplan.specs.Request.{is_second, chooses_order, zeros_within, 
 ghost use Rattle.memplan.specs.RequestViews.{matrix_view, tree_input_view, input_view, source_view, simulation_view, request_view};
 ghost use Rattle.memplan.specs.GivenViews.{given_views};
 
+use crate::commands::check::{Check, check_of};
+use crate::commands::plan::plan_of;
+use crate::commands::post::post_of;
+use crate::commands::replay::{Replay, replay_of};
+use crate::commands::simulate::{Simulation, simulate_of};
+use crate::commands::tree::tree_request_of;
 use crate::words::{Given, are_among, are_distinct, options_of, value_of};
 use assembly_tree::Shape;
 use mp_text::number;
 use std::alloc::{AllocError, Global};
+use symbolic::FrontOptions;
 
 /// A matrix, by the name of its file, and how it becomes a tree of fronts.
 #[derive(Clone, Copy, Debug)]
@@ -15,11 +22,8 @@ pub struct Matrix<'a> {
     pub name: &'a str,
     /// The name of a permutation file; with none, the order of elimination is that of the file.
     pub perm: Option<&'a str>,
-    pub shape: Shape,
-    /// How many explicit zeros a merge of two fronts may add, at most 2^40; with none, no fronts are merged.
-    pub zeros: Option<u64>,
-    /// Whether a front takes over the memory of a contribution block.
-    pub inplace: bool,
+    /// How the fronts are made, with at most 2^40 explicit zeros in a merge.
+    pub fronts: FrontOptions,
 }
 
 /// What becomes a tree: a tree file, by its name, or a matrix.
@@ -43,50 +47,21 @@ pub enum OrderSource<'a> {
     Plan(&'a str),
 }
 
-/// An input, and where its order stands.
-#[derive(Clone, Copy, Debug)]
-pub struct ReplayNames<'a> {
-    pub input: Input<'a>,
-    pub source: OrderSource<'a>,
-}
-
-/// An input, the name of a plan file, and by how many workers its claims are judged.
-#[derive(Clone, Copy, Debug)]
-pub struct CheckNames<'a> {
-    pub input: Input<'a>,
-    pub plan: &'a str,
-    /// From 1 to 4,096.
-    pub workers: u32,
-}
-
-/// An input, where its order stands, and how its run is simulated.
-#[derive(Clone, Copy, Debug)]
-pub struct SimulateNames<'a> {
-    pub input: Input<'a>,
-    pub source: OrderSource<'a>,
-    /// At most so much memory.
-    pub bound: u64,
-    /// From 1 to 4,096.
-    pub workers: u32,
-    /// The name of a priority file; with none, the priority is that of the plan, or the order.
-    pub priority: Option<&'a str>,
-}
-
 /// What the words ask for.
 #[derive(Clone, Copy, Debug)]
 pub enum Request<'a> {
     /// The peak of the input's system in the order.
-    Replay(ReplayNames<'a>),
+    Replay(Replay<'a>),
     /// The tree of a matrix.
     Tree(Matrix<'a>),
     /// The best postorder of a tree, and its peak.
     Post(TreeInput<'a>),
     /// Whether the plan is accepted for the input.
-    Check(CheckNames<'a>),
+    Check(Check<'a>),
     /// A traversal of least peak, with its certificate.
     Plan(Input<'a>),
     /// The run of the input's system on several workers within a bound, its tasks activated in the order.
-    Simulate(SimulateNames<'a>),
+    Simulate(Simulation<'a>),
 }
 
 // ---- the options of a matrix
@@ -146,13 +121,12 @@ fn matrix_of<'a>(options: &[Given<'a>]) -> Option<Matrix<'a>>
     } else {
         Shape::Triangle
     };
-    Some(Matrix {
-        name,
-        perm,
+    let fronts = FrontOptions {
         shape,
         zeros,
         inplace,
-    })
+    };
+    Some(Matrix { name, perm, fronts })
 }
 
 const MATRIX_NAMES: [&str; 6] = [
@@ -166,7 +140,8 @@ const MATRIX_NAMES: [&str; 6] = [
 
 // ---- inputs; each of them with these other options besides its own
 
-fn matrix_among<'a>(options: &[Given<'a>], others: &[&str]) -> Option<Matrix<'a>>
+/// A matrix.
+pub fn matrix_among<'a>(options: &[Given<'a>], others: &[&str]) -> Option<Matrix<'a>>
     ensures { option_map matrix_view result ≡ matrix_among (map (λ s. s.now) others.now) (given_views options.now) }
 {
     if are_among(options, &MATRIX_NAMES, others) {
@@ -176,8 +151,8 @@ fn matrix_among<'a>(options: &[Given<'a>], others: &[&str]) -> Option<Matrix<'a>
     }
 }
 
-// A tree or a matrix.
-fn tree_input_of<'a>(options: &[Given<'a>], others: &[&str]) -> Option<TreeInput<'a>>
+/// A tree or a matrix.
+pub fn tree_input_of<'a>(options: &[Given<'a>], others: &[&str]) -> Option<TreeInput<'a>>
     ensures { option_map tree_input_view result ≡ tree_input_of (map (λ s. s.now) others.now) (given_views options.now) }
 {
     if are_among(options, &["--tree"], others) {
@@ -189,8 +164,8 @@ fn tree_input_of<'a>(options: &[Given<'a>], others: &[&str]) -> Option<TreeInput
     Some(TreeInput::Matrix(matrix))
 }
 
-// A tree, a matrix or a workflow.
-fn input_of<'a>(options: &[Given<'a>], others: &[&str]) -> Option<Input<'a>>
+/// A tree, a matrix or a workflow.
+pub fn input_of<'a>(options: &[Given<'a>], others: &[&str]) -> Option<Input<'a>>
     ensures { option_map input_view result ≡ input_of (map (λ s. s.now) others.now) (given_views options.now) }
 {
     if let Some(input) = tree_input_of(options, others) {
@@ -203,10 +178,10 @@ fn input_of<'a>(options: &[Given<'a>], others: &[&str]) -> Option<Input<'a>>
     None
 }
 
-// ---- commands
+// ---- what several commands ask for
 
-// An order file or a plan file, not both.
-fn source_of<'a>(order: Option<&'a str>, plan: Option<&'a str>) -> Option<OrderSource<'a>>
+/// An order file or a plan file, not both.
+pub fn source_of<'a>(order: Option<&'a str>, plan: Option<&'a str>) -> Option<OrderSource<'a>>
     ensures { option_map source_view result ≡ source_of (option_map (λ s. s.now) order.entry) (option_map (λ s. s.now) plan.entry) }
 {
     match (order, plan) {
@@ -217,32 +192,8 @@ fn source_of<'a>(order: Option<&'a str>, plan: Option<&'a str>) -> Option<OrderS
     }
 }
 
-fn replay_of<'a>(options: &[Given<'a>]) -> Option<Request<'a>>
-    ensures value { option_map request_view result ≡ replay_of (given_views options.now) }
-    ensures workers { IfSome result (λ request. HasWorkers (request_view request)) }
-{
-    let input = input_of(options, &["--order", "--plan"])?;
-    let source = source_of(value_of(options, "--order"), value_of(options, "--plan"))?;
-    Some(Request::Replay(ReplayNames { input, source }))
-}
-
-fn tree_request_of<'a>(options: &[Given<'a>]) -> Option<Request<'a>>
-    ensures value { option_map request_view result ≡ tree_request_of (given_views options.now) }
-    ensures workers { IfSome result (λ request. HasWorkers (request_view request)) }
-{
-    let matrix = matrix_among(options, &[])?;
-    Some(Request::Tree(matrix))
-}
-
-fn post_of<'a>(options: &[Given<'a>]) -> Option<Request<'a>>
-    ensures value { option_map request_view result ≡ post_of (given_views options.now) }
-    ensures workers { IfSome result (λ request. HasWorkers (request_view request)) }
-{
-    let input = tree_input_of(options, &[])?;
-    Some(Request::Post(input))
-}
-
-fn workers_within(workers: u64) -> Option<u32>
+/// From 1 to 4,096 workers.
+pub fn workers_within(workers: u64) -> Option<u32>
     ensures value { result ≡ workers_within workers }
     ensures range { IfSome result AreWorkers }
 {
@@ -253,8 +204,8 @@ fn workers_within(workers: u64) -> Option<u32>
     }
 }
 
-// One worker, where no number is given.
-fn workers_of(given: Option<&str>) -> Option<u32>
+/// One worker, where no number is given.
+pub fn workers_of(given: Option<&str>) -> Option<u32>
     ensures value { result ≡ workers_or_one (option_map (λ s. s.now) given.entry) }
     ensures range { IfSome result AreWorkers }
 {
@@ -265,54 +216,14 @@ fn workers_of(given: Option<&str>) -> Option<u32>
     workers_within(workers)
 }
 
-fn check_of<'a>(options: &[Given<'a>]) -> Option<Request<'a>>
-    ensures value { option_map request_view result ≡ check_of (given_views options.now) }
-    ensures workers { IfSome result (λ request. HasWorkers (request_view request)) }
-{
-    let input = input_of(options, &["--plan", "--workers"])?;
-    let plan = value_of(options, "--plan")?;
-    let workers = workers_of(value_of(options, "--workers"))?;
-    Some(Request::Check(CheckNames {
-        input,
-        plan,
-        workers,
-    }))
-}
-
-fn plan_of<'a>(options: &[Given<'a>]) -> Option<Request<'a>>
-    ensures value { option_map request_view result ≡ plan_of (given_views options.now) }
-    ensures workers { IfSome result (λ request. HasWorkers (request_view request)) }
-{
-    let input = input_of(options, &[])?;
-    Some(Request::Plan(input))
-}
-
-// A number that is given.
-fn number_given(given: Option<&str>) -> Option<u64>
+/// A number that is given.
+pub fn number_given(given: Option<&str>) -> Option<u64>
     ensures { result ≡ number_given (option_map (λ s. s.now) given.entry) }
 {
     number(given?.as_bytes())
 }
 
-// One input and an order of its tasks, and the bound, the workers and the priority of its run.
-fn simulate_of<'a>(options: &[Given<'a>]) -> Option<Request<'a>>
-    ensures value { option_map request_view result ≡ simulate_of (given_views options.now) }
-    ensures workers { IfSome result (λ request. HasWorkers (request_view request)) }
-{
-    let names = ["--order", "--plan", "--bound", "--workers", "--priority"];
-    let input = input_of(options, &names)?;
-    let source = source_of(value_of(options, "--order"), value_of(options, "--plan"))?;
-    let bound = number_given(value_of(options, "--bound"))?;
-    let workers = number_given(value_of(options, "--workers"))?;
-    let workers = workers_within(workers)?;
-    Some(Request::Simulate(SimulateNames {
-        input,
-        source,
-        bound,
-        workers,
-        priority: value_of(options, "--priority"),
-    }))
-}
+// ---- commands
 
 fn command_of<'a>(command: &str, options: &[Given<'a>]) -> Option<Request<'a>>
     ensures value { option_map request_view result ≡ command_of command.now (given_views options.now) }

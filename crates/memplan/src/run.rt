@@ -1,16 +1,17 @@
-ghost use Rattle.std.specs.Prelude.{◌≡◌, ◌↔◌, ◌⊎◌, ℕ, List, Some, None, map, string_bytes};
+ghost use Rattle.std.specs.Prelude.{◌≡◌, ◌⊎◌, ◌<◌, ◌≤◌, ℕ, List, length, take};
 ghost use Rattle.mp_outside.specs.Outside.{Rose, Appended};
-ghost use Rattle.memplan.specs.Request.{Input, OrderSource, Request, Simulation, check, planning, simulate, request_of, files_of};
-ghost use Rattle.memplan.specs.Simulated.{IsSimulated};
-ghost use Rattle.memplan.specs.Pages.{status_of};
-ghost use Rattle.memplan.specs.Certified.{IsCertified};
-ghost use Rattle.memplan.specs.Planned.{IsBestPlan};
-ghost use Rattle.memplan.specs.Clauses.{AreTold, HasText, IsAnswered, IsCutShort, HasFailed, AreQuiet};
+ghost use Rattle.memplan.specs.Request.{Input, OrderSource, Request, Simulation, check, planning, simulate, files_of};
+ghost use Rattle.memplan.specs.Check.{IsCertified};
+ghost use Rattle.memplan.specs.Plan.{IsBestPlan};
+ghost use Rattle.memplan.specs.Simulate.{IsSimulated};
+ghost use Rattle.memplan.specs.Pages.{answer_of, status_of};
+ghost use Rattle.memplan.specs.Clauses.{Asks, AsksNothing, AreTold, HasText, IsAnswered, IsCutShort, HasFailed, AreQuiet};
 
-use crate::page::PageKind;
-use crate::report::{Stop, report};
+use crate::commands::report;
+use crate::page::{Page, PageKind};
 use crate::request::request_of;
 use crate::status::Status;
+use crate::stop::Stop;
 use mp_outside::{Files, Gate, Sink, write_all};
 use std::alloc::Global;
 use std::thread::Threads;
@@ -28,60 +29,77 @@ pub fn run_words<R: Threads + Sync, F: Files, S: Sink, G: Gate>(
     gate: &G,
 ) -> Status
     // with a status that has a text, the status and the bytes appended are an answer
-    ensures answered { HasText result → (request : Request) × (request_of (map (λ w. string_bytes w) words.now) ≡ Some request)
+    ensures answered { HasText result → (request : Request) × Asks words.now request
         × IsAnswered (F.bytes_of files.old) request result (S.written sink.old) (S.written sink.new) }
 
     // where a plan was checked and accepted, its order is a traversal of the input's system, its peak is the one that it states and that
     // was printed, and no traversal has a lower one
     ensures certified { result ≡ Status.Done → (input : Input) (plan : List ℕ) (workers : ℕ)
-        → request_of (map (λ w. string_bytes w) words.now) ≡ Some (check input plan workers)
-        → (texts : List (List ℕ)) → AreTold (F.bytes_of files.old) (files_of (check input plan workers)) texts
+        → Asks words.now (check input plan workers) → (texts : List (List ℕ)) → AreTold (F.bytes_of files.old) (files_of (check input plan workers)) texts
         → (printed : List ℕ) × IsCertified input texts printed × Appended (S.written sink.old) (S.written sink.new) printed }
 
     // where a plan was made, what was printed is a plan file: its order is a traversal of the input's system, its peak is the one that it
     // states, no traversal has a lower one, and `check` says yes to it
-    ensures planned { result ≡ Status.Done → (input : Input) → request_of (map (λ w. string_bytes w) words.now) ≡ Some (planning input)
+    ensures planned { result ≡ Status.Done → (input : Input) → Asks words.now (planning input)
         → (texts : List (List ℕ)) → AreTold (F.bytes_of files.old) (files_of (planning input)) texts
         → (printed : List ℕ) × IsBestPlan input texts printed × Appended (S.written sink.old) (S.written sink.new) printed }
 
     // where a run was simulated to its end, its events are one activation, one start and one finish of each task of the input's system, and
     // memory stayed within the bound, which is at least the peak of the order
     ensures simulated { result ≡ Status.Done → (input : Input) (source : OrderSource) (s : Simulation)
-        → request_of (map (λ w. string_bytes w) words.now) ≡ Some (simulate input source s)
-        → (texts : List (List ℕ)) → AreTold (F.bytes_of files.old) (files_of (simulate input source s)) texts
+        → Asks words.now (simulate input source s) → (texts : List (List ℕ)) → AreTold (F.bytes_of files.old) (files_of (simulate input source s)) texts
         → (printed : List ℕ) × IsSimulated input source s texts printed × Appended (S.written sink.old) (S.written sink.new) printed }
 
     // nothing is appended at usage, read fault and want of memory
-    ensures silent { (result ≡ Status.Usage) ⊎ ((result ≡ Status.ReadFault) ⊎ (result ≡ Status.NoMemory)) → S.written sink.new ≡ S.written sink.old }
+    ensures silent { (result ≡ Status.Usage) ⊎ ((result ≡ Status.ReadFault) ⊎ (result ≡ Status.NoMemory))
+        → S.written sink.new ≡ S.written sink.old }
 
     // at a write fault a proper prefix of an answer was appended
-    ensures proper_prefix { result ≡ Status.WriteFault → (request : Request) × (request_of (map (λ w. string_bytes w) words.now) ≡ Some request)
+    ensures proper_prefix { result ≡ Status.WriteFault → (request : Request) × Asks words.now request
         × IsCutShort (F.bytes_of files.old) request (S.written sink.old) (S.written sink.new) }
 
     // a fault comes only where the count of a file that the words name rose, or the sink's
-    ensures fault_cause { (result ≡ Status.ReadFault → (request : Request) × (request_of (map (λ w. string_bytes w) words.now) ≡ Some request)
+    ensures fault_cause { (result ≡ Status.ReadFault → (request : Request) × Asks words.now request
         × HasFailed (F.bytes_of files.old) (F.faults_of files.old) (F.faults_of files.new) (files_of request))
         × (result ≡ Status.WriteFault → Rose (S.faults sink.old) (S.faults sink.new)) }
 
     // usage is for words without a request, and they have it or want of memory
-    ensures usage_cause { (result ≡ Status.Usage → request_of (map (λ w. string_bytes w) words.now) ≡ None)
-        × (request_of (map (λ w. string_bytes w) words.now) ≡ None → (result ≡ Status.Usage) ⊎ (result ≡ Status.NoMemory)) }
+    ensures usage_cause { (result ≡ Status.Usage → AsksNothing words.now)
+        × (AsksNothing words.now → (result ≡ Status.Usage) ⊎ (result ≡ Status.NoMemory)) }
 
     // a request without a fault has an answer, or memory ran out
-    ensures complete { (request : Request) → request_of (map (λ w. string_bytes w) words.now) ≡ Some request
+    ensures complete { (request : Request) → Asks words.now request
         → AreQuiet (F.faults_of files.old) (F.faults_of files.new) (files_of request) → ¬ Rose (S.faults sink.old) (S.faults sink.new)
         → HasText result ⊎ (result ≡ Status.NoMemory) }
+
+    // the files tell what they told, and no count of faults fell
+    ensures same { (other : List ℕ) → F.bytes_of files.new other ≡ F.bytes_of files.old other }
+    ensures later { ((other : List ℕ) → F.faults_of files.old other ≤ F.faults_of files.new other)
+        × (S.faults sink.old ≤ S.faults sink.new) }
 {
     let request = match request_of(alloc, words) {
         Ok(Some(request)) => request,
         Ok(None) => return Status::Usage,
         Err(_) => return Status::NoMemory,
     };
-    let page = match report(rt, alloc, files, request, gate) {
-        Ok(page) => page,
-        Err(Stop::ReadFault) => return Status::ReadFault,
-        Err(Stop::NoMemory) => return Status::NoMemory,
-    };
+    match report(rt, alloc, files, request, gate) {
+        Ok(page) => written(sink, &page),
+        Err(Stop::Refused(page)) => written(sink, &page),
+        Err(Stop::ReadFault) => Status::ReadFault,
+        Err(Stop::NoMemory) => Status::NoMemory,
+    }
+}
+
+// Writes a page: its status, or that the sink failed after a proper prefix of it.
+fn written<S: Sink>(sink: &mut S, page: &Page) -> Status
+    ensures whole { HasText result → (result ≡ (answer_of page.now).status)
+        × Appended (S.written sink.old) (S.written sink.new) (answer_of page.now).text }
+    ensures fault { ¬ HasText result → result ≡ Status.WriteFault }
+    ensures proper_prefix { result ≡ Status.WriteFault → Rose (S.faults sink.old) (S.faults sink.new)
+        × ((n : ℕ) × (n < length (answer_of page.now).text)
+        × Appended (S.written sink.old) (S.written sink.new) (take n (answer_of page.now).text)) }
+    ensures later { S.faults sink.old ≤ S.faults sink.new }
+{
     match write_all(sink, page.report.bytes()) {
         Ok(()) => status_of(page.kind),
         Err(_) => Status::WriteFault,

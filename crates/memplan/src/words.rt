@@ -72,7 +72,8 @@ pub fn value_of<'a>(options: &[Given<'a>], name: &str) -> Option<&'a str>
 // Whether the option at a place is given again after it.
 fn is_repeated(options: &[Given<'_>], place: usize) -> bool
     requires { place < length options.now }
-    ensures { (d : GivenCode) → result ≡ list_any (λ option. bytes_eq option.name.now (slice_index_or options.now place d).name.now) (drop (place + 1) options.now) }
+    ensures { (d : GivenCode) → result
+        ≡ list_any (λ option. bytes_eq option.name.now (slice_index_or options.now place d).name.now) (drop (place + 1) options.now) }
 {
     let (_, after) = options.split_at(place + 1);
     is_given(after, options[place].name)
@@ -97,7 +98,8 @@ fn is_listed(names: &[&str], option: &Given<'_>) -> bool
 }
 
 fn are_listed(first: &[&str], second: &[&str], options: &[Given<'_>]) -> bool
-    ensures { result ≡ list_all (λ option. list_any (λ name. bytes_eq option.name.now name.now) first.now || list_any (λ name. bytes_eq option.name.now name.now) second.now) options.now }
+    ensures { result ≡ list_all (λ option. list_any (λ name. bytes_eq option.name.now name.now) first.now
+        || list_any (λ name. bytes_eq option.name.now name.now) second.now) options.now }
 {
     options.iter().all(|option| is_listed(first, option) || is_listed(second, option))
 }

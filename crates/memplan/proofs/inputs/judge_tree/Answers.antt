@@ -1,34 +1,22 @@
-use Rattle.std.proofs.Common.{◌≡◌, ◌∙◌, ℕ, List, Err, sym, ap, subst}
-use Rattle.std.proofs.lemmas.Result.{err_from_is_err_and}
-use Rattle.memplan.specs.declared.report.Stop.{Stop}
-use Rattle.memplan.specs.declared.report.Stop.TheVariants as stops
-use Rattle.memplan.specs.Answer.{IsTree, IsTreeOf}
-use Rattle.memplan.specs.Clauses.{HasFailed}
+use Rattle.std.proofs.Common.{ℕ, List, [], ◌∷◌, inl, sym, subst}
+use Rattle.std.specs.Prelude.{codes}
+use Rattle.tree_input.specs.Kinds.{word_of}
+use Rattle.tree_input.specs.TreeFile.{RefusesTree}
+use Rattle.memplan.specs.Files.{IsTree, IsTreeOf, IsRefusedFile, IsFirstRefusal}
 use Rattle.memplan.specs.Judged.{AreJudged}
 use Rattle.memplan.specs.Request.{NamedFile, tree_file, tree_named, tree_input_files}
 use Rattle.memplan.specs.RequestViews.{tree_input_view}
 use Rattle.memplan.specs.declared.request.TreeInput.{TreeInput}
-use Rattle.memplan.proofs.AnswerLemmas.{alone_failed, alone_judged}
+use Rattle.memplan.proofs.StepLemmas.{alone_judged}
 use Rattle.memplan.proofs.inputs.judge_tree.Goals as goal
 
-abbrev file : List ℕ → NamedFile
-file name = record { role = tree_file; name = name }
-
-pub returns-in_err-loaded-in-Tree-clause-cause : goal.returns-in_err-loaded-in-Tree-clause-cause
-returns-in_err-loaded-in-Tree-clause-cause g c = λ fault.
-    let p = err_from_is_err_and c.from_residual.result c.from_residual.ensures.1 in
-    let is : p.0 ≡ stops.ReadFault = cc (sym p.1 ∙ fault) in
-    let same : c.in_err-loaded-in-Tree.field-0.0 ≡ stops.ReadFault = sym p.2 ∙ is in
-    subst (λ (input : TreeInput). HasFailed (g.F.Files.bytes_of c.args.files.now) (g.F.Files.faults_of c.args.files.now) (g.F.Files.faults_of c.load.new.files) (tree_input_files (tree_input_view input)))
-    (sym c.in-Tree.is)
-    (alone_failed (g.F.Files.bytes_of c.args.files.now) (g.F.Files.faults_of c.args.files.now) (g.F.Files.faults_of c.load.new.files) (file c.in-Tree.name.now)
-    (c.in_err-loaded-in-Tree.ensures.cause (ap (λ (s : Stop). Err s) same)))
-
-pub returns-in_ok-tree_of-in-Tree-clause-told : goal.returns-in_ok-tree_of-in-Tree-clause-told
-returns-in_ok-tree_of-in-Tree-clause-told g c =
+pub returns-in-Tree-clause-judged : goal.returns-in-Tree-clause-judged
+returns-in-Tree-clause-judged g c =
     let told = g.F.Files.bytes_of c.args.files.now in
-    let judged = c.in_ok-tree_of-in-Tree.field-0 in
-    subst (λ (input : TreeInput). AreJudged told (tree_input_files (tree_input_view input)) (IsTreeOf (tree_input_view input)) judged)
+    let before = g.F.Files.faults_of c.args.files.now in
+    let after = g.F.Files.faults_of c.judge.new.files in
+    let file : NamedFile = record { role = tree_file; name = c.in-Tree.name.now } in
+    subst (λ (input : TreeInput). AreJudged told before after (tree_input_files (tree_input_view input)) (IsTreeOf (tree_input_view input)) (IsFirstRefusal (tree_input_files (tree_input_view input)) []) c.judge.result)
     (sym c.in-Tree.is)
-    (alone_judged told (file c.in-Tree.name.now) IsTree (IsTreeOf (tree_named c.in-Tree.name.now)) (λ text x is. is) judged
-    (λ text is. c.in_ok-tree_of-in-Tree.ensures text (c.in_ok-loaded-in-Tree.ensures.told text is)))
+    (alone_judged told before after file IsTree (λ (text : List ℕ). IsRefusedFile (codes "tree") word_of (RefusesTree text) text) (IsTreeOf (tree_named c.in-Tree.name.now)) (IsFirstRefusal (file ∷ []) [])
+    (λ text x is. is) (λ text answer refused. inl refused) c.judge.result c.judge.ensures.judged)

@@ -1,11 +1,10 @@
 use Rattle.std.proofs.Common.{◌≡◌, ◌∙◌, ℕ, List, map, string_bytes, Some, sym, ap, subst, refl, option_map}
-use Rattle.mp_outside.specs.Outside.{Appended}
-use Rattle.memplan.specs.Pages.{answer_of}
-use Rattle.memplan.specs.declared.status.Status.TheVariants.{Done}
-use Rattle.memplan.specs.Request.{Request, check, files_of, request_of, simulate}
+use Rattle.memplan.specs.Request.{Request, files_of, request_of, check, planning, simulate}
 use Rattle.memplan.specs.RequestViews.{request_view}
 use Rattle.memplan.specs.Clauses.{AreQuiet}
-use Rattle.memplan.proofs.AnswerLemmas.{quiet_has_not_failed}
+use Rattle.memplan.specs.Pages.{answer_of}
+use Rattle.memplan.proofs.StepLemmas.{quiet_has_not_failed}
+use Rattle.memplan.proofs.RunLemmas.{reported, was_refused, answers, is_cut, says}
 use Rattle.memplan.proofs.run.run_words.Goals as goal
 
 pub returns-in-Err-ReadFault-clause-complete : goal.returns-in-Err-ReadFault-clause-complete
@@ -15,26 +14,112 @@ returns-in-Err-ReadFault-clause-complete g c = λ request has quiet _.
     let same : request ≡ mine = cc (sym has ∙ has_mine) in
     absurd (quiet_has_not_failed (g.F.Files.bytes_of c.args.files.now) (g.F.Files.faults_of c.args.files.now) (g.F.Files.faults_of c.report.new.files) (files_of mine)
     (subst (λ (r : Request). AreQuiet (g.F.Files.faults_of c.args.files.now) (g.F.Files.faults_of c.report.new.files) (files_of r)) same quiet)
-    (c.in-Err-ReadFault.ensures.cause (rw c.in-Err-ReadFault.field-0-is refl)))
+    (rw c.in-Err-ReadFault.field-0-is at c.in-Err-ReadFault.ensures.told))
 
-pub returns-in-Ok-write_all-clause-certified : goal.returns-in-Ok-write_all-clause-certified
-returns-in-Ok-write_all-clause-certified g c = λ done input plan workers has texts are.
+pub returns-in-Ok-clause-answered : goal.returns-in-Ok-clause-answered
+returns-in-Ok-clause-answered g c = λ has_text.
+    let told = g.F.Files.bytes_of c.args.files.now in
+    let old = g.S.Sink.written c.args.sink.now in
     let mine = request_view c.in-Ok-Some.request in
     let has_mine : request_of (map (λ w. string_bytes w) c.args.words.now) ≡ Some mine = sym c.in-Ok-Some.ensures.value ∙ ap (option_map request_view) c.in-Ok-Some.field-0-is in
-    let same : mine ≡ check input plan workers = cc (sym has_mine ∙ has) in
-    let is_done : (answer_of c.in-Ok.page).status ≡ Done = sym c.status_of.ensures ∙ done in (
-      (answer_of c.in-Ok.page).text,
-      c.in-Ok.ensures.certified is_done input plan workers same texts are,
-      subst (λ (t : List ℕ). Appended (g.S.Sink.written c.args.sink.now) (g.S.Sink.written c.write_all.new.sink) t) c.bytes.ensures c.in-Ok-write_all.ensures.ok,
-    )
+    let answer = answer_of c.in-Ok.page in
+    let sound = reported told mine answer c.in-Ok.ensures.told in
+    let whole = c.written.ensures.whole has_text in
+    (mine, has_mine, answers told mine answer sound c.written.result old (g.S.Sink.written c.written.new.sink) whole.0 whole.1)
 
-pub returns-in-Ok-write_all-clause-simulated : goal.returns-in-Ok-write_all-clause-simulated
-returns-in-Ok-write_all-clause-simulated g c = λ done input source s has texts are.
+pub returns-in-Ok-clause-proper_prefix : goal.returns-in-Ok-clause-proper_prefix
+returns-in-Ok-clause-proper_prefix g c = λ fault.
+    let told = g.F.Files.bytes_of c.args.files.now in
+    let old = g.S.Sink.written c.args.sink.now in
     let mine = request_view c.in-Ok-Some.request in
     let has_mine : request_of (map (λ w. string_bytes w) c.args.words.now) ≡ Some mine = sym c.in-Ok-Some.ensures.value ∙ ap (option_map request_view) c.in-Ok-Some.field-0-is in
-    let same : mine ≡ simulate input source s = cc (sym has_mine ∙ has) in
-    let is_done : (answer_of c.in-Ok.page).status ≡ Done = sym c.status_of.ensures ∙ done in (
-      (answer_of c.in-Ok.page).text,
-      c.in-Ok.ensures.simulated is_done input source s same texts are,
-      subst (λ (t : List ℕ). Appended (g.S.Sink.written c.args.sink.now) (g.S.Sink.written c.write_all.new.sink) t) c.bytes.ensures c.in-Ok-write_all.ensures.ok,
-    )
+    let answer = answer_of c.in-Ok.page in
+    let sound = reported told mine answer c.in-Ok.ensures.told in
+    (mine, has_mine, is_cut told mine answer sound old (g.S.Sink.written c.written.new.sink) (c.written.ensures.proper_prefix fault).1)
+
+pub returns-in-Ok-clause-certified : goal.returns-in-Ok-clause-certified
+returns-in-Ok-clause-certified g c = λ done input plan workers has texts are.
+    let told = g.F.Files.bytes_of c.args.files.now in
+    let old = g.S.Sink.written c.args.sink.now in
+    let mine = request_view c.in-Ok-Some.request in
+    let has_mine : request_of (map (λ w. string_bytes w) c.args.words.now) ≡ Some mine = sym c.in-Ok-Some.ensures.value ∙ ap (option_map request_view) c.in-Ok-Some.field-0-is in
+    let answer = answer_of c.in-Ok.page in
+    let sound = reported told mine answer c.in-Ok.ensures.told in
+    let whole = c.written.ensures.whole (rw done tt) in
+    (answer.text, says told mine answer sound (check input plan workers) (cc (sym has_mine ∙ has)) texts are (sym whole.0 ∙ done), whole.1)
+
+pub returns-in-Ok-clause-planned : goal.returns-in-Ok-clause-planned
+returns-in-Ok-clause-planned g c = λ done input has texts are.
+    let told = g.F.Files.bytes_of c.args.files.now in
+    let old = g.S.Sink.written c.args.sink.now in
+    let mine = request_view c.in-Ok-Some.request in
+    let has_mine : request_of (map (λ w. string_bytes w) c.args.words.now) ≡ Some mine = sym c.in-Ok-Some.ensures.value ∙ ap (option_map request_view) c.in-Ok-Some.field-0-is in
+    let answer = answer_of c.in-Ok.page in
+    let sound = reported told mine answer c.in-Ok.ensures.told in
+    let whole = c.written.ensures.whole (rw done tt) in
+    (answer.text, says told mine answer sound (planning input) (cc (sym has_mine ∙ has)) texts are (sym whole.0 ∙ done), whole.1)
+
+pub returns-in-Ok-clause-simulated : goal.returns-in-Ok-clause-simulated
+returns-in-Ok-clause-simulated g c = λ done input source s has texts are.
+    let told = g.F.Files.bytes_of c.args.files.now in
+    let old = g.S.Sink.written c.args.sink.now in
+    let mine = request_view c.in-Ok-Some.request in
+    let has_mine : request_of (map (λ w. string_bytes w) c.args.words.now) ≡ Some mine = sym c.in-Ok-Some.ensures.value ∙ ap (option_map request_view) c.in-Ok-Some.field-0-is in
+    let answer = answer_of c.in-Ok.page in
+    let sound = reported told mine answer c.in-Ok.ensures.told in
+    let whole = c.written.ensures.whole (rw done tt) in
+    (answer.text, says told mine answer sound (simulate input source s) (cc (sym has_mine ∙ has)) texts are (sym whole.0 ∙ done), whole.1)
+
+pub returns-in-Err-Refused-clause-answered : goal.returns-in-Err-Refused-clause-answered
+returns-in-Err-Refused-clause-answered g c = λ has_text.
+    let told = g.F.Files.bytes_of c.args.files.now in
+    let old = g.S.Sink.written c.args.sink.now in
+    let mine = request_view c.in-Ok-Some.request in
+    let has_mine : request_of (map (λ w. string_bytes w) c.args.words.now) ≡ Some mine = sym c.in-Ok-Some.ensures.value ∙ ap (option_map request_view) c.in-Ok-Some.field-0-is in
+    let answer = answer_of c.in-Err-Refused.page in
+    let sound = was_refused told mine answer (rw c.in-Err-Refused.field-0-is at c.in-Err-Refused.ensures.told) in
+    let whole = c.written-in-Err-Refused.ensures.whole has_text in
+    (mine, has_mine, answers told mine answer sound c.written-in-Err-Refused.result old (g.S.Sink.written c.written-in-Err-Refused.new.sink) whole.0 whole.1)
+
+pub returns-in-Err-Refused-clause-proper_prefix : goal.returns-in-Err-Refused-clause-proper_prefix
+returns-in-Err-Refused-clause-proper_prefix g c = λ fault.
+    let told = g.F.Files.bytes_of c.args.files.now in
+    let old = g.S.Sink.written c.args.sink.now in
+    let mine = request_view c.in-Ok-Some.request in
+    let has_mine : request_of (map (λ w. string_bytes w) c.args.words.now) ≡ Some mine = sym c.in-Ok-Some.ensures.value ∙ ap (option_map request_view) c.in-Ok-Some.field-0-is in
+    let answer = answer_of c.in-Err-Refused.page in
+    let sound = was_refused told mine answer (rw c.in-Err-Refused.field-0-is at c.in-Err-Refused.ensures.told) in
+    (mine, has_mine, is_cut told mine answer sound old (g.S.Sink.written c.written-in-Err-Refused.new.sink) (c.written-in-Err-Refused.ensures.proper_prefix fault).1)
+
+pub returns-in-Err-Refused-clause-certified : goal.returns-in-Err-Refused-clause-certified
+returns-in-Err-Refused-clause-certified g c = λ done input plan workers has texts are.
+    let told = g.F.Files.bytes_of c.args.files.now in
+    let old = g.S.Sink.written c.args.sink.now in
+    let mine = request_view c.in-Ok-Some.request in
+    let has_mine : request_of (map (λ w. string_bytes w) c.args.words.now) ≡ Some mine = sym c.in-Ok-Some.ensures.value ∙ ap (option_map request_view) c.in-Ok-Some.field-0-is in
+    let answer = answer_of c.in-Err-Refused.page in
+    let sound = was_refused told mine answer (rw c.in-Err-Refused.field-0-is at c.in-Err-Refused.ensures.told) in
+    let whole = c.written-in-Err-Refused.ensures.whole (rw done tt) in
+    (answer.text, says told mine answer sound (check input plan workers) (cc (sym has_mine ∙ has)) texts are (sym whole.0 ∙ done), whole.1)
+
+pub returns-in-Err-Refused-clause-planned : goal.returns-in-Err-Refused-clause-planned
+returns-in-Err-Refused-clause-planned g c = λ done input has texts are.
+    let told = g.F.Files.bytes_of c.args.files.now in
+    let old = g.S.Sink.written c.args.sink.now in
+    let mine = request_view c.in-Ok-Some.request in
+    let has_mine : request_of (map (λ w. string_bytes w) c.args.words.now) ≡ Some mine = sym c.in-Ok-Some.ensures.value ∙ ap (option_map request_view) c.in-Ok-Some.field-0-is in
+    let answer = answer_of c.in-Err-Refused.page in
+    let sound = was_refused told mine answer (rw c.in-Err-Refused.field-0-is at c.in-Err-Refused.ensures.told) in
+    let whole = c.written-in-Err-Refused.ensures.whole (rw done tt) in
+    (answer.text, says told mine answer sound (planning input) (cc (sym has_mine ∙ has)) texts are (sym whole.0 ∙ done), whole.1)
+
+pub returns-in-Err-Refused-clause-simulated : goal.returns-in-Err-Refused-clause-simulated
+returns-in-Err-Refused-clause-simulated g c = λ done input source s has texts are.
+    let told = g.F.Files.bytes_of c.args.files.now in
+    let old = g.S.Sink.written c.args.sink.now in
+    let mine = request_view c.in-Ok-Some.request in
+    let has_mine : request_of (map (λ w. string_bytes w) c.args.words.now) ≡ Some mine = sym c.in-Ok-Some.ensures.value ∙ ap (option_map request_view) c.in-Ok-Some.field-0-is in
+    let answer = answer_of c.in-Err-Refused.page in
+    let sound = was_refused told mine answer (rw c.in-Err-Refused.field-0-is at c.in-Err-Refused.ensures.told) in
+    let whole = c.written-in-Err-Refused.ensures.whole (rw done tt) in
+    (answer.text, says told mine answer sound (simulate input source s) (cc (sym has_mine ∙ has)) texts are (sym whole.0 ∙ done), whole.1)

@@ -1,0 +1,15 @@
+use Rattle.memplan.specs.RequestViews.{input_view}
+use Rattle.memplan.proofs.StepLemmas.{passed}
+use Rattle.memplan.proofs.ReportLemmas.{planned}
+use Rattle.memplan.specs.Pages.{answer_of}
+use Rattle.memplan.proofs.commands.plan.report_plan.Goals as goal
+
+pub returns-in_err-problem-clause-told : goal.returns-in_err-problem-clause-told
+returns-in_err-problem-clause-told g c = passed c.from_residual.result _ _ c.in_err-problem.field-0.0 c.from_residual.ensures.1 c.in_err-problem.ensures.judged
+
+pub returns-clause-told : goal.returns-clause-told
+returns-clause-told g c = λ texts are.
+    let plan = c.in_ok-plan.plan in
+    let by = c.in_ok-plan.ensures.accepted in
+    planned c.printed_plan.ensures.text c.printed_length.ensures.text (input_view c.args.input) texts c.in_ok-problem.problem by.0 plan (answer_of c.in_ok-plan_page.field-0)
+    (c.in_ok-problem.ensures.judged texts are) by.1 c.in_ok-plan.ensures.within by.2 c.in_ok-plan.ensures.priority c.in_ok-plan.ensures.best c.in_ok-plan_page.ensures

@@ -1,6 +1,0 @@
-use Rattle.std.proofs.Common.{◌≡◌, map, take}
-use Rattle.mp_system.specs.Renaming.{name_in}
-use Rattle.memplan.proofs.planning.named.Given as goal
-
-abbrev pub invariant-loop-task : goal.invariant-loop-task
-invariant-loop-task l = l.named.items ≡ map (name_in l.names) (take l.task-index l.order)

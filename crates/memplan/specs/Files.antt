@@ -1,0 +1,184 @@
+-- What the files of a request say: what each is read as, or the answer that refuses it; the inputs that they make; and the first
+-- refusal, where they are judged in turn.
+use Rattle.std.specs.Prelude.{◌≡◌, ℕ, ◌<◌, ◌≤◌, List, [], ◌∷◌, ◌++◌, length, Option, Some, None, codes, decimal, ◌⊎◌}
+use Rattle.std.specs.List.{range_with_len}
+use Rattle.mp_text.specs.declared.refusals.Refusal.{Refusal}
+use Rattle.mp_text.specs.Report.{line_text}
+use Rattle.mp_system.specs.declared.system.OrderKind.{OrderKind}
+use Rattle.mp_system.specs.System.{TaskSystem}
+use Rattle.tree_input.specs.declared.node.Node.{Node}
+use Rattle.tree_input.specs.Tree.{system_of_nodes}
+use Rattle.tree_input.specs.Forest.{Forest, IsForestOf}
+use Rattle.tree_input.specs.TreeTerm.{forest_positions}
+use Rattle.tree_input.specs.TreeFile.{ReadsTree, RefusesTree}
+use Rattle.matrix_market.specs.MatrixFile.{ReadsPattern, RefusesPattern}
+use Rattle.sp_terms.specs.declared.position.Position.{Position}
+use Rattle.sp_terms.specs.Term.{Term}
+use Rattle.sp_terms.specs.Postfix.{Denotes}
+use Rattle.sp_terms.specs.SystemOfTerm.{system_of_term}
+use Rattle.sp_terms.specs.WorkflowFile.{ReadsWorkflow, RefusesWorkflow}
+use Rattle.ordering.specs.OrderFile.{ReadsOrder, RefusesOrder}
+use Rattle.ordering.specs.PermFile.{ReadsPerm, RefusesPerm}
+use Rattle.plan_text.specs.Plan.{PlanText}
+use Rattle.plan_text.specs.PlanFile.{ReadsPlan, RefusesPlan}
+use Rattle.symbolic.specs.FrontTree.{IsFrontTree}
+use Rattle.memplan.specs.declared.status.Status.{Status}
+use Rattle.memplan.specs.Request.{Matrix, TreeInput, tree_named, matrix_named, Input, tree_input, workflow_named, OrderSource, order_named, plan_named, tree, FileRole, tree_file, workflow_file, matrix_file, perm_file, order_file, plan_file, priority_file, NamedFile}
+use Rattle.sp_terms.specs.Kinds.{word_of as workflow_word}
+use Rattle.ordering.specs.Kinds.{perm_word, order_file_word}
+use Rattle.plan_text.specs.Kinds.{word_of as plan_word}
+use Rattle.limits.specs.Limits.{word_of as limit_word}
+use Rattle.tree_input.specs.Kinds.{word_of as tree_word}
+use Rattle.matrix_market.specs.Kinds.{word_of as matrix_word}
+use Rattle.mp_system.specs.Refusal.{word_of as order_word}
+use Rattle.mp_text.specs.declared.refusals.Refusal.TheVariants as refusals
+use Rattle.limits.specs.declared.name.LimitName.TheVariants as limits
+use Rattle.memplan.specs.declared.status.Status.TheVariants as status
+
+pub record Answer : Type 0 where
+  pub status : Status
+  pub text : List ℕ
+
+-- `refused format FILE KIND LINE`
+abbrev pub format_refused : List ℕ → List ℕ → ℕ → Answer
+format_refused file kind line = record { status = status.Format; text = line_text (codes "refused" ∷ codes "format" ∷ file ∷ kind ∷ decimal line ∷ []) }
+
+-- `refused limit FILE NAME`
+abbrev pub limit_refused : List ℕ → List ℕ → Answer
+limit_refused file name = record { status = status.Limit; text = line_text (codes "refused" ∷ codes "limit" ∷ file ∷ name ∷ []) }
+
+-- `no order PLACE KIND`
+abbrev pub order_refused : ℕ → OrderKind → Answer
+order_refused place kind = record { status = status.No; text = line_text (codes "no" ∷ codes "order" ∷ decimal place ∷ order_word kind ∷ []) }
+
+-- the line of a refusal of a file; with the word for the file, and the words for its kinds
+abbrev pub IsRefusedAs : {K : Type 0} → List ℕ → (K → List ℕ) → Refusal K → Answer → Type 0
+IsRefusedAs file word (refusals.Format fault) answer = answer ≡ format_refused file (word fault.kind) fault.line
+IsRefusedAs file word (refusals.Limit limit) answer = answer ≡ limit_refused file (limit_word limit)
+IsRefusedAs file word refusals.NoMemory answer = ⊥
+
+-- a file has at most 2^28 bytes
+abbrev pub IsWithinBytes : List ℕ → Type 0
+IsWithinBytes text = length text ≤ 268435456
+
+-- a file is too long, or its format refuses it; the length comes first
+abbrev pub IsRefusedFile : {K : Type 0} → List ℕ → (K → List ℕ) → (Refusal K → Type 0) → List ℕ → Answer → Type 0
+IsRefusedFile {K} file word refuses text answer =
+    ((268435456 < length text) × (answer ≡ limit_refused file (limit_word limits.Bytes)))
+    ⊎ (IsWithinBytes text × ((refusal : Refusal K) × refuses refusal × IsRefusedAs file word refusal answer))
+
+abbrev pub IsTree : List ℕ → List Node → Type 0
+IsTree text nodes = IsWithinBytes text × ReadsTree text nodes
+
+abbrev pub IsWorkflow : List ℕ → List Position → Type 0
+IsWorkflow text positions = IsWithinBytes text × ReadsWorkflow text positions
+
+abbrev pub IsMatrix : List ℕ → List (List ℕ) → Type 0
+IsMatrix text rows = IsWithinBytes text × ReadsPattern text rows
+
+-- an order of elimination of n vertices
+abbrev pub IsPerm : ℕ → List ℕ → List ℕ → Type 0
+IsPerm n text order = IsWithinBytes text × ReadsPerm n text order
+
+abbrev pub IsOrder : List ℕ → List ℕ → Type 0
+IsOrder text numbers = IsWithinBytes text × ReadsOrder text numbers
+
+abbrev pub IsPlanFile : List ℕ → PlanText → Type 0
+IsPlanFile text plan = IsWithinBytes text × ReadsPlan text plan
+
+-- the order of elimination that a matrix comes with: of its permutation file, or 1, 2, .., n
+abbrev pub IsOrderOf : Option (List ℕ) → ℕ → List (List ℕ) → List ℕ → Type 0
+IsOrderOf None n [] order = order ≡ range_with_len 1 n
+IsOrderOf None n (text ∷ texts) order = ⊥
+IsOrderOf (Some name) n [] order = ⊥
+IsOrderOf (Some name) n (text ∷ []) order = IsPerm n text order
+IsOrderOf (Some name) n (text ∷ more ∷ texts) order = ⊥
+
+-- the tree of a matrix, over the texts of its files
+abbrev pub IsMatrixTree : Matrix → List (List ℕ) → List Node → Type 0
+IsMatrixTree m [] nodes = ⊥
+IsMatrixTree m (text ∷ texts) nodes =
+    (rows : List (List ℕ)) × (order : List ℕ) × IsMatrix text rows × IsOrderOf m.perm (length rows) texts order × IsFrontTree m.fronts rows order nodes
+
+abbrev pub IsTreeOf : TreeInput → List (List ℕ) → List Node → Type 0
+IsTreeOf (tree_named name) [] nodes = ⊥
+IsTreeOf (tree_named name) (text ∷ []) nodes = IsTree text nodes
+IsTreeOf (tree_named name) (text ∷ more ∷ texts) nodes = ⊥
+IsTreeOf (matrix_named m) texts nodes = IsMatrixTree m texts nodes
+
+-- the system of an input: of a tree, or of the term that a workflow's positions denote
+abbrev pub IsSystemOf : Input → List (List ℕ) → TaskSystem → Type 0
+IsSystemOf (tree_input input) texts system = (nodes : List Node) × IsTreeOf input texts nodes × (system ≡ system_of_nodes nodes)
+IsSystemOf (workflow_named name) [] system = ⊥
+IsSystemOf (workflow_named name) (text ∷ []) system =
+    (positions : List Position) × (term : Term) × IsWorkflow text positions × Denotes positions term × (system ≡ system_of_term term)
+IsSystemOf (workflow_named name) (text ∷ more ∷ texts) system = ⊥
+
+-- the system of an input, and the positions of its term: a tree's are those of its forest, children in rising number
+abbrev pub IsSystemWithTerm : Input → List (List ℕ) → TaskSystem → List Position → Type 0
+IsSystemWithTerm (tree_input input) texts system positions =
+    (nodes : List Node) × (forest : Forest) × IsTreeOf input texts nodes × (system ≡ system_of_nodes nodes)
+    × IsForestOf nodes forest × (positions ≡ forest_positions nodes forest)
+IsSystemWithTerm (workflow_named name) [] system positions = ⊥
+IsSystemWithTerm (workflow_named name) (text ∷ []) system positions =
+    (term : Term) × IsWorkflow text positions × Denotes positions term × (system ≡ system_of_term term)
+IsSystemWithTerm (workflow_named name) (text ∷ more ∷ texts) system positions = ⊥
+
+-- the order that a source gives
+abbrev pub IsOrderFrom : OrderSource → List ℕ → List ℕ → Type 0
+IsOrderFrom (order_named name) text numbers = IsOrder text numbers
+IsOrderFrom (plan_named name) text numbers = (plan : PlanText) × IsPlanFile text plan × (numbers ≡ plan.order)
+
+-- a permutation file stands after the matrix file whose vertices it orders
+abbrev pub IsRefusedPerm : List (List ℕ) → List ℕ → Answer → Type 0
+IsRefusedPerm [] text answer = ⊥
+IsRefusedPerm (matrix ∷ earlier) text answer =
+    (rows : List (List ℕ)) × IsMatrix matrix rows × IsRefusedFile (codes "perm") perm_word (RefusesPerm (length rows) text) text answer
+
+abbrev pub IsAcceptedPerm : List (List ℕ) → List ℕ → Type 0
+IsAcceptedPerm [] text = ⊥
+IsAcceptedPerm (matrix ∷ earlier) text = (rows : List (List ℕ)) × (order : List ℕ) × IsMatrix matrix rows × IsPerm (length rows) text order
+
+-- a priority file stands after the files of the input whose tasks it ranks, and that of the order
+abbrev pub IsRefusedPriority : Input → List (List ℕ) → List ℕ → Answer → Type 0
+IsRefusedPriority input earlier text answer =
+    (mine : List (List ℕ)) × (one : List ℕ) × (system : TaskSystem) × (earlier ≡ mine ++ one ∷ []) × IsSystemOf input mine system
+    × IsRefusedFile (codes "priority") perm_word (RefusesPerm (length system.tasks) text) text answer
+
+abbrev pub IsAcceptedPriority : Input → List (List ℕ) → List ℕ → Type 0
+IsAcceptedPriority input earlier text =
+    (mine : List (List ℕ)) × (one : List ℕ) × (system : TaskSystem) × (priority : List ℕ) × (earlier ≡ mine ++ one ∷ [])
+    × IsSystemOf input mine system × IsPerm (length system.tasks) text priority
+
+-- the file is refused with this answer, after these texts of earlier files
+abbrev pub IsRefused : FileRole → List (List ℕ) → List ℕ → Answer → Type 0
+IsRefused tree_file earlier text answer = IsRefusedFile (codes "tree") tree_word (RefusesTree text) text answer
+IsRefused workflow_file earlier text answer = IsRefusedFile (codes "workflow") workflow_word (RefusesWorkflow text) text answer
+IsRefused matrix_file earlier text answer = IsRefusedFile (codes "matrix") matrix_word (RefusesPattern text) text answer
+IsRefused perm_file earlier text answer = IsRefusedPerm earlier text answer
+IsRefused order_file earlier text answer = IsRefusedFile (codes "order") order_file_word (RefusesOrder text) text answer
+IsRefused plan_file earlier text answer = IsRefusedFile (codes "plan") plan_word (RefusesPlan text) text answer
+IsRefused (priority_file input) earlier text answer = IsRefusedPriority input earlier text answer
+
+-- the file has a value, after these texts of earlier files
+abbrev pub IsAccepted : FileRole → List (List ℕ) → List ℕ → Type 0
+IsAccepted tree_file earlier text = (nodes : List Node) × IsTree text nodes
+IsAccepted workflow_file earlier text = (positions : List Position) × IsWorkflow text positions
+IsAccepted matrix_file earlier text = (rows : List (List ℕ)) × IsMatrix text rows
+IsAccepted perm_file earlier text = IsAcceptedPerm earlier text
+IsAccepted order_file earlier text = (numbers : List ℕ) × IsOrder text numbers
+IsAccepted plan_file earlier text = (plan : PlanText) × IsPlanFile text plan
+IsAccepted (priority_file input) earlier text = IsAcceptedPriority input earlier text
+
+-- some file is refused with this answer, and those before it have values; after earlier texts
+abbrev pub IsFirstRefusal : List NamedFile → List (List ℕ) → List (List ℕ) → Answer → Type 0
+IsFirstRefusal [] earlier texts answer = ⊥
+IsFirstRefusal (file ∷ files) earlier [] answer = ⊥
+IsFirstRefusal (file ∷ files) earlier (text ∷ texts) answer =
+    IsRefused file.role earlier text answer ⊎ (IsAccepted file.role earlier text × IsFirstRefusal files (earlier ++ text ∷ []) texts answer)
+
+-- each of these files has a value; after earlier texts
+abbrev pub AreAccepted : List NamedFile → List (List ℕ) → List (List ℕ) → Type 0
+AreAccepted [] earlier texts = Unit {0}
+AreAccepted (file ∷ files) earlier [] = ⊥
+AreAccepted (file ∷ files) earlier (text ∷ texts) = IsAccepted file.role earlier text × AreAccepted files (earlier ++ text ∷ []) texts

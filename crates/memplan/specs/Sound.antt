@@ -1,0 +1,18 @@
+-- No public clause names this.
+-- What a report says beside being an answer.
+use Rattle.std.specs.Prelude.{◌≡◌, ℕ, List}
+use Rattle.memplan.specs.declared.status.Status.TheVariants.{Done}
+use Rattle.memplan.specs.Check.{IsCertified}
+use Rattle.memplan.specs.Files.{Answer}
+use Rattle.memplan.specs.Plan.{IsBestPlan}
+use Rattle.memplan.specs.Simulate.{IsSimulated}
+use Rattle.memplan.specs.Request.{Request, replay, tree, post, check, planning, simulate}
+
+-- a yes certifies, a plan is best, and a run was simulated
+abbrev pub IsSound : Request → List (List ℕ) → Answer → Type 0
+IsSound (replay input source) texts answer = Unit {0}
+IsSound (tree m) texts answer = Unit {0}
+IsSound (post input) texts answer = Unit {0}
+IsSound (check input plan workers) texts answer = answer.status ≡ Done → IsCertified input texts answer.text
+IsSound (planning input) texts answer = answer.status ≡ Done → IsBestPlan input texts answer.text
+IsSound (simulate input source s) texts answer = answer.status ≡ Done → IsSimulated input source s texts answer.text

@@ -1,0 +1,99 @@
+//! `check`: whether a plan is accepted for an input.
+
+ghost use Rattle.std.specs.Prelude.{◌≡◌, ◌≤◌, ◌∷◌, [], ◌++◌, ℕ, List, IfOk, IfSome, option_map};
+ghost use Rattle.memplan.specs.Check.{verdict_answer};
+ghost use Rattle.memplan.specs.Judged.{IsReported};
+ghost use Rattle.memplan.specs.GivenViews.{given_views};
+ghost use Rattle.memplan.specs.Pages.{answer_of};
+ghost use Rattle.memplan.specs.Request.{AreWorkers, HasWorkers, check, check_of};
+ghost use Rattle.memplan.specs.RequestViews.{input_view, request_view};
+
+use crate::files::{PlanTextFile, judge};
+use crate::inputs::judge_input;
+use crate::page::{Page, PageKind, line_page, order_page};
+use crate::request::{Input, Request, input_of, workers_of};
+use crate::stop::Stop;
+use crate::words::{Given, value_of};
+use claim_check::{Objection, Verdict};
+use mp_outside::{Files, Gate};
+use mp_text::Token;
+use std::alloc::{AllocError, Global};
+use std::thread::Threads;
+
+/// An input, the name of a plan file, and by how many workers its claims are judged.
+#[derive(Clone, Copy, Debug)]
+pub struct Check<'a> {
+    pub input: Input<'a>,
+    pub plan: &'a str,
+    /// From 1 to 4,096.
+    pub workers: u32,
+}
+
+/// `check`, an input, `--plan NAME`, and `--workers N` if it is given.
+pub fn check_of<'a>(options: &[Given<'a>]) -> Option<Request<'a>>
+    ensures value { option_map request_view result ≡ check_of (given_views options.now) }
+    ensures workers { IfSome result (λ request. HasWorkers (request_view request)) }
+{
+    let input = input_of(options, &["--plan", "--workers"])?;
+    let plan = value_of(options, "--plan")?;
+    let workers = workers_of(value_of(options, "--workers"))?;
+    Some(Request::Check(Check {
+        input,
+        plan,
+        workers,
+    }))
+}
+
+// `yes PEAK`, or the line of an objection.
+fn verdict_page(alloc: Global, verdict: Verdict) -> Result<Page, AllocError>
+    ensures { IfOk result (λ page. answer_of page ≡ verdict_answer verdict) }
+{
+    let (yes, no) = (Token::Word("yes"), Token::Word("no"));
+    match verdict {
+        Verdict::Yes(peak) => line_page(alloc, PageKind::Done, &[yes, Token::Number(peak)]),
+        Verdict::No(Objection::Order(fault)) => order_page(alloc, fault),
+        Verdict::No(Objection::Peak { replayed, printed }) => {
+            let (replayed, printed) = (Token::Number(replayed), Token::Number(printed));
+            line_page(
+                alloc,
+                PageKind::No,
+                &[no, Token::Word("peak"), replayed, printed],
+            )
+        }
+        Verdict::No(Objection::Root { last }) => {
+            let last = Token::Number(u64::from(last));
+            line_page(alloc, PageKind::No, &[no, Token::Word("root"), last])
+        }
+        Verdict::No(Objection::Claim { position, shape }) => {
+            let (position, shape) = (
+                Token::Number(u64::from(position)),
+                Token::Word(shape.word()),
+            );
+            line_page(
+                alloc,
+                PageKind::No,
+                &[no, Token::Word("claim"), position, shape],
+            )
+        }
+    }
+}
+
+/// The verdict on the plan. `rt` and `gate` are for the threads of the checker.
+pub fn report_check<R: Threads + Sync, F: Files, G: Gate>(
+    rt: &R,
+    alloc: Global,
+    files: &mut F,
+    asked: Check<'_>,
+    gate: &G,
+) -> Result<Page, Stop>
+    requires { AreWorkers asked.workers }
+    ensures told { IsReported (F.bytes_of files.old) (F.faults_of files.old) (F.faults_of files.new)
+        (check (input_view asked.entry.input) asked.entry.plan.now asked.entry.workers) result }
+    ensures same { (other : List ℕ) → F.bytes_of files.new other ≡ F.bytes_of files.old other }
+    ensures later { (other : List ℕ) → F.faults_of files.old other ≤ F.faults_of files.new other }
+{
+    let problem = judge_input(alloc, files, asked.input)?;
+    let plan = judge(alloc, files, asked.plan, &PlanTextFile)?;
+    let verdict = problem.check(rt, alloc, &plan, asked.workers, gate)?;
+    Ok(verdict_page(alloc, verdict)?)
+}

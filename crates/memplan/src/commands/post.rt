@@ -1,0 +1,69 @@
+//! `post`: the best postorder of a tree, and its peak.
+
+ghost use Rattle.std.specs.Prelude.{◌≡◌, ◌≤◌, ℕ, List, IfOk, IfSome, option_map};
+ghost use Rattle.memplan.specs.Post.{IsPost, post_answer};
+ghost use Rattle.memplan.specs.Judged.{IsReported};
+ghost use Rattle.memplan.specs.GivenViews.{given_views};
+ghost use Rattle.memplan.specs.Pages.{answer_of};
+ghost use Rattle.memplan.specs.Request.{HasWorkers, post, post_of};
+ghost use Rattle.memplan.specs.RequestViews.{tree_input_view, request_view};
+
+use crate::inputs::judge_tree;
+use crate::page::{Page, PageKind, print_count, print_end, print_numbers};
+use crate::request::{Request, TreeInput, tree_input_of};
+use crate::stop::Stop;
+use crate::words::Given;
+use mp_outside::Files;
+use mp_text::Report;
+use mp_text::laws::printed_lines;
+use postorder_best::best_postorder;
+use std::alloc::{AllocError, Global};
+use tree_input::Tree;
+
+/// `post` and a tree or a matrix.
+pub fn post_of<'a>(options: &[Given<'a>]) -> Option<Request<'a>>
+    ensures value { option_map request_view result ≡ post_of (given_views options.now) }
+    ensures workers { IfSome result (λ request. HasWorkers (request_view request)) }
+{
+    let input = tree_input_of(options, &[])?;
+    Some(Request::Post(input))
+}
+
+// `peak PEAK`, `order N`, the nodes, `end`
+fn post_page(alloc: Global, peak: u64, order: &[u32]) -> Result<Page, AllocError>
+    ensures { IfOk result (λ page. answer_of page ≡ post_answer peak order.now) }
+{
+    printed_lines();
+    let mut report = Report::new(alloc);
+    print_count("peak", peak, &mut report)?;
+    print_count("order", order.len() as u64, &mut report)?;
+    print_numbers(order, &mut report)?;
+    print_end(&mut report)?;
+    Ok(Page {
+        kind: PageKind::Done,
+        report,
+    })
+}
+
+// The page of the best postorder.
+fn best_page(alloc: Global, tree: &Tree) -> Result<Page, AllocError>
+    ensures { IfOk result (λ page. IsPost tree.now (answer_of page)) }
+{
+    let post = best_postorder(alloc, tree)?;
+    post_page(alloc, post.peak, &post.order)
+}
+
+/// The best postorder, node by node.
+pub fn report_post<F: Files>(
+    alloc: Global,
+    files: &mut F,
+    input: TreeInput<'_>,
+) -> Result<Page, Stop>
+    ensures told { IsReported (F.bytes_of files.old) (F.faults_of files.old) (F.faults_of files.new)
+        (post (tree_input_view input.entry)) result }
+    ensures same { (other : List ℕ) → F.bytes_of files.new other ≡ F.bytes_of files.old other }
+    ensures later { (other : List ℕ) → F.faults_of files.old other ≤ F.faults_of files.new other }
+{
+    let tree = judge_tree(alloc, files, input)?;
+    Ok(best_page(alloc, &tree)?)
+}

@@ -1,0 +1,68 @@
+//! `replay`: the peak of an order of an input's tasks.
+
+ghost use Rattle.std.specs.Prelude.{◌≡◌, ◌≤◌, ℕ, List, [], IfOk, IfSome, option_map};
+ghost use Rattle.memplan.specs.Replay.{IsReplay};
+ghost use Rattle.memplan.specs.Judged.{IsReported};
+ghost use Rattle.memplan.specs.GivenViews.{given_views};
+ghost use Rattle.memplan.specs.Pages.{answer_of};
+ghost use Rattle.memplan.specs.Request.{HasWorkers, replay, replay_of};
+ghost use Rattle.memplan.specs.RequestViews.{input_view, source_view, request_view};
+ghost use Rattle.least_peak.specs.Problem.{system_of};
+
+use crate::inputs::judge_ordered;
+use crate::page::{Page, PageKind, line_page, order_page};
+use crate::request::{Input, OrderSource, Request, input_of, source_of};
+use crate::stop::Stop;
+use crate::words::{Given, value_of};
+use least_peak::Problem;
+use mp_outside::Files;
+use mp_system::ReplayRefusal;
+use mp_text::Token;
+use std::alloc::{AllocError, Global};
+
+/// An input, and where its order stands.
+#[derive(Clone, Copy, Debug)]
+pub struct Replay<'a> {
+    pub input: Input<'a>,
+    pub source: OrderSource<'a>,
+}
+
+/// `replay`, an input, and `--order NAME` or `--plan NAME`.
+pub fn replay_of<'a>(options: &[Given<'a>]) -> Option<Request<'a>>
+    ensures value { option_map request_view result ≡ replay_of (given_views options.now) }
+    ensures workers { IfSome result (λ request. HasWorkers (request_view request)) }
+{
+    let input = input_of(options, &["--order", "--plan"])?;
+    let source = source_of(value_of(options, "--order"), value_of(options, "--plan"))?;
+    Some(Request::Replay(Replay { input, source }))
+}
+
+// `peak PEAK`, or where the order is no traversal.
+fn replay_page(alloc: Global, problem: &Problem, order: &[u32]) -> Result<Page, AllocError>
+    ensures { IfOk result (λ page. IsReplay (system_of problem.now) order.now (answer_of page)) }
+{
+    match problem.replay(alloc, order) {
+        Ok(peak) => line_page(
+            alloc,
+            PageKind::Done,
+            &[Token::Word("peak"), Token::Number(peak)],
+        ),
+        Err(ReplayRefusal::Order(fault)) => order_page(alloc, fault),
+        Err(ReplayRefusal::NoMemory) => Err(AllocError),
+    }
+}
+
+/// The peak of the order, or its first fault.
+pub fn report_replay<F: Files>(
+    alloc: Global,
+    files: &mut F,
+    asked: Replay<'_>,
+) -> Result<Page, Stop>
+    ensures told { IsReported (F.bytes_of files.old) (F.faults_of files.old) (F.faults_of files.new)
+        (replay (input_view asked.entry.input) (source_view asked.entry.source)) result }
+    ensures same { (other : List ℕ) → F.bytes_of files.new other ≡ F.bytes_of files.old other }
+    ensures later { (other : List ℕ) → F.faults_of files.old other ≤ F.faults_of files.new other }
+{
+    let ordered = judge_ordered(alloc, files, asked.input, asked.source)?;
+    Ok(replay_page(alloc, &ordered.problem, ordered.order.numbers())?)
+}

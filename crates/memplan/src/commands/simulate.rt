@@ -1,0 +1,242 @@
+//! `simulate`: the run of an input's tasks on several workers under a bound on memory.
+
+ghost use Rattle.std.specs.Prelude.{◌≡◌, ◌≤◌, ◌++◌, ◌∷◌, [], ℕ, List, IfOk, IfSome, OnOk, IsTrue, length, map, option_map};
+ghost use Rattle.activation.specs.Schedule.{HoldsEach};
+ghost use Rattle.least_peak.specs.Problem.{system_of};
+ghost use Rattle.mp_system.specs.Traversal.{IsTraversal};
+ghost use Rattle.mp_text.specs.Report.{is_token, is_line_start, line_text, text_of_lines};
+ghost use Rattle.memplan.specs.Simulate.{IsSimulation, IsRun, event_word as event_text, event_line, report_lines};
+ghost use Rattle.memplan.specs.GivenViews.{given_views};
+ghost use Rattle.memplan.specs.Judged.{AreJudged, IsReported, IsPriorityOf, IsRefusedRanking, IsRanking, priority_beside, numbers_of};
+ghost use Rattle.memplan.specs.Pages.{answer_of};
+ghost use Rattle.memplan.specs.Request.{AreWorkers, HasWorkers, Input as AnyInput, simulate as simulation, simulate_of, priority_files};
+ghost use Rattle.memplan.specs.RequestViews.{input_view, source_view, simulation_view, request_view};
+ghost use Rattle.memplan.specs.declared.status.Status.TheVariants.{Done};
+
+use crate::files::{PermFile, Ranked, judge};
+use crate::inputs::{OrderedProblem, judge_ordered};
+use crate::page::{Page, PageKind, line_page, order_page, print_count, print_end};
+use crate::request::{
+    Input, OrderSource, Request, input_of, number_given, source_of, workers_within,
+};
+use crate::stop::Stop;
+use crate::words::{Given, value_of};
+use activation::{CoreRefusal, Event, EventKind, Simulator, Trace};
+use mp_outside::Files;
+use mp_text::laws::printed_lines;
+use mp_text::{Report, Token};
+use ordering::Perm;
+use ordering::laws::read_is_perm;
+use std::alloc::{AllocError, Global};
+
+/// An input, where its order stands, and how its run is simulated.
+#[derive(Clone, Copy, Debug)]
+pub struct Simulation<'a> {
+    pub input: Input<'a>,
+    pub source: OrderSource<'a>,
+    /// At most so much memory.
+    pub bound: u64,
+    /// From 1 to 4,096.
+    pub workers: u32,
+    /// The name of a priority file; with none, the priority is that of the plan, or the order.
+    pub priority: Option<&'a str>,
+}
+
+/// `simulate`, an input, an order of its tasks, and the bound, the workers and the priority of its run.
+pub fn simulate_of<'a>(options: &[Given<'a>]) -> Option<Request<'a>>
+    ensures value { option_map request_view result ≡ simulate_of (given_views options.now) }
+    ensures workers { IfSome result (λ request. HasWorkers (request_view request)) }
+{
+    let names = ["--order", "--plan", "--bound", "--workers", "--priority"];
+    let input = input_of(options, &names)?;
+    let source = source_of(value_of(options, "--order"), value_of(options, "--plan"))?;
+    let bound = number_given(value_of(options, "--bound"))?;
+    let workers = number_given(value_of(options, "--workers"))?;
+    let workers = workers_within(workers)?;
+    Some(Request::Simulate(Simulation {
+        input,
+        source,
+        bound,
+        workers,
+        priority: value_of(options, "--priority"),
+    }))
+}
+
+// ---- the report
+
+fn event_word(kind: EventKind) -> &'static str
+    ensures word { result.now ≡ event_text kind }
+    ensures token { IsTrue (is_token result.now) }
+{
+    match kind {
+        EventKind::Activate => "activate",
+        EventKind::Start => "start",
+        EventKind::Finish => "finish",
+    }
+}
+
+fn print_event(event: Event, report: &mut Report) -> Result<(), AllocError>
+    requires { IsTrue (is_line_start report.old) }
+    ensures start { OnOk result (IsTrue (is_line_start report.new)) }
+    ensures text { OnOk result (report.new ≡ report.old ++ line_text (event_line event)) }
+{
+    let word = Token::Word(event_word(event.kind));
+    report.line(&[
+        Token::Number(event.time),
+        word,
+        Token::Number(u64::from(event.task)),
+    ])
+}
+
+fn print_events(events: &[Event], report: &mut Report) -> Result<(), AllocError>
+    requires { IsTrue (is_line_start report.old) }
+    ensures start { OnOk result (IsTrue (is_line_start report.new)) }
+    ensures text { OnOk result (report.new ≡ report.old ++ text_of_lines (map event_line events.now)) }
+{
+    printed_lines();
+    for event in events {
+        print_event(*event, report)?;
+    }
+    Ok(())
+}
+
+// `makespan T`, `used U`, `booked B`, `events E`, the events, `end`
+fn trace_page(alloc: Global, trace: &Trace) -> Result<Page, AllocError>
+    ensures { IfOk result (λ page. answer_of page ≡ record {
+      status = Done;
+      text = text_of_lines (report_lines trace.now.makespan trace.now.used trace.now.booked trace.now.events.items);
+    }) }
+{
+    printed_lines();
+    let mut report = Report::new(alloc);
+    print_count("makespan", trace.makespan, &mut report)?;
+    print_count("used", trace.used, &mut report)?;
+    print_count("booked", trace.booked, &mut report)?;
+    print_count("events", trace.events.len() as u64, &mut report)?;
+    print_events(&trace.events, &mut report)?;
+    print_end(&mut report)?;
+    Ok(Page {
+        kind: PageKind::Done,
+        report,
+    })
+}
+
+// ---- the priority
+
+/// Where the priority of a run comes from.
+#[derive(Drop)]
+pub enum Priority {
+    /// It comes with the order.
+    Own,
+    /// It is read from a file.
+    Given(Vec<u32>),
+}
+
+// The numbers of a permutation by place.
+fn numbers_of(alloc: Global, perm: &Perm) -> Result<Vec<u32>, AllocError>
+    ensures { IfOk result (λ numbers. numbers.items ≡ perm.now) }
+{
+    let mut numbers = Vec::with_capacity(alloc, perm.len() as usize)?;
+    for place in 0..perm.len() {
+        numbers.push(perm.at(place + 1))?;
+    }
+    Ok(numbers)
+}
+
+// The priority of `n` tasks of a file, if one is named.
+fn judge_priority<F: Files>(
+    alloc: Global,
+    files: &mut F,
+    name: Option<&str>,
+    n: u32,
+) -> Result<Priority, Stop>
+    ensures judged { (input : AnyInput) → AreJudged (F.bytes_of files.old) (F.faults_of files.old) (F.faults_of files.new)
+        (priority_files input (option_map (λ s. s.now) name.entry)) (IsPriorityOf (option_map (λ s. s.now) name.entry) n)
+        (IsRefusedRanking n) result }
+    ensures each { IfOk result (IsRanking n) }
+    ensures same { (other : List ℕ) → F.bytes_of files.new other ≡ F.bytes_of files.old other }
+    ensures later { (other : List ℕ) → F.faults_of files.old other ≤ F.faults_of files.new other }
+{
+    read_is_perm();
+    let Some(name) = name else {
+        return Ok(Priority::Own);
+    };
+    let perm = judge(
+        alloc,
+        files,
+        name,
+        &PermFile {
+            ranked: Ranked::Tasks,
+            n,
+        },
+    )?;
+    Ok(Priority::Given(numbers_of(alloc, &perm)?))
+}
+
+// ---- the run
+
+// The priority of a run of these tasks, each of which stands in it once.
+fn chosen<'a>(ordered: &'a OrderedProblem, priority: &'a Priority) -> &'a [u32]
+    requires { IsRanking (length (system_of ordered.now.problem).tasks) priority.now }
+    ensures value { result.now ≡ priority_beside ordered.now.order priority.now }
+    ensures each { IsTraversal (system_of ordered.now.problem) (numbers_of ordered.now.order) →
+        HoldsEach (system_of ordered.now.problem) result.now }
+{
+    match priority {
+        Priority::Own => ordered.order.priority(),
+        Priority::Given(numbers) => numbers,
+    }
+}
+
+// The page of a run: its events, or why there is none.
+fn simulation_page(
+    alloc: Global,
+    ordered: &OrderedProblem,
+    priority: &[u32],
+    bound: u64,
+    workers: u32,
+) -> Result<Page, AllocError>
+    requires workers { AreWorkers workers }
+    requires priority { IsTraversal (system_of ordered.now.problem) (numbers_of ordered.now.order) →
+        HoldsEach (system_of ordered.now.problem) priority.now }
+    ensures answer { IfOk result (λ page. IsSimulation
+        (record { system = system_of ordered.now.problem; order = numbers_of ordered.now.order; bound = bound; workers = workers })
+        priority.now (answer_of page)) }
+    ensures run { IfOk result (λ page. (answer_of page).status ≡ Done → IsRun
+        (record { system = system_of ordered.now.problem; order = numbers_of ordered.now.order; bound = bound; workers = workers })
+        (answer_of page).text) }
+{
+    let order = ordered.order.numbers();
+    match ordered.problem.core(alloc, order, bound, workers) {
+        Ok(core) => {
+            let simulator = Simulator::new(alloc, core)?;
+            trace_page(alloc, &simulator.run(priority))
+        }
+        Err(CoreRefusal::Order(fault)) => order_page(alloc, fault),
+        Err(CoreRefusal::BoundBelow { bound, peak }) => {
+            let (bound, peak) = (Token::Number(bound), Token::Number(peak));
+            let words = [Token::Word("refused"), Token::Word("bound"), bound, peak];
+            line_page(alloc, PageKind::Bound, &words)
+        }
+        Err(CoreRefusal::NoMemory) => Err(AllocError),
+    }
+}
+
+/// The events of the run, or why there is none.
+pub fn report_simulate<F: Files>(
+    alloc: Global,
+    files: &mut F,
+    asked: Simulation<'_>,
+) -> Result<Page, Stop>
+    requires { AreWorkers asked.workers }
+    ensures told { IsReported (F.bytes_of files.old) (F.faults_of files.old) (F.faults_of files.new)
+        (simulation (input_view asked.entry.input) (source_view asked.entry.source) (simulation_view asked.entry)) result }
+    ensures same { (other : List ℕ) → F.bytes_of files.new other ≡ F.bytes_of files.old other }
+    ensures later { (other : List ℕ) → F.faults_of files.old other ≤ F.faults_of files.new other }
+{
+    let ordered = judge_ordered(alloc, files, asked.input, asked.source)?;
+    let count = ordered.problem.system().tasks().len() as u32;
+    let priority = judge_priority(alloc, files, asked.priority, count)?;
+    let priority = chosen(&ordered, &priority);
+    Ok(simulation_page(alloc, &ordered, priority, asked.bound, asked.workers)?)
+}
