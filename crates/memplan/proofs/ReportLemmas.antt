@@ -65,7 +65,7 @@ module _
 
 -- ---- a plan
 
-pub planned : ((plan : PlanText) → IsPlan plan → ReadsPlan (text_of plan) plan) → ((plan : PlanText) → IsPlan plan → length (text_of plan) ≤ 268435456)
+pub planned : ((plan : PlanText) → IsPlan plan → ReadsPlan (text_of plan) plan) → ((plan : PlanText) → IsPlan plan → length (text_of plan) ≤ most_bytes)
     → (input : Input) (texts : List (List ℕ)) (origin : Origin) (positions : List Position) (plan : PlanText) (answer : Answer) → IsProblemOf input texts origin
     → IsTermOf origin positions → IsPlan plan → IsAccepted (system_of origin) positions plan → plan.priority ≡ [] → IsBestTraversal (system_of origin) plan.order plan.peak
     → answer ≡ plan_answer plan → IsReport (planning input) texts answer × IsSound (planning input) texts answer

@@ -32,6 +32,7 @@ use Rattle.tree_input.specs.Kinds.{word_of as tree_word}
 use Rattle.matrix_market.specs.Kinds.{word_of as matrix_word}
 use Rattle.mp_system.specs.Refusal.{word_of as order_word}
 use Rattle.mp_text.specs.declared.refusals.Refusal.TheVariants as refusals
+use Rattle.limits.specs.Limits.{most_bytes}
 use Rattle.limits.specs.declared.name.LimitName.TheVariants as limits
 use Rattle.memplan.specs.declared.status.Status.TheVariants as status
 
@@ -59,12 +60,12 @@ IsRefusedAs file word refusals.NoMemory answer = ⊥
 
 -- a file has at most 2^28 bytes
 abbrev pub IsWithinBytes : List ℕ → Type 0
-IsWithinBytes text = length text ≤ 268435456
+IsWithinBytes text = length text ≤ most_bytes
 
 -- a file is too long, or its format refuses it; the length comes first
 abbrev pub IsRefusedFile : {K : Type 0} → List ℕ → (K → List ℕ) → (Refusal K → Type 0) → List ℕ → Answer → Type 0
 IsRefusedFile {K} file word refuses text answer =
-    ((268435456 < length text) × (answer ≡ limit_refused file (limit_word limits.Bytes)))
+    ((most_bytes < length text) × (answer ≡ limit_refused file (limit_word limits.Bytes)))
     ⊎ (IsWithinBytes text × ((refusal : Refusal K) × refuses refusal × IsRefusedAs file word refusal answer))
 
 abbrev pub IsTree : List ℕ → List Node → Type 0

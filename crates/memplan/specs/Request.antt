@@ -144,7 +144,7 @@ post_of options = option_map post (tree_input_of [] options)
 
 -- 1 to 4,096 workers
 abbrev pub workers_within : ℕ → Option ℕ
-workers_within n = if nat_le 1 n && nat_le n 4096 then Some n else None
+workers_within n = if nat_le 1 n && nat_le n most_workers then Some n else None
 
 -- one worker, where no number is given
 abbrev pub workers_or_one : Option (List ℕ) → Option ℕ
@@ -153,7 +153,7 @@ workers_or_one (Some word) = option_and_then workers_within (number_of word)
 
 -- what the number of workers of a request keeps to
 abbrev pub AreWorkers : ℕ → Type 0
-AreWorkers n = (1 ≤ n) × (n ≤ 4096)
+AreWorkers n = (1 ≤ n) × (n ≤ most_workers)
 
 abbrev pub HasWorkers : Request → Type 0
 HasWorkers (replay input source) = Unit {0}

@@ -197,7 +197,7 @@ pub fn workers_within(workers: u64) -> Option<u32>
     ensures value { result ≡ workers_within workers }
     ensures range { IfSome result AreWorkers }
 {
-    if 1 <= workers && workers <= 4096 {
+    if 1 <= workers && workers <= MOST_WORKERS {
         Some(workers as u32)
     } else {
         None
