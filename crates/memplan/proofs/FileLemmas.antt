@@ -3,6 +3,7 @@ use Rattle.std.proofs.Common.{◌≡◌, ◌∙◌, ◌<◌, ℕ, List, Option, 
 use Rattle.std.specs.Prelude.{codes}
 use Rattle.mp_text.specs.declared.refusals.Refusal.{Refusal}
 use Rattle.mp_text.specs.declared.refusals.Fault.{Fault}
+use Rattle.limits.specs.Limits.{most_bytes}
 use Rattle.limits.specs.declared.name.LimitName.{LimitName}
 use Rattle.mp_text.specs.declared.refusals.Refusal.TheVariants.{Format, Limit, NoMemory}
 use Rattle.memplan.specs.Files.{Answer, IsRefusedFile, IsWithinBytes, limit_refused}

@@ -1,5 +1,6 @@
 -- What a report answers, and what it says beside that.
 use Rattle.std.proofs.Common.{◌≡◌, ◌∙◌, ℕ, ◌≤◌, List, [], ◌∷◌, ◌++◌, refl, sym, ap, subst, inl, inr, length}
+use Rattle.limits.specs.Limits.{most_bytes}
 use Rattle.least_peak.specs.Best.{IsBestTraversal}
 use Rattle.least_peak.specs.Problem.{system_of, IsTermOf}
 use Rattle.least_peak.specs.declared.problem.Origin.{Origin}

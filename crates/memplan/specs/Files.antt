@@ -27,12 +27,11 @@ use Rattle.memplan.specs.Request.{Matrix, TreeInput, tree_named, matrix_named, I
 use Rattle.sp_terms.specs.Kinds.{word_of as workflow_word}
 use Rattle.ordering.specs.Kinds.{perm_word, order_file_word}
 use Rattle.plan_text.specs.Kinds.{word_of as plan_word}
-use Rattle.limits.specs.Limits.{word_of as limit_word}
+use Rattle.limits.specs.Limits.{most_bytes, word_of as limit_word}
 use Rattle.tree_input.specs.Kinds.{word_of as tree_word}
 use Rattle.matrix_market.specs.Kinds.{word_of as matrix_word}
 use Rattle.mp_system.specs.Refusal.{word_of as order_word}
 use Rattle.mp_text.specs.declared.refusals.Refusal.TheVariants as refusals
-use Rattle.limits.specs.Limits.{most_bytes}
 use Rattle.limits.specs.declared.name.LimitName.TheVariants as limits
 use Rattle.memplan.specs.declared.status.Status.TheVariants as status
 

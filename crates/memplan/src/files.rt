@@ -1,6 +1,7 @@
 //! A file is read whole and then judged: it has a value, or a page refuses it.
 
 ghost use Rattle.std.specs.Prelude.{◌≡◌, ◌<◌, ◌≤◌, ℕ, List, Some, IfOk, IfErr, IsTrue, MatchResult, codes, length};
+ghost use Rattle.limits.specs.Limits.{most_bytes};
 ghost use Rattle.mp_text.specs.Report.{is_token};
 ghost use Rattle.mp_text.specs.declared.refusals.Refusal.{Refusal};
 ghost use Rattle.matrix_market.specs.MatrixFile.{ReadsPattern, RefusesPattern};
