@@ -1,12 +1,12 @@
 -- What was read of a file, and the page that refuses it.
-use Rattle.std.proofs.Common.{◌≡◌, ◌∙◌, ◌<◌, ℕ, List, Option, Some, Result, Ok, Err, MatchResult, inl, inr, sym, subst, length}
+use Rattle.std.proofs.Common.{◌≡◌, ◌<◌, ℕ, List, Option, Some, Result, Ok, Err, MatchResult, inl, inr, subst, length}
 use Rattle.std.specs.Prelude.{codes}
 use Rattle.mp_text.specs.declared.refusals.Refusal.{Refusal}
 use Rattle.mp_text.specs.declared.refusals.Fault.{Fault}
 use Rattle.limits.specs.Limits.{most_bytes}
 use Rattle.limits.specs.declared.name.LimitName.{LimitName}
 use Rattle.mp_text.specs.declared.refusals.Refusal.TheVariants.{Format, Limit, NoMemory}
-use Rattle.memplan.specs.Files.{Answer, IsRefusedFile, IsWithinBytes, limit_refused}
+use Rattle.memplan.specs.Files.{IsRefusedFile, IsWithinBytes, limit_refused}
 use Rattle.memplan.specs.Judged.{IsRefusalOf, IsStopFor, IsStopAt}
 use Rattle.memplan.specs.Pages.{answer_of}
 use Rattle.memplan.specs.declared.stop.Stop.{Stop}

@@ -1,6 +1,5 @@
 -- What is judged of the files of an input, and of an order of its tasks.
-use Rattle.std.proofs.Common.{◌≡◌, ◌∙◌, ℕ, ◌≤◌, List, [], ◌∷◌, ◌++◌, Option, Some, None, refl, sym, ap, subst, inl, inr, arith, length}
-use Rattle.std.specs.Prelude.{codes}
+use Rattle.std.proofs.Common.{◌≡◌, ℕ, ◌≤◌, List, [], ◌∷◌, ◌++◌, Option, Some, None, refl, sym, subst, inl, arith, length}
 use Rattle.std.specs.List.{range_with_len}
 use Rattle.least_peak.specs.Problem.{system_of, IsTermOf}
 use Rattle.least_peak.specs.declared.problem.Origin.{Origin}
@@ -9,12 +8,12 @@ use Rattle.mp_system.specs.System.{TaskSystem}
 use Rattle.sp_terms.specs.declared.position.Position.{Position}
 use Rattle.sp_terms.specs.Values.{term_of}
 use Rattle.tree_input.specs.declared.node.Node.{Node}
-use Rattle.memplan.specs.Files.{Answer, IsAccepted, IsPerm, IsMatrix, IsOrderOf, IsOrderFrom, IsMatrixTree, IsTreeOf, IsSystemOf, IsSystemWithTerm, IsRefused, IsFirstRefusal, AreAccepted}
+use Rattle.memplan.specs.Files.{Answer, IsAccepted, IsMatrix, IsOrderOf, IsOrderFrom, IsMatrixTree, IsTreeOf, IsSystemOf, IsSystemWithTerm, IsFirstRefusal, AreAccepted}
 use Rattle.memplan.specs.Clauses.{AreTold}
 use Rattle.memplan.specs.Judged.{IsRefusedOrder, IsProblemOf, IsOrderRead, IsOrderedOf, IsRefusedSource, numbers_of}
 use Rattle.memplan.specs.declared.inputs.Order.{Order}
-use Rattle.memplan.specs.Request.{Matrix, TreeInput, tree_named, matrix_named, Input, tree_input, workflow_named, NamedFile, OrderSource, order_named, plan_named, matrix_file, perm_file, perm_files, matrix_files, tree_input_files, input_files, source_file}
-use Rattle.memplan.proofs.StepLemmas.{alone_told, over_both, accepted_after}
+use Rattle.memplan.specs.Request.{Matrix, TreeInput, tree_named, matrix_named, Input, tree_input, workflow_named, NamedFile, OrderSource, order_named, plan_named, matrix_file, perm_files, matrix_files, tree_input_files, input_files, source_file}
+use Rattle.memplan.proofs.StepLemmas.{over_both, accepted_after}
 
 -- ---- a matrix and its permutation
 

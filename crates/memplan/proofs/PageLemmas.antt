@@ -1,8 +1,6 @@
 -- Lines of a report.
-use Rattle.std.proofs.Common.{◌≡◌, ◌∙◌, ℕ, List, [], ◌∷◌, ◌++◌, ap, subst, sym, append_assoc}
-use Rattle.std.specs.Bool.{IsTrue}
-use Rattle.std.specs.List.{list_all}
-use Rattle.mp_text.specs.Report.{is_line_start, is_token, with_tokens, line_text, text_of_lines}
+use Rattle.std.proofs.Common.{◌≡◌, ◌∙◌, ℕ, List, [], ◌∷◌, ◌++◌, ap, append_assoc}
+use Rattle.mp_text.specs.Report.{line_text, text_of_lines}
 
 -- two lines, many, and a last one
 pub page-lines : ((text : List ℕ) (lines : List (List (List ℕ))) (line : List (List ℕ)) → (text ++ text_of_lines lines) ++ line_text line ≡ text ++ text_of_lines (lines ++ line ∷ []))

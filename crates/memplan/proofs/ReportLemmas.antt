@@ -1,5 +1,5 @@
 -- What a report answers, and what it says beside that.
-use Rattle.std.proofs.Common.{◌≡◌, ◌∙◌, ℕ, ◌≤◌, List, [], ◌∷◌, ◌++◌, refl, sym, ap, subst, inl, inr, length}
+use Rattle.std.proofs.Common.{◌≡◌, ◌∙◌, ℕ, ◌≤◌, List, [], ◌∷◌, ◌++◌, refl, sym, ap, subst, length}
 use Rattle.limits.specs.Limits.{most_bytes}
 use Rattle.least_peak.specs.Best.{IsBestTraversal}
 use Rattle.least_peak.specs.Problem.{system_of, IsTermOf}
@@ -17,7 +17,7 @@ use Rattle.memplan.specs.declared.status.Status.TheVariants as status
 use Rattle.memplan.specs.Answer.{IsReport}
 use Rattle.memplan.specs.Check.{yes_line, verdict_answer, IsCertified}
 use Rattle.memplan.specs.Files.{Answer, IsPlanFile}
-use Rattle.memplan.specs.Plan.{IsPlanOf, plan_answer, IsBestPlan}
+use Rattle.memplan.specs.Plan.{plan_answer, IsBestPlan}
 use Rattle.memplan.specs.Judged.{IsProblemOf}
 use Rattle.memplan.specs.Request.{Input, check, planning}
 use Rattle.memplan.specs.Sound.{IsSound}

@@ -1,5 +1,5 @@
 -- What a page that answers a request says: a report, or a first refusal, which is not done.
-use Rattle.std.proofs.Common.{◌≡◌, ◌∙◌, ℕ, ◌<◌, List, [], ◌∷◌, ◌++◌, Option, length, take, refl, sym, ap, subst, inl, inr}
+use Rattle.std.proofs.Common.{◌≡◌, ◌∙◌, ℕ, ◌<◌, List, [], ◌∷◌, ◌++◌, Option, length, take, sym, ap, subst, inl, inr}
 use Rattle.std.specs.Prelude.{codes}
 use Rattle.mp_outside.specs.Outside.{Appended}
 use Rattle.mp_text.specs.declared.refusals.Refusal.{Refusal}

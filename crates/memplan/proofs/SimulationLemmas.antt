@@ -1,9 +1,9 @@
 -- A simulation over the texts of the input, of the order and of the priority, and what a printed trace says of its run.
-use Rattle.std.proofs.Common.{◌≡◌, ◌∙◌, ℕ, ◌≤◌, List, [], ◌∷◌, ◌++◌, Option, Some, None, length, refl, sym, ap, subst, inl, inr, arith, append_assoc}
+use Rattle.std.proofs.Common.{◌≡◌, ◌∙◌, ℕ, ◌≤◌, List, [], ◌∷◌, ◌++◌, Option, Some, None, length, sym, ap, subst, inl, inr, arith, append_assoc}
 use Rattle.least_peak.specs.Problem.{system_of}
 use Rattle.memplan.specs.Answer.{IsReport}
-use Rattle.memplan.specs.Files.{Answer, IsFirstRefusal, AreAccepted}
-use Rattle.memplan.specs.Simulate.{IsOwnPriority, IsPriorityFrom, IsSimulation, setting_of, priority_or, simulation_answer, IsRun, report_lines}
+use Rattle.memplan.specs.Files.{Answer, IsFirstRefusal}
+use Rattle.memplan.specs.Simulate.{IsOwnPriority, IsPriorityFrom, IsSimulation, setting_of, priority_or, IsRun, report_lines}
 use Rattle.memplan.specs.Clauses.{AreTold}
 use Rattle.memplan.specs.Judged.{IsStop, IsOrderedOf, IsPriorityOf, IsRefusedRanking, numbers_of, own_priority, priority_beside}
 use Rattle.memplan.specs.Request.{Input, OrderSource, Simulation, NamedFile, simulate, input_files, source_file, priority_files, files_of}

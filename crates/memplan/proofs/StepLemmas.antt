@@ -1,10 +1,10 @@
 -- Files that are judged in turn: a stop among the first, a stop after them, and the texts of all.
-use Rattle.std.proofs.Common.{◌≡◌, ◌∙◌, ℕ, ◌≤◌, List, [], ◌∷◌, ◌++◌, Option, Some, None, Result, MatchResult, refl, sym, ap, subst, inl, inr, arith, append_assoc, length, length-append}
+use Rattle.std.proofs.Common.{◌≡◌, ◌∙◌, ℕ, ◌≤◌, List, [], ◌∷◌, ◌++◌, Option, Some, Result, MatchResult, refl, sym, ap, subst, inl, inr, arith, append_assoc, length, length-append}
 use Rattle.std.proofs.lemmas.List.{append-nil}
 use Rattle.std.proofs.lemmas.Result.{err_from_is_err_and, MatchResult-weaker}
 use Rattle.std.specs.Prelude.{IsErrAnd}
 use Rattle.mp_outside.specs.Outside.{Rose}
-use Rattle.memplan.specs.Files.{Answer, IsAccepted, IsFirstRefusal, AreAccepted}
+use Rattle.memplan.specs.Files.{Answer, IsFirstRefusal, AreAccepted}
 use Rattle.memplan.specs.Clauses.{AreTold, HasFailed, AreQuiet}
 use Rattle.memplan.specs.Judged.{IsStopAt, IsStop, IsJudged, AreJudged}
 use Rattle.memplan.specs.Pages.{answer_of}

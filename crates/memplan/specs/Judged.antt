@@ -1,10 +1,9 @@
 -- No public clause names this.
 -- What a step over files says of their texts: a value, or why there is none.
-use Rattle.std.specs.Prelude.{◌≡◌, ℕ, List, [], ◌∷◌, ◌++◌, Option, Some, None, Ok, Err, Result, MatchResult, length, codes}
+use Rattle.std.specs.Prelude.{◌≡◌, ℕ, List, [], ◌∷◌, ◌++◌, Option, Some, None, Ok, Err, Result, MatchResult, codes}
 use Rattle.mp_outside.specs.Outside.{Rose}
 use Rattle.mp_text.specs.declared.refusals.Refusal.{Refusal}
 use Rattle.mp_text.specs.declared.refusals.Refusal.TheVariants as refusals
-use Rattle.least_peak.specs.Problem.{system_of}
 use Rattle.least_peak.specs.declared.problem.Origin.{Origin}
 use Rattle.least_peak.specs.declared.problem.Origin.TheVariants as origins
 use Rattle.ordering.specs.Perm.{IsPerm as IsPermutation}

@@ -3,7 +3,6 @@ use Rattle.std.specs.Prelude.{◌≡◌, ℕ, List, [], ◌∷◌, ◌++◌}
 use Rattle.mp_system.specs.System.{TaskSystem}
 use Rattle.mp_system.specs.Memory.{peak_of}
 use Rattle.mp_system.specs.Traversal.{IsTraversal, IsLeast}
-use Rattle.tree_input.specs.TreeText.{text_of}
 use Rattle.sp_terms.specs.declared.position.Position.{Position}
 use Rattle.plan_text.specs.Plan.{PlanText, IsPlan}
 use Rattle.memplan.specs.Request.{Input}
@@ -11,7 +10,7 @@ use Rattle.plan_text.specs.Printed as plans
 use Rattle.claim_check.specs.Accepted as judged
 use Rattle.memplan.specs.declared.status.Status.TheVariants as status
 use Rattle.claim_check.specs.declared.verdict.Verdict.TheVariants.{Yes}
-use Rattle.memplan.specs.Files.{IsSystemOf, IsPlanFile, Answer, IsSystemWithTerm, IsAccepted}
+use Rattle.memplan.specs.Files.{IsSystemOf, IsPlanFile, Answer, IsSystemWithTerm}
 use Rattle.memplan.specs.Check.{IsCheckOf, verdict_answer}
 
 -- the plan file of a plan

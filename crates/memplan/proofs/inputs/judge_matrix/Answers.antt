@@ -1,9 +1,8 @@
-use Rattle.std.proofs.Common.{◌≡◌, ◌∙◌, ℕ, ◌≤◌, List, [], ◌∷◌, ◌++◌, inl, length, sym, subst}
+use Rattle.std.proofs.Common.{ℕ, List, [], ◌∷◌, ◌++◌, inl, length, subst}
 use Rattle.std.specs.Prelude.{codes}
 use Rattle.matrix_market.specs.Kinds.{word_of}
 use Rattle.matrix_market.specs.MatrixFile.{RefusesPattern}
-use Rattle.memplan.specs.Files.{IsFirstRefusal, IsMatrix, IsMatrixTree, IsOrderOf, IsRefusedFile, AreAccepted}
-use Rattle.memplan.specs.Clauses.{AreTold}
+use Rattle.memplan.specs.Files.{IsFirstRefusal, IsMatrixTree, IsOrderOf, IsRefusedFile, AreAccepted}
 use Rattle.memplan.specs.Judged.{IsStop, IsRefusedOrder}
 use Rattle.memplan.specs.Request.{perm_files}
 use Rattle.memplan.specs.RequestViews.{matrix_view}

@@ -1,4 +1,4 @@
-use Rattle.std.proofs.Common.{◌≡◌, ◌∙◌, ℕ, ◌≤◌, List, [], ◌∷◌, ◌++◌, arith}
+use Rattle.std.proofs.Common.{[], ◌∷◌, arith}
 use Rattle.memplan.specs.Judged.{IsRefusedSource}
 use Rattle.memplan.specs.Request.{input_files, source_file}
 use Rattle.memplan.specs.RequestViews.{input_view, source_view}

@@ -1,4 +1,4 @@
-use Rattle.std.proofs.Common.{◌≡◌, ◌∙◌, ℕ, List, map, string_bytes, Some, sym, ap, subst, refl, option_map}
+use Rattle.std.proofs.Common.{◌≡◌, ◌∙◌, map, string_bytes, Some, sym, ap, subst, option_map}
 use Rattle.memplan.specs.Request.{Request, files_of, request_of, check, planning, simulate}
 use Rattle.memplan.specs.RequestViews.{request_view}
 use Rattle.memplan.specs.Clauses.{AreQuiet}

@@ -1,4 +1,4 @@
-use Rattle.std.proofs.Common.{◌≡◌, ◌∙◌, ℕ, List, [], ◌∷◌, ◌++◌, inl, length, arith}
+use Rattle.std.proofs.Common.{◌∙◌, ℕ, List, [], ◌∷◌, inl, arith}
 use Rattle.std.specs.Prelude.{codes}
 use Rattle.plan_text.specs.PlanFile.{RefusesPlan}
 use Rattle.memplan.specs.Answer.{IsReport}

@@ -1,4 +1,3 @@
-use Rattle.std.proofs.Common.{refl}
 use Rattle.least_peak.specs.Problem.{system_of}
 use Rattle.memplan.specs.Judged.{numbers_of}
 use Rattle.memplan.specs.RequestViews.{input_view}

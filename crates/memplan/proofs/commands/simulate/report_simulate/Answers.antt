@@ -1,8 +1,7 @@
-use Rattle.std.proofs.Common.{◌≡◌, ◌∙◌, ℕ, List, [], ◌∷◌, ◌++◌, ap, subst, length}
+use Rattle.std.proofs.Common.{◌∙◌, List, [], ◌∷◌, ◌++◌, ap, subst, length}
 use Rattle.least_peak.specs.Problem.{system_of}
 use Rattle.mp_system.specs.System.{TaskSystem}
 use Rattle.mp_system.specs.declared.system.Task.{Task}
-use Rattle.memplan.specs.Files.{Answer, IsFirstRefusal}
 use Rattle.memplan.specs.Judged.{IsStop, IsPriorityOf, IsRefusedRanking}
 use Rattle.memplan.specs.Pages.{answer_of}
 use Rattle.memplan.specs.Request.{input_files, source_file, priority_files}
