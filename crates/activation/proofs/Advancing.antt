@@ -23,13 +23,13 @@ use Rattle.activation.proofs.Orders.{each, task_in_order, in_front, stands_once}
 use Rattle.activation.proofs.Changes.{is_changed, finishes_front, finish_adds, same_done}
 use Rattle.activation.proofs.Counting.{count_step}
 use Rattle.activation.proofs.Awaiting.{awaited_same, awaited_later, ready_from, awaits_none}
-use Rattle.activation.proofs.Spots.{same_test}
+use Rattle.std.specs.Cmp.{both_ways}
 use Rattle.activation.proofs.Keeping.{stands_appended}
 
 -- tasks that wait for as many items are ready alike
 ready_alike : (s : TaskSystem) (d e : ℕ → Bool) (t : ℕ) → awaited s e t ≡ awaited s d t → is_ready s e t ≡ is_ready s d t
 ready_alike s d e t same =
-    same_test _ _ (λ h. ready_from s d t (sym same ∙ awaits_none s e t h)) (λ h. ready_from s e t (same ∙ awaits_none s d t h))
+    both_ways _ _ (λ h. ready_from s d t (sym same ∙ awaits_none s e t h)) (λ h. ready_from s e t (same ∙ awaits_none s d t h))
 
 module _ {c : Setting} {st : State} {time : ℕ} {x : RunTables} (set' : IsSetting c) (safe : IsSafe c st) (r : IsRun c st time x) where
   -- a bound that grows

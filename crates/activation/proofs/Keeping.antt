@@ -10,8 +10,7 @@ use Rattle.mp_system.specs.Memory.{stands_in, is_ready}
 use Rattle.activation.specs.declared.events.Phase.{Phase}
 use Rattle.activation.specs.declared.events.Phase.TheVariants.{Running, Done}
 use Rattle.activation.specs.declared.events.EventKind.TheVariants.{Activate, Start, Finish}
-use Rattle.activation.specs.Numbers.{IsNumber}
-use Rattle.activation.specs.Running.{RunningValue}
+use Rattle.activation.specs.Running.{IsNumber, RunningValue}
 use Rattle.activation.specs.Machine.{Setting, State, phase_in, is_idle_phase, is_running_phase, is_done_phase, is_done, is_running, activated_tasks, MayActivate, MayStart, MayFinish, state_after}
 use Rattle.activation.specs.Safe.{IsSafe}
 use Rattle.activation.specs.Schedule.{task_entry}
@@ -23,7 +22,7 @@ use Rattle.activation.proofs.Phases.{idle_from, phase_read, phase_written, with_
 use Rattle.activation.proofs.Orders.{each, task_in_order, task_has_place, in_front}
 use Rattle.activation.proofs.Changes.{same_done, finish_adds, finishes_front}
 use Rattle.activation.proofs.Awaiting.{awaited_same, awaited_later, ready_from, awaits_none}
-use Rattle.activation.proofs.Spots.{same_test}
+use Rattle.std.specs.Cmp.{both_ways}
 
 -- what may start is startable
 pub start_startable : (c : Setting) (st : State) (task : ℕ) → MayStart c st task → is_startable c st task ≡ true
@@ -119,7 +118,7 @@ module _ {c : Setting} {st : State} {x : CoreTables} (a : AreCoreTables c st x) 
     pub front_read : {p : ℕ} → p ≡ get_or x.fixed.places (task - 1) p → stands_in (activated_tasks c st) task ≡ nat_lt p st.activated
     front_read {p} e =
         let at : p ≡ task_entry x.fixed.places task = number_read x.fixed.places task p is.0 (omega (arith, is.1, a.fixed.places_length)) e in
-        same_test _ _ (λ h. lt-ltb _ _ (omega (arith, at, place_of_activated task is h))) (λ h. activated_by_place task is (omega (arith, at, ltb-true _ _ h)))
+        both_ways _ _ (λ h. lt-ltb _ _ (omega (arith, at, place_of_activated task is h))) (λ h. activated_by_place task is (omega (arith, at, ltb-true _ _ h)))
 
     pub idle_read : {q : Phase} → q ≡ get_or st.phases (task - 1) q → is_idle_phase (phase_in st.phases task) ≡ is_idle_phase q
     idle_read {q} e = ap is_idle_phase (sym (phase_read st.phases task q is.0 (omega (arith, is.1, a.safe.phases)) e))
@@ -127,7 +126,7 @@ module _ {c : Setting} {st : State} {x : CoreTables} (a : AreCoreTables c st x) 
     pub ready_read : {n : ℕ} → n ≡ get_or x.waiting (task - 1) n → is_ready c.system (is_done st) task ≡ (n == 0)
     ready_read {n} e =
         let left : n ≡ awaited c.system (is_done st) task = number_read x.waiting task n is.0 (omega (arith, is.1, a.waiting_length)) e ∙ a.waiting_are task is in
-        same_test _ _ (λ h. eq-eqb n 0 (omega (arith, left, awaits_none c.system (is_done st) task h))) (λ h. ready_from c.system (is_done st) task (omega (arith, left, eqb-true n 0 h)))
+        both_ways _ _ (λ h. eq-eqb n 0 (omega (arith, left, awaits_none c.system (is_done st) task h))) (λ h. ready_from c.system (is_done st) task (omega (arith, left, eqb-true n 0 h)))
 
   -- what may start
   pub yes_start : (task : ℕ) → is_startable c st task ≡ true → length x.running.listed < x.running.room → MayStart c st task

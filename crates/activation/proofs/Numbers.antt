@@ -1,5 +1,5 @@
 -- A list with a number for each task, when one number changes.
-use Rattle.std.proofs.Common.{◌≡◌, ◌≢◌, ℕ, zero, suc, ◌+◌, ◌-◌, ◌<◌, ◌≤◌, true, false, cond, List, length, get_or, refl, sym, subst, add-one, ◌∙◌, ap, arith, ⊎_elim, Option, Some, set, get_or-set_same, get_or-set_other}
+use Rattle.std.proofs.Common.{◌≡◌, ◌≢◌, ℕ, zero, suc, ◌+◌, ◌-◌, ◌<◌, ◌≤◌, true, false, cond, List, length, get_or, refl, sym, add-one, ◌∙◌, ap, arith, ⊎_elim, Option, Some, set, get_or-set_same, get_or-set_other}
 use Rattle.std.specs.Prelude.{◌==◌, replicate}
 use Rattle.std.proofs.lemmas.List.{get_or_read}
 use Rattle.std.proofs.lemmas.Bool.{cases_eq, eq-eqb, ne_eqb}
@@ -71,7 +71,3 @@ named task t is = ap (λ (o : Option ℕ). is_named o t) is ∙ eq-eqb t t refl
 pub number_next : (xs : List ℕ) (k : ℕ) → task_entry xs (k + 1) ≡ get_or xs k 0
 unfolding task_entry
 number_next xs k = rw add-one refl
-
--- a test of all numbers below i, and at i
-pub below_next : {P : ℕ → Type 0} (i : ℕ) → ((k : ℕ) → k < i → P k) → P i → (k : ℕ) → k < i + 1 → P k
-below_next {P} i before here k w = ⊎_elim (λ e. subst P (sym e) here) (λ n. before k (omega arith)) (cases_eq k i)

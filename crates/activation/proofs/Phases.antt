@@ -4,7 +4,7 @@ use Rattle.std.proofs.lemmas.List.{length-set, get_or_read, get_or_past}
 use Rattle.std.proofs.lemmas.Bool.{cases_lt}
 use Rattle.activation.specs.declared.events.Phase.{Phase}
 use Rattle.activation.specs.declared.events.Phase.TheVariants.{Idle, Running, Done}
-use Rattle.activation.specs.Numbers.{IsNumber}
+use Rattle.activation.specs.Running.{IsNumber}
 use Rattle.activation.specs.Machine.{phase_in, with_phase, is_idle_phase, is_running_phase, is_done_phase}
 
 pub with_phase_same : (ps : List Phase) (t : ℕ) (p : Phase) → 0 < t → t ≤ length ps → phase_in (with_phase ps t p) t ≡ p

@@ -3,7 +3,7 @@ use Rattle.std.proofs.Common.{◌≡◌, ◌≢◌, ℕ, ◌+◌, ◌-◌, ◌<�
 use Rattle.std.proofs.lemmas.Bool.{cases_eq, cases_Bool, eq-eqb, ne_eqb}
 use Rattle.mp_system.specs.declared.system.Item.{Item}
 use Rattle.mp_system.specs.System.{is_named, is_input}
-use Rattle.activation.specs.Numbers.{IsNumber}
+use Rattle.activation.specs.Running.{IsNumber}
 use Rattle.activation.specs.Schedule.{task_entry}
 use Rattle.activation.specs.Run.{AreRanks}
 use Rattle.activation.specs.Tables.{consumed_by, no_item}

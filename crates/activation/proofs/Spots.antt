@@ -1,23 +1,17 @@
 -- Lists of running tasks with the place of each.
-use Rattle.std.proofs.Common.{◌≡◌, ◌≢◌, ℕ, ◌+◌, ◌-◌, ◌<◌, Bool, true, false, not, ◌&&◌, List, length, take, get_or, set, get_or-set_same, get_or-set_other, refl, sym, subst, ◌∙◌, ap, arith, ⊎_elim}
+use Rattle.std.proofs.Common.{◌≡◌, ◌≢◌, ℕ, ◌+◌, ◌-◌, ◌<◌, true, false, not, ◌&&◌, List, length, take, get_or, set, get_or-set_same, get_or-set_other, sym, subst, ◌∙◌, ap, arith, ⊎_elim}
 use Rattle.std.specs.Prelude.{◌==◌, nat_eq}
+use Rattle.std.specs.Cmp.{both_ways}
 use Rattle.std.specs.List.{IsDistinct}
 use Rattle.std.proofs.lemmas.List.{length-take, length-set, get_or-take, get_or_default}
 use Rattle.std.proofs.lemmas.Bool.{cases_eq, eq-eqb, ne_eqb, true≢false, and_parts, and_from}
 use Rattle.std.proofs.lemmas.Bool.Decides.{Decides-eqb}
 use Rattle.std.proofs.lemmas.Map.Made.{IsDistinct-from_AllPairs}
 use Rattle.mp_system.specs.Memory.{stands_in}
-use Rattle.activation.specs.Numbers.{IsNumber}
-use Rattle.activation.specs.Running.{AreSpots}
+use Rattle.activation.specs.Running.{IsNumber, AreSpots}
 use Rattle.activation.specs.Schedule.{task_entry}
 use Rattle.activation.proofs.Totals.{place_in, in_at}
 use Rattle.activation.proofs.Numbers.{number_set_same, number_set_other}
-
--- two tests that hold of each other
-pub same_test : (a b : Bool) → (a ≡ true → b ≡ true) → (b ≡ true → a ≡ true) → a ≡ b
-same_test true b f g = sym (f refl)
-same_test false true f g = g refl
-same_test false false f g = refl
 
 module _ (many : ℕ) (slots spots : List ℕ) (a : AreSpots many slots spots) where
   place_listed : (t : ℕ) → stands_in (take many slots) t ≡ true → (k : ℕ) × (k < many) × (get_or slots k 0 ≡ t)
@@ -118,7 +112,7 @@ module _ (many : ℕ) (slots spots : List ℕ) (a : AreSpots many slots spots) w
         ∙ in_at (take (many - 1) (set slots spot last)) k (omega (arith, length-take (many - 1) (set slots spot last), length-set slots spot last, a.within))
 
     pub members_removed : (t : ℕ) → stands_in (take (many - 1) (set slots spot last)) t ≡ (stands_in (take many slots) t && not (t == task))
-    members_removed t = same_test _ _
+    members_removed t = both_ways _ _
         (λ h.
         let p = place_in (take (many - 1) (set slots spot last)) t h in
         let w : p.0 < many - 1 = omega (arith, p.1, length-take (many - 1) (set slots spot last)) in

@@ -3,7 +3,6 @@ pub mod Safe
 pub mod Changes
 pub mod Runs
 pub mod Schedule
-pub mod Numbers
 pub mod Running
 pub mod Tables
 pub mod Run

@@ -1,5 +1,6 @@
 -- What a refused core tells.
 use Rattle.std.specs.Prelude.{◌≡◌, ℕ, ◌<◌, List}
+use Rattle.mp_system.specs.declared.order.ReplayRefusal.{ReplayRefusal}
 use Rattle.mp_system.specs.declared.order.ReplayRefusal.TheVariants as replays
 use Rattle.mp_system.specs.System.{TaskSystem}
 use Rattle.mp_system.specs.Memory.{peak_of}
@@ -14,3 +15,8 @@ IsCoreRefusal system order bound (refusals.Order fault) = IsOrderRefusal system 
 IsCoreRefusal system order bound (refusals.BoundBelow stated peak) =
     IsTraversal system order × (stated ≡ bound) × (peak ≡ peak_of system order) × (bound < peak)
 IsCoreRefusal system order bound refusals.NoMemory = Unit {0}
+
+-- a refused order is refused alike
+abbrev pub same_refusal : ReplayRefusal → CoreRefusal
+same_refusal (replays.Order fault) = refusals.Order fault
+same_refusal replays.NoMemory = refusals.NoMemory

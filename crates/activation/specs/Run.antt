@@ -9,7 +9,7 @@ use Rattle.activation.specs.declared.events.Phase.{Phase}
 use Rattle.activation.specs.declared.events.Phase.TheVariants.{Idle, Running, Done}
 use Rattle.activation.specs.declared.room.Room.{Room}
 use Rattle.activation.specs.Machine.{Setting, State, phase_in, is_running}
-use Rattle.activation.specs.Numbers.{IsNumber}
+use Rattle.activation.specs.Running.{IsNumber}
 use Rattle.activation.specs.Schedule.{task_entry, Moment, StandsBefore, HoldsEach}
 use Rattle.activation.specs.Tables.{AreTaskPlaces, is_startable}
 

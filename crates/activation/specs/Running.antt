@@ -1,9 +1,12 @@
 -- No public clause names this.
--- A list of running tasks with the place of each at hand.
+-- Numbers of tasks, and a list of running tasks with the place of each at hand.
 use Rattle.std.specs.Prelude.{◌≡◌, ℕ, ◌<◌, ◌≤◌, List, length, slice_index}
 use Rattle.limits.specs.Limits.{most_workers}
 use Rattle.activation.specs.Schedule.{task_entry}
-use Rattle.activation.specs.Numbers.{IsNumber}
+
+-- t is the number of one of so many tasks
+abbrev pub IsNumber : ℕ → ℕ → Type 0
+IsNumber t count = (1 ≤ t) × (t ≤ count)
 
 -- what contracts see: the tasks that are listed, how many there may be, and of how many numbers they are
 pub record RunningValue : Type 0 where

@@ -10,8 +10,7 @@ use Rattle.mp_system.specs.Memory.{is_produced, is_ready, stands_in}
 use Rattle.activation.specs.Machine.{Setting, State, IsSetting, phase_in, is_idle_phase, activated_tasks, is_done, is_running}
 use Rattle.activation.specs.Machine.{running_count, booked_memory, used_memory}
 use Rattle.activation.specs.Safe.{IsSafe}
-use Rattle.activation.specs.Numbers.{IsNumber}
-use Rattle.activation.specs.Running.{RunningValue}
+use Rattle.activation.specs.Running.{IsNumber, RunningValue}
 use Rattle.activation.specs.Schedule.{task_entry}
 
 abbrev pub no_item : Item

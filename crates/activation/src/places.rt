@@ -1,5 +1,5 @@
 ghost use Rattle.std.specs.Prelude.{◌≡◌, ℕ, ◌<◌, ◌≤◌, ◌^◌, length, slice_index, IsTrue, ◌↔◌};
-ghost use Rattle.activation.specs.Numbers.{IsNumber};
+ghost use Rattle.activation.specs.Running.{IsNumber};
 ghost use Rattle.activation.specs.Tables.{AreTaskPlaces};
 
 /// Whether this is the number of one of so many tasks.

@@ -26,13 +26,10 @@ impl From<NoMemory> for CoreRefusal {
 
 // The same refusal as that of a replay.
 impl From<ReplayRefusal> for CoreRefusal {
-    ghost use Rattle.std.specs.Prelude.{ℕ, List};
-    ghost use Rattle.mp_system.specs.System.{TaskSystem};
-    ghost use Rattle.mp_system.specs.Refusal.{IsOrderRefusal};
-    ghost use Rattle.activation.specs.Refusal.{IsCoreRefusal};
+    ghost use Rattle.std.specs.Prelude.{◌≡◌};
+    ghost use Rattle.activation.specs.Refusal.{same_refusal};
 
-    ghost from_gives = { λ r e. (system : TaskSystem) (order : List ℕ) (bound : ℕ) → IsOrderRefusal system order r →
-        IsCoreRefusal system order bound e };
+    ghost from_gives = { λ r e. e ≡ same_refusal r };
 
     fn from(refusal: ReplayRefusal) -> CoreRefusal {
         match refusal {

@@ -3,7 +3,7 @@ ghost use Rattle.std.specs.Prelude.{◌↔◌};
 ghost use Rattle.std.specs.List.{IsDistinct};
 ghost use Rattle.limits.specs.Limits.{most_workers};
 ghost use Rattle.mp_system.specs.Memory.{stands_in};
-ghost use Rattle.activation.specs.Numbers.{IsNumber};
+ghost use Rattle.activation.specs.Running.{IsNumber};
 
 use crate::NoMemory;
 use std::alloc::Global;

@@ -1,7 +1,7 @@
 ghost use Rattle.std.specs.Prelude.{◌≡◌, ℕ, ◌+◌, ◌<◌, ◌≤◌, ◌^◌, true, if◌then◌else◌, length, IfOk};
 ghost use Rattle.mp_system.specs.System.{is_named, need_of, inputs_of, outputs_of, IsTask};
 ghost use Rattle.activation.specs.Schedule.{task_entry};
-ghost use Rattle.activation.specs.Numbers.{IsNumber};
+ghost use Rattle.activation.specs.Running.{IsNumber};
 
 use crate::NoMemory;
 use mp_system::System;

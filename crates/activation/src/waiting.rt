@@ -1,7 +1,7 @@
 ghost use Rattle.std.specs.Prelude.{◌≡◌, ℕ, ◌+◌, ◌<◌, ◌≤◌, true, false, All, if◌then◌else◌, length, count_by, IfOk};
 ghost use Rattle.mp_system.specs.System.{is_named};
 ghost use Rattle.activation.specs.Schedule.{task_entry};
-ghost use Rattle.activation.specs.Numbers.{IsNumber};
+ghost use Rattle.activation.specs.Running.{IsNumber};
 ghost use Rattle.activation.specs.Tables.{is_awaited, consumed_by};
 
 use crate::NoMemory;

@@ -1,10 +1,11 @@
 -- The rows of the factor, by ways up from earlier neighbours, and what marking them all counts.
-use Rattle.std.proofs.Common.{sym, ◌∙◌, subst, ap, ◌+◌, ◌-◌, ◌≡◌, ◌≢◌, ◌↔◌, inl, inr, refl, ℕ, zero, suc, ◌<◌, ◌≤◌, Bool, true, false, IsTrue, ◌==◌, List, [], ◌∷◌, ◌++◌, length, get_or, drop, map, arith, slice_index}
+use Rattle.std.proofs.Common.{sym, ◌∙◌, subst, ap, ◌+◌, ◌-◌, ◌≡◌, ◌≢◌, ◌↔◌, inl, inr, refl, ℕ, zero, suc, ◌<◌, ◌≤◌, Bool, true, IsTrue, ◌==◌, List, [], ◌∷◌, ◌++◌, length, get_or, drop, map, arith, slice_index}
 use Rattle.std.specs.List.{range_with_len, count_by}
+use Rattle.std.specs.Cmp.{both_ways}
 use Rattle.std.proofs.lemmas.Bool.{cases_eq, or_cases, or_left, eqb-true, eq-eqb}
-use Rattle.std.proofs.lemmas.List.{ext_get_or, map_push}
-use Rattle.std.proofs.lemmas.List.Folds.{list_any_at}
-use Rattle.std.proofs.lemmas.List.FromFn.{get_or-map-range_with_len, length-map-range_with_len, length-range_with_len}
+use Rattle.std.proofs.lemmas.List.{ext_get_or, get_or_read}
+use Rattle.std.proofs.lemmas.List.Folds.{list_any_at, Any-from_list_any}
+use Rattle.std.proofs.lemmas.List.FromFn.{get_or-map-range_with_len, length-map-range_with_len, length-range_with_len, map-range_with_len_more}
 use Rattle.std.proofs.lemmas.List.Sums.{sum_by_push, count_by-le-length}
 use Rattle.limits.specs.Limits.{most_order}
 use Rattle.matrix_market.specs.Pattern.{neighbours_of, has, is_joined, IsPattern}
@@ -13,15 +14,12 @@ use Rattle.ordering.specs.Fill.{graph_at, structure_of, parent_of, parents_of, c
 use Rattle.elim_tree.specs.Paths.{IsWithin, IsInRowSubtree}
 use Rattle.elim_tree.specs.Trees.{parent_at, IsForest, IsAbove, self, step}
 use Rattle.elim_tree.specs.Forests.{column_in}
+use Rattle.column_counts.proofs.SumLemmas.{range_more}
 use Rattle.column_counts.specs.Marks.{Row, IsFactorRow, IsMarked, CanMarkRow, IsMarkedRow, bit}
 
 -- ---- counts over ranges
 
-range_more : (a m : ℕ) → range_with_len a (suc m) ≡ range_with_len a m ++ (a + m) ∷ []
-range_more a zero = ap (λ (x : ℕ). x ∷ []) (omega arith)
-range_more a (suc m) = ap (λ (xs : List ℕ). a ∷ xs) (range_more (a + 1) m ∙ ap (λ (x : ℕ). range_with_len (a + 1) m ++ x ∷ []) (omega arith))
-
-pub count_more : (test : ℕ → Bool) (m : ℕ) → count_by test (range_with_len 1 (suc m)) ≡ count_by test (range_with_len 1 m) + bit (test (suc m))
+count_more : (test : ℕ → Bool) (m : ℕ) → count_by test (range_with_len 1 (suc m)) ≡ count_by test (range_with_len 1 m) + bit (test (suc m))
 count_more test m =
     ap (count_by test) (range_more 1 m ∙ ap (λ (x : ℕ). range_with_len 1 m ++ x ∷ []) (omega arith)) ∙ sum_by_push (λ x. bit (test x)) (range_with_len 1 m) (suc m)
 
@@ -31,9 +29,8 @@ count_to test (suc m) some = let e : suc m - 1 ≡ m = omega arith in rw e (coun
 
 pub map_to : (f : ℕ → ℕ) (x : ℕ) → 0 < x → map f (range_with_len 1 (x + 1 - 1)) ≡ map f (range_with_len 1 (x - 1)) ++ f x ∷ []
 map_to f x some =
-    let e : x + 1 - 1 ≡ suc (x - 1) = omega arith in
-    let last : 1 + (x - 1) ≡ x = omega arith in
-    ap (λ (m : ℕ). map f (range_with_len 1 m)) e ∙ ap (map f) (range_more 1 (x - 1)) ∙ map_push f (range_with_len 1 (x - 1)) (1 + (x - 1)) ∙ ap (λ (y : ℕ). map f (range_with_len 1 (x - 1)) ++ f y ∷ []) last
+    let e : x + 1 - 1 ≡ x - 1 + 1 = omega arith in
+    ap (λ (m : ℕ). map f (range_with_len 1 m)) e ∙ map-range_with_len_more f 1 (x - 1) x (omega arith)
 
 -- row i of the factor, with the counts of the rows before it
 abbrev pub row_of : (ℕ → ℕ → Bool) → ℕ → Row
@@ -45,20 +42,12 @@ row_of joined i = record {
 -- ---- what is in a list
 
 pub place_in : (xs : List ℕ) (b : ℕ) → has xs b ≡ true → (j : ℕ) × (j < length xs) × (get_or xs j 0 ≡ b)
-place_in [] b h = absurd cc
-place_in (x ∷ xs) b h =
-    elim (or_cases (x == b) _ h) [
-      | inl e ↦ (0, omega arith, eqb-true x b e)
-      | inr r ↦ (let f = place_in xs b r in (suc f.0, omega (arith, f.1), f.2))
-    ]
+place_in xs b h =
+    let p = Any-from_list_any (λ x. x == b) xs h in
+    (p.0, p.2, sym (get_or_read xs p.0 p.1 p.2 (sym p.3) 0) ∙ eqb-true p.1 b p.4)
 
 pub is_in : (xs : List ℕ) (b j : ℕ) → j < length xs → get_or xs j 0 ≡ b → has xs b ≡ true
 is_in xs b j lt e = list_any_at (λ x. x == b) xs j 0 lt (eq-eqb _ b e)
-
-pub same_from_true : (a b : Bool) → (a ≡ true → b ≡ true) → (b ≡ true → a ≡ true) → a ≡ b
-same_from_true true b to from = sym (to refl)
-same_from_true false true to from = from refl
-same_from_true false false to from = refl
 
 -- ---- ways up
 
@@ -172,7 +161,7 @@ module _ (joined : ℕ → ℕ → Bool) (n : ℕ) (parents : List ℕ) (factor 
   counted : (i : ℕ) → 0 < i → (counts marks : ℕ → ℕ) → IsMarked (row_of joined i) (parent_at parents) i i counts marks → ((k : ℕ) → k < i → IsTrue (joined i k) → marks k ≡ i)
       → (x : ℕ) → counts x ≡ count_by (structure_of joined x) (range_with_len 1 i)
   counted i some counts marks m done x =
-      let same : (marks x == i) ≡ structure_of joined x i = same_from_true (marks x == i) (structure_of joined x i)
+      let same : (marks x == i) ≡ structure_of joined x i = both_ways (marks x == i) (structure_of joined x i)
       (λ e. m.sound x (eqb-true (marks x) i e)) (λ h. eq-eqb (marks x) i (marks_complete (row_of joined i) i counts marks m done x h)) in
       m.count x ∙ ap (λ b. count_by (structure_of joined x) (range_with_len 1 (i - 1)) + bit b) same ∙ sym (count_to (structure_of joined x) i some)
 

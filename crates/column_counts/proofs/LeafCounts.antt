@@ -1,25 +1,25 @@
 -- The leaves of the row subtrees give the counts.
 use Rattle.std.proofs.Common.{add-zero, add-suc, ◌∙◌, subst, ap, ◌+◌, ◌-◌, ◌≡◌, inl, inr, ℕ, zero, suc, ◌<◌, ◌≤◌, Bool, true, false, List, length, arith, refl, slice_index}
 use Rattle.std.specs.List.{range_with_len, count_by}
+use Rattle.std.specs.Cmp.{both_ways}
 use Rattle.std.proofs.lemmas.Bool.{cases_lt, false_from_ne_true}
 use Rattle.std.proofs.lemmas.List.FromFn.{length-range_with_len}
-use Rattle.std.proofs.lemmas.List.Sums.{count_by-le-length}
+use Rattle.std.proofs.lemmas.List.Sums.{count_by-le-length, sum_by-cons}
 use Rattle.limits.specs.Limits.{most_order}
 use Rattle.ordering.specs.Fill.{structure_of, count_of}
 use Rattle.column_counts.specs.declared.leaves.Leaves.{Leaves}
 use Rattle.column_counts.specs.Marks.{bit}
-use Rattle.column_counts.specs.Sums.{any_in, sum_in, passing}
-use Rattle.column_counts.specs.Leaves.{IsFirsts, AreLeaves, AreTaken, AreLeavesBefore, AreBalanced, AreSums, HasCount}
-use Rattle.column_counts.proofs.FactorRows.{IsFactor, long_parents, same_from_true, count_more}
-use Rattle.column_counts.proofs.SumLemmas.{any_from, any_to, passing_none, sum_in_split}
+use Rattle.column_counts.specs.Leaves.{any_in, sum_in, passing, IsFirsts, AreLeaves, AreTaken, AreLeavesBefore, AreBalanced, AreSums, HasCount}
+use Rattle.column_counts.proofs.FactorRows.{IsFactor, long_parents}
+use Rattle.column_counts.proofs.SumLemmas.{any_from, any_to, passing_next, passing_none, sum_in_split}
 use Rattle.column_counts.proofs.SpanRows.{spans, first_some, row_from, row_to, beyond}
 
 -- below m the test says a ≤ i
 passing_low : (p : ℕ → Bool) (a m : ℕ) → ((i : ℕ) → i < m → p i ≡ true → a ≤ i) → ((i : ℕ) → i < m → a ≤ i → p i ≡ true) → passing p m ≡ m - a
-unfolding passing
-passing_low p a zero to from = omega arith
+passing_low p a zero to from = passing_none p zero (λ i lt. absurd (omega arith)) ∙ omega arith
 passing_low p a (suc m) to from =
     let ih = passing_low p a m (λ i lt. to i (omega arith)) (λ i lt. from i (omega arith)) in
+    let next = passing_next p m in
     elim (cases_lt m a) [
       | inl lt ↦ (let z : bit (p m) ≡ 0 = ap bit (false_from_ne_true (p m) (λ t. let le = to m (omega arith) t in absurd (omega arith))) in omega arith)
       | inr le ↦ (let z : bit (p m) ≡ 1 = ap bit (from m (omega arith) le) in omega arith)
@@ -27,17 +27,17 @@ passing_low p a (suc m) to from =
 
 -- from x on the tests say the same
 passing_high : (p s : ℕ → Bool) (x d : ℕ) → ((i : ℕ) → x ≤ i → i < x + d → p i ≡ s i) → (e : ℕ) → passing p x ≡ passing s x + e → passing p (x + d) ≡ passing s (x + d) + e
-unfolding passing
 passing_high p s x zero same e h = rw add-zero h
 passing_high p s x (suc d) same e h =
     let ih = passing_high p s x d (λ i le lt. same i le (omega arith)) e h in
     let z : bit (p (x + d)) ≡ bit (s (x + d)) = ap bit (same (x + d) (omega arith) (omega arith)) in
+    let all = passing_next p (x + d) in
+    let held = passing_next s (x + d) in
     rw add-suc (omega arith)
 
 passing_count : (s : ℕ → Bool) (m : ℕ) → s 0 ≡ false → passing s (suc m) ≡ count_by s (range_with_len 1 m)
 unfolding passing
-passing_count s zero none = let z : bit (s 0) ≡ 0 = ap bit none in omega arith
-passing_count s (suc m) none = let ih = passing_count s m none in let more = count_more s m in omega arith
+passing_count s m none = let z : bit (s 0) ≡ 0 = ap bit none in sum_by-cons (λ x. bit (s x)) 0 (range_with_len 1 m) ∙ omega arith
 
 module _ (joined : ℕ → ℕ → Bool) (n : ℕ) (parents : List ℕ) (factor : IsFactor joined n parents) (firsts : List ℕ) (len : length firsts ≡ n + 1) (is : IsFirsts parents firsts) where
   unreached : (x i : ℕ) → i < x → structure_of joined x i ≡ false
@@ -56,7 +56,7 @@ module _ (joined : ℕ → ℕ → Bool) (n : ℕ) (parents : List ℕ) (factor 
       beyond joined n parents factor firsts len is i x y.0 lt y.1 (entries.sound i y.0 y.3).0)
       (λ i lt high. any_from (taken i) a (suc x) i high (omega arith) (entries.whole i i (omega arith) (omega arith) (omega arith) (inl refl))) in
       let nothing = passing_none (structure_of joined x) x (unreached x) in
-      let high = passing_high p (structure_of joined x) x (suc n - x) (λ i far lt. same_from_true (p i) (structure_of joined x i)
+      let high = passing_high p (structure_of joined x) x (suc n - x) (λ i far lt. both_ways (p i) (structure_of joined x i)
       (λ h. let y = any_to (taken i) a (suc x) h in
       row_from joined n parents factor firsts len is i x y.0 le far y.1 (let b = y.2 in omega arith) (entries.sound i y.0 y.3).0)
       (λ h. let y = row_to joined n parents factor firsts len is i x le far h in

@@ -1,10 +1,10 @@
 -- A column is taken into a row: as no leaf, as the first leaf, or as a further leaf, whose way up meets that of the last leaf. Gilbert, Ng and
 -- Peyton 1994. The subtree of x is the span from `first x` to x.
 use Rattle.std.proofs.Common.{sym, ◌∙◌, subst, ap, ◌+◌, ◌≡◌, ◌≢◌, ◌⊎◌, inl, inr, ℕ, suc, ◌<◌, ◌≤◌, Bool, true, arith, refl, ◌==◌}
+use Rattle.std.specs.Cmp.{both_ways}
 use Rattle.std.proofs.lemmas.Bool.{cases_eq, cases_lt, and_parts, or_cases, and_from, or_left, or_right, eq-eqb, eqb-true, false_from_ne_true}
-use Rattle.column_counts.specs.Sums.{any_in, sum_in, passing}
-use Rattle.column_counts.specs.Leaves.{AreLeaves, with_entry}
-use Rattle.column_counts.proofs.SumLemmas.{any_from, any_to, any_same, sum_in_out, sum_in_more, passing_same, passing_more}
+use Rattle.column_counts.specs.Leaves.{any_in, sum_in, passing, AreLeaves, with_entry}
+use Rattle.column_counts.proofs.SumLemmas.{any_from, any_to, sum_in_out, sum_in_more, passing_same, passing_more}
 
 pub entry_old : (taken : ℕ → ℕ → Bool) (k j i y : ℕ) → taken i y ≡ true → with_entry taken k j i y ≡ true
 unfolding with_entry
@@ -23,7 +23,7 @@ module _ (first : ℕ → ℕ) (n j k : ℕ) (kn : k < n) (pos : 0 < j) (taken :
     (nested : (x y : ℕ) → first x ≤ y → y ≤ x → first x ≤ first y) (own : (x : ℕ) → first x ≤ x) (st : AreLeaves first n j taken last leaves meetings) where
   other_row : (x i : ℕ) → i ≢ k → any_in (with_entry taken k j i) (first x) (suc x) ≡ any_in (taken i) (first x) (suc x)
   other_row x i ne =
-      any_same (with_entry taken k j i) (taken i) (first x) (suc x) (first x) (suc x)
+      both_ways _ _
       (λ h. let y = any_to (with_entry taken k j i) (first x) (suc x) h in
       elim (entry_cases taken k j i y.0 y.3) [ inl e ↦ any_from (taken i) (first x) (suc x) y.0 y.1 y.2 e | inr q ↦ absurd (ne q.0) ])
       (λ h. let y = any_to (taken i) (first x) (suc x) h in any_from (with_entry taken k j i) (first x) (suc x) y.0 y.1 y.2 (entry_old taken k j i y.0 y.3))
@@ -31,7 +31,7 @@ module _ (first : ℕ → ℕ) (n j k : ℕ) (kn : k < n) (pos : 0 < j) (taken :
   -- no new hit where j is outside, or where the row was hit already
   same_row : (x : ℕ) → ((first x ≤ j) → (j ≤ x) → any_in (taken k) (first x) (suc x) ≡ true) → any_in (with_entry taken k j k) (first x) (suc x) ≡ any_in (taken k) (first x) (suc x)
   same_row x old =
-      any_same (with_entry taken k j k) (taken k) (first x) (suc x) (first x) (suc x)
+      both_ways _ _
       (λ h. let y = any_to (with_entry taken k j k) (first x) (suc x) h in
       elim (entry_cases taken k j k y.0 y.3) [
         | inl e ↦ any_from (taken k) (first x) (suc x) y.0 y.1 y.2 e
@@ -43,7 +43,7 @@ module _ (first : ℕ → ℕ) (n j k : ℕ) (kn : k < n) (pos : 0 < j) (taken :
       → passing (λ i. any_in (with_entry taken k j i) (first x) (suc x)) n ≡ passing (λ i. any_in (taken i) (first x) (suc x)) n
   passing_kept x old =
       passing_same (λ i. any_in (with_entry taken k j i) (first x) (suc x)) (λ i. any_in (taken i) (first x) (suc x)) n
-      (λ i lt. elim (cases_eq i k) [
+      (λ i. elim (cases_eq i k) [
         | inl e ↦ subst (λ v. any_in (with_entry taken k j v) (first x) (suc x) ≡ any_in (taken v) (first x) (suc x)) (sym e) (same_row x old)
         | inr ne ↦ other_row x i ne
       ])
@@ -52,7 +52,7 @@ module _ (first : ℕ → ℕ) (n j k : ℕ) (kn : k < n) (pos : 0 < j) (taken :
       → passing (λ i. any_in (with_entry taken k j i) (first x) (suc x)) n ≡ passing (λ i. any_in (taken i) (first x) (suc x)) n + 1
   passing_grown x a b unhit =
       passing_more (λ i. any_in (taken i) (first x) (suc x)) (λ i. any_in (with_entry taken k j i) (first x) (suc x)) k n kn
-      (false_from_ne_true _ unhit) (any_from (with_entry taken k j k) (first x) (suc x) j a (omega arith) (entry_new taken k j)) (λ i lt ne. other_row x i ne)
+      (false_from_ne_true _ unhit) (any_from (with_entry taken k j k) (first x) (suc x) j a (omega arith) (entry_new taken k j)) (λ i ne. other_row x i ne)
 
   until' : (i y : ℕ) → with_entry taken k j i y ≡ true → y ≤ j
   until' i y h = elim (entry_cases taken k j i y h) [ inl e ↦ st.until i y e | inr q ↦ let e = q.1 in omega arith ]

@@ -6,11 +6,16 @@ use Rattle.ordering.specs.Fill.{structure_of}
 use Rattle.elim_tree.specs.Trees.{parent_at, IsForest, IsAbove, self, step}
 use Rattle.elim_tree.specs.Postorders.{IsNumberedInPostorder}
 use Rattle.column_counts.specs.Marks.{IsFactorRow}
-use Rattle.column_counts.specs.Leaves.{IsFirsts, AreSpans, AreCarried, AreAncestors, IsInRow}
+use Rattle.column_counts.specs.Leaves.{IsFirsts, AreSpans, AreAncestors, IsInRow}
 use Rattle.column_counts.proofs.MarkLemmas.{at_here, at_other}
 use Rattle.column_counts.proofs.FactorRows.{IsFactor, long_parents, above_on, above_le, way_of, of_way, factor_row}
 
 -- ---- first descendants
+
+-- first descendants are made: each is below its column, and those of the columns before j were carried to the parents
+pub record AreCarried (parents firsts : List ℕ) (j : ℕ) : Type 0 where
+  pub low : (x : ℕ) → x ≤ length parents → IsAbove parents (slice_index firsts x) x
+  pub carried : (c : ℕ) → c < j → 0 < parent_at parents c → slice_index firsts (parent_at parents c) ≤ slice_index firsts c
 
 module _ (parents : List ℕ) (forest : IsForest parents) where
   pub carried_none : (firsts : List ℕ) → ((x : ℕ) → x ≤ length parents → slice_index firsts x ≡ x) → AreCarried parents firsts 1

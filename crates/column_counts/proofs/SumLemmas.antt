@@ -1,48 +1,50 @@
 -- Tests and sums over a span.
-use Rattle.std.proofs.Common.{sym, ◌∙◌, subst, ap, ◌+◌, ◌*◌, ◌≡◌, ◌≢◌, ◌⊎◌, inl, inr, ℕ, zero, suc, ◌<◌, ◌≤◌, Bool, true, false, arith, refl, ◌&&◌, nat_le, List, length, set, slice_index, ◌-◌, length-set}
+use Rattle.std.proofs.Common.{sym, ◌∙◌, subst, ap, ◌+◌, ◌*◌, ◌≡◌, ◌≢◌, ◌⊎◌, inl, inr, ℕ, zero, suc, ◌<◌, ◌≤◌, Bool, true, false, arith, refl, List, [], ◌∷◌, ◌++◌, get_or, length, set, slice_index, ◌-◌, length-set}
+use Rattle.std.specs.List.{range_with_len, sum_by, count_by}
 use Rattle.std.proofs.Math.Nat.{mul-suc}
-use Rattle.std.proofs.lemmas.Bool.{cases_eq, cases_lt, cases_Bool, both_ways, and_parts, or_cases, and_from, or_left, or_right, le-leb, lt-leb, leb-true, cond-true, cond-false, false_from_ne_true}
+use Rattle.std.proofs.lemmas.Bool.{cases_eq, cases_lt, false_from_ne_true}
+use Rattle.std.proofs.lemmas.List.Folds.{list_any_at, Any-from_list_any}
+use Rattle.std.proofs.lemmas.List.FromFn.{get_or-range_with_len, length-range_with_len}
+use Rattle.std.proofs.lemmas.List.Sums.{sum_by_push}
 use Rattle.column_counts.specs.Marks.{bit}
+use Rattle.column_counts.specs.Leaves.{any_in, sum_in, passing}
 use Rattle.column_counts.proofs.MarkLemmas.{at_here, at_other}
-use Rattle.column_counts.specs.Sums.{any_in, sum_in, passing}
+
+pub range_more : (a m : ℕ) → range_with_len a (suc m) ≡ range_with_len a m ++ (a + m) ∷ []
+range_more a zero = ap (λ (x : ℕ). x ∷ []) (omega arith)
+range_more a (suc m) = ap (λ (xs : List ℕ). a ∷ xs) (range_more (a + 1) m ∙ ap (λ (x : ℕ). range_with_len (a + 1) m ++ x ∷ []) (omega arith))
 
 pub any_from : (p : ℕ → Bool) (a n y : ℕ) → a ≤ y → y < n → p y ≡ true → any_in p a n ≡ true
 unfolding any_in
-any_from p a zero y le lt h = absurd (omega arith)
-any_from p a (suc n) y le lt h =
-    elim (cases_eq y n) [
-      | inl e ↦ or_left _ _ (and_from _ _ (le-leb a n (omega arith)) (subst (λ v. p v ≡ true) e h))
-      | inr ne ↦ or_right _ _ (any_from p a n y le (omega arith) h)
-    ]
+any_from p a n y le lt h =
+    let here : get_or (range_with_len a (n - a)) (y - a) 0 ≡ y = get_or-range_with_len a (n - a) (y - a) 0 (omega arith) ∙ omega arith in
+    let long = length-range_with_len a (n - a) in
+    list_any_at p (range_with_len a (n - a)) (y - a) 0 (omega arith) (subst (λ v. p v ≡ true) (sym here) h)
 
 pub any_to : (p : ℕ → Bool) (a n : ℕ) → any_in p a n ≡ true → (y : ℕ) × (a ≤ y) × (y < n) × (p y ≡ true)
 unfolding any_in
-any_to p a zero h = cc
-any_to p a (suc n) h =
-    elim (or_cases (nat_le a n && p n) _ h) [
-      | inl e ↦ let q = and_parts (nat_le a n) (p n) e in (n, leb-true a n q.0, omega arith, q.1)
-      | inr r ↦ let f = any_to p a n r in (f.0, f.1, omega arith, f.3)
-    ]
-
--- two tests that hit alike
-pub any_same : (p q : ℕ → Bool) (a n b m : ℕ) → (any_in p a n ≡ true → any_in q b m ≡ true) → (any_in q b m ≡ true → any_in p a n ≡ true) → any_in p a n ≡ any_in q b m
-any_same p q a n b m to from =
-    elim (cases_Bool (any_in p a n)) [
-      | inl t ↦ t ∙ sym (to t)
-      | inr f ↦ f ∙ sym (false_from_ne_true (any_in q b m) (λ t. both_ways _ f (from t)))
-    ]
+any_to p a n h =
+    let f = Any-from_list_any p (range_with_len a (n - a)) h in
+    let long = length-range_with_len a (n - a) in
+    let within : f.0 < n - a = omega (arith, f.2) in
+    let at : f.1 ≡ a + f.0 = sym f.3 ∙ get_or-range_with_len a (n - a) f.0 f.1 within in
+    (f.1, omega arith, omega arith, f.4)
 
 pub sum_in_at : (h : ℕ → ℕ) (a n : ℕ) → a ≤ n → sum_in h a (suc n) ≡ h n + sum_in h a n
 unfolding sum_in
-sum_in_at h a n le = ap (λ v. v + sum_in h a n) (cond-true (nat_le a n) (h n) 0 (le-leb a n le))
+sum_in_at h a n le =
+    let more : suc n - a ≡ suc (n - a) = omega arith in
+    let last : h (a + (n - a)) ≡ h n = ap h (omega arith) in
+    let sum : sum_by h (range_with_len a (n - a) ++ (a + (n - a)) ∷ []) ≡ sum_in h a n + h (a + (n - a)) = sum_by_push h (range_with_len a (n - a)) (a + (n - a)) in
+    ap (λ (m : ℕ). sum_by h (range_with_len a m)) more ∙ ap (sum_by h) (range_more a (n - a)) ∙ omega arith
 
 pub sum_in_below : (h : ℕ → ℕ) (a n : ℕ) → n < a → sum_in h a (suc n) ≡ sum_in h a n
 unfolding sum_in
-sum_in_below h a n lt = ap (λ v. v + sum_in h a n) (cond-false (nat_le a n) (h n) 0 (lt-leb a n lt)) ∙ omega arith
+sum_in_below h a n lt = let same : suc n - a ≡ n - a = omega arith in ap (λ (m : ℕ). sum_by h (range_with_len a m)) same
 
 pub sum_in_zero : (h : ℕ → ℕ) (a : ℕ) → sum_in h a zero ≡ 0
 unfolding sum_in
-sum_in_zero h a = refl
+sum_in_zero h a = let none : zero - a ≡ zero = omega arith in ap (λ (m : ℕ). sum_by h (range_with_len a m)) none
 
 -- a sum where one term has grown by one
 pub sum_in_out : (h h' : ℕ → ℕ) (c a n : ℕ) → ((d : ℕ) → d ≢ c → h' d ≡ h d) → (c < a ⊎ (n ≤ c)) → sum_in h' a n ≡ sum_in h a n
@@ -73,28 +75,26 @@ sum_in_more h h' c a (suc n) same here le lt =
           omega arith
     ]
 
-pub passing_same : (p q : ℕ → Bool) (n : ℕ) → ((i : ℕ) → i < n → p i ≡ q i) → passing p n ≡ passing q n
-unfolding passing
-passing_same p q zero h = refl
-passing_same p q (suc n) h =
-    let ih = passing_same p q n (λ i lt. h i (omega arith)) in
-    ap (λ b. bit b + passing p n) (h n (omega arith)) ∙ ap (λ v. bit (q n) + v) ih
+-- a count is a sum of ones
+passing_sum : (p : ℕ → Bool) (n : ℕ) → passing p n ≡ sum_in (λ i. bit (p i)) 0 n
+unfolding passing sum_in
+passing_sum p n = let all : n ≡ n - 0 = omega arith in ap (λ (m : ℕ). count_by p (range_with_len 0 m)) all
 
-pub passing_more : (p q : ℕ → Bool) (i n : ℕ) → i < n → p i ≡ false → q i ≡ true → ((k : ℕ) → k < n → k ≢ i → q k ≡ p k) → passing q n ≡ passing p n + 1
-unfolding passing
-passing_more p q i zero lt hp hq h = absurd (omega arith)
-passing_more p q i (suc n) lt hp hq h =
-    elim (cases_eq n i) [
-      | inl e ↦
-          let ep : bit (p n) ≡ 0 = ap bit (subst (λ v. p v ≡ false) (sym e) hp) in
-          let eq : bit (q n) ≡ 1 = ap bit (subst (λ v. q v ≡ true) (sym e) hq) in
-          let s = passing_same q p n (λ k l. h k (omega arith) (omega arith)) in
-          omega arith
-      | inr ne ↦
-          let s : bit (q n) ≡ bit (p n) = ap bit (h n (omega arith) ne) in
-          let ih = passing_more p q i n (omega arith) hp hq (λ k l kn. h k (omega arith) kn) in
-          omega arith
-    ]
+pub passing_next : (p : ℕ → Bool) (n : ℕ) → passing p (suc n) ≡ bit (p n) + passing p n
+passing_next p n = let all = passing_sum p (suc n) in let at = sum_in_at (λ i. bit (p i)) 0 n (omega arith) in let rest = passing_sum p n in omega arith
+
+pub passing_same : (p q : ℕ → Bool) (n : ℕ) → ((i : ℕ) → p i ≡ q i) → passing p n ≡ passing q n
+passing_same p q n same =
+    passing_sum p n ∙ sum_in_out (λ i. bit (q i)) (λ i. bit (p i)) n 0 n (λ i ne. ap bit (same i)) (inr (omega arith)) ∙ sym (passing_sum q n)
+
+pub passing_more : (p q : ℕ → Bool) (i n : ℕ) → i < n → p i ≡ false → q i ≡ true → ((k : ℕ) → k ≢ i → q k ≡ p k) → passing q n ≡ passing p n + 1
+passing_more p q i n lt hp hq same =
+    let was : bit (p i) ≡ 0 = ap bit hp in
+    let now : bit (q i) ≡ 1 = ap bit hq in
+    let more = sum_in_more (λ i. bit (p i)) (λ i. bit (q i)) i 0 n (λ k ne. ap bit (same k ne)) (omega arith) (omega arith) lt in
+    let before = passing_sum p n in
+    let after = passing_sum q n in
+    omega arith
 
 -- a span that ends before it begins
 pub sum_in_past : (h : ℕ → ℕ) (a n : ℕ) → n ≤ a → sum_in h a n ≡ 0
@@ -128,9 +128,12 @@ sum_in_none h a (suc n) none =
     ]
 
 pub passing_none : (p : ℕ → Bool) (m : ℕ) → ((i : ℕ) → i < m → p i ≡ false) → passing p m ≡ 0
-unfolding passing
-passing_none p zero h = refl
-passing_none p (suc m) h = let z : bit (p m) ≡ 0 = ap bit (h m (omega arith)) in let ih = passing_none p m (λ i lt. h i (omega arith)) in omega arith
+passing_none p zero h = passing_sum p zero ∙ sum_in_zero (λ i. bit (p i)) 0
+passing_none p (suc m) h =
+    let z : bit (p m) ≡ 0 = ap bit (h m (omega arith)) in
+    let ih = passing_none p m (λ i lt. h i (omega arith)) in
+    let next = passing_next p m in
+    omega arith
 
 pub any_in_none : (a n : ℕ) → any_in (λ y. false) a n ≡ false
 any_in_none a n = false_from_ne_true (any_in (λ y. false) a n) (λ h. let y = any_to (λ y. false) a n h in absurd (let f = y.3 in cc))

@@ -3,12 +3,25 @@
 -- numbered in postorder, the subtree of column x is a span, from the first column below x to x itself. Gilbert, Ng and Peyton 1994.
 -- Columns are counted from 1, and n is one more than there are.
 use Rattle.std.specs.Prelude.{◌≡◌, ◌⊎◌, ◌↔◌, ◌==◌, ℕ, suc, ◌+◌, ◌-◌, ◌*◌, ◌<◌, ◌≤◌, Bool, true, ◌&&◌, ◌||◌, IsTrue, List, length, slice_index}
+use Rattle.std.specs.Prelude.{count_by, sum_by}
+use Rattle.std.specs.List.{list_any, range_with_len}
 use Rattle.ordering.specs.Fill.{count_of}
 use Rattle.limits.specs.Limits.{most_order}
 use Rattle.elim_tree.specs.Forests.{column_in}
 use Rattle.elim_tree.specs.Trees.{parent_at, IsAbove}
 use Rattle.column_counts.specs.declared.leaves.Leaves.{Leaves}
-use Rattle.column_counts.specs.Sums.{any_in, sum_in, passing}
+
+-- whether some y with a ≤ y < n passes the test
+unfoldable pub any_in : (ℕ → Bool) → ℕ → ℕ → Bool
+any_in test a n = list_any test (range_with_len a (n - a))
+
+-- the sum of h y over a ≤ y < n
+unfoldable pub sum_in : (ℕ → ℕ) → ℕ → ℕ → ℕ
+sum_in h a n = sum_by h (range_with_len a (n - a))
+
+-- how many i below n pass the test
+unfoldable pub passing : (ℕ → Bool) → ℕ → ℕ
+passing test n = count_by test (range_with_len 0 n)
 
 -- ---- subtrees as spans
 
@@ -21,17 +34,16 @@ pub record AreSpans (first : ℕ → ℕ) : Type 0 where
   pub own : (x : ℕ) → first x ≤ x
   pub nested : (x y : ℕ) → first x ≤ y → y ≤ x → first x ≤ first y
 
--- first descendants are made: each is below its column, and those of the columns before j were carried to the parents
-pub record AreCarried (parents firsts : List ℕ) (j : ℕ) : Type 0 where
-  pub low : (x : ℕ) → x ≤ length parents → IsAbove parents (slice_index firsts x) x
-  pub carried : (c : ℕ) → c < j → 0 < parent_at parents c → slice_index firsts (parent_at parents c) ≤ slice_index firsts c
-
 -- ---- least common ancestors
 
 -- from a column below j the ancestors lead up the tree, and pass over none that is not below j
 pub record AreAncestors (first : ℕ → ℕ) (n j : ℕ) (ancestor : ℕ → ℕ) : Type 0 where
   pub rises : (z : ℕ) → 0 < ancestor z → (z < ancestor z) × (first (ancestor z) ≤ z)
   pub nearest : (z w : ℕ) → z < w → w < n → first w ≤ z → j ≤ w → (0 < ancestor z) × (ancestor z ≤ w)
+
+-- and so in a table of them
+abbrev pub LeadUp : (ℕ → ℕ) → ℕ → List ℕ → Type 0
+LeadUp first j ancestors = AreAncestors first (length ancestors) j (slice_index ancestors)
 
 -- q is the least common ancestor of a column and a later one, j: the least above the column that is not below j
 pub record IsCommonAncestor (first : ℕ → ℕ) (n column j q : ℕ) : Type 0 where
@@ -52,8 +64,8 @@ with_entry taken k j i y = taken i y || (i == k && y == j)
 -- columns up to j were taken into rows: over the span of x, the leaves of rows less the places where their ways up meet come to the number
 -- of the rows that have a column in that span. `last` has the last leaf of each row, or 0.
 pub record AreLeaves (first : ℕ → ℕ) (n j : ℕ) (taken : ℕ → ℕ → Bool) (last leaves meetings : ℕ → ℕ) : Type 0 where
-  pub balance : (x : ℕ) → x < n
-      → sum_in leaves (first x) (suc x) ≡ passing (λ i. any_in (taken i) (first x) (suc x)) n + sum_in meetings (first x) (suc x)
+  pub balance : (x : ℕ) → x < n →
+      sum_in leaves (first x) (suc x) ≡ passing (λ i. any_in (taken i) (first x) (suc x)) n + sum_in meetings (first x) (suc x)
   pub until : (i y : ℕ) → taken i y ≡ true → y ≤ j
   pub none : (i : ℕ) → last i ≡ 0 → (y : ℕ) → ¬ (taken i y ≡ true)
   pub leaf : (i : ℕ) → 0 < last i → taken i (last i) ≡ true
@@ -96,8 +108,8 @@ growth j = (most_order + 1) * j
 -- these columns were taken, and none after j
 abbrev pub HoldLeaves : List ℕ → ℕ → (ℕ → ℕ → Bool) → Leaves → Type 0
 HoldLeaves firsts j taken t =
-    AreLeaves (slice_index firsts) (length firsts) j taken (slice_index t.last.items) (slice_index t.leaves.items)
-    (slice_index t.meetings.items)
+    AreLeaves (slice_index firsts) (length firsts) j taken
+    (slice_index t.last.items) (slice_index t.leaves.items) (slice_index t.meetings.items)
 
 -- the columns before j were taken into all of their rows
 abbrev pub AreLeavesBefore : (ℕ → ℕ → Bool) → List ℕ → ℕ → Leaves → Type 0

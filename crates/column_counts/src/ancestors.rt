@@ -2,7 +2,7 @@
 
 ghost use Rattle.std.specs.Prelude.{◌≡◌, ℕ, ◌+◌, ◌<◌, ◌≤◌, length, IfOk, slice_index};
 ghost use Rattle.elim_tree.specs.Trees.{parent_at};
-ghost use Rattle.column_counts.specs.Leaves.{AreSpans, AreAncestors, IsCommonAncestor};
+ghost use Rattle.column_counts.specs.Leaves.{AreSpans, LeadUp, IsCommonAncestor};
 
 use crate::NoMemory;
 use elim_tree::Parents;
@@ -19,8 +19,8 @@ impl Ancestors {
     // To begin with, the parents.
     pub(crate) fn new(alloc: Global, parents: &Parents) -> Result<Ancestors, NoMemory>
         ensures len { IfOk result (λ ancestors. length ancestors.table.items ≡ length parents.now + 1) }
-        ensures parents { IfOk result
-            (λ ancestors. (x : ℕ) → x ≤ length parents.now → slice_index ancestors.table.items x ≡ parent_at parents.now x) }
+        ensures parents { IfOk result (λ ancestors. (x : ℕ) → x ≤ length parents.now →
+            slice_index ancestors.table.items x ≡ parent_at parents.now x) }
     {
         let table = (0..parents.len() + 1)
             .map(|column| parents.at(column))
@@ -32,16 +32,11 @@ impl Ancestors {
     pub(crate) fn least_common(&mut self, column: u32, j: u32) -> u32
         requires inside { (x : ℕ) → slice_index self.old.table.items x < length self.old.table.items }
         requires start { (column < length self.old.table.items) × (column < j) }
-        requires tree { (first : ℕ → ℕ) × (top : ℕ) × AreSpans first
-            × AreAncestors first (length self.old.table.items) j (slice_index self.old.table.items)
+        requires tree { (first : ℕ → ℕ) × (top : ℕ) × AreSpans first × LeadUp first j self.old.table.items
             × (j ≤ top) × (top < length self.old.table.items) × (first top ≤ column) }
-        ensures found { (first : ℕ → ℕ) → AreSpans first
-            → AreAncestors first (length self.old.table.items) j (slice_index self.old.table.items) →
-            (top : ℕ) → j ≤ top → top < length self.old.table.items → first top ≤ column
-            → IsCommonAncestor first (length self.old.table.items) column j result }
-        ensures ancestors { (first : ℕ → ℕ) → AreSpans first
-            → AreAncestors first (length self.old.table.items) j (slice_index self.old.table.items) →
-            AreAncestors first (length self.old.table.items) j (slice_index self.new.table.items) }
+        ensures found { (first : ℕ → ℕ) → AreSpans first → LeadUp first j self.old.table.items → (top : ℕ) → j ≤ top →
+            top < length self.old.table.items → first top ≤ column → IsCommonAncestor first (length self.old.table.items) column j result }
+        ensures ancestors { (first : ℕ → ℕ) → AreSpans first → LeadUp first j self.old.table.items → LeadUp first j self.new.table.items }
         ensures len { length self.new.table.items ≡ length self.old.table.items }
         ensures inside { (x : ℕ) → slice_index self.new.table.items x < length self.new.table.items }
         ensures place { result < length self.new.table.items }

@@ -5,7 +5,8 @@ ghost use Rattle.std.specs.List.{range_with_len};
 ghost use Rattle.limits.specs.Limits.{most_order};
 ghost use Rattle.matrix_market.specs.Pattern.{is_joined};
 ghost use Rattle.ordering.specs.Fill.{renumbered, count_of, parents_of};
-ghost use Rattle.column_counts.specs.Leaves.{IsFirsts, AreSpans, with_entry, AreEmpty, AreReady, HoldLeaves, CanTakeColumn, AreLeavesBefore, AreAtMost, growth, AreBalanced, AreSums, HasCount};
+ghost use Rattle.column_counts.specs.Leaves.{IsFirsts, AreSpans, with_entry, AreEmpty, AreReady, HoldLeaves, CanTakeColumn};
+ghost use Rattle.column_counts.specs.Leaves.{AreLeavesBefore, AreAtMost, growth, AreBalanced, AreSums, HasCount};
 
 use crate::NoMemory;
 use crate::ancestors::Ancestors;
@@ -54,8 +55,8 @@ impl Leaves {
         requires spans { AreSpans (slice_index firsts.now) }
         requires ready { AreReady firsts.now j self.old }
         requires before { 0 < slice_index self.old.last.items i → slice_index firsts.now i ≤ slice_index self.old.last.items i }
-        ensures taken { (taken : ℕ → ℕ → Bool) → HoldLeaves firsts.now j taken self.old
-            → HoldLeaves firsts.now j (with_entry taken i j) self.new }
+        ensures taken { (taken : ℕ → ℕ → Bool) → HoldLeaves firsts.now j taken self.old →
+            HoldLeaves firsts.now j (with_entry taken i j) self.new }
         ensures ready { AreReady firsts.now j self.new }
         ensures growth { (bound : ℕ) → AreAtMost bound self.old → AreAtMost (bound + 1) self.new }
     {

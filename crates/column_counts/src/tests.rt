@@ -26,8 +26,9 @@ fn pattern_of(alloc: Global, n: u32, pairs: &[(u32, u32)]) -> Result<Pattern, Fa
 fn counts_by_elimination(
     alloc: Global,
     pairs: &[(u32, u32)],
-    order: &[u32],
+    perm: &Perm,
 ) -> Result<Vec<usize>, Fail> {
+    let order: Vec<u32> = (0..perm.len()).map(|k| perm.at(k + 1)).collect(alloc)?;
     let mut joined = BTreeSet::new(alloc);
     for (a, b) in pairs {
         joined.insert((*a, *b))?;
@@ -53,26 +54,6 @@ fn counts_by_elimination(
     Ok(counts)
 }
 
-// The plain elimination in this order gives these counts.
-fn check_plain(
-    rt: &impl Abort,
-    alloc: Global,
-    pairs: &[(u32, u32)],
-    perm: &Perm,
-    found: &[u32],
-) -> Result<(), Fail> {
-    let mut vertices = Vec::new(alloc);
-    for k in 0..perm.len() {
-        vertices.push(perm.at(k + 1))?;
-    }
-    let plain = counts_by_elimination(alloc, pairs, &vertices)?;
-    assert_eq!(rt; found.len(), plain.len());
-    for (count, wanted) in found.iter().zip(&plain) {
-        assert_eq!(rt; *count as usize, *wanted);
-    }
-    Ok(())
-}
-
 // The counts along the postorder, both ways, which agree with the plain elimination.
 fn check_counts(
     rt: &impl Abort,
@@ -94,7 +75,9 @@ fn check_counts(
     let found = counts(alloc, &pattern, &numbered.perm, &numbered.parents)?;
     let marked = counts_by_marking(alloc, &pattern, &numbered.perm, &numbered.parents)?;
     assert_eq!(rt; found.as_slice(), marked.as_slice());
-    check_plain(rt, alloc, pairs, &numbered.perm, &found)?;
+    let plain = counts_by_elimination(alloc, pairs, &numbered.perm)?;
+    let wide: Vec<usize> = found.iter().map(|it| *it as usize).collect(alloc)?;
+    assert_eq!(rt; wide.as_slice(), plain.as_slice());
     Ok(found)
 }
 

@@ -107,6 +107,6 @@ pub accepted_is_best : Own → Renamed → (names : Option (List ℕ)) (position
     → (plan : PlanText) → IsAccepted system positions plan → IsBestTraversal system plan.order plan.peak
 accepted_is_best own renamed names positions system term plan accepted = record {
   traversal = accepted.traversal;
-  peak = accepted.peak;
+  is_peak = accepted.peak;
   least = accepted_is_least own renamed names positions system term plan accepted;
 }

@@ -70,7 +70,7 @@ fn plan_counted<L: Ledger>(
     requires name { blank.name ≡ L.name }
     requires parts { blank.parts ≡ L.parts }
     requires some { 0 < blank.parts }
-    requires term { IsNamedTerm (option_map (λ n. n.now) names.entry) terms.now system.now }
+    requires term { IsNamedTerm (option_map (λ n. n.now) names) terms.now system.now }
     ensures accepted { IfOk result (λ plan. IsAccepted system.now terms.now plan) }
     ensures within { IfOk result IsPlan }
     ensures priority { IfOk result (λ plan. plan.priority ≡ []) }
@@ -93,7 +93,7 @@ pub fn plan_term(
     terms: &Terms,
     names: Option<&[u32]>,
 ) -> Result<PlanFile, NoMemory>
-    requires { IsNamedTerm (option_map (λ n. n.now) names.entry) terms.now system.now }
+    requires { IsNamedTerm (option_map (λ n. n.now) names) terms.now system.now }
     ensures accepted { IfOk result (λ plan. IsAccepted system.now terms.now plan) }
     ensures best { IfOk result (λ plan. IsBestTraversal system.now plan.order plan.peak) }
     ensures within { IfOk result IsPlan }

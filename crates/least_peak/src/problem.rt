@@ -105,7 +105,12 @@ impl Problem {
             Origin::Tree(tree) => {
                 tree.keeps();
                 let named = terms_of_tree(alloc, tree)?;
-                plan_term(alloc, &self.system, &named.terms, Some(named.names.as_slice()))
+                plan_term(
+                    alloc,
+                    &self.system,
+                    &named.terms,
+                    Some(named.names.as_slice()),
+                )
             }
             Origin::Workflow(terms) => {
                 terms.keeps();

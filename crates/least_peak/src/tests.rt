@@ -3,11 +3,11 @@
 use crate::Problem;
 use claim_check::Verdict;
 use mp_outside::NoGate;
+use sp_terms::read_workflow;
 use std::alloc::Global;
 use std::process::Abort;
 use std::test::Fail;
 use std::thread::Threads;
-use sp_terms::read_workflow;
 use tree_input::read_tree;
 
 // Two chains of two tasks below a root; the first tasks need 9, and leave 1.

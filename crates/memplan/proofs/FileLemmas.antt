@@ -3,6 +3,7 @@ use Rattle.std.proofs.Common.{◌≡◌, ◌<◌, ℕ, List, Option, Some, Resul
 use Rattle.std.specs.Prelude.{codes}
 use Rattle.mp_text.specs.declared.refusals.Refusal.{Refusal}
 use Rattle.mp_text.specs.declared.refusals.Fault.{Fault}
+use Rattle.limits.specs.Limits.{most_bytes}
 use Rattle.limits.specs.declared.name.LimitName.{LimitName}
 use Rattle.mp_text.specs.declared.refusals.Refusal.TheVariants.{Format, Limit, NoMemory}
 use Rattle.memplan.specs.Files.{IsRefusedFile, IsWithinBytes, limit_refused}
@@ -22,7 +23,7 @@ refusal_of (Err NoMemory) P Q R h of_format of_limit = tt
 module _ {K : Type 0} (file : List ℕ) (word_of : K → List ℕ) (refuses : List ℕ → Refusal K → Type 0) (told : List ℕ → Option (List ℕ)) (before after : List ℕ → ℕ) (name : List ℕ) where
   -- a file that is too long
   pub too_long : (word : List ℕ) → word ≡ file → (e : Stop)
-      → IsStopAt told before after name (λ text answer. (268435456 < length text) × (answer ≡ limit_refused word (codes "bytes"))) e
+      → IsStopAt told before after name (λ text answer. (most_bytes < length text) × (answer ≡ limit_refused word (codes "bytes"))) e
       → IsStopAt told before after name (λ text answer. IsRefusedFile file word_of (refuses text) text answer) e
   too_long word same (stops.Refused page) h = λ text is. let long = h text is in inl (long.0, subst (λ (w : List ℕ). answer_of page ≡ limit_refused w (codes "bytes")) same long.1)
   too_long word same stops.ReadFault h = h

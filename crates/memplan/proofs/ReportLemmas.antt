@@ -1,5 +1,6 @@
 -- What a report answers, and what it says beside that.
 use Rattle.std.proofs.Common.{◌≡◌, ◌∙◌, ℕ, ◌≤◌, List, [], ◌∷◌, ◌++◌, refl, sym, ap, subst, length}
+use Rattle.limits.specs.Limits.{most_bytes}
 use Rattle.least_peak.specs.Best.{IsBestTraversal}
 use Rattle.least_peak.specs.Problem.{system_of, IsTermOf}
 use Rattle.least_peak.specs.declared.problem.Origin.{Origin}
@@ -65,7 +66,7 @@ module _
 
 -- ---- a plan
 
-pub planned : ((plan : PlanText) → IsPlan plan → ReadsPlan (text_of plan) plan) → ((plan : PlanText) → IsPlan plan → length (text_of plan) ≤ 268435456)
+pub planned : ((plan : PlanText) → IsPlan plan → ReadsPlan (text_of plan) plan) → ((plan : PlanText) → IsPlan plan → length (text_of plan) ≤ most_bytes)
     → (input : Input) (texts : List (List ℕ)) (origin : Origin) (positions : List Position) (plan : PlanText) (answer : Answer) → IsProblemOf input texts origin
     → IsTermOf origin positions → IsPlan plan → IsAccepted (system_of origin) positions plan → plan.priority ≡ [] → IsBestTraversal (system_of origin) plan.order plan.peak
     → answer ≡ plan_answer plan → IsReport (planning input) texts answer × IsSound (planning input) texts answer

@@ -27,7 +27,7 @@ use Rattle.memplan.specs.Request.{Matrix, TreeInput, tree_named, matrix_named, I
 use Rattle.sp_terms.specs.Kinds.{word_of as workflow_word}
 use Rattle.ordering.specs.Kinds.{perm_word, order_file_word}
 use Rattle.plan_text.specs.Kinds.{word_of as plan_word}
-use Rattle.limits.specs.Limits.{word_of as limit_word}
+use Rattle.limits.specs.Limits.{most_bytes, word_of as limit_word}
 use Rattle.tree_input.specs.Kinds.{word_of as tree_word}
 use Rattle.matrix_market.specs.Kinds.{word_of as matrix_word}
 use Rattle.mp_system.specs.Refusal.{word_of as order_word}
@@ -59,12 +59,12 @@ IsRefusedAs file word refusals.NoMemory answer = ⊥
 
 -- a file has at most 2^28 bytes
 abbrev pub IsWithinBytes : List ℕ → Type 0
-IsWithinBytes text = length text ≤ 268435456
+IsWithinBytes text = length text ≤ most_bytes
 
 -- a file is too long, or its format refuses it; the length comes first
 abbrev pub IsRefusedFile : {K : Type 0} → List ℕ → (K → List ℕ) → (Refusal K → Type 0) → List ℕ → Answer → Type 0
 IsRefusedFile {K} file word refuses text answer =
-    ((268435456 < length text) × (answer ≡ limit_refused file (limit_word limits.Bytes)))
+    ((most_bytes < length text) × (answer ≡ limit_refused file (limit_word limits.Bytes)))
     ⊎ (IsWithinBytes text × ((refusal : Refusal K) × refuses refusal × IsRefusedAs file word refusal answer))
 
 abbrev pub IsTree : List ℕ → List Node → Type 0

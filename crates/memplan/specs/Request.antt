@@ -2,6 +2,7 @@
 use Rattle.std.specs.Prelude.{ℕ, ◌^◌, ◌≤◌, Bool, true, false, ◌&&◌, nat_le, List, [], ◌∷◌, ◌++◌, Option, Some, None, option_map, option_and_then, codes, if◌then◌else◌}
 use Rattle.std.specs.Option.{option_or}
 use Rattle.std.specs.Str.{bytes_eq}
+use Rattle.limits.specs.Limits.{most_workers}
 use Rattle.mp_text.specs.Text.{number_of}
 use Rattle.assembly_tree.specs.declared.front.Shape.{Shape}
 use Rattle.assembly_tree.specs.declared.front.Shape.TheVariants as shapes
@@ -144,7 +145,7 @@ post_of options = option_map post (tree_input_of [] options)
 
 -- 1 to 4,096 workers
 abbrev pub workers_within : ℕ → Option ℕ
-workers_within n = if nat_le 1 n && nat_le n 4096 then Some n else None
+workers_within n = if nat_le 1 n && nat_le n most_workers then Some n else None
 
 -- one worker, where no number is given
 abbrev pub workers_or_one : Option (List ℕ) → Option ℕ
@@ -153,7 +154,7 @@ workers_or_one (Some word) = option_and_then workers_within (number_of word)
 
 -- what the number of workers of a request keeps to
 abbrev pub AreWorkers : ℕ → Type 0
-AreWorkers n = (1 ≤ n) × (n ≤ 4096)
+AreWorkers n = (1 ≤ n) × (n ≤ most_workers)
 
 abbrev pub HasWorkers : Request → Type 0
 HasWorkers (replay input source) = Unit {0}

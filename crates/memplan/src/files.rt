@@ -1,6 +1,7 @@
 //! A file is read whole and then judged: it has a value, or a page refuses it.
 
 ghost use Rattle.std.specs.Prelude.{◌≡◌, ◌<◌, ◌≤◌, ℕ, List, Some, IfOk, IfErr, IsTrue, MatchResult, codes, length};
+ghost use Rattle.limits.specs.Limits.{most_bytes};
 ghost use Rattle.mp_text.specs.Report.{is_token};
 ghost use Rattle.mp_text.specs.declared.refusals.Refusal.{Refusal};
 ghost use Rattle.matrix_market.specs.MatrixFile.{ReadsPattern, RefusesPattern};
@@ -52,7 +53,7 @@ fn load<F: Files>(alloc: Global, files: &mut F, name: &str, word: &str) -> Resul
     ensures told { IfOk result (λ bytes. (text : List ℕ) → F.bytes_of files.old name.now ≡ Some text →
         (bytes.items ≡ text) × IsWithinBytes text) }
     ensures stop { IfErr result (IsStopAt (F.bytes_of files.old) (F.faults_of files.old) (F.faults_of files.new) name.now
-        (λ text answer. (268435456 < length text) × (answer ≡ limit_refused word.now (codes "bytes")))) }
+        (λ text answer. (most_bytes < length text) × (answer ≡ limit_refused word.now (codes "bytes")))) }
     ensures same { (other : List ℕ) → F.bytes_of files.new other ≡ F.bytes_of files.old other }
     ensures later { (other : List ℕ) → F.faults_of files.old other ≤ F.faults_of files.new other }
 {

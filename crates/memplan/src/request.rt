@@ -12,6 +12,7 @@ use crate::commands::simulate::{Simulation, simulate_of};
 use crate::commands::tree::tree_request_of;
 use crate::words::{Given, are_among, are_distinct, options_of, value_of};
 use assembly_tree::Shape;
+use limits::MOST_WORKERS;
 use mp_text::number;
 use std::alloc::{AllocError, Global};
 use symbolic::FrontOptions;
@@ -197,7 +198,7 @@ pub fn workers_within(workers: u64) -> Option<u32>
     ensures value { result ≡ workers_within workers }
     ensures range { IfSome result AreWorkers }
 {
-    if 1 <= workers && workers <= 4096 {
+    if 1 <= workers && workers <= u64::from(MOST_WORKERS) {
         Some(workers as u32)
     } else {
         None

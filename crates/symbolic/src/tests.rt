@@ -68,7 +68,14 @@ fn fronts_by_hand(rt: HostRuntime) -> Result<(), Fail> {
         ..PLAIN
     };
     check_fronts(&rt, alloc, ARROW, IN_TURN, PLAIN, &[(0, 0, 10, 0, 4)])?;
-    check_fronts(&rt, alloc, PAIRS, IN_TURN, PLAIN, &[(0, 0, 3, 0, 2), (0, 0, 3, 0, 2)])?;
+    check_fronts(
+        &rt,
+        alloc,
+        PAIRS,
+        IN_TURN,
+        PLAIN,
+        &[(0, 0, 3, 0, 2), (0, 0, 3, 0, 2)],
+    )?;
     check_fronts(
         &rt,
         alloc,

@@ -1,7 +1,7 @@
 use Rattle.std.proofs.Common.{◌≡◌, ℕ, ◌+◌, Bool, true, cond, length, get_or, refl, ap, arith}
 use Rattle.std.proofs.lemmas.List.Sums.{sum_by-take-le}
 use Rattle.mp_system.specs.System.{is_input}
-use Rattle.activation.specs.Numbers.{IsNumber}
+use Rattle.activation.specs.Running.{IsNumber}
 use Rattle.activation.specs.Tables.{no_item}
 use Rattle.activation.proofs.Sizes.{consumer_is_task}
 use Rattle.activation.proofs.Producing.{consumed_more}

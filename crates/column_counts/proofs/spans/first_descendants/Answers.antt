@@ -1,8 +1,7 @@
 use Rattle.std.proofs.Common.{◌≡◌, ◌+◌, length, length-set, get_or, arith, ap, ◌∙◌, subst}
 use Rattle.std.proofs.lemmas.List.FromFn.{get_or-range_with_len, length-range_with_len}
-use Rattle.column_counts.specs.Leaves.{AreCarried}
 use Rattle.column_counts.proofs.MarkLemmas.{read_at}
-use Rattle.column_counts.proofs.SpanRows.{carried_none, carried_up, carried_on, are_firsts}
+use Rattle.column_counts.proofs.SpanRows.{AreCarried, carried_none, carried_up, carried_on, are_firsts}
 use Rattle.column_counts.proofs.spans.first_descendants.Goals as goal
 use Rattle.column_counts.proofs.spans.first_descendants.Goals.{then-first-index, else-first-index}
 

@@ -1,5 +1,5 @@
 use Rattle.std.proofs.Common.{◌≡◌, ◌+◌, length}
-use Rattle.column_counts.specs.Leaves.{AreCarried}
+use Rattle.column_counts.proofs.SpanRows.{AreCarried}
 use Rattle.column_counts.proofs.spans.first_descendants.Given as goal
 
 abbrev pub invariant-loop-j : goal.invariant-loop-j

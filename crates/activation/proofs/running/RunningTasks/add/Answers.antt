@@ -1,7 +1,7 @@
 use Rattle.std.proofs.Common.{◌≡◌, ◌<◌, false, length, take, arith}
 use Rattle.std.proofs.lemmas.List.{length-take}
 use Rattle.mp_system.specs.Memory.{stands_in}
-use Rattle.activation.specs.Numbers.{IsNumber}
+use Rattle.activation.specs.Running.{IsNumber}
 use Rattle.activation.proofs.Spots.{spots_added}
 use Rattle.activation.proofs.running.RunningTasks.add.Goals as goal
 
