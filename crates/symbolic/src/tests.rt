@@ -37,6 +37,7 @@ fn check_fronts(
 ) -> Result<(), Fail> {
     let pattern = read_pattern(alloc, matrix.as_bytes())?;
     let perm = read_perm(alloc, order.as_bytes(), pattern.order())?;
+    assert_eq!(rt; perm.len(), pattern.order());
     let tree = front_tree(alloc, &pattern, &perm, options)?;
     let mut nodes = Vec::new(alloc);
     for (parent, out, extra, share, time) in fronts {
