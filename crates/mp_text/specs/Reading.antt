@@ -46,6 +46,17 @@ abbrev pub Follows : {K S : Type 0} → List (Test K) → (S → Type 0) → Res
 Follows tests P (Ok s) = (first_failure tests ≡ None) × P s
 Follows tests P (Err r) = first_failure tests ≡ Some r
 
+-- a refusal is that of the first test that fails, unless memory ran out
+abbrev pub IsFirst : {K : Type 0} → List (Test K) → Refusal K → Type 0
+IsFirst tests refusals.NoMemory = Unit {0}
+IsFirst tests (refusals.Format f) = first_failure tests ≡ Some (refusals.Format f)
+IsFirst tests (refusals.Limit l) = first_failure tests ≡ Some (refusals.Limit l)
+
+-- What a call answered is what the tests say: all hold, and P holds of the reader after it, or a refusal is that of the first that fails.
+abbrev pub Judges : {K X Y : Type 0} → List (Test K) → (X → Type 0) → Result Y (Refusal K) → X → Type 0
+Judges tests P (Ok _) new = (first_failure tests ≡ None) × P new
+Judges tests P (Err e) new = IsFirst tests e
+
 -- the answer is a refusal of the file, or memory ran out
 abbrev pub IsRefusal : {K : Type 0} → Format K → List Row → ℕ → Refusal K → Type 0
 IsRefusal format rows past refusals.NoMemory = Unit {0}

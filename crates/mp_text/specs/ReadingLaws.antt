@@ -6,7 +6,7 @@ use Rattle.std.proofs.Common.{◌∙◌, sym, ap, subst, append_assoc, append-ni
 use Rattle.mp_text.specs.declared.refusals.Refusal.{Refusal}
 use Rattle.mp_text.specs.declared.refusals.Refusal.TheVariants as refusals
 use Rattle.mp_text.specs.Grammar.{Test, test, first_failure, tests_of_all}
-use Rattle.mp_text.specs.Reading.{◌>>=◌, tested, steps_of_all, Fails, Follows}
+use Rattle.mp_text.specs.Reading.{◌>>=◌, tested, steps_of_all, Fails, Steps, Follows, Judges}
 
 pub Follows-same : {K S : Type 0} (xs ys : List (Test K)) (P : S → Type 0) (r : Result S (Refusal K))
     → first_failure xs ≡ first_failure ys → Follows ys P r → Follows xs P r
@@ -17,6 +17,14 @@ pub Follows-weaker : {K S : Type 0} (tests : List (Test K)) (P Q : S → Type 0)
     → ((s : S) → P s → Q s) → Follows tests P r → Follows tests Q r
 Follows-weaker tests P Q (Ok s) more (none, here) = (none, more s here)
 Follows-weaker tests P Q (Err refusal) more fails = fails
+
+-- a call that does the step judges as its tests say
+pub Steps-judge : {K S Y : Type 0} (tests : List (Test K)) (P : S → Type 0) (step : Result S (Refusal K)) (answer : Result Y (Refusal K))
+    (new : S) → Follows tests P step → Steps step answer new → Judges tests P answer new
+Steps-judge tests P step (Ok y) new follows does = rw does at follows
+Steps-judge tests P step (Err refusals.NoMemory) new follows does = tt
+Steps-judge tests P step (Err (refusals.Format f)) new follows does = rw does at follows
+Steps-judge tests P step (Err (refusals.Limit l)) new follows does = rw does at follows
 
 -- what is tested follows its tests
 pub tested-follows : {K S : Type 0} (tests : List (Test K)) (value : S) (P : S → Type 0)

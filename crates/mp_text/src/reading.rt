@@ -1,27 +1,19 @@
 //! Files are judged line by line: a reader takes the lines one after the other, and then the end.
 
-ghost use Rattle.std.specs.Prelude.{◌≡◌, ℕ, List, [], ◌∷◌, ◌++◌, Result, IfOk, IfErr};
-ghost use Rattle.mp_text.specs.declared.refusals.Refusal.{Refusal};
+ghost use Rattle.std.specs.Prelude.{◌≡◌, List, [], ◌∷◌, ◌++◌, IfOk, IfErr};
 ghost use Rattle.mp_text.specs.Text.{Row};
 ghost use Rattle.mp_text.specs.Ahead.{row, rows_of_bytes, past_of_bytes};
 ghost use Rattle.mp_text.specs.Grammar.{Format, ArePassed, IsWellFormed};
-ghost use Rattle.mp_text.specs.Reading.{Steps, Follows, IsRefusal};
+ghost use Rattle.mp_text.specs.Reading.{Judges, IsRefusal};
 
 use crate::layout::Layout;
 use crate::line_scan::{Line, Lines};
 use crate::refusals::Refusal;
 
-/// What judges the lines of one kind of file.
-///
-/// `step` and `end_step` say what the code does with a line and with the end, from the reader alone. The two laws tie them to
-/// the tests of the format: `took` says that the reader stands after these lines.
+/// What judges the lines of one kind of file, by the tests of its format: `took` says that the reader stands after these lines.
 pub trait Reader: Drop {
     /// What a fault of the format can be.
     type Kind;
-
-    ghost step: { Self → Row → Result Self (Refusal Self.Kind) };
-
-    ghost end_step: { Self → ℕ → Result Self (Refusal Self.Kind) };
 
     ghost format: { Self → Format Self.Kind };
 
@@ -29,18 +21,15 @@ pub trait Reader: Drop {
 
     /// Takes a line.
     fn line(&mut self, line: Line<'_>) -> Result<(), Refusal<Self::Kind>>
-        ensures { Steps (step self.old (row line.entry.number line.entry.text.now)) result self.new };
+        ensures { (before : List Row) → took self.old before → ArePassed (format self.old) before →
+            let r = row line.entry.number line.entry.text.now in
+            Judges ((format self.old).line_tests before r)
+            (λ next. took next (before ++ r ∷ []) × (format next ≡ format self.old)) result self.new };
 
     /// Takes the end of the file, with the number of the line past the last.
     fn end(&mut self, past: u64) -> Result<(), Refusal<Self::Kind>>
-        ensures { Steps (end_step self.old past) result self.new };
-
-    ghost line_follows: { (reader : Self) (before : List Row) (row : Row) → took reader before → ArePassed (format reader) before →
-        Follows ((format reader).line_tests before row)
-        (λ next. took next (before ++ row ∷ []) × (format next ≡ format reader)) (step reader row) };
-
-    ghost end_follows: { (reader : Self) (rows : List Row) (past : ℕ) → took reader rows → ArePassed (format reader) rows →
-        Follows ((format reader).end_tests rows past) (λ next. took next rows) (end_step reader past) };
+        ensures { (rows : List Row) → took self.old rows → ArePassed (format self.old) rows →
+            Judges ((format self.old).end_tests rows past) (λ next. took next rows) result self.new };
 }
 
 /// Reads a file: the reader after all its lines and its end, or the first refusal.

@@ -2,7 +2,6 @@
 
 ghost use Rattle.std.specs.Prelude.{◌≡◌, ◌+◌, length, nat_lt, [], ◌∷◌};
 ghost use Rattle.mp_text.specs.Grammar.{fault, fault_at, test};
-ghost use Rattle.mp_text.specs.Reading.{tested};
 
 use crate::{
     Fault, Layout, Line, Lines, NoMemory, Reader, Refusal, Report, Token, Version, after_word,
@@ -20,10 +19,6 @@ struct Few {
 
 impl Reader for Few {
     type Kind = u8;
-
-    ghost step = { λ reader row. tested (test (nat_lt reader.taken 2) (fault 3 row) ∷ []) (record { taken = reader.taken + 1 }) };
-
-    ghost end_step = { λ reader past. tested (test (nat_lt 0 reader.taken) (fault_at past 0) ∷ []) reader };
 
     ghost format = { λ _. record {
       line_tests = λ before row. test (nat_lt (length before) 2) (fault 3 row) ∷ [];
@@ -46,12 +41,6 @@ impl Reader for Few {
         }
         Ok(())
     }
-
-    ghost use Rattle.std.proofs.Common.{arith, length-append};
-
-    ghost line_follows = { λ reader before row took passed. Prim.grind (arith, length-append) };
-
-    ghost end_follows = { λ reader rows past took passed. Prim.grind arith };
 }
 
 // The lines that count, as a report: number and tokens of each.
