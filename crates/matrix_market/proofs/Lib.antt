@@ -7,3 +7,4 @@ pub mod ReadingLemmas
 pub mod SameRows
 pub mod FileLemmas
 pub mod EntryLemmas
+pub mod ReaderLaws

@@ -5,5 +5,4 @@ pub mod Table
 pub mod Partners
 pub mod Stated
 pub mod Reader
-pub mod ReaderLaws
 pub mod Plain

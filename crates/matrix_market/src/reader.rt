@@ -1,5 +1,6 @@
 ghost use Rattle.std.specs.Prelude.{◌≡◌, [], IfOk, IfErr, MatchResult};
 ghost use Rattle.mp_text.specs.Ahead.{row};
+ghost use Rattle.mp_text.specs.Reading.{Steps};
 ghost use Rattle.matrix_market.specs.MatrixFile.{ReadsPattern, IsMatrixRefusal};
 ghost use Rattle.matrix_market.specs.Stated.{AreStated};
 
@@ -33,7 +34,7 @@ impl Model for MatrixReader {
 }
 
 impl MatrixReader {
-    ghost use Rattle.matrix_market.specs.Reader.{start};
+    ghost use Rattle.matrix_market.specs.Reader.{start, matrix_step, matrix_end};
 
     /// A reader of which nothing was read.
     fn new(alloc: Global) -> MatrixReader
@@ -49,25 +50,12 @@ impl MatrixReader {
             pairs: Vec::new(alloc),
         }
     }
-}
 
-impl Reader for MatrixReader {
-    type Kind = MatrixKind;
-
-    ghost use Rattle.matrix_market.specs.Reader.{matrix_step, matrix_end, took};
-    ghost use Rattle.matrix_market.specs.MatrixFile.{matrix_format};
-    ghost use Rattle.matrix_market.specs.ReaderLaws.{step_follows, end_follows as the_end_follows};
-
-    ghost step = { matrix_step };
-
-    ghost end_step = { matrix_end };
-
-    ghost format = { λ _. matrix_format };
-
-    ghost took = { took };
-
+    // Takes a line.
     #[tactic(auto, unfolding(crate::specs::Reader::matrix_step))]
-    fn line(&mut self, line: Line<'_>) -> Result<(), Refusal<MatrixKind>> {
+    fn take_line(&mut self, line: Line<'_>) -> Result<(), Refusal<MatrixKind>>
+        ensures { Steps (matrix_step self.old (row line.entry.number line.entry.text.now)) result self.new }
+    {
         match self.stage {
             Stage::Banner => {
                 self.values = banner_on(line)?;
@@ -86,8 +74,11 @@ impl Reader for MatrixReader {
         Ok(())
     }
 
+    // Takes the end of the file.
     #[tactic(auto, unfolding(crate::specs::Reader::matrix_end))]
-    fn end(&mut self, past: u64) -> Result<(), Refusal<MatrixKind>> {
+    fn take_end(&mut self, past: u64) -> Result<(), Refusal<MatrixKind>>
+        ensures { Steps (matrix_end self.old past) result self.new }
+    {
         match self.stage {
             Stage::Banner => Err(fault(past, MatrixKind::Banner)),
             Stage::Size => Err(fault(past, MatrixKind::SizeLine)),
@@ -99,10 +90,25 @@ impl Reader for MatrixReader {
             }
         }
     }
+}
 
-    ghost line_follows = { step_follows };
+impl Reader for MatrixReader {
+    type Kind = MatrixKind;
 
-    ghost end_follows = { the_end_follows };
+    ghost use Rattle.matrix_market.specs.Reader.{took};
+    ghost use Rattle.matrix_market.specs.MatrixFile.{matrix_format};
+
+    ghost format = { λ _. matrix_format };
+
+    ghost took = { took };
+
+    fn line(&mut self, line: Line<'_>) -> Result<(), Refusal<MatrixKind>> {
+        self.take_line(line)
+    }
+
+    fn end(&mut self, past: u64) -> Result<(), Refusal<MatrixKind>> {
+        self.take_end(past)
+    }
 }
 
 // The order, and the pairs of indices of the entries.

@@ -5,3 +5,4 @@ pub mod PermFileLemmas
 pub mod IdentityLemmas
 pub mod FillLemmas
 pub mod InverseLemmas
+pub mod ReaderLaws

@@ -13,7 +13,7 @@ use Rattle.mp_text.specs.Grammar.{Test, test, first_failure, tests_of_all, ArePa
 use Rattle.mp_text.specs.Reading.{IsRefusal}
 use Rattle.mp_text.specs.ReadingLaws.{first_failure-append}
 use Rattle.ordering.specs.OrderFile.{value_of, tokens_of_rows, numbers_stated}
-use Rattle.ordering.specs.Reader.{tokens-push}
+use Rattle.ordering.proofs.ReaderLaws.{tokens-push}
 use Rattle.ordering.specs.Perm.{IsPerm, IsVertex, times}
 use Rattle.ordering.specs.PermFile.{perm_token_tests, perm_format, is_vertex, ReadsPerm, IsPermRefusal}
 use Rattle.ordering.specs.declared.perm_file.PermKind.{PermKind}

@@ -1,8 +1,9 @@
 ghost use Rattle.std.specs.Prelude.{◌≡◌, [], MatchResult};
+ghost use Rattle.mp_text.specs.Ahead.{row};
 ghost use Rattle.mp_text.specs.Reading.{Steps};
 ghost use Rattle.ordering.specs.Kinds.{order_file_word};
 ghost use Rattle.ordering.specs.OrderFile.{ReadsOrder, IsOrderRefusal};
-ghost use Rattle.ordering.specs.Reader.{number_step};
+ghost use Rattle.ordering.specs.Reader.{number_step, order_step};
 
 use limits::{LimitName, MOST_TASKS};
 use mp_text::{Kind, Layout, Line, Reader, Refusal, fault, number, read_with, tokens};
@@ -64,37 +65,35 @@ impl OrderReader {
         self.numbers.push(value as u32)?;
         Ok(())
     }
+
+    // Takes the tokens of a line.
+    fn take_line(&mut self, line: Line<'_>) -> Result<(), Refusal<OrderFileKind>>
+        ensures { Steps (order_step self.old (row line.entry.number line.entry.text.now)) result self.new }
+    {
+        for token in tokens(line.text) {
+            self.take(line.number, token)?;
+        }
+        Ok(())
+    }
 }
 
 impl Reader for OrderReader {
     type Kind = OrderFileKind;
 
-    ghost use Rattle.std.specs.Prelude.{Ok};
+    ghost use Rattle.ordering.specs.Reader.{took_order};
     ghost use Rattle.ordering.specs.OrderFile.{order_format};
-    ghost use Rattle.ordering.specs.Reader.{order_step, took_order, order_follows, order_end_follows};
-
-    ghost step = { order_step };
-
-    ghost end_step = { λ s _. Ok s };
 
     ghost format = { λ _. order_format };
 
     ghost took = { took_order };
 
     fn line(&mut self, line: Line<'_>) -> Result<(), Refusal<OrderFileKind>> {
-        for token in tokens(line.text) {
-            self.take(line.number, token)?;
-        }
-        Ok(())
+        self.take_line(line)
     }
 
     fn end(&mut self, _past: u64) -> Result<(), Refusal<OrderFileKind>> {
         Ok(())
     }
-
-    ghost line_follows = { order_follows };
-
-    ghost end_follows = { order_end_follows };
 }
 
 /// The task numbers of an order file, or why it is refused. Whether they are a traversal is judged by the replay.

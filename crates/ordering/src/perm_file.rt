@@ -1,10 +1,11 @@
 ghost use Rattle.std.specs.Prelude.{◌≡◌, ◌==◌, ◌<◌, [], not, length, MatchResult, IfOk};
+ghost use Rattle.mp_text.specs.Ahead.{row};
 ghost use Rattle.mp_text.specs.Reading.{Gives, Steps, tested};
 ghost use Rattle.ordering.specs.Kinds.{perm_word};
 ghost use Rattle.ordering.specs.OrderFile.{value_of};
 ghost use Rattle.ordering.specs.Perm.{IsVertex, times};
 ghost use Rattle.ordering.specs.PermFile.{perm_token_tests, ReadsPerm, IsPermRefusal};
-ghost use Rattle.ordering.specs.Reader.{vertex_step};
+ghost use Rattle.ordering.specs.Reader.{vertex_step, perm_step, perm_end};
 
 use crate::perm::{NoMemory, Perm};
 use mp_text::{Kind, Layout, Line, Reader, Refusal, fault, number, read_with, tokens};
@@ -121,39 +122,45 @@ impl PermReader {
         self.places[vertex as usize] = place;
         Ok(())
     }
-}
 
-impl Reader for PermReader {
-    type Kind = PermKind;
-
-    ghost use Rattle.ordering.specs.PermFile.{perm_format};
-    ghost use Rattle.ordering.specs.Reader.{perm_step, perm_end, took_perm, perm_follows, perm_end_follows};
-
-    ghost step = { perm_step };
-
-    ghost end_step = { perm_end };
-
-    ghost format = { λ s. perm_format s.n };
-
-    ghost took = { took_perm };
-
-    fn line(&mut self, line: Line<'_>) -> Result<(), Refusal<PermKind>> {
+    // Takes the tokens of a line.
+    fn take_line(&mut self, line: Line<'_>) -> Result<(), Refusal<PermKind>>
+        ensures { Steps (perm_step self.old (row line.entry.number line.entry.text.now)) result self.new }
+    {
         for token in tokens(line.text) {
             self.take(line.number, token)?;
         }
         Ok(())
     }
 
-    fn end(&mut self, past: u64) -> Result<(), Refusal<PermKind>> {
+    // Takes the end of the file.
+    fn take_end(&mut self, past: u64) -> Result<(), Refusal<PermKind>>
+        ensures { Steps (perm_end self.old past) result self.new }
+    {
         if self.vertices.len() <= self.n as usize {
             return Err(fault(past, PermKind::Count));
         }
         Ok(())
     }
+}
 
-    ghost line_follows = { perm_follows };
+impl Reader for PermReader {
+    type Kind = PermKind;
 
-    ghost end_follows = { perm_end_follows };
+    ghost use Rattle.ordering.specs.Reader.{took_perm};
+    ghost use Rattle.ordering.specs.PermFile.{perm_format};
+
+    ghost format = { λ s. perm_format s.n };
+
+    ghost took = { took_perm };
+
+    fn line(&mut self, line: Line<'_>) -> Result<(), Refusal<PermKind>> {
+        self.take_line(line)
+    }
+
+    fn end(&mut self, past: u64) -> Result<(), Refusal<PermKind>> {
+        self.take_end(past)
+    }
 }
 
 /// The permutation of 1 to `n` that a file holds, or why it is refused. Linear in the file and in `n`. It answers no limit.

@@ -2,3 +2,4 @@ pub mod RankLemmas
 pub mod FormLemmas
 pub mod PrintedLemmas
 pub mod LengthLemmas
+pub mod ReaderLaws

@@ -3,6 +3,5 @@ pub mod PlanFile
 pub mod Kinds
 pub mod Printed
 pub mod Reader
-pub mod ReaderLaws
 pub mod Ranking
 pub mod Samples

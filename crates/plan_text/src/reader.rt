@@ -40,7 +40,7 @@ impl Model for PlanReader {
 
 impl PlanReader {
     ghost use Rattle.plan_text.specs.PlanFile.{nothing, peak_tests, priority_section_tests, order_tests, priority_tests, claim_tests, staged_tests};
-    ghost use Rattle.plan_text.specs.Reader.{peak_next, ranks_next, with_task, with_rank, with_claim, staged_next};
+    ghost use Rattle.plan_text.specs.Reader.{peak_next, ranks_next, with_task, with_rank, with_claim, staged_next, plan_step, plan_end};
 
     /// A reader of which nothing was read.
     pub fn new(alloc: Global) -> PlanReader
@@ -120,25 +120,12 @@ impl PlanReader {
         self.stage = Stage::Ended;
         Ok(())
     }
-}
 
-impl Reader for PlanReader {
-    type Kind = PlanKind;
-
-    ghost use Rattle.plan_text.specs.Reader.{plan_step, plan_end, took};
-    ghost use Rattle.plan_text.specs.PlanFile.{plan_format};
-    ghost use Rattle.plan_text.specs.ReaderLaws.{step_follows, end_follows as the_end_follows};
-
-    ghost step = { plan_step };
-
-    ghost end_step = { plan_end };
-
-    ghost format = { λ _. plan_format };
-
-    ghost took = { took };
-
+    // Takes a line.
     #[tactic(auto, unfolding(crate::specs::Reader::plan_step))]
-    fn line(&mut self, line: Line<'_>) -> Result<(), Refusal<PlanKind>> {
+    fn take_line(&mut self, line: Line<'_>) -> Result<(), Refusal<PlanKind>>
+        ensures { Steps (plan_step self.old (row line.entry.number line.entry.text.now)) result self.new }
+    {
         match self.stage {
             Stage::Header => {
                 self.version = header_on(line)?;
@@ -162,15 +149,33 @@ impl Reader for PlanReader {
         }
     }
 
+    // Takes the end of the file.
     #[tactic(auto, unfolding(crate::specs::Reader::plan_end))]
-    fn end(&mut self, past: u64) -> Result<(), Refusal<PlanKind>> {
+    fn take_end(&mut self, past: u64) -> Result<(), Refusal<PlanKind>>
+        ensures { Steps (plan_end self.old past) result self.new }
+    {
         match self.stage {
             Stage::Ended => Ok(()),
             _ => Err(fault(past, PlanKind::NoEnd)),
         }
     }
+}
 
-    ghost line_follows = { step_follows };
+impl Reader for PlanReader {
+    type Kind = PlanKind;
 
-    ghost end_follows = { the_end_follows };
+    ghost use Rattle.plan_text.specs.Reader.{took};
+    ghost use Rattle.plan_text.specs.PlanFile.{plan_format};
+
+    ghost format = { λ _. plan_format };
+
+    ghost took = { took };
+
+    fn line(&mut self, line: Line<'_>) -> Result<(), Refusal<PlanKind>> {
+        self.take_line(line)
+    }
+
+    fn end(&mut self, past: u64) -> Result<(), Refusal<PlanKind>> {
+        self.take_end(past)
+    }
 }

@@ -7,3 +7,4 @@ pub mod ReadLemmas
 pub mod Standing
 pub mod PrintedLemmas
 pub mod Positions
+pub mod ReaderLaws

@@ -9,6 +9,5 @@ pub mod Pending
 pub mod Kinds
 pub mod WorkflowFile
 pub mod Reader
-pub mod ReaderLaws
 pub mod WorkflowText
 pub mod Samples

@@ -44,7 +44,7 @@ fn refusal_at(line: u64, refusal: PushRefusal) -> Refusal<WorkflowKind>
 
 impl WorkflowReader {
     ghost use Rattle.sp_terms.specs.Builder.{IsPosition};
-    ghost use Rattle.sp_terms.specs.Reader.{pushed, body_step, start};
+    ghost use Rattle.sp_terms.specs.Reader.{pushed, body_step, start, workflow_step, workflow_end};
     ghost use Rattle.mp_text.specs.Reading.{Steps};
 
     // A reader of which nothing was read.
@@ -84,25 +84,12 @@ impl WorkflowReader {
         let position = position_on(self.version, self.count, height, tasks, line)?;
         self.push(line.number, position)
     }
-}
 
-impl Reader for WorkflowReader {
-    type Kind = WorkflowKind;
-
-    ghost use Rattle.sp_terms.specs.Reader.{workflow_step, workflow_end, took};
-    ghost use Rattle.sp_terms.specs.WorkflowFile.{workflow_format};
-    ghost use Rattle.sp_terms.specs.ReaderLaws.{step_follows, end_follows as the_end_follows};
-
-    ghost step = { workflow_step };
-
-    ghost end_step = { workflow_end };
-
-    ghost format = { λ _. workflow_format };
-
-    ghost took = { took };
-
+    // Takes a line.
     #[tactic(auto, unfolding(crate::specs::Reader::workflow_step))]
-    fn line(&mut self, line: Line<'_>) -> Result<(), Refusal<WorkflowKind>> {
+    fn take_line(&mut self, line: Line<'_>) -> Result<(), Refusal<WorkflowKind>>
+        ensures { Steps (workflow_step self.old (row line.entry.number line.entry.text.now)) result self.new }
+    {
         match self.stage {
             Stage::Header => {
                 self.version = header_on(line)?;
@@ -119,17 +106,35 @@ impl Reader for WorkflowReader {
         }
     }
 
+    // Takes the end of the file.
     #[tactic(auto, unfolding(crate::specs::Reader::workflow_end))]
-    fn end(&mut self, past: u64) -> Result<(), Refusal<WorkflowKind>> {
+    fn take_end(&mut self, past: u64) -> Result<(), Refusal<WorkflowKind>>
+        ensures { Steps (workflow_end self.old past) result self.new }
+    {
         match self.stage {
             Stage::Ended => Ok(()),
             _ => Err(fault(past, WorkflowKind::NoEnd)),
         }
     }
+}
 
-    ghost line_follows = { step_follows };
+impl Reader for WorkflowReader {
+    type Kind = WorkflowKind;
 
-    ghost end_follows = { the_end_follows };
+    ghost use Rattle.sp_terms.specs.Reader.{took};
+    ghost use Rattle.sp_terms.specs.WorkflowFile.{workflow_format};
+
+    ghost format = { λ _. workflow_format };
+
+    ghost took = { took };
+
+    fn line(&mut self, line: Line<'_>) -> Result<(), Refusal<WorkflowKind>> {
+        self.take_line(line)
+    }
+
+    fn end(&mut self, past: u64) -> Result<(), Refusal<WorkflowKind>> {
+        self.take_end(past)
+    }
 }
 
 /// The terms that a workflow file of version 1 or 2 states, or why it is refused: the first test that fails in the first line that

@@ -15,3 +15,4 @@ pub mod LimitLemmas
 pub mod ChildLemmas
 pub mod OrderLemmas
 pub mod PositionLemmas
+pub mod ReaderLaws

@@ -7,6 +7,5 @@ pub mod Ascent
 pub mod Children
 pub mod Stated
 pub mod Reader
-pub mod ReaderLaws
 pub mod Samples
 pub mod Kinds

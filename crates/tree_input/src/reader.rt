@@ -34,7 +34,7 @@ impl Model for TreeReader {
 
 impl TreeReader {
     ghost use Rattle.std.specs.Prelude.{length, nat_lt};
-    ghost use Rattle.tree_input.specs.Reader.{body_step, with_node, start};
+    ghost use Rattle.tree_input.specs.Reader.{body_step, with_node, start, tree_step, tree_end};
     ghost use Rattle.tree_input.specs.TreeFile.{node_tests};
     ghost use Rattle.mp_text.specs.Reading.{Steps, tested};
 
@@ -83,25 +83,12 @@ impl TreeReader {
         self.stage = Stage::Ended;
         Ok(())
     }
-}
 
-impl Reader for TreeReader {
-    type Kind = TreeKind;
-
-    ghost use Rattle.tree_input.specs.Reader.{tree_step, tree_end, took};
-    ghost use Rattle.tree_input.specs.TreeFile.{tree_format};
-    ghost use Rattle.tree_input.specs.ReaderLaws.{step_follows, end_follows as the_end_follows};
-
-    ghost step = { tree_step };
-
-    ghost end_step = { tree_end };
-
-    ghost format = { λ _. tree_format };
-
-    ghost took = { took };
-
+    // Takes a line.
     #[tactic(auto, unfolding(crate::specs::Reader::tree_step))]
-    fn line(&mut self, line: Line<'_>) -> Result<(), Refusal<TreeKind>> {
+    fn take_line(&mut self, line: Line<'_>) -> Result<(), Refusal<TreeKind>>
+        ensures { Steps (tree_step self.old (row line.entry.number line.entry.text.now)) result self.new }
+    {
         match self.stage {
             Stage::Header => {
                 self.version = header_on(line)?;
@@ -118,15 +105,33 @@ impl Reader for TreeReader {
         }
     }
 
+    // Takes the end of the file.
     #[tactic(auto, unfolding(crate::specs::Reader::tree_end))]
-    fn end(&mut self, past: u64) -> Result<(), Refusal<TreeKind>> {
+    fn take_end(&mut self, past: u64) -> Result<(), Refusal<TreeKind>>
+        ensures { Steps (tree_end self.old past) result self.new }
+    {
         match self.stage {
             Stage::Ended => Ok(()),
             _ => Err(fault(past, TreeKind::NoEnd)),
         }
     }
+}
 
-    ghost line_follows = { step_follows };
+impl Reader for TreeReader {
+    type Kind = TreeKind;
 
-    ghost end_follows = { the_end_follows };
+    ghost use Rattle.tree_input.specs.Reader.{took};
+    ghost use Rattle.tree_input.specs.TreeFile.{tree_format};
+
+    ghost format = { λ _. tree_format };
+
+    ghost took = { took };
+
+    fn line(&mut self, line: Line<'_>) -> Result<(), Refusal<TreeKind>> {
+        self.take_line(line)
+    }
+
+    fn end(&mut self, past: u64) -> Result<(), Refusal<TreeKind>> {
+        self.take_end(past)
+    }
 }

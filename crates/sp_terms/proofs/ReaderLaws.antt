@@ -1,6 +1,4 @@
--- No public clause names this.
--- What the reader of workflow files does is what the tests of the format say: the two laws of its `impl Reader`. An `impl` takes the
--- proofs of its laws from specs/, so they stand here and not in proofs/.
+-- What the reader of workflow files does with a line, and with the end, is what the tests of the format say.
 use Rattle.std.specs.Prelude.{◌≡◌, ℕ, Bool, true, false, Option, Some, None, List, ◌∷◌, ◌++◌, [], length, refl}
 use Rattle.std.specs.List.{sum_by}
 use Rattle.std.specs.Option.{option_map}

@@ -1,6 +1,4 @@
--- No public clause names this.
--- What the reader of plan files does is what the tests of the format say: the two laws of its `impl Reader`. An `impl` takes the proofs of
--- its laws from specs/, so they stand here and not in proofs/.
+-- What the reader of plan files does with a line, and with the end, is what the tests of the format say.
 use Rattle.std.specs.Prelude.{◌≡◌, ℕ, ◌<◌, ◌≤◌, ◌⊎◌, true, false, nat_lt, List, [], ◌∷◌, ◌++◌, length, map, take, drop, codes, refl}
 use Rattle.std.proofs.Common.{sym, ap, ◌∙◌, arith, inl, inr}
 use Rattle.std.proofs.Math.Seq.{take-nil, drop-nil}

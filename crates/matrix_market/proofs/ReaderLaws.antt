@@ -1,6 +1,4 @@
--- No public clause names this.
--- What the reader of matrix files does is what the tests of the format say: the two laws of its `impl Reader`. An `impl` takes the
--- proofs of its laws from specs/, so they stand here and not in proofs/.
+-- What the reader of matrix files does with a line, and with the end, is what the tests of the format say.
 use Rattle.std.specs.Prelude.{◌≡◌, ◌==◌, ℕ, List, [], ◌∷◌, ◌++◌, length, refl}
 use Rattle.std.proofs.Common.{sym, subst, ◌∙◌, ap}
 use Rattle.std.proofs.lemmas.List.{map_push, length-map}
