@@ -16,7 +16,7 @@ use Rattle.mp_text.specs.Grammar.{test, first_failure, ArePassed, token_at}
 use Rattle.plan_text.specs.Plan.{PlanText, most_number, IsPlan, IsClaimWithin, RiseFrom, IsTask, RanksAll, IsPriority, times}
 use Rattle.plan_text.specs.PlanFile.{Stated, stated, plan_format, staged_tests, is_ended, is_number_up_to, is_bound, bound_of, value_of, task_on, stated_on, claim_on, last_position, claim_tests, order_tests, peak_tests, priority_tests, priority_section_tests, tests_after_order, last_tests, ReadsPlan}
 use Rattle.plan_text.specs.Reader.{staged_next, with_task, with_rank, with_claim, peak_next, ranks_next, after_order_next}
-use Rattle.plan_text.specs.ReaderLaws.{stated_push}
+use Rattle.plan_text.proofs.ReaderLaws.{stated_push}
 use Rattle.plan_text.specs.declared.claim.Claim.{Claim}
 use Rattle.plan_text.specs.declared.claim.Dir.TheVariants.{F}
 use Rattle.plan_text.specs.declared.stage.Stage.{Stage}

@@ -23,7 +23,7 @@ use Rattle.plan_text.specs.Plan.{PlanText, most_number, IsPlan, IsClaimWithin, R
 use Rattle.plan_text.specs.PlanFile.{Stated, stated, nothing, plan_format, tests_after, plan_of, end_tests_after, peak_tests, dir_named, last_position, ReadsPlan}
 use Rattle.plan_text.specs.Printed.{header_line, section_line, task_line, claim_line, dir_word, end_line, task_lines, claim_lines, priority_lines, last_lines, lines_in, text_in, version_for, text_of, text2_of}
 use Rattle.plan_text.specs.Reader.{next, peak_next}
-use Rattle.plan_text.specs.ReaderLaws.{stated_push, at_claims, at_peak, at_ranks, at_order}
+use Rattle.plan_text.proofs.ReaderLaws.{stated_push, at_claims, at_peak, at_ranks, at_order}
 use Rattle.plan_text.specs.declared.claim.Claim.{Claim}
 use Rattle.plan_text.specs.declared.claim.Dir.{Dir}
 use Rattle.plan_text.specs.declared.claim.Dir.TheVariants.{F, R}
