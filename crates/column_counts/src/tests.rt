@@ -4,22 +4,25 @@ use crate::{counts, counts_by_marking};
 use elim_tree::laws::pattern_of_rows;
 use elim_tree::{etree, postorder, renumber};
 use matrix_market::{Pattern, read_pattern};
+use mp_text::{Report, Token};
 use ordering::{Perm, read_perm};
 use std::alloc::Global;
 use std::collections::BTreeSet;
 use std::process::Abort;
 use std::test::Fail;
 
+const BANNER: [&str; 5] = ["%%MatrixMarket", "matrix", "coordinate", "pattern", "symmetric"];
+
 // The pattern of so many vertices that joins these pairs.
 fn pattern_of(alloc: Global, n: u32, pairs: &[(u32, u32)]) -> Result<Pattern, Fail> {
-    let count = pairs.len();
-    let mut text = format!(in alloc;
-        "%%MatrixMarket matrix coordinate pattern symmetric\n{n} {n} {count}\n"
-    )?;
+    let mut text = Report::new(alloc);
+    text.line(&BANNER.map(Token::Word))?;
+    let order = Token::Number(n.into());
+    text.line(&[order, order, Token::Number(pairs.len() as u64)])?;
     for (a, b) in pairs {
-        text.push_str(format!(in alloc; "{b} {a}\n")?.as_str())?;
+        text.line(&[Token::Number((*b).into()), Token::Number((*a).into())])?;
     }
-    Ok(read_pattern(alloc, text.as_bytes())?)
+    Ok(read_pattern(alloc, text.bytes())?)
 }
 
 // The counts, the plain way: one vertex after another joins those after it that it is joined to, and counts them and itself.
