@@ -1,6 +1,6 @@
-ghost use Rattle.std.specs.Prelude.{◌≡◌, ◌≤◌, ◌<◌, ◌-◌, IfOk, length, min, position};
+ghost use Rattle.std.specs.Prelude.{◌≡◌, ◌≤◌, ◌<◌, ◌-◌, IfOk, length, min, position, string_bytes};
 ghost use Rattle.mp_outside.specs.Outside.{Loads, one_more};
-ghost use Rattle.mp_outside.specs.MemFiles.{has_name};
+ghost use Rattle.mp_outside.specs.MemFiles.{NamedFile, has_name};
 
 use crate::NoMemory;
 use std::alloc::Global;
@@ -15,9 +15,6 @@ pub struct HeldFile {
 }
 
 impl Model for HeldFile {
-    ghost use Rattle.std.specs.Prelude.{string_bytes};
-    ghost use Rattle.mp_outside.specs.MemFiles.{NamedFile};
-
     ghost Value = { NamedFile };
 
     ghost view = { λ f. record { name = string_bytes f.name; bytes = f.bytes.items; faults = f.faults } };

@@ -1,6 +1,6 @@
 ghost use Rattle.std.specs.Prelude.{◌≡◌, ◌≤◌, ◌<◌, ◌-◌, ◌+◌, ◌↔◌, ◌++◌, ◌∷◌, [], ℕ, List, IfOk, IfSome, IsErr, OnOk, OnErr, length, min};
 ghost use Rattle.mp_outside.specs.Outside.{LoadsTold, Rose, one_more};
-ghost use Rattle.mp_outside.specs.MemFiles.{no_files, contents_of, fault_count_of, LoadFails, RaisesOnly, Puts};
+ghost use Rattle.mp_outside.specs.MemFiles.{FilesState, no_files, contents_of, fault_count_of, LoadFails, RaisesOnly, Puts};
 
 use crate::NoMemory;
 use crate::calls::is_listed;
@@ -22,9 +22,6 @@ pub struct MemFiles {
 }
 
 impl Model for MemFiles {
-    ghost use Rattle.std.specs.Prelude.{◌<◌};
-    ghost use Rattle.mp_outside.specs.MemFiles.{FilesState};
-
     ghost Value = { FilesState };
 
     ghost view = { λ m. record { files = m.held.items; shared = m.shared; most = m.most; calls = m.calls; failing = m.failing.items } };
@@ -146,15 +143,11 @@ mod tests {
             ("", 0, 8, None),
         ];
         for (name, place, room, want) in loads {
-            let given = files.load(name, place, &mut buf[..room.min(8)]);
-            match given {
-                Ok(count) => assert_eq!(rt;
-                    Some(&buf[..count as usize]),
-                    want,
-                    "{name} at {place}"
-                ),
-                Err(Failed) => assert_eq!(rt; None, want, "{name} at {place}"),
-            }
+            let given = match files.load(name, place, &mut buf[..room.min(8)]) {
+                Ok(count) => Some(&buf[..count as usize]),
+                Err(Failed) => None,
+            };
+            assert_eq!(rt; given, want, "{name} at {place}");
         }
         Ok(())
     }

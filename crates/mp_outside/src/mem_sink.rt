@@ -1,6 +1,6 @@
-ghost use Rattle.std.specs.Prelude.{◌≡◌, ◌≤◌, ◌<◌, ◌↔◌, ◌++◌, ◌∷◌, [], ℕ, List, Some, IfOk, IsErr, OnOk, OnErr, length, take, min};
+ghost use Rattle.std.specs.Prelude.{◌≡◌, ◌≤◌, ◌<◌, ◌+◌, ◌↔◌, ◌++◌, ◌∷◌, [], ℕ, List, Some, IfOk, IsErr, OnOk, OnErr, length, take, min, vec_len, vec_capacity};
 ghost use Rattle.mp_outside.specs.Outside.{Appended, Rose};
-ghost use Rattle.mp_outside.specs.MemSink.{empty_sink, WriteFails, after_fault, after_taking};
+ghost use Rattle.mp_outside.specs.MemSink.{SinkState, empty_sink, WriteFails, after_fault, after_taking};
 
 use crate::NoMemory;
 use crate::calls::is_listed;
@@ -20,12 +20,16 @@ pub struct MemSink {
 }
 
 impl Model for MemSink {
-    ghost use Rattle.std.specs.Prelude.{◌<◌, ◌≤◌, ◌+◌, vec_len, vec_capacity};
-    ghost use Rattle.mp_outside.specs.MemSink.{SinkState};
-
     ghost Value = { SinkState };
 
-    ghost view = { λ m. record { taken = m.taken.items; room = m.room; most = m.most; calls = m.calls; failing = m.failing.items; faults = m.faults } };
+    ghost view = { λ m. record {
+      taken = m.taken.items;
+      room = m.room;
+      most = m.most;
+      calls = m.calls;
+      failing = m.failing.items;
+      faults = m.faults;
+    } };
 
     ghost invariant = { λ m. (0 < m.most) × (vec_len m.taken + m.room ≤ vec_capacity m.taken) };
 }

@@ -1,6 +1,7 @@
-ghost use Rattle.std.specs.Prelude.{◌≡◌, ◌≤◌, ◌<◌, ℕ, List, IfOk, IfSome, length};
+ghost use Rattle.std.specs.Prelude.{◌≡◌, ◌≤◌, ◌<◌, ℕ, List, None, IfOk, IfSome, length};
 ghost use Rattle.limits.specs.Limits.{most_bytes};
 ghost use Rattle.mp_outside.specs.Outside.{Rose};
+ghost use Rattle.mp_outside.specs.declared.reading.ReadRefusal.TheVariants.{NoMemory};
 
 use crate::NoMemory;
 use crate::traits::Files;
@@ -20,8 +21,6 @@ pub enum ReadRefusal {
 }
 
 impl From<NoMemory> for ReadRefusal {
-    ghost use Rattle.mp_outside.specs.declared.reading.ReadRefusal.TheVariants.{NoMemory};
-
     ghost from_gives = { λ _ e. e ≡ NoMemory };
 
     fn from(_e: NoMemory) -> ReadRefusal {
@@ -136,8 +135,6 @@ mod tests {
     struct Zeros(u64);
 
     impl Files for Zeros {
-        ghost use Rattle.std.specs.Prelude.{None};
-
         ghost bytes_of = { λ _ _. None };
 
         ghost faults_of = { λ _ _. 0 };

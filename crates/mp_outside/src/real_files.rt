@@ -1,4 +1,4 @@
-ghost use Rattle.std.specs.Prelude.{◌≡◌, ◌≤◌, None, IfOk, OnErr, length, is_err, if◌then◌else◌};
+ghost use Rattle.std.specs.Prelude.{◌≡◌, ◌≤◌, ℕ, None, IfOk, OnErr, length, is_err, if◌then◌else◌};
 ghost use Rattle.mp_outside.specs.Outside.{LoadsTold, Rose, one_more};
 
 use crate::traits::{Failed, Files};
@@ -15,8 +15,6 @@ pub struct RealFiles<'a, R: rt::Files> {
 }
 
 impl<'a, R: rt::Files> Model for RealFiles<'a, R> {
-    ghost use Rattle.std.specs.Prelude.{ℕ};
-
     ghost Value = { ℕ };
 
     ghost view = { λ f. f.faults };

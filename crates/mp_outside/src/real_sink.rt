@@ -1,6 +1,7 @@
 ghost use Rattle.std.specs.Prelude.{◌≡◌, ◌≤◌, ◌<◌, None, IfOk, OnErr, length, is_err, if◌then◌else◌};
 ghost use Rattle.std.specs.Io.KnownBytes.{WriteAppends};
 ghost use Rattle.mp_outside.specs.Outside.{Rose, one_more};
+ghost use Rattle.mp_outside.specs.RealSink.{WriterState};
 
 use crate::traits::{Failed, Sink};
 use std::io::Write;
@@ -15,8 +16,6 @@ pub struct RealSink<W: Write + Drop> {
 }
 
 impl<W: Write + Drop> Model for RealSink<W> {
-    ghost use Rattle.mp_outside.specs.RealSink.{WriterState};
-
     ghost Value = { WriterState };
 
     ghost view = { λ s. record { contents = W.contents s.writer; faults = s.faults } };

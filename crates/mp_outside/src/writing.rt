@@ -49,11 +49,8 @@ mod tests {
             let mut sink = MemSink::new(rt.alloc(), room)?;
             sink.piece(3);
             sink.fail_at(failing)?;
-            assert_eq!(rt;
-                write_all(&mut sink, bytes),
-                want,
-                "room {room}, failing {failing}"
-            );
+            let written = write_all(&mut sink, bytes);
+            assert_eq!(rt; written, want, "room {room}, failing {failing}");
             assert_eq!(rt; sink.written(), taken, "room {room}, failing {failing}");
         }
         Ok(())
