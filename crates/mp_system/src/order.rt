@@ -2,6 +2,7 @@ ghost use Rattle.std.specs.Prelude.{◌≡◌, IfOk, IfErr};
 ghost use Rattle.mp_system.specs.Memory.{peak_of};
 ghost use Rattle.mp_system.specs.Traversal.{IsTraversal};
 ghost use Rattle.mp_system.specs.Refusal.{IsOrderRefusal};
+ghost use Rattle.mp_system.specs.declared.order.ReplayRefusal.TheVariants.{NoMemory};
 
 use crate::NoMemory;
 use crate::state::Replay;
@@ -26,8 +27,6 @@ pub enum ReplayRefusal {
 }
 
 impl From<NoMemory> for ReplayRefusal {
-    ghost use Rattle.mp_system.specs.declared.order.ReplayRefusal.TheVariants.{NoMemory};
-
     ghost from_gives = { λ _ e. e ≡ NoMemory };
 
     fn from(_no_memory: NoMemory) -> ReplayRefusal {

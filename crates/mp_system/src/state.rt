@@ -5,7 +5,8 @@ ghost use Rattle.mp_system.specs.System.{item_size, size_where};
 ghost use Rattle.mp_system.specs.Memory.{state_memory, running_memory, is_present};
 ghost use Rattle.mp_system.specs.Traversal.{fault_of};
 ghost use Rattle.mp_system.specs.Step.{AddsTask};
-ghost use Rattle.mp_system.specs.Replay.{has_run};
+ghost use Rattle.mp_system.specs.Replay.{ReplayState, has_run};
+ghost use Rattle.mp_system.specs.ReplayTables.{IsReplay};
 
 use crate::NoMemory;
 use crate::inputs::{input_rows, sum_if_ready};
@@ -28,9 +29,6 @@ pub struct Replay {
 }
 
 impl Model for Replay {
-    ghost use Rattle.mp_system.specs.Replay.{ReplayState};
-    ghost use Rattle.mp_system.specs.ReplayTables.{IsReplay};
-
     ghost Value = { ReplayState };
 
     ghost view = { λ r. record { system = r.system.value; ran = r.ran.items } };

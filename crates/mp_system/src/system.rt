@@ -1,4 +1,5 @@
 ghost use Rattle.std.specs.Prelude.{◌≡◌};
+ghost use Rattle.mp_system.specs.System.{TaskSystem, IsSystem};
 ghost use Rattle.mp_system.specs.Refusal.{word_of};
 
 use std::fmt::{self, Display, Formatter, Write};
@@ -67,8 +68,6 @@ pub struct System {
 }
 
 impl Model for System {
-    ghost use Rattle.mp_system.specs.System.{TaskSystem, IsSystem};
-
     ghost Value = { TaskSystem };
 
     ghost view = { λ s. record { tasks = s.tasks.items; items = s.items.items } };
@@ -77,8 +76,6 @@ impl Model for System {
 }
 
 impl System {
-    ghost use Rattle.mp_system.specs.System.{IsSystem};
-
     /// A system of these tasks and items.
     pub fn new(tasks: Vec<Task>, items: Vec<Item>) -> System
         requires { IsSystem (record { tasks = tasks.items; items = items.items }) }

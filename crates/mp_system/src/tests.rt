@@ -65,27 +65,23 @@ fn fault(place: u64, kind: OrderKind) -> Result<u64, ReplayRefusal> {
 
 #[test]
 fn peaks_and_first_faults(rt: HostRuntime) -> Result<(), Fail> {
-    let system = tree(rt.alloc())?;
-    let rows: [(&[u32], Result<u64, ReplayRefusal>); 7] = [
-        (&[1, 3, 2, 4, 5], Ok(11)),
-        (&[1, 2, 3, 4, 5], Ok(15)),
-        (&[1, 1], fault(2, OrderKind::Repeated)),
-        (&[9], fault(1, OrderKind::Unknown)),
-        (&[0], fault(1, OrderKind::Unknown)),
-        (&[1, 2, 3, 4], fault(5, OrderKind::Missing)),
-        (&[2, 1, 3, 4, 5], fault(1, OrderKind::TooEarly)),
+    let alloc = rt.alloc();
+    let (tree, shared, stocked) = (tree(alloc)?, shared(alloc)?, stocked(alloc)?);
+    let rows: [(&System, &[u32], Result<u64, ReplayRefusal>); 10] = [
+        (&tree, &[1, 3, 2, 4, 5], Ok(11)),
+        (&tree, &[1, 2, 3, 4, 5], Ok(15)),
+        (&tree, &[1, 1], fault(2, OrderKind::Repeated)),
+        (&tree, &[9], fault(1, OrderKind::Unknown)),
+        (&tree, &[0], fault(1, OrderKind::Unknown)),
+        (&tree, &[1, 2, 3, 4], fault(5, OrderKind::Missing)),
+        (&tree, &[2, 1, 3, 4, 5], fault(1, OrderKind::TooEarly)),
+        (&shared, &[1, 2], Ok(5)),
+        (&stocked, &[1, 2], Ok(13)),
+        (&stocked, &[2, 1], fault(1, OrderKind::TooEarly)),
     ];
-    for (order, answer) in rows {
-        assert_eq!(rt; replay(rt.alloc(), &system, order), answer);
+    for (system, order, answer) in rows {
+        assert_eq!(rt; replay(alloc, system, order), answer);
     }
-    let system = shared(rt.alloc())?;
-    assert_eq!(rt; replay(rt.alloc(), &system, &[1, 2]), Ok(5));
-    let system = stocked(rt.alloc())?;
-    assert_eq!(rt; replay(rt.alloc(), &system, &[1, 2]), Ok(13));
-    assert_eq!(rt;
-        replay(rt.alloc(), &system, &[2, 1]),
-        fault(1, OrderKind::TooEarly)
-    );
     Ok(())
 }
 
@@ -118,10 +114,8 @@ fn items_that_no_task_produces(rt: HostRuntime) -> Result<(), Fail> {
     let system = stocked(rt.alloc())?;
     let mut replay = Replay::new(rt.alloc(), &system)?;
     assert_eq!(rt; replay.memory(), 9);
-    assert_eq!(rt; replay.step(&system, 1), Ok(13));
-    assert_eq!(rt; replay.memory(), 5);
-    assert_eq!(rt; replay.step(&system, 2), Ok(5));
-    assert_eq!(rt; replay.memory(), 2);
+    assert_eq!(rt; (replay.step(&system, 1), replay.memory()), (Ok(13), 5));
+    assert_eq!(rt; (replay.step(&system, 2), replay.memory()), (Ok(5), 2));
     Ok(())
 }
 
