@@ -28,22 +28,15 @@ fn is_present(item: Item, done: &[u32]) -> bool {
         && !item.to.is_some_and(|task| done.contains(&task))
 }
 
-fn task_of(system: &System, number: u32) -> Task {
-    for (i, task) in system.tasks().iter().enumerate() {
-        if i as u64 + 1 == u64::from(number) {
-            return *task;
-        }
-    }
-    Task {
-        extra: 0,
-        share: 0,
-        time: 0,
-    }
+fn task_of(system: &System, number: u32) -> Option<Task> {
+    system.tasks().get(number.checked_sub(1)? as usize).copied()
 }
 
 // What a task needs while it runs, beside the items that are there.
 fn need(system: &System, number: u32) -> u64 {
-    let task = task_of(system, number);
+    let Some(task) = task_of(system, number) else {
+        return 0;
+    };
     let mut sum = task.extra;
     for item in system.items() {
         if item.from == Some(number) {
@@ -55,21 +48,12 @@ fn need(system: &System, number: u32) -> u64 {
 
 impl PlainRun {
     fn due(&self, task: u32) -> Option<u64> {
-        for (running, due) in &self.running {
-            if *running == task {
-                return Some(*due);
-            }
-        }
-        None
+        self.running.iter().find(|it| it.0 == task).map(|it| it.1)
     }
 
     fn is_ready(&self, system: &System, task: u32) -> bool {
-        for item in system.items() {
-            if item.to == Some(task) && item.from.is_some_and(|from| !self.done.contains(&from)) {
-                return false;
-            }
-        }
-        true
+        let mut inputs = system.items().iter().filter(|item| item.to == Some(task));
+        inputs.all(|item| item.from.is_none_or(|from| self.done.contains(&from)))
     }
 
     // The items that are present, and what these tasks need.
@@ -85,31 +69,22 @@ impl PlainRun {
         }
         sum
     }
-}
 
-impl PlainRun {
     fn used(&self, alloc: Global, system: &System) -> Result<u64, NoMemory> {
         let running: Vec<u32> = self.running.iter().map(|it| it.0).collect(alloc)?;
         Ok(self.memory(system, &running))
     }
 
     fn booked(&self, alloc: Global, system: &System) -> Result<u64, NoMemory> {
-        let left: Vec<u32> = self
-            .activated
-            .iter()
-            .filter(|task| !self.done.contains(task))
-            .copied()
-            .collect(alloc)?;
+        let mut left = Vec::from_slice(alloc, &self.activated)?;
+        left.retain(|task| !self.done.contains(task));
         Ok(self.memory(system, &left))
     }
 
     // The first task of the order that is due now.
     fn next_due(&self, given: Given) -> Option<u32> {
-        given
-            .order
-            .iter()
-            .find(|task| self.due(**task).is_some_and(|due| due <= self.time))
-            .copied()
+        let mut order = given.order.iter().copied();
+        order.find(|task| self.due(*task).is_some_and(|due| due <= self.time))
     }
 
     // The next task of the order, where its need fits.
@@ -117,14 +92,9 @@ impl PlainRun {
         let Some(task) = given.order.get(self.activated.len()) else {
             return Ok(None);
         };
-        let after = self
-            .booked(alloc, given.system)?
-            .saturating_add(need(given.system, *task));
-        Ok(if after <= given.bound {
-            Some(*task)
-        } else {
-            None
-        })
+        let booked = self.booked(alloc, given.system)?;
+        let after = booked.saturating_add(need(given.system, *task));
+        Ok((after <= given.bound).then_some(*task))
     }
 
     fn may_start(&self, given: Given, task: u32) -> bool {
@@ -135,35 +105,22 @@ impl PlainRun {
             && (self.running.len() as u64) < u64::from(given.workers)
     }
 
-    // The next event at this moment, if there is one.
-    fn step(&mut self, alloc: Global, given: Given) -> Result<Option<Event>, NoMemory> {
-        let time = self.time;
+    // What happens next at this moment, and to which task; none where nothing does.
+    fn step(&mut self, alloc: Global, given: Given) -> Result<Option<(EventKind, u32)>, NoMemory> {
         if let Some(task) = self.next_due(given) {
             self.running.retain(|it| it.0 != task);
             self.done.push(task)?;
-            return Ok(Some(Event {
-                time,
-                kind: EventKind::Finish,
-                task,
-            }));
+            return Ok(Some((EventKind::Finish, task)));
         }
         if let Some(task) = self.next_fitting(alloc, given)? {
             self.activated.push(task)?;
-            return Ok(Some(Event {
-                time,
-                kind: EventKind::Activate,
-                task,
-            }));
+            return Ok(Some((EventKind::Activate, task)));
         }
         for task in given.priority {
             if self.may_start(given, *task) {
-                let due = time.saturating_add(task_of(given.system, *task).time);
-                self.running.push((*task, due))?;
-                return Ok(Some(Event {
-                    time,
-                    kind: EventKind::Start,
-                    task: *task,
-                }));
+                let time = task_of(given.system, *task).map_or(0, |it| it.time);
+                self.running.push((*task, self.time.saturating_add(time)))?;
+                return Ok(Some((EventKind::Start, *task)));
             }
         }
         Ok(None)
@@ -182,8 +139,9 @@ pub fn plain_run(alloc: Global, given: Given) -> Result<Trace, NoMemory> {
     let mut used = run.used(alloc, given.system)?;
     let mut booked = run.booked(alloc, given.system)?;
     for _ in 0..100 {
-        if let Some(event) = run.step(alloc, given)? {
-            events.push(event)?;
+        if let Some((kind, task)) = run.step(alloc, given)? {
+            let time = run.time;
+            events.push(Event { time, kind, task })?;
             used = used.max(run.used(alloc, given.system)?);
             booked = booked.max(run.booked(alloc, given.system)?);
         } else if let Some(due) = run.running.iter().map(|it| it.1).min() {

@@ -37,11 +37,7 @@ fn random_task(dice: &mut Pcg32) -> Task
 fn maybe(dice: &mut Pcg32, task: u32) -> Option<u32>
     ensures { ForSome result (λ t. t ≡ task) }
 {
-    if below(dice, 4) == 0 {
-        None
-    } else {
-        Some(task)
-    }
+    (below(dice, 4) > 0).then_some(task)
 }
 
 fn random_item(dice: &mut Pcg32, from: u32, to: u32) -> Item

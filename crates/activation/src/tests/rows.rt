@@ -59,16 +59,16 @@ fn check_run(rt: &impl Abort, alloc: Global, given: Given, wanted: &str) -> Resu
     Ok(())
 }
 
-// The tree's runs are along one order, which is the priority too.
-fn of_tree(tree: &System, bound: u64, workers: u32) -> Given<'_>
+// A run along an order, which is the priority too.
+fn along<'a>(system: &'a System, order: &'a [u32], bound: u64, workers: u32) -> Given<'a>
     ensures { result.workers ≡ workers }
 {
     Given {
-        system: tree,
-        order: &[1, 3, 2, 4, 5],
+        system,
+        order,
         bound,
         workers,
-        priority: &[1, 3, 2, 4, 5],
+        priority: order,
     }
 }
 
@@ -82,130 +82,75 @@ const ENDLESS: &str = "3 20 30 0a1 0a3 0a2 0a4 0a5 0s1 0s3 1f1 1f3 1s2 1s4 2f2 2
 fn runs_of_a_tree(rt: HostRuntime) -> Result<(), Fail> {
     let alloc = rt.alloc();
     let tree = tree(alloc)?;
-    check_run(&rt, alloc, of_tree(&tree, 11, 2), TIGHT)?;
-    check_run(&rt, alloc, of_tree(&tree, 22, 2), WIDE)?;
-    check_run(&rt, alloc, of_tree(&tree, u64::MAX, 2), ENDLESS)?;
-    assert_eq!(rt; compare(&rt, alloc, of_tree(&tree, 22, 1))?.makespan, 5);
-    assert_eq!(rt; compare(&rt, alloc, of_tree(&tree, 22, 4096))?.makespan, 3);
+    let order = [1, 3, 2, 4, 5];
+    check_run(&rt, alloc, along(&tree, &order, 11, 2), TIGHT)?;
+    check_run(&rt, alloc, along(&tree, &order, 22, 2), WIDE)?;
+    check_run(&rt, alloc, along(&tree, &order, u64::MAX, 2), ENDLESS)?;
+    let alone = compare(&rt, alloc, along(&tree, &order, 22, 1))?;
+    assert_eq!(rt; alone.makespan, 5);
+    let crowded = compare(&rt, alloc, along(&tree, &order, 22, 4096))?;
+    assert_eq!(rt; crowded.makespan, 3);
     Ok(())
 }
+
+const RANKED: &str = "4 6 6 0a1 0a2 0a3 0a4 0s3 1f3 1s2 2f2 2s1 3f1 3s4 4f4";
+
+const IN_PLACE: &str = "4 4 4 0a1 0s1 1f1 1a2 1s2 2f2 2a3 2s3 4f3";
 
 #[test]
 fn runs_of_other_systems(rt: HostRuntime) -> Result<(), Fail> {
     let alloc = rt.alloc();
+    let (star, arrow, still) = (star(alloc)?, arrow(alloc)?, still(alloc)?);
     let ranked = Given {
-        system: &star(alloc)?,
-        order: &[1, 2, 3, 4],
-        bound: 6,
-        workers: 1,
         priority: &[3, 2, 1, 4],
+        ..along(&star, &[1, 2, 3, 4], 6, 1)
     };
-    let wanted = "4 6 6 0a1 0a2 0a3 0a4 0s3 1f3 1s2 2f2 2s1 3f1 3s4 4f4";
-    check_run(&rt, alloc, ranked, wanted)?;
-    let in_place = Given {
-        system: &arrow(alloc)?,
-        order: &[1, 2, 3],
-        bound: 4,
-        workers: 2,
-        priority: &[1, 2, 3],
-    };
-    let wanted = "4 4 4 0a1 0s1 1f1 1a2 1s2 2f2 2a3 2s3 4f3";
-    check_run(&rt, alloc, in_place, wanted)?;
-    let empty = Given {
-        system: &still(alloc)?,
-        order: &[],
-        bound: 20,
-        workers: 1,
-        priority: &[],
-    };
-    check_run(&rt, alloc, empty, "0 20 20")
+    check_run(&rt, alloc, ranked, RANKED)?;
+    check_run(&rt, alloc, along(&arrow, &[1, 2, 3], 4, 2), IN_PLACE)?;
+    check_run(&rt, alloc, along(&still, &[], 20, 1), "0 20 20")
 }
 
-fn refusal(alloc: Global, system: &System, order: &[u32], bound: u64) -> Option<CoreRefusal> {
-    Core::new(alloc, system, order, bound, 2).err()
+fn no_traversal(place: u64, kind: OrderKind) -> CoreRefusal {
+    CoreRefusal::Order(OrderFault { place, kind })
 }
 
-const REFUSALS: [(&[u32], u64, Option<CoreRefusal>); 7] = [
-    (&[1, 3, 2, 4, 5], 11, None),
-    (
-        &[1, 3, 2, 4, 5],
-        10,
-        Some(CoreRefusal::BoundBelow {
-            bound: 10,
-            peak: 11,
-        }),
-    ),
-    (
-        &[1, 2, 3, 4, 5],
-        11,
-        Some(CoreRefusal::BoundBelow {
-            bound: 11,
-            peak: 15,
-        }),
-    ),
-    (
-        &[1, 1],
-        0,
-        Some(CoreRefusal::Order(OrderFault {
-            place: 2,
-            kind: OrderKind::Repeated,
-        })),
-    ),
-    (
-        &[9],
-        99,
-        Some(CoreRefusal::Order(OrderFault {
-            place: 1,
-            kind: OrderKind::Unknown,
-        })),
-    ),
-    (
-        &[1, 2, 3, 4],
-        99,
-        Some(CoreRefusal::Order(OrderFault {
-            place: 5,
-            kind: OrderKind::Missing,
-        })),
-    ),
-    (
-        &[2, 1, 3, 4, 5],
-        99,
-        Some(CoreRefusal::Order(OrderFault {
-            place: 1,
-            kind: OrderKind::TooEarly,
-        })),
-    ),
-];
+fn below(bound: u64, peak: u64) -> CoreRefusal {
+    CoreRefusal::BoundBelow { bound, peak }
+}
 
 #[test]
 fn orders_and_bounds_that_are_refused(rt: HostRuntime) -> Result<(), Fail> {
     let alloc = rt.alloc();
-    let tree = tree(alloc)?;
-    for (order, bound, answer) in REFUSALS {
-        assert_eq!(rt; refusal(alloc, &tree, order, bound), answer);
+    let (tree, arrow) = (tree(alloc)?, arrow(alloc)?);
+    let unknown = no_traversal(1, OrderKind::Unknown);
+    let early = no_traversal(1, OrderKind::TooEarly);
+    let repeated = no_traversal(2, OrderKind::Repeated);
+    let missing = no_traversal(5, OrderKind::Missing);
+    let rows: [(&System, &[u32], u64, Option<CoreRefusal>); 8] = [
+        (&tree, &[1, 3, 2, 4, 5], 11, None),
+        (&tree, &[1, 3, 2, 4, 5], 10, Some(below(10, 11))),
+        (&tree, &[1, 2, 3, 4, 5], 11, Some(below(11, 15))),
+        (&tree, &[1, 1], 0, Some(repeated)),
+        (&tree, &[9], 99, Some(unknown)),
+        (&tree, &[1, 2, 3, 4], 99, Some(missing)),
+        (&tree, &[2, 1, 3, 4, 5], 99, Some(early)),
+        (&arrow, &[1, 2, 3], 3, Some(below(3, 4))),
+    ];
+    for (system, order, bound, answer) in rows {
+        let core = Core::new(alloc, system, order, bound, 2);
+        assert_eq!(rt; core.err(), answer);
     }
-    let arrow = arrow(alloc)?;
-    assert_eq!(rt;
-        refusal(alloc, &arrow, &[1, 2, 3], 3),
-        Some(CoreRefusal::BoundBelow { bound: 3, peak: 4 })
-    );
     Ok(())
 }
 
 #[test]
 fn refusals_are_told(rt: HostRuntime) -> Result<(), Fail> {
-    let alloc = rt.alloc();
-    let fault = OrderFault {
-        place: 3,
-        kind: OrderKind::TooEarly,
-    };
-    let below = CoreRefusal::BoundBelow { bound: 7, peak: 9 };
     for (refusal, words) in [
-        (CoreRefusal::Order(fault), "too-early at place 3"),
-        (below, "bound 7 9"),
+        (no_traversal(3, OrderKind::TooEarly), "too-early at place 3"),
+        (below(7, 9), "bound 7 9"),
         (CoreRefusal::NoMemory, "no memory"),
     ] {
-        assert_eq!(rt; format!(in alloc; "{refusal}")?.as_str(), words);
+        assert_eq!(rt; format!(in rt.alloc(); "{refusal}")?.as_str(), words);
     }
     Ok(())
 }

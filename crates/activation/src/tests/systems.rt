@@ -20,13 +20,8 @@ pub fn item(size: u64, from: Option<u32>, to: Option<u32>) -> Item
 
 // A tree of five nodes: 5 has the children 2 and 4, which have the children 1 and 3; 1 and 3 need 9 beside what they produce.
 pub fn tree(alloc: Global) -> Result<System, NoMemory> {
-    let tasks = vec![in alloc;
-        task(9, 0, 1),
-        task(0, 0, 1),
-        task(9, 0, 1),
-        task(0, 0, 1),
-        task(0, 0, 1),
-    ]?;
+    let (leaf, node) = (task(9, 0, 1), task(0, 0, 1));
+    let tasks = vec![in alloc; leaf, node, leaf, node, node]?;
     let items = vec![in alloc;
         item(1, Some(1), Some(2)),
         item(5, Some(2), Some(5)),
