@@ -1,16 +1,14 @@
-ghost use Rattle.std.specs.Prelude.{◌≡◌, nat_eq, ◌*◌, ◌<◌, ◌≤◌, ℕ, true, false, if◌then◌else◌, [], length, slice_index, count_by};
-ghost use Rattle.std.specs.Prelude.{vec_capacity, IfOk, IfErr, IsTrue, IfSome, IfNone, ◌↔◌};
+ghost use Rattle.std.specs.Prelude.{◌≡◌, nat_eq, ◌*◌, ◌<◌, ◌≤◌, ℕ, true, false, if◌then◌else◌, [], length, slice_index, count_by, vec_capacity, IfOk, IfErr, IsTrue, IfSome, IfNone, ◌↔◌};
 ghost use Rattle.std.specs.Bool.{OnTrue, OnFalse};
 ghost use Rattle.std.specs.List.{IsDistinct};
 ghost use Rattle.limits.specs.Limits.{most_time, most_workers};
 ghost use Rattle.mp_system.specs.System.{IsTask, is_named, task_at};
 ghost use Rattle.mp_system.specs.Memory.{peak_of, stands_in};
 ghost use Rattle.mp_system.specs.Traversal.{IsTraversal};
-ghost use Rattle.activation.specs.Machine.{IsSetting, MayActivate, MayStart, MayFinish, state_after, start_state, is_running, is_done};
-ghost use Rattle.activation.specs.Machine.{booked_memory, used_memory};
+ghost use Rattle.activation.specs.Machine.{CoreValue, IsSetting, MayActivate, MayStart, MayFinish, state_after, start_state, is_running, is_done, booked_memory, used_memory};
 ghost use Rattle.activation.specs.Safe.{IsSafe};
 ghost use Rattle.activation.specs.Refusal.{IsCoreRefusal};
-ghost use Rattle.activation.specs.Tables.{is_startable, is_edge};
+ghost use Rattle.activation.specs.Tables.{AreCoreTables, is_startable, is_edge};
 ghost use Rattle.activation.specs.Schedule.{task_entry};
 ghost use Rattle.activation.specs.Run.{AreRanks, mark};
 
@@ -54,9 +52,6 @@ pub struct Core {
 }
 
 impl Model for Core {
-    ghost use Rattle.activation.specs.Machine.{CoreValue};
-    ghost use Rattle.activation.specs.Tables.{AreCoreTables};
-
     ghost Value = { CoreValue };
 
     ghost view = { λ m. record {

@@ -6,7 +6,7 @@ use crate::places::is_number;
 use mp_system::System;
 use std::alloc::Global;
 
-/// Whether a priority holds each task of a system once, and nothing else: so much [`simulate`](crate::simulate) asks of one.
+/// Whether a priority holds each task of a system once, and nothing else: so much [`Simulator::run`](crate::Simulator::run) asks of one.
 pub fn holds_each(alloc: Global, system: &System, priority: &[u32]) -> Result<bool, NoMemory>
     ensures { IfOk result (λ each. IsTrue each ↔ HoldsEach system.now priority.now) }
 {

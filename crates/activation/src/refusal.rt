@@ -1,3 +1,7 @@
+ghost use Rattle.std.specs.Prelude.{◌≡◌};
+ghost use Rattle.activation.specs.Refusal.{same_refusal};
+ghost use Rattle.activation.specs.declared.refusal.CoreRefusal.TheVariants.{NoMemory as OutOfMemory};
+
 use crate::NoMemory;
 use mp_system::{OrderFault, ReplayRefusal};
 use std::fmt::{self, Display, Formatter, Write};
@@ -14,9 +18,6 @@ pub enum CoreRefusal {
 }
 
 impl From<NoMemory> for CoreRefusal {
-    ghost use Rattle.std.specs.Prelude.{◌≡◌};
-    ghost use Rattle.activation.specs.declared.refusal.CoreRefusal.TheVariants.{NoMemory as OutOfMemory};
-
     ghost from_gives = { λ _ e. e ≡ OutOfMemory };
 
     fn from(_no_memory: NoMemory) -> CoreRefusal {
@@ -26,9 +27,6 @@ impl From<NoMemory> for CoreRefusal {
 
 // The same refusal as that of a replay.
 impl From<ReplayRefusal> for CoreRefusal {
-    ghost use Rattle.std.specs.Prelude.{◌≡◌};
-    ghost use Rattle.activation.specs.Refusal.{same_refusal};
-
     ghost from_gives = { λ r e. e ≡ same_refusal r };
 
     fn from(refusal: ReplayRefusal) -> CoreRefusal {

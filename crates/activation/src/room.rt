@@ -1,5 +1,6 @@
 ghost use Rattle.std.specs.Prelude.{◌≤◌, IfOk};
 ghost use Rattle.limits.specs.Limits.{most_tasks};
+ghost use Rattle.activation.specs.Run.{IsRoom, run_tables};
 
 use crate::NoMemory;
 use min_tree::MinTree;
@@ -16,8 +17,6 @@ pub struct Room {
 }
 
 impl Room {
-    ghost use Rattle.activation.specs.Run.{IsRoom, run_tables};
-
     /// The room of a run of so many tasks.
     pub fn new(alloc: Global, count: usize) -> Result<Room, NoMemory>
         requires { count ≤ most_tasks }

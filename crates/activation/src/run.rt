@@ -4,9 +4,8 @@ ghost use Rattle.activation.specs.declared.events.Phase.TheVariants.{Running as 
 ghost use Rattle.activation.specs.Machine.{IsSetting, phase_in, start_state, used_memory, booked_memory, AllDone};
 ghost use Rattle.activation.specs.Safe.{IsSafe};
 ghost use Rattle.activation.specs.Tables.{is_startable};
-ghost use Rattle.activation.specs.Schedule.{HoldsEach, task_entry, moment_after, first_moment, ComesNext, NoneDue, NoneActivates};
-ghost use Rattle.activation.specs.Schedule.{NoneStarts};
-ghost use Rattle.activation.specs.Run.{event_count, IsRoom, IsNextDue, IsFirstStartable, run_tables};
+ghost use Rattle.activation.specs.Schedule.{HoldsEach, task_entry, moment_after, first_moment, ComesNext, NoneDue, NoneActivates, NoneStarts};
+ghost use Rattle.activation.specs.Run.{RunValue, IsRun, event_count, IsRoom, IsNextDue, IsFirstStartable, run_tables};
 
 use crate::cores::Core;
 use crate::events::{Event, EventKind};
@@ -25,8 +24,6 @@ pub struct Run {
 }
 
 impl Model for Run {
-    ghost use Rattle.activation.specs.Run.{RunValue, IsRun, run_tables};
-
     ghost Value = { RunValue };
 
     ghost view = { λ r. record {
@@ -209,9 +206,7 @@ impl Run {
     {
         self.core.keeps();
         traversal_law();
-        let Some(task) = self.first_startable() else {
-            return None;
-        };
+        let task = self.first_startable()?;
         let place = self.core.place_of(task);
         let due = self.time + self.core.time_of(task);
         if !self.core.start(task) {
@@ -242,9 +237,7 @@ impl Run {
     {
         progress_law();
         self.keeps();
-        let Some(task) = self.next_due() else {
-            return None;
-        };
+        let task = self.next_due()?;
         Some(self.finish_next(task))
     }
 

@@ -1,9 +1,8 @@
-ghost use Rattle.std.specs.Prelude.{◌≡◌, ◌==◌, nat_eq, ℕ, ◌+◌, ◌<◌, ◌≤◌, ◌^◌, true, false, not, ◌&&◌, [], ◌∷◌, ◌++◌, length, IfOk, IsTrue};
-ghost use Rattle.std.specs.Prelude.{◌↔◌};
+ghost use Rattle.std.specs.Prelude.{◌≡◌, ◌==◌, nat_eq, ℕ, ◌+◌, ◌<◌, ◌≤◌, ◌^◌, true, false, not, ◌&&◌, [], ◌∷◌, ◌++◌, take, length, IfOk, IsTrue, ◌↔◌};
 ghost use Rattle.std.specs.List.{IsDistinct};
 ghost use Rattle.limits.specs.Limits.{most_workers};
 ghost use Rattle.mp_system.specs.Memory.{stands_in};
-ghost use Rattle.activation.specs.Running.{IsNumber};
+ghost use Rattle.activation.specs.Running.{RunningValue, AreSpots, IsNumber};
 
 use crate::NoMemory;
 use std::alloc::Global;
@@ -18,9 +17,6 @@ pub struct RunningTasks {
 }
 
 impl Model for RunningTasks {
-    ghost use Rattle.std.specs.Prelude.{take, length};
-    ghost use Rattle.activation.specs.Running.{RunningValue, AreSpots};
-
     ghost Value = { RunningValue };
 
     ghost view = { λ r. record { listed = take r.many r.slots.items; room = length r.slots.items; count = length r.spots.items } };

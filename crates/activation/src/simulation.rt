@@ -1,7 +1,8 @@
 ghost use Rattle.std.specs.Prelude.{◌≡◌, ◌*◌, ◌≤◌, [], length, vec_capacity, IfOk};
-ghost use Rattle.activation.specs.Machine.{start_state, AllDone};
+ghost use Rattle.activation.specs.Machine.{CoreValue, start_state, AllDone};
 ghost use Rattle.activation.specs.Runs.{AreLegal, EachOnce, StaysWithinBound, state_after_all};
 ghost use Rattle.activation.specs.Schedule.{HoldsEach, IsSchedule, first_moment, last_time, most_used, most_booked};
+ghost use Rattle.activation.specs.Run.{IsRoom, run_tables};
 
 use crate::NoMemory;
 use crate::cores::Core;
@@ -60,10 +61,6 @@ pub struct Simulator {
 }
 
 impl Model for Simulator {
-    ghost use Rattle.std.specs.Prelude.{◌≡◌, ◌≤◌, ◌*◌, [], length, vec_capacity};
-    ghost use Rattle.activation.specs.Machine.{CoreValue};
-    ghost use Rattle.activation.specs.Run.{IsRoom, run_tables};
-
     ghost Value = { CoreValue };
 
     ghost view = { λ s. s.core };
@@ -73,7 +70,8 @@ impl Model for Simulator {
 }
 
 impl Simulator {
-    /// The simulator of a core, with all memory that its run takes: tables of its tasks, and an event for each activation, start and finish.
+    /// The simulator of a core, with all memory that its run takes: tables of its tasks, and an event for each activation, start and
+    /// finish.
     pub fn new(alloc: Global, core: Core) -> Result<Simulator, NoMemory>
         ensures { IfOk result (λ simulator. simulator ≡ core) }
     {
@@ -83,9 +81,9 @@ impl Simulator {
         Ok(Simulator { core, room, events })
     }
 
-    /// The run of the core from its start in simulated time. At each moment, from 0 on, the finishes that are due come first, in the order's
-    /// places; then tasks are activated while one may be; then, while one may start, the one that stands first in the priority is started;
-    /// then time moves to the least due finish. A started task is due its duration later. The run ends when every task is done.
+    /// The run of the core from its start in simulated time. At each moment, from 0 on, the finishes that are due come first, in the
+    /// order's places; then tasks are activated while one may be; then, while one may start, the one that stands first in the priority is
+    /// started; then time moves to the least due finish. A started task is due its duration later. The run ends when every task is done.
     ///
     /// [`holds_each`](crate::holds_each) tests whether a priority holds each task once. The run takes no memory. The time is logarithmic in
     /// the tasks for each event and each item.

@@ -16,18 +16,18 @@ overflow_add-due c =
     let count = count_le c.traversal_law.ensures.long c.self.inside.core.setting k.setting c.self.inside.core.state k.safe in
     omega (arith, c.self.invariant.time_small, count, k.setting.system.few_tasks, c.time_of.ensures.long)
 
-pub returns-in_default-clause-none : goal.returns-in_default-clause-none
-returns-in_default-clause-none c =
+pub returns-in_err-task-clause-none : goal.returns-in_err-task-clause-none
+returns-in_err-task-clause-none c =
     let f = c.self.inside in
     let k = c.keeps.ensures in
-    let none : (u : ℕ) → IsTask f.core.setting.system u → is_startable f.core.setting f.core.state u ≡ false = rw (← c.self.view_is) at c.in_default.ensures.none in
-    rw (← c.self.view_is) (λ u h.
+    let none : (u : ℕ) → IsTask f.core.setting.system u → is_startable f.core.setting f.core.state u ≡ false = rw (← c.self.view_is) at c.in_err-task.ensures.none in
+    rw (← c.self.view_is, c.from_residual.ensures) (λ u h.
     absurd (true≢false (sym (start_startable f.core.setting f.core.state u h) ∙ none u (may_start_task f.core.setting k.setting f.core.state u h))))
 
 pub returns-then-not-start-clause-none : goal.returns-then-not-start-clause-none
 returns-then-not-start-clause-none c =
     let f = c.self.inside in
-    let first : IsFirstStartable f.core.setting f.room.priority.items f.core.state c.in-Some.task = rw (← c.self.view_is) at c.in-Some.ensures.some in
+    let first : IsFirstStartable f.core.setting f.room.priority.items f.core.state c.in_ok-task.task = rw (← c.self.view_is) at c.in_ok-task.ensures.some in
     rw (← c.self.view_is) (no_start first
     (λ h. true≢false (sym (c.start.ensures.legal.1 h) ∙ c.if-not-start.true)))
 
@@ -37,7 +37,7 @@ invariant_of-self-2 c =
     let k = c.keeps.ensures in
     let legal = c.start.ensures.legal.0 c.if-not-start.false in
     let next = OnTrue_at c.if-not-start.false c.start.ensures.next in
-    rw (c.put.ensures, c.start.ensures.setting, next) (started_run k.setting k.safe c.self.invariant c.in-Some.task c.place_of-place.result (f.time + c.time_of.result) legal c.place_of-place.ensures.within c.place_of-place.ensures.there
+    rw (c.put.ensures, c.start.ensures.setting, next) (started_run k.setting k.safe c.self.invariant c.in_ok-task.task c.place_of-place.result (f.time + c.time_of.result) legal c.place_of-place.ensures.within c.place_of-place.ensures.there
     (c.traversal_law.ensures.long f.core.setting.system f.core.setting.order k.setting.traversal) (omega arith) (omega (arith, c.time_of.ensures.long)) c.refresh.new.ready c.refresh.ensures.long
     (rw (c.start.ensures.setting, next, c.deref.ensures.value) at c.refresh.ensures.marks))
 
@@ -47,7 +47,7 @@ returns-clause-comes c =
     let k = c.keeps.ensures in
     let moment : Moment = record { state = f.core.state; time = f.time; dues = f.room.dues.items } in
     let legal = c.start.ensures.legal.0 c.if-not-start.false in
-    let first : IsFirstStartable f.core.setting f.room.priority.items f.core.state c.in-Some.task = rw (← c.self.view_is) at c.in-Some.ensures.some in
+    let first : IsFirstStartable f.core.setting f.room.priority.items f.core.state c.in_ok-task.task = rw (← c.self.view_is) at c.in_ok-task.ensures.some in
     let none_due : NoneDue moment = rw (← c.self.view_is) at c.requires.none_due in
     let none_activates : NoneActivates f.core.setting moment = rw (← c.self.view_is) at c.requires.none_activates in
     rw (← c.self.view_is) (record {
@@ -62,5 +62,5 @@ pub returns-clause-next : goal.returns-clause-next
 returns-clause-next c =
     let f = c.self.inside in
     let next = OnTrue_at c.if-not-start.false c.start.ensures.next in
-    let first : IsFirstStartable f.core.setting f.room.priority.items f.core.state c.in-Some.task = rw (← c.self.view_is) at c.in-Some.ensures.some in
-    rw (← c.self.view_is, next, ← c.time_of.ensures.time, number_written f.room.dues.items c.in-Some.task (f.time + c.time_of.result) first.task.0)
+    let first : IsFirstStartable f.core.setting f.room.priority.items f.core.state c.in_ok-task.task = rw (← c.self.view_is) at c.in_ok-task.ensures.some in
+    rw (← c.self.view_is, next, ← c.time_of.ensures.time, number_written f.room.dues.items c.in_ok-task.task (f.time + c.time_of.result) first.task.0)
