@@ -14,26 +14,20 @@ use rand_core::utils::NextWord;
 use rand_pcg::Pcg32;
 use std::alloc::Global;
 use std::marker::Brand;
-use std::process::Abort;
 use std::sync::ledger::{Blank, Ledger};
 use std::test::Fail;
 use step_count::Steps;
 
 // A segment with its tasks.
-#[derive(Drop)]
+#[derive(PartialEq, Debug, Drop)]
 struct Row {
     up: u64,
     net: u64,
     tasks: Vec<u32>,
 }
 
-// A segment of one task.
-#[derive(Clone, Copy)]
-struct One {
-    up: u64,
-    net: u64,
-    task: u32,
-}
+// A segment of one task: its `up`, its `net`, and the task.
+type One = (u64, u64, u32);
 
 // The side of these segments. Those that are too large are left out, which the comparison shows.
 fn side_of(alloc: Global, ropes: &mut Ropes, ones: &[One]) -> Result<Side, NoMemory>
@@ -43,12 +37,12 @@ fn side_of(alloc: Global, ropes: &mut Ropes, ones: &[One]) -> Result<Side, NoMem
 {
     run_laws::runs();
     let mut side = Side::new(alloc);
-    let mut net = 0;
-    for one in ones {
-        if one.up <= 1000 && one.net <= 1000 && net <= 1000 {
-            let tasks = ropes.one(one.task)?;
-            side.append(ropes, one.up, one.net, tasks)?;
-            net += one.net;
+    let mut sum = 0;
+    for &(up, net, task) in ones {
+        if up <= 1000 && net <= 1000 && sum <= 1000 {
+            let tasks = ropes.one(task)?;
+            side.append(ropes, up, net, tasks)?;
+            sum += net;
         }
     }
     Ok(side)
@@ -116,12 +110,12 @@ fn at_most_three<L: Ledger>(_steps: &Steps<L>)
     requires { _steps.now ≤ 3 }
 {}
 
-// Merges sides of three, two and one segments in at most three steps. None where they are others.
-fn three_steps<L: Ledger>(
+// Merges sides of three, two and one segments in at most three steps. False where they are others.
+fn takes_three_steps<L: Ledger>(
     alloc: Global,
     blank: Blank,
     lists: &[Vec<One>],
-) -> Result<Option<u64>, NoMemory>
+) -> Result<bool, NoMemory>
     requires name { blank.name ≡ L.name }
     requires parts { blank.parts ≡ L.parts }
     requires some { 0 < blank.parts }
@@ -129,42 +123,21 @@ fn three_steps<L: Ledger>(
     let mut steps = Steps::<L>::new(blank);
     let mut ropes = Ropes::new(alloc);
     let sides = sides_of(alloc, &mut ropes, lists)?;
-    if are_three_two_one(&sides) {
-        let side = merge(alloc, sides, &mut ropes, &mut steps)?;
-        at_most_three(&steps);
-        Ok(Some(side.len()))
-    } else {
-        Ok(None)
+    if !are_three_two_one(&sides) {
+        return Ok(false);
     }
-}
-
-// A list of segments, from their numbers.
-fn ones(alloc: Global, numbers: &[(u64, u64, u32)]) -> Result<Vec<One>, NoMemory> {
-    let mut list = Vec::new(alloc);
-    for (up, net, task) in numbers {
-        list.push(One {
-            up: *up,
-            net: *net,
-            task: *task,
-        })?;
-    }
-    Ok(list)
+    merge(alloc, sides, &mut ropes, &mut steps)?;
+    at_most_three(&steps);
+    Ok(true)
 }
 
 // Three sides with three, two and one segments.
 fn three_two_one(alloc: Global) -> Result<Vec<Vec<One>>, NoMemory> {
     let mut lists = Vec::new(alloc);
-    lists.push(ones(alloc, &[(2, 1, 1), (5, 2, 2), (9, 4, 3)])?)?;
-    lists.push(ones(alloc, &[(1, 0, 4), (5, 3, 5)])?)?;
-    lists.push(ones(alloc, &[(9, 6, 6)])?)?;
+    lists.push(vec![in alloc; (2, 1, 1), (5, 2, 2), (9, 4, 3)]?)?;
+    lists.push(vec![in alloc; (1, 0, 4), (5, 3, 5)]?)?;
+    lists.push(vec![in alloc; (9, 6, 6)]?)?;
     Ok(lists)
-}
-
-// The row has these numbers and tasks.
-fn assert_row(rt: &impl Abort, row: &Row, up: u64, net: u64, tasks: &[u32]) {
-    assert_eq!(rt; row.up, up);
-    assert_eq!(rt; row.net, net);
-    assert_eq!(rt; row.tasks.as_slice(), tasks);
 }
 
 #[test]
@@ -172,25 +145,27 @@ fn sides_are_merged_in_rising_order(rt: HostRuntime) -> Result<(), Fail> {
     let alloc = rt.alloc();
     let lists = three_two_one(alloc)?;
     let rows = merged_rows::<Brand>(alloc, Blank::new(1), &lists)?;
-    assert_eq!(rt; rows.len(), 4);
-    assert_row(&rt, &rows[0], 1, 0, &[4]);
-    assert_row(&rt, &rows[1], 2, 1, &[1]);
-    assert_row(&rt, &rows[2], 5, 5, &[2, 5]);
-    assert_row(&rt, &rows[3], 9, 10, &[3, 6]);
+    let expected: [(u64, u64, &[u32]); 4] = [
+        (1, 0, &[4]),
+        (2, 1, &[1]),
+        (5, 5, &[2, 5]),
+        (9, 10, &[3, 6]),
+    ];
+    assert_eq!(rt; rows.len(), expected.len());
+    for (row, (up, net, tasks)) in rows.iter().zip(expected) {
+        assert_eq!(rt; (row.up, row.net), (up, net));
+        assert_eq!(rt; row.tasks.as_slice(), tasks);
+    }
     let none = Vec::new(alloc);
     assert!(rt; merged_rows::<Brand>(alloc, Blank::new(1), &none)?.is_empty());
     Ok(())
 }
 
-// That the steps are at most three is proved of `three_steps`.
+// That the steps are at most three is proved of `takes_three_steps`.
 #[test]
 fn three_two_and_one_segments_take_three_steps(rt: HostRuntime) -> Result<(), Fail> {
-    let alloc = rt.alloc();
-    let lists = three_two_one(alloc)?;
-    assert_eq!(rt;
-        three_steps::<Brand>(alloc, Blank::new(1), &lists)?,
-        Some(4)
-    );
+    let lists = three_two_one(rt.alloc())?;
+    assert!(rt; takes_three_steps::<Brand>(rt.alloc(), Blank::new(1), &lists)?);
     Ok(())
 }
 
@@ -200,13 +175,25 @@ fn row_at(alloc: Global, up: u64, lists: &[Vec<One>]) -> Result<Row, NoMemory> {
     let mut tasks = Vec::new(alloc);
     for list in lists {
         for one in list {
-            if one.up == up {
-                net = net.saturating_add(one.net);
-                tasks.push(one.task)?;
+            if one.0 == up {
+                net = net.saturating_add(one.1);
+                tasks.push(one.2)?;
             }
         }
     }
     Ok(Row { up, net, tasks })
+}
+
+// The segments of each `up` below 20 in turn.
+fn plain_rows(alloc: Global, lists: &[Vec<One>]) -> Result<Vec<Row>, NoMemory> {
+    let mut rows = Vec::new(alloc);
+    for up in 0..20 {
+        let row = row_at(alloc, up, lists)?;
+        if !row.tasks.is_empty() {
+            rows.push(row)?;
+        }
+    }
+    Ok(rows)
 }
 
 // A number below `below`.
@@ -223,32 +210,12 @@ fn random_lists(alloc: Global, dice: &mut Pcg32) -> Result<Vec<Vec<One>>, NoMemo
         let mut up = 0u64;
         for _ in 0..next(dice, 7) {
             up = up.saturating_add(next(dice, 3)).saturating_add(1);
-            list.push(One {
-                up,
-                net: next(dice, 4),
-                task,
-            })?;
+            list.push((up, next(dice, 4), task))?;
             task = task.saturating_add(1);
         }
         lists.push(list)?;
     }
     Ok(lists)
-}
-
-// The merged rows are those of each `up` in turn.
-fn compare(rt: &impl Abort, alloc: Global, lists: &[Vec<One>]) -> Result<(), Fail> {
-    let rows = merged_rows::<Brand>(alloc, Blank::new(1), lists)?;
-    let mut place = 0;
-    for up in 0..20 {
-        let row = row_at(alloc, up, lists)?;
-        if !row.tasks.is_empty() {
-            assert!(rt; place < rows.len());
-            assert_row(rt, &rows[place], up, row.net, row.tasks.as_slice());
-            place += 1;
-        }
-    }
-    assert_eq!(rt; place, rows.len());
-    Ok(())
 }
 
 #[test]
@@ -257,7 +224,8 @@ fn random_sides_are_merged_as_plainly(rt: HostRuntime) -> Result<(), Fail> {
     let mut dice = Pcg32::new(1, 11);
     for _ in 0..100 {
         let lists = random_lists(alloc, &mut dice)?;
-        compare(&rt, alloc, &lists)?;
+        let rows = merged_rows::<Brand>(alloc, Blank::new(1), &lists)?;
+        assert_eq!(rt; rows.as_slice(), plain_rows(alloc, &lists)?.as_slice());
     }
     Ok(())
 }

@@ -4,10 +4,10 @@ use Rattle.hill_valley.specs.Ropes.{Extends}
 use Rattle.hill_valley.specs.Side.{profile, HaveRopes}
 use Rattle.segment_merge.proofs.tests.side_of.Given as goal
 
-abbrev pub invariant-loop-one : goal.invariant-loop-one
-invariant-loop-one l = record {
+abbrev pub invariant-loop-up : goal.invariant-loop-up
+invariant-loop-up l = record {
   ropes : HaveRopes l.ropes l.side;
   kept : Extends l.fn.ropes l.ropes;
-  net : net_sum (profile l.side) ≡ l.net;
-  within : l.net ≤ 2000;
+  net : net_sum (profile l.side) ≡ l.sum;
+  within : l.sum ≤ 2000;
 }
