@@ -1,12 +1,11 @@
 //! The same words over a sorted list of segments, each with its own list of tasks: plain and slow, for the tests alone.
 
-ghost use Rattle.std.specs.Prelude.{◌≤◌, length};
-
 use crate::NoMemory;
 use std::alloc::Global;
+use std::collections::VecDeque;
 
 /// A segment with its tasks.
-#[derive(Drop)]
+#[derive(PartialEq, Debug, Drop)]
 pub struct PlainSeg {
     pub up: u64,
     pub net: u64,
@@ -14,83 +13,30 @@ pub struct PlainSeg {
 }
 
 /// Segments in rising order of `up`.
-#[derive(Drop)]
-pub struct PlainSide {
-    segs: Vec<PlainSeg>,
+pub type PlainSide = VecDeque<PlainSeg>;
+
+/// A segment of one task.
+pub fn one(alloc: Global, up: u64, net: u64, task: u32) -> Result<PlainSeg, NoMemory> {
+    let tasks = vec![in alloc; task]?;
+    Ok(PlainSeg { up, net, tasks })
 }
 
-impl PlainSide {
-    pub fn new(alloc: Global) -> PlainSide {
-        PlainSide {
-            segs: Vec::new(alloc),
-        }
-    }
-
-    pub fn len(&self) -> u64 {
-        self.segs.len() as u64
-    }
-
-    pub fn insert(&mut self, seg: PlainSeg, before: bool) -> Result<(), NoMemory> {
-        let at = place(&self.segs, seg.up);
-        if at < self.segs.len() && self.segs[at].up == seg.up {
-            join(&mut self.segs[at], seg, before)
-        } else {
-            self.segs.insert(at, seg)?;
-            Ok(())
-        }
-    }
-
-    pub fn append(&mut self, run: PlainSeg) -> Result<(), NoMemory> {
-        let len = self.segs.len();
-        if 0 < len && run.up <= self.segs[len - 1].up {
-            join(&mut self.segs[len - 1], run, false)
-        } else {
-            self.segs.push(run)?;
-            Ok(())
-        }
-    }
-
-    pub fn take_first(&mut self) -> Option<PlainSeg> {
-        if self.segs.is_empty() {
-            None
-        } else {
-            Some(self.segs.remove(0))
-        }
-    }
-
-    /// The level at which the next segment would reach the limit.
-    pub fn lowest(&self, level: u64, limit: u64) -> u64 {
-        let mut at = level;
-        for seg in &self.segs {
-            if limit <= at.saturating_add(seg.up) {
-                break;
-            }
-            at = at.saturating_sub(seg.net);
-        }
-        at
-    }
-
-    pub fn top(&self, level: u64) -> u64 {
-        let mut at = level;
-        let mut most = level;
-        for seg in &self.segs {
-            most = most.max(at.saturating_add(seg.up));
-            at = at.saturating_sub(seg.net);
-        }
-        most
+pub fn insert(side: &mut PlainSide, seg: PlainSeg, before: bool) -> Result<(), NoMemory> {
+    let at = side
+        .iter()
+        .position(|own| seg.up <= own.up)
+        .unwrap_or(side.len());
+    match side.get_mut(at) {
+        Some(own) if own.up == seg.up => join(own, seg, before),
+        _ => Ok(side.insert(at, seg)?),
     }
 }
 
-// How many segments stand before the place of `up`.
-fn place(segs: &[PlainSeg], up: u64) -> usize
-    ensures { result ≤ length segs.now }
-{
-    for (i, seg) in segs.iter().enumerate() {
-        if up <= seg.up {
-            return i;
-        }
+pub fn append(side: &mut PlainSide, run: PlainSeg) -> Result<(), NoMemory> {
+    match side.back_mut() {
+        Some(last) if run.up <= last.up => join(last, run, false),
+        _ => Ok(side.push_back(run)?),
     }
-    segs.len()
 }
 
 // One segment with another, whose tasks come first where `before` is true.
@@ -103,13 +49,17 @@ fn join(own: &mut PlainSeg, seg: PlainSeg, before: bool) -> Result<(), NoMemory>
     Ok(())
 }
 
-/// Both have the same numbers and tasks, or both are none.
-pub fn are_same(a: &Option<PlainSeg>, b: &Option<PlainSeg>) -> bool {
-    match a {
-        Some(a) => match b {
-            Some(b) => a.up == b.up && a.net == b.net && a.tasks.as_slice() == b.tasks.as_slice(),
-            None => false,
-        },
-        None => b.is_none(),
+/// Runs the segments from a level while they stay below the limit: the level then, and the greatest memory.
+pub fn run(side: &PlainSide, level: u64, limit: u64) -> (u64, u64) {
+    let mut at = level;
+    let mut most = level;
+    for seg in side.iter() {
+        let hill = at.saturating_add(seg.up);
+        if limit <= hill {
+            break;
+        }
+        most = most.max(hill);
+        at = at.saturating_sub(seg.net);
     }
+    (at, most)
 }

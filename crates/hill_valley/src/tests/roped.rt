@@ -1,13 +1,14 @@
 //! A side with its ropes, for the tests alone: what each call requires is checked here.
 
-ghost use Rattle.std.specs.Prelude.{◌≤◌, ◌+◌};
+ghost use Rattle.std.specs.Prelude.{◌≡◌, ◌+◌, ◌≤◌, List};
 ghost use Rattle.std.specs.Bool.{OnTrue};
-ghost use Rattle.side_laws.specs.Segments.{net_sum};
 ghost use Rattle.limits.specs.Limits.{most_total};
-ghost use Rattle.hill_valley.specs.Side.{profile};
+ghost use Rattle.side_laws.specs.Segments.{net_sum};
+ghost use Rattle.hill_valley.specs.declared.side.Seg.{Seg};
+ghost use Rattle.hill_valley.specs.Side.{profile, HaveRopes};
 
 use crate::tests::plain::PlainSeg;
-use crate::{NoMemory, Ropes, Seg, Side, Step};
+use crate::{NoMemory, Ropes, Seg, Side};
 use limits::MOST_TOTAL;
 use std::alloc::Global;
 use std::marker::Model;
@@ -20,12 +21,6 @@ pub struct RopedSide {
 }
 
 impl Model for RopedSide {
-    ghost use Rattle.std.specs.Prelude.{List, ◌≡◌, ◌≤◌};
-    ghost use Rattle.side_laws.specs.Segments.{net_sum};
-    ghost use Rattle.hill_valley.specs.declared.side.Seg.{Seg};
-    ghost use Rattle.limits.specs.Limits.{most_total};
-    ghost use Rattle.hill_valley.specs.Side.{profile, HaveRopes};
-
     ghost Value = { List Seg };
 
     ghost view = { λ b. b.side };
@@ -67,18 +62,12 @@ impl RopedSide {
     }
 
     pub fn take_first(&mut self, alloc: Global) -> Result<Option<PlainSeg>, NoMemory> {
-        match self.side.take_first() {
-            Some(seg) => {
-                self.net -= seg.net;
-                let tasks = self.ropes.list(alloc, seg.tasks)?;
-                Ok(Some(PlainSeg {
-                    up: seg.up,
-                    net: seg.net,
-                    tasks,
-                }))
-            }
-            None => Ok(None),
-        }
+        let Some(Seg { up, net, tasks }) = self.side.take_first() else {
+            return Ok(None);
+        };
+        self.net -= net;
+        let tasks = self.ropes.list(alloc, tasks)?;
+        Ok(Some(PlainSeg { up, net, tasks }))
     }
 
     // A level from which the side can be run.
@@ -103,8 +92,13 @@ impl RopedSide {
         self.ropes.list(alloc, tasks)
     }
 
-    pub fn steps(&self, alloc: Global, more: u64) -> Result<Vec<Step>, NoMemory> {
-        self.side.steps(alloc, self.level(more))
+    // The bound and the level of each step.
+    pub fn steps(&self, alloc: Global, more: u64) -> Result<Vec<(u64, u64)>, NoMemory> {
+        let steps = self.side.steps(alloc, self.level(more))?;
+        steps
+            .iter()
+            .map(|step| (step.bound, step.level))
+            .collect(alloc)
     }
 }
 

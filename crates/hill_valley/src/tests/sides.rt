@@ -1,6 +1,6 @@
 //! Sides, by hand and against plain ones.
 
-use crate::tests::plain::{PlainSeg, PlainSide, are_same};
+use crate::tests::plain::{self, PlainSide};
 use crate::tests::roped::RopedSide;
 use rand_core::utils::NextWord;
 use rand_pcg::Pcg32;
@@ -8,42 +8,19 @@ use std::alloc::Global;
 use std::process::Abort;
 use std::test::Fail;
 
-// The steps are those of the pairs.
-fn assert_steps(
+// The segments, which are taken out, have these numbers and tasks.
+fn assert_segments(
     rt: &impl Abort,
     alloc: Global,
-    side: &RopedSide,
-    more: u64,
-    pairs: &[(u64, u64)],
+    mut side: RopedSide,
+    segments: &[(u64, u64, &[u32])],
 ) -> Result<(), Fail> {
-    let steps = side.steps(alloc, more)?;
-    assert_eq!(rt; steps.len(), pairs.len());
-    for (i, step) in steps.iter().enumerate() {
-        if i < pairs.len() {
-            assert_eq!(rt; step.bound, pairs[i].0);
-            assert_eq!(rt; step.level, pairs[i].1);
-        }
+    for &(up, net, tasks) in segments {
+        let seg = side.take_first(alloc)?.expect(rt, "a segment");
+        assert_eq!(rt; (seg.up, seg.net), (up, net));
+        assert_eq!(rt; seg.tasks.as_slice(), tasks);
     }
-    Ok(())
-}
-
-// The first segment, which is taken out, has these numbers and tasks.
-fn assert_first(
-    rt: &impl Abort,
-    alloc: Global,
-    side: &mut RopedSide,
-    up: u64,
-    net: u64,
-    tasks: &[u32],
-) -> Result<(), Fail> {
-    match side.take_first(alloc)? {
-        Some(seg) => {
-            assert_eq!(rt; seg.up, up);
-            assert_eq!(rt; seg.net, net);
-            assert_eq!(rt; seg.tasks.as_slice(), tasks);
-        }
-        None => assert!(rt; false),
-    }
+    assert!(rt; side.take_first(alloc)?.is_none());
     Ok(())
 }
 
@@ -60,13 +37,15 @@ fn a_side_is_appended_to(rt: HostRuntime) -> Result<(), Fail> {
     assert_eq!(rt; side.len(), 2);
     // from level 10 over 15 down to 7, and over 16 down to 3
     assert_eq!(rt; side.top(3), 16);
-    assert_steps(&rt, alloc, &side, 3, &[(15, 7), (16, 3)])?;
+    assert_eq!(rt;
+        side.steps(alloc, 3)?.as_slice(),
+        [(15, 7), (16, 3)].as_slice()
+    );
     for (bound, level) in [(-1, 10), (9, 10), (14, 10), (15, 7), (16, 3), (100, 3)] {
         assert_eq!(rt; side.lowest(3, bound), level);
     }
     assert_eq!(rt; side.tasks(alloc)?.as_slice(), [1, 2, 3, 4].as_slice());
-    assert_first(&rt, alloc, &mut side, 5, 3, &[1, 2, 3])?;
-    assert_first(&rt, alloc, &mut side, 9, 4, &[4])
+    assert_segments(&rt, alloc, side, &[(5, 3, &[1, 2, 3]), (9, 4, &[4])])
 }
 
 #[test]
@@ -79,14 +58,17 @@ fn segments_are_put_in_at_their_places(rt: HostRuntime) -> Result<(), Fail> {
     assert_eq!(rt; side.len(), 3);
     // from level 10 over 15 down to 7, over 14 down to 6, and over 15 down to 2
     assert_eq!(rt; side.top(2), 15);
-    assert_steps(&rt, alloc, &side, 2, &[(15, 2)])?;
+    assert_eq!(rt; side.steps(alloc, 2)?.as_slice(), [(15, 2)].as_slice());
     assert_eq!(rt; side.lowest(2, 14), 10);
     assert_eq!(rt; side.lowest(2, 15), 2);
     side.insert(7, 1, 6, true)?;
     side.insert(7, 2, 8, false)?;
-    assert_first(&rt, alloc, &mut side, 5, 3, &[1])?;
-    assert_first(&rt, alloc, &mut side, 7, 4, &[6, 5, 8])?;
-    assert_first(&rt, alloc, &mut side, 9, 4, &[4])
+    assert_segments(
+        &rt,
+        alloc,
+        side,
+        &[(5, 3, &[1]), (7, 4, &[6, 5, 8]), (9, 4, &[4])],
+    )
 }
 
 // A number below `below`.
@@ -103,22 +85,19 @@ fn compare(
     plain: &PlainSide,
 ) -> Result<(), Fail> {
     let level = side.level(more);
-    assert_eq!(rt; side.len(), plain.len());
-    assert_eq!(rt; side.top(more), plain.top(level));
-    let steps = side.steps(alloc, more)?;
+    assert_eq!(rt; side.len(), plain.len() as u64);
+    assert_eq!(rt; side.top(more), plain::run(plain, level, u64::MAX).1);
+    let mut steps = Vec::new(alloc);
     let mut at = level;
-    let mut next = 0;
     for limit in 0..100u64 {
-        let low = plain.lowest(level, limit);
+        let (low, _) = plain::run(plain, level, limit);
         assert_eq!(rt; side.lowest(more, limit as i64 - 1), low);
         if level < limit && low < at {
-            assert!(rt; next < steps.len());
-            assert!(rt; steps[next].bound == limit - 1 && steps[next].level == low);
+            steps.push((limit - 1, low))?;
             at = low;
-            next += 1;
         }
     }
-    assert_eq!(rt; next, steps.len());
+    assert_eq!(rt; side.steps(alloc, more)?.as_slice(), steps.as_slice());
     Ok(())
 }
 
@@ -131,21 +110,17 @@ fn change(
     side: &mut RopedSide,
     plain: &mut PlainSide,
 ) -> Result<(), Fail> {
-    let up = next(dice, 12);
-    let net = next(dice, 4);
-    let mut tasks = Vec::new(alloc);
-    tasks.push(task)?;
-    let run = PlainSeg { up, net, tasks };
+    let (up, net) = (next(dice, 12), next(dice, 4));
+    let run = plain::one(alloc, up, net, task)?;
     let kind = next(dice, 6);
     if kind == 0 {
-        let first = side.take_first(alloc)?;
-        assert!(rt; are_same(&first, &plain.take_first()));
+        assert_eq!(rt; side.take_first(alloc)?, plain.pop_front());
     } else if kind < 3 {
         side.insert(up, net, task, kind == 1)?;
-        plain.insert(run, kind == 1)?;
+        plain::insert(plain, run, kind == 1)?;
     } else {
         side.append(up, net, task)?;
-        plain.append(run)?;
+        plain::append(plain, run)?;
     }
     Ok(())
 }
@@ -159,8 +134,7 @@ fn compare_one(rt: &impl Abort, alloc: Global, dice: &mut Pcg32) -> Result<(), F
         compare(rt, alloc, next(dice, 5), &side, &plain)?;
     }
     for _ in 0..20 {
-        let first = side.take_first(alloc)?;
-        assert!(rt; are_same(&first, &plain.take_first()));
+        assert_eq!(rt; side.take_first(alloc)?, plain.pop_front());
     }
     Ok(())
 }
