@@ -217,15 +217,7 @@ impl Side {
         requires level { level ≤ most_total }
         ensures lowest { result ≡ lowest (limit_of bound) level (profile self.now) }
     {
-        self.lowest_below(level, limit_above(bound))
-    }
-
-    // The same for the least memory that is too much.
-    fn lowest_below(&self, level: u64, limit: u64) -> u64
-        requires room { net_sum (profile self.now) ≤ level }
-        requires level { level ≤ most_total }
-        ensures { result ≡ lowest limit level (profile self.now) }
-    {
+        let limit = limit_above(bound);
         let mut at = level;
         for (up, descent) in self.segments.iter() {
             if limit <= at + *up {

@@ -1,9 +1,10 @@
-use Rattle.std.proofs.Common.{arith, sym, ◌∙◌, ap}
+use Rattle.std.proofs.Common.{◌≡◌, arith, rules, sym, ◌∙◌, ap}
 use Rattle.std.proofs.lemmas.Map.Iter.{rest_all}
 use Rattle.std.specs.Map.Iter.{deref_pair}
+use Rattle.hill_valley.specs.Side.{limit_of}
 use Rattle.hill_valley.specs.Descents.{segs_of}
 use Rattle.hill_valley.proofs.Walk.{walk_first, walk_on, walk_lowest, walk_stays, walk_starts}
-use Rattle.hill_valley.proofs.side.Side.lowest_below.Goals as goal
+use Rattle.hill_valley.proofs.side.Side.lowest.Goals as goal
 
 pub loop-up-init : goal.loop-up-init
 loop-up-init c =
@@ -20,15 +21,18 @@ pub overflow_sub-at : goal.overflow_sub-at
 overflow_sub-at c = let f = walk_first _ _ _ _ _ c.in-Some.ensures.steps c.loop-up.invariant.walk in omega arith
 
 pub returns-then-limit-at : goal.returns-then-limit-at
-returns-then-limit-at c = sym (walk_stays _ _ _ _ _ c.in-Some.ensures.steps c.args.limit c.if-limit-at.true) ∙ c.loop-up.invariant.told
+returns-then-limit-at c =
+    let e : c.limit_above-limit.result ≡ limit_of c.args.bound = search rules in
+    record { lowest = rw e at (sym (walk_stays _ _ _ _ _ c.in-Some.ensures.steps c.limit_above-limit.result c.if-limit-at.true) ∙ c.loop-up.invariant.told) }
 
 pub returns-in-None : goal.returns-in-None
 returns-in-None c =
-    let e = rest_all deref_pair _ _ _ c.in-None.is c.next.ensures.steps in
-    rw e at c.loop-up.invariant.told
+    let e : c.limit_above-limit.result ≡ limit_of c.args.bound = search rules in
+    let r = rest_all deref_pair _ _ _ c.in-None.is c.next.ensures.steps in
+    record { lowest = rw e at (rw r at c.loop-up.invariant.told) }
 
 pub loop-up-preserved : goal.loop-up-preserved
 loop-up-preserved c = record {
   walk = walk_on _ _ _ _ _ c.in-Some.ensures.steps c.loop-up.invariant.walk;
-  told = sym (walk_lowest _ _ _ _ _ c.in-Some.ensures.steps c.args.limit c.if-limit-at.false) ∙ c.loop-up.invariant.told;
+  told = sym (walk_lowest _ _ _ _ _ c.in-Some.ensures.steps c.limit_above-limit.result c.if-limit-at.false) ∙ c.loop-up.invariant.told;
 }

@@ -3,7 +3,7 @@ use Rattle.side_laws.specs.Segments.{lowest}
 use Rattle.hill_valley.specs.Side.{profile}
 use Rattle.hill_valley.specs.Descents.{segs_of}
 use Rattle.hill_valley.proofs.Walk.{Walk}
-use Rattle.hill_valley.proofs.side.Side.lowest_below.Given as goal
+use Rattle.hill_valley.proofs.side.Side.lowest.Given as goal
 
 abbrev pub invariant-loop-up : goal.invariant-loop-up
 invariant-loop-up l = record {
