@@ -93,14 +93,8 @@ impl Side {
         // what holds of every side
         ensures side { IsSide (profile self.old) }
     {
-        match self.segments.pop_first() {
-            Some((up, descent)) => Some(Seg {
-                up,
-                net: descent.net,
-                tasks: descent.tasks,
-            }),
-            None => None,
-        }
+        let (up, Descent { net, tasks }) = self.segments.pop_first()?;
+        Some(Seg { up, net, tasks })
     }
 
     /// Takes the first segment out, if it goes up by at most `most`. Logarithmic time.
