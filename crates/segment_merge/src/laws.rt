@@ -1,7 +1,6 @@
 //! The laws, each as a clause of a function that does nothing.
 
-ghost use Rattle.segment_merge.specs.Laws.{AllSidesStay, ProfileOfInserts, ProfileOfMerge, MergedAtEachUp, TasksOfMerge, InsertsAssociate, MovedBefore, MovedBehind};
-ghost use Rattle.segment_merge.specs.Laws.{AppendsInsert, ProfileOfAppends, TasksOfAppends, ProfileOfCrossing, TasksOfCrossing, SideLaws};
+ghost use Rattle.segment_merge.specs.Laws.{AllSidesStay, ProfileOfInserts, ProfileOfMerge, MergedAtEachUp, TasksOfMerge, InsertsAssociate, MovedBefore, MovedBehind, AppendsInsert, ProfileOfAppends, TasksOfAppends, ProfileOfCrossing, TasksOfCrossing, SideLaws};
 
 /// Sides merged, with their tasks.
 pub fn merged_runs()

@@ -86,7 +86,7 @@ fn longest_end(sides: &[Side]) -> usize
 
 // Moves earlier sides into one, the nearest first.
 fn take_before<L: Ledger>(
-    sides: Vec<Side>,
+    mut sides: Vec<Side>,
     into: &mut Side,
     ropes: &mut Ropes,
     steps: &mut Steps<L>,
@@ -104,7 +104,6 @@ fn take_before<L: Ledger>(
     ensures ticks_stay { steps.old ≤ steps.new }
 {
     run_laws::runs();
-    let mut sides = sides;
     while let Some(side) = sides.pop() {
         side.keeps();
         move_all(side, into, true, ropes, steps)?;
@@ -114,7 +113,7 @@ fn take_before<L: Ledger>(
 
 // Moves later sides into one. The nearest of them stands last.
 fn take_after<L: Ledger>(
-    sides: Vec<Side>,
+    mut sides: Vec<Side>,
     into: &mut Side,
     ropes: &mut Ropes,
     steps: &mut Steps<L>,
@@ -131,7 +130,6 @@ fn take_after<L: Ledger>(
     ensures ticks_stay { steps.old ≤ steps.new }
 {
     run_laws::runs();
-    let mut sides = sides;
     while let Some(side) = sides.pop() {
         side.keeps();
         into.keeps();

@@ -16,7 +16,7 @@ use step_count::Steps;
 /// `before` is true. The ropes of both are of these ropes, and all `net` values sum to at most 2^60. Logarithmic time for each segment.
 /// Where memory is wanting the ropes may hold more, and what was counted stays.
 pub fn move_all<L: Ledger>(
-    from: Side,
+    mut from: Side,
     into: &mut Side,
     before: bool,
     ropes: &mut Ropes,
@@ -35,7 +35,6 @@ pub fn move_all<L: Ledger>(
 {
     run_laws::runs();
     from.keeps();
-    let mut from = from;
     while let Some(seg) = from.take_first() {
         steps.tick();
         into.insert(ropes, seg, before)?;

@@ -65,10 +65,9 @@ fn sides_of(alloc: Global, ropes: &mut Ropes, lists: &[Vec<One>]) -> Result<Vec<
 }
 
 // The segments of a side, in order.
-fn rows_of(alloc: Global, ropes: &Ropes, side: Side) -> Result<Vec<Row>, NoMemory>
+fn rows_of(alloc: Global, ropes: &Ropes, mut side: Side) -> Result<Vec<Row>, NoMemory>
     requires { HaveRopes ropes.now side }
 {
-    let mut side = side;
     let mut rows = Vec::new(alloc);
     while let Some(seg) = side.take_first() {
         let tasks = ropes.list(alloc, seg.tasks)?;
