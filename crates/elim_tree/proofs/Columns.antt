@@ -2,8 +2,9 @@
 use Rattle.std.proofs.Common.{sym, ◌∙◌, ap, ◌≡◌, ◌≢◌, inl, inr, refl, ℕ, zero, suc, ◌<◌, ◌≤◌, Bool, IsTrue, List, [], ◌∷◌, length, get_or, ◌==◌, arith}
 use Rattle.std.proofs.lemmas.Bool.{cases_lt, or_cases, or_left, or_right, eqb-true, eq-eqb}
 use Rattle.std.proofs.lemmas.List.{get_or_past}
-use Rattle.std.proofs.lemmas.List.FromFn.{get_or-map-range_with_len}
+use Rattle.std.proofs.lemmas.List.FromFn.{length-map-range_with_len, get_or-map-range_with_len}
 use Rattle.std.proofs.lemmas.Grind.{get_or_after_one, get_or_default_zero}
+use Rattle.limits.specs.Limits.{most_order}
 use Rattle.ordering.specs.Perm.{IsVertex}
 use Rattle.ordering.specs.Fill.{structure_of, parent_of, parents_of, IsAdjacency, IsParent}
 use Rattle.elim_tree.specs.ParentTables.{parents_in, IsParentTable}
@@ -69,6 +70,20 @@ vertex_with_parent parents (suc i) some =
       | inl lt ↦ let none = no_parent_beyond parents (suc i) lt in absurd (omega arith)
       | inr le ↦ (omega arith, le)
     ]
+
+-- a parent is the first of a column's structure, so it comes later
+pub parents_rise : ((joined : ℕ → ℕ → Bool) (n j : ℕ) → IsParent joined n j (parent_of joined n j)) → (joined : ℕ → ℕ → Bool) (n : ℕ) → 1 ≤ n → n ≤ most_order → IsForest (parents_of joined n)
+parents_rise firsts joined n some few =
+    let len = length-map-range_with_len (parent_of joined n) 1 n in
+    record {
+      some = omega (arith, len);
+      few = omega (arith, len);
+      rising = λ j has.
+          let vertex = vertex_with_parent (parents_of joined n) j has in
+          let same = parent_in_list joined n j (vertex.0, omega (arith, vertex.1, len)) in
+          let first = (firsts joined n j).reached (omega (arith, has, same)) in
+          (omega (arith, first.0, same), omega (arith, first.1, same, len));
+    }
 
 -- ---- tables of parents
 

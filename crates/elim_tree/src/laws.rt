@@ -1,6 +1,7 @@
 //! Laws of the fill: what the structure of a column holds, by paths, by its children, and by rows. Laws of postorders.
 
 ghost use Rattle.std.specs.Prelude.{◌≡◌, ◌↔◌, ◌<◌, ◌≤◌, ℕ, Bool, IsTrue, List, length, map};
+ghost use Rattle.limits.specs.Limits.{most_order};
 ghost use Rattle.matrix_market.specs.Pattern.{is_joined, IsPattern};
 ghost use Rattle.ordering.specs.Perm.{IsVertex, place_of};
 ghost use Rattle.ordering.specs.Fill.{structure_of, count_of, parents_of, counts_of, renumbered, IsAdjacency};
@@ -49,6 +50,13 @@ pub fn renumbered_pattern()
 pub fn no_earlier_row()
     ensures { (joined : ℕ → ℕ → Bool) (j i : ℕ) → IsTrue (structure_of joined j i) → j ≤ i }
 {}
+
+/// The elimination tree of 1 to 10^6 columns is a forest.
+pub fn tree_is_forest()
+    ensures { (joined : ℕ → ℕ → Bool) (n : ℕ) → 1 ≤ n → n ≤ most_order → IsForest (parents_of joined n) }
+{
+    fill_laws::parent_is_first();
+}
 
 /// A forest has one postorder only.
 pub fn one_postorder()
