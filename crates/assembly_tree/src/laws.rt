@@ -4,6 +4,7 @@ ghost use Rattle.std.specs.Prelude.{◌≡◌, ℕ, Bool, List};
 ghost use Rattle.ordering.specs.Fill.{IsAdjacency, parents_of, counts_of};
 ghost use Rattle.tree_input.specs.Tree.{IsTree};
 ghost use Rattle.elim_tree.specs.Paths.{IsWithin};
+ghost use Rattle.elim_tree.specs.Trees.{IsForest};
 ghost use Rattle.assembly_tree.specs.declared.front.Shape.{Shape};
 ghost use Rattle.assembly_tree.specs.Assembly.{AssemblyTree, IsAssembly};
 ghost use Rattle.assembly_tree.specs.Supernodes.{AreColumnCounts, AreSupernodes};
@@ -28,6 +29,12 @@ pub fn counts_of_fill()
 pub fn one_list_of_supernodes()
     ensures { (parents counts : List ℕ) (one two : AssemblyTree) → AreSupernodes parents counts one →
         AreSupernodes parents counts two → one ≡ two }
+{}
+
+/// The fundamental supernodes are an assembly tree.
+pub fn supernodes_are_assembly()
+    ensures { (parents counts : List ℕ) (assembly : AssemblyTree) → IsForest parents → AreColumnCounts parents counts →
+        AreSupernodes parents counts assembly → IsAssembly assembly }
 {}
 
 /// An amalgamated assembly tree is one.
