@@ -12,6 +12,7 @@
 #![tactic(auto)]
 
 mod analysis;
+pub mod laws;
 mod options;
 #[cfg(test)]
 mod tests;
