@@ -8,7 +8,7 @@ use Rattle.mp_system.specs.System.{TaskSystem}
 use Rattle.sp_terms.specs.declared.position.Position.{Position}
 use Rattle.sp_terms.specs.Values.{term_of}
 use Rattle.tree_input.specs.declared.node.Node.{Node}
-use Rattle.memplan.specs.Files.{Answer, IsAccepted, IsMatrix, IsOrderOf, IsOrderFrom, IsMatrixTree, IsTreeOf, IsSystemOf, IsSystemWithTerm, IsFirstRefusal, AreAccepted}
+use Rattle.memplan.specs.Files.{Answer, HasValue, IsMatrixFile, IsOrderOf, IsOrderFrom, IsMatrixTree, IsTreeOf, IsSystemOf, IsSystemWithTerm, IsFirstRefusal, AreAccepted}
 use Rattle.memplan.specs.Clauses.{AreTold}
 use Rattle.memplan.specs.Judged.{IsRefusedOrder, IsProblemOf, IsOrderRead, IsOrderedOf, IsRefusedSource, numbers_of}
 use Rattle.memplan.specs.declared.inputs.Order.{Order}
@@ -29,13 +29,13 @@ pub natural : (told : List ℕ → Option (List ℕ)) (n : ℕ) (order : List �
 natural told n order is [] are = is
 natural told n order is (t ∷ texts) are = absurd are
 
-pub order_refused : (rows : List (List ℕ)) (perm : Option (List ℕ)) (matrix : List ℕ) (texts : List (List ℕ)) (answer : Answer) → IsMatrix matrix rows
+pub order_refused : (rows : List (List ℕ)) (perm : Option (List ℕ)) (matrix : List ℕ) (texts : List (List ℕ)) (answer : Answer) → IsMatrixFile matrix rows
     → IsRefusedOrder (length rows) texts answer → (told : List ℕ → Option (List ℕ)) → AreTold told (perm_files perm) texts → IsFirstRefusal (perm_files perm) (matrix ∷ []) texts answer
 order_refused rows perm matrix [] answer is refused told are = absurd refused
 order_refused rows None matrix (t ∷ texts) answer is refused told are = absurd are
 order_refused rows (Some name) matrix (t ∷ texts) answer is refused told are = inl (rows, is, refused)
 
-order_accepted : (perm : Option (List ℕ)) (matrix : List ℕ) (rows : List (List ℕ)) (texts : List (List ℕ)) (order : List ℕ) → IsMatrix matrix rows → IsOrderOf perm (length rows) texts order
+order_accepted : (perm : Option (List ℕ)) (matrix : List ℕ) (rows : List (List ℕ)) (texts : List (List ℕ)) (order : List ℕ) → IsMatrixFile matrix rows → IsOrderOf perm (length rows) texts order
     → AreAccepted (perm_files perm) (matrix ∷ []) texts
 order_accepted None matrix rows texts order is is_order = tt
 order_accepted (Some name) matrix rows [] order is is_order = absurd is_order
@@ -96,7 +96,7 @@ source_refused source earlier [] answer refused = absurd refused
 source_refused source earlier (text ∷ []) answer refused = inl (refused earlier)
 source_refused source earlier (text ∷ more ∷ texts) answer refused = absurd refused
 
-source_accepted : (source : OrderSource) (earlier : List (List ℕ)) (text numbers : List ℕ) → IsOrderFrom source text numbers → IsAccepted (source_file source).role earlier text
+source_accepted : (source : OrderSource) (earlier : List (List ℕ)) (text numbers : List ℕ) → IsOrderFrom source text numbers → HasValue (source_file source).role earlier text
 source_accepted (order_named name) earlier text numbers is = (numbers, is)
 source_accepted (plan_named name) earlier text numbers (plan, is, same) = (plan, is)
 

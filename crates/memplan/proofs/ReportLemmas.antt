@@ -20,7 +20,7 @@ use Rattle.memplan.specs.Files.{Answer, IsPlanFile}
 use Rattle.memplan.specs.Plan.{plan_answer, IsBestPlan}
 use Rattle.memplan.specs.Judged.{IsProblemOf}
 use Rattle.memplan.specs.Request.{Input, check, planning}
-use Rattle.memplan.specs.Sound.{IsSound}
+use Rattle.memplan.specs.Sound.{IsSoundReport}
 use Rattle.memplan.proofs.InputLemmas.{problem_has_system, problem_has_term}
 
 -- ---- a check
@@ -48,7 +48,7 @@ module _
 
   pub checked : (positions : List Position) (verdict : Verdict) (answer : Answer) → IsTermOf origin positions → IsVerdict (system_of origin) positions plan verdict
       → ((peak : ℕ) → verdict ≡ Yes peak → (plan.peak ≡ peak) × IsBestTraversal (system_of origin) plan.order peak) → answer ≡ verdict_answer verdict
-      → IsReport (check input name workers) (mine ++ text ∷ []) answer × IsSound (check input name workers) (mine ++ text ∷ []) answer
+      → IsReport (check input name workers) (mine ++ text ∷ []) answer × IsSoundReport (check input name workers) (mine ++ text ∷ []) answer
   checked positions verdict answer term holds best is = (
     (
       mine,
@@ -69,7 +69,7 @@ module _
 pub planned : ((plan : PlanText) → IsPlan plan → ReadsPlan (text_of plan) plan) → ((plan : PlanText) → IsPlan plan → length (text_of plan) ≤ most_bytes)
     → (input : Input) (texts : List (List ℕ)) (origin : Origin) (positions : List Position) (plan : PlanText) (answer : Answer) → IsProblemOf input texts origin
     → IsTermOf origin positions → IsPlan plan → IsAccepted (system_of origin) positions plan → plan.priority ≡ [] → IsBestTraversal (system_of origin) plan.order plan.peak
-    → answer ≡ plan_answer plan → IsReport (planning input) texts answer × IsSound (planning input) texts answer
+    → answer ≡ plan_answer plan → IsReport (planning input) texts answer × IsSoundReport (planning input) texts answer
 planned reads short input texts origin positions plan answer is_problem term within accepted no_priority best is =
     let with_term = problem_has_term input texts origin positions is_problem term in
     let is_plan : IsPlanFile (text_of plan) plan = (short plan within, reads plan within) in

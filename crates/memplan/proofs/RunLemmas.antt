@@ -20,7 +20,7 @@ use Rattle.ordering.specs.Kinds.{perm_word}
 use Rattle.ordering.specs.Kinds.{order_file_word}
 use Rattle.plan_text.specs.Kinds.{word_of as plan_word}
 use Rattle.memplan.specs.Request.{Request, replay, tree, post, check, planning, simulate, FileRole, NamedFile, tree_file, workflow_file, matrix_file, perm_file, order_file, plan_file, priority_file, files_of}
-use Rattle.memplan.specs.Sound.{IsSound}
+use Rattle.memplan.specs.Sound.{IsSoundReport}
 use Rattle.memplan.specs.declared.status.Status.{Status}
 use Rattle.memplan.specs.declared.status.Status.TheVariants as status
 
@@ -60,13 +60,13 @@ first_refusal (file ∷ files) earlier (text ∷ texts) answer (inr (accepted, r
 
 -- the answer to a request, and what it says beside that
 abbrev pub IsSoundAnswer : (List ℕ → Option (List ℕ)) → Request → Answer → Type 0
-IsSoundAnswer told request answer = (texts : List (List ℕ)) → AreTold told (files_of request) texts → IsAnswer request texts answer × IsSound request texts answer
+IsSoundAnswer told request answer = (texts : List (List ℕ)) → AreTold told (files_of request) texts → IsAnswer request texts answer × IsSoundReport request texts answer
 
 pub reported : (told : List ℕ → Option (List ℕ)) (request : Request) (answer : Answer)
-    → ((texts : List (List ℕ)) → AreTold told (files_of request) texts → IsReport request texts answer × IsSound request texts answer) → IsSoundAnswer told request answer
+    → ((texts : List (List ℕ)) → AreTold told (files_of request) texts → IsReport request texts answer × IsSoundReport request texts answer) → IsSoundAnswer told request answer
 reported told request answer h texts are = let t = h texts are in (inr t.0, t.1)
 
-sound_refusal : (request : Request) (texts : List (List ℕ)) (answer : Answer) → (answer.status ≡ status.Done → ⊥) → IsSound request texts answer
+sound_refusal : (request : Request) (texts : List (List ℕ)) (answer : Answer) → (answer.status ≡ status.Done → ⊥) → IsSoundReport request texts answer
 sound_refusal (replay input source) texts answer not_done = tt
 sound_refusal (tree m) texts answer not_done = tt
 sound_refusal (post input) texts answer not_done = tt
@@ -87,5 +87,5 @@ module _ (told : List ℕ → Option (List ℕ)) (request : Request) (answer : A
   pub is_cut : (old new : Option (List ℕ)) → ((n : ℕ) × (n < length answer.text) × Appended old new (take n answer.text)) → IsCutShort told request old new
   is_cut old new prefix = λ texts are. (answer, (sound texts are).0, prefix)
 
-  pub says : (asked : Request) → request ≡ asked → (texts : List (List ℕ)) → AreTold told (files_of asked) texts → IsSound asked texts answer
-  says asked is texts are = subst (λ (r : Request). AreTold told (files_of r) texts → IsSound r texts answer) is (λ told_so. (sound texts told_so).1) are
+  pub says : (asked : Request) → request ≡ asked → (texts : List (List ℕ)) → AreTold told (files_of asked) texts → IsSoundReport asked texts answer
+  says asked is texts are = subst (λ (r : Request). AreTold told (files_of r) texts → IsSoundReport r texts answer) is (λ told_so. (sound texts told_so).1) are

@@ -3,11 +3,11 @@ use Rattle.std.proofs.Common.{◌≡◌, ◌∙◌, ℕ, ◌≤◌, List, [], �
 use Rattle.least_peak.specs.Problem.{system_of}
 use Rattle.memplan.specs.Answer.{IsReport}
 use Rattle.memplan.specs.Files.{Answer, IsFirstRefusal}
-use Rattle.memplan.specs.Simulate.{IsOwnPriority, IsPriorityFrom, IsSimulation, setting_of, priority_or, IsRun, report_lines}
+use Rattle.memplan.specs.Simulate.{IsOwnPriority, IsPriorityFrom, IsSimulation, setting_of, priority_or, IsPrintedRun, report_lines}
 use Rattle.memplan.specs.Clauses.{AreTold}
 use Rattle.memplan.specs.Judged.{IsStop, IsOrderedOf, IsPriorityOf, IsRefusedRanking, numbers_of, own_priority, priority_beside}
 use Rattle.memplan.specs.Request.{Input, OrderSource, Simulation, NamedFile, simulate, input_files, source_file, priority_files, files_of}
-use Rattle.memplan.specs.Sound.{IsSound}
+use Rattle.memplan.specs.Sound.{IsSoundReport}
 use Rattle.memplan.specs.declared.commands.simulate.Priority.{Priority}
 use Rattle.memplan.specs.declared.commands.simulate.Priority.TheVariants as priorities
 use Rattle.memplan.specs.declared.inputs.Order.{Order}
@@ -49,7 +49,7 @@ of_own system order (v ∷ vs) traversal long (inr ranks) = of_ranks system (v �
 
 pub is_run : (c : Setting) (events : List Event) (makespan used booked : ℕ) → makespan ≡ last_time 0 events → used ≡ most_used c (start_state c) events
     → booked ≡ most_booked c (start_state c) events → IsSetting c → AreLegal c (start_state c) events → EachOnce c events → StaysWithinBound c (start_state c) events
-    → (printed : List ℕ) → printed ≡ text_of_lines (report_lines makespan used booked events) → IsRun c printed
+    → (printed : List ℕ) → printed ≡ text_of_lines (report_lines makespan used booked events) → IsPrintedRun c printed
 is_run c events makespan used booked is_makespan is_used is_booked setting legal each_once within printed is = record {
   traversal = setting.traversal;
   peak_within = setting.bound;
@@ -106,11 +106,11 @@ module _ (told : List ℕ → Option (List ℕ)) (input : Input) (source : Order
     pub simulated : (are_ordered : (texts : List (List ℕ)) → AreTold told first texts → IsOrderedOf input source texts ordered) (priority : Priority) (answer : Answer)
         → ((texts : List (List ℕ)) → AreTold told more texts → IsPriorityOf s.priority (length (system_of ordered.problem).tasks) texts priority)
         → IsSimulation (setting_of (system_of ordered.problem) (numbers_of ordered.order) s) (priority_beside ordered.order priority) answer
-        → (answer.status ≡ Done → IsRun (setting_of (system_of ordered.problem) (numbers_of ordered.order) s) answer.text)
+        → (answer.status ≡ Done → IsPrintedRun (setting_of (system_of ordered.problem) (numbers_of ordered.order) s) answer.text)
         → (texts : List (List ℕ)) → AreTold told (files_of (simulate input source s)) texts
-        → IsReport (simulate input source s) texts answer × IsSound (simulate input source s) texts answer
+        → IsReport (simulate input source s) texts answer × IsSoundReport (simulate input source s) texts answer
     simulated are_ordered priority answer is_priority is run texts are =
-        over_both told first more (λ ts. IsReport (simulate input source s) ts answer × IsSound (simulate input source s) ts answer)
+        over_both told first more (λ ts. IsReport (simulate input source s) ts answer × IsSoundReport (simulate input source s) ts answer)
         (λ one two are_one are_two.
         let work = are_ordered one are_one in
         let split = ap (λ ts. ts ++ two) work.texts_are ∙ append_assoc work.mine (work.text ∷ []) two in

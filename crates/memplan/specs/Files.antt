@@ -67,21 +67,21 @@ IsRefusedFile {K} file word refuses text answer =
     ((most_bytes < length text) × (answer ≡ limit_refused file (limit_word limits.Bytes)))
     ⊎ (IsWithinBytes text × ((refusal : Refusal K) × refuses refusal × IsRefusedAs file word refusal answer))
 
-abbrev pub IsTree : List ℕ → List Node → Type 0
-IsTree text nodes = IsWithinBytes text × ReadsTree text nodes
+abbrev pub IsTreeFile : List ℕ → List Node → Type 0
+IsTreeFile text nodes = IsWithinBytes text × ReadsTree text nodes
 
-abbrev pub IsWorkflow : List ℕ → List Position → Type 0
-IsWorkflow text positions = IsWithinBytes text × ReadsWorkflow text positions
+abbrev pub IsWorkflowFile : List ℕ → List Position → Type 0
+IsWorkflowFile text positions = IsWithinBytes text × ReadsWorkflow text positions
 
-abbrev pub IsMatrix : List ℕ → List (List ℕ) → Type 0
-IsMatrix text rows = IsWithinBytes text × ReadsPattern text rows
+abbrev pub IsMatrixFile : List ℕ → List (List ℕ) → Type 0
+IsMatrixFile text rows = IsWithinBytes text × ReadsPattern text rows
 
 -- an order of elimination of n vertices
-abbrev pub IsPerm : ℕ → List ℕ → List ℕ → Type 0
-IsPerm n text order = IsWithinBytes text × ReadsPerm n text order
+abbrev pub IsPermFile : ℕ → List ℕ → List ℕ → Type 0
+IsPermFile n text order = IsWithinBytes text × ReadsPerm n text order
 
-abbrev pub IsOrder : List ℕ → List ℕ → Type 0
-IsOrder text numbers = IsWithinBytes text × ReadsOrder text numbers
+abbrev pub IsOrderFile : List ℕ → List ℕ → Type 0
+IsOrderFile text numbers = IsWithinBytes text × ReadsOrder text numbers
 
 abbrev pub IsPlanFile : List ℕ → PlanText → Type 0
 IsPlanFile text plan = IsWithinBytes text × ReadsPlan text plan
@@ -91,18 +91,18 @@ abbrev pub IsOrderOf : Option (List ℕ) → ℕ → List (List ℕ) → List �
 IsOrderOf None n [] order = order ≡ range_with_len 1 n
 IsOrderOf None n (text ∷ texts) order = ⊥
 IsOrderOf (Some name) n [] order = ⊥
-IsOrderOf (Some name) n (text ∷ []) order = IsPerm n text order
+IsOrderOf (Some name) n (text ∷ []) order = IsPermFile n text order
 IsOrderOf (Some name) n (text ∷ more ∷ texts) order = ⊥
 
 -- the tree of a matrix, over the texts of its files
 abbrev pub IsMatrixTree : Matrix → List (List ℕ) → List Node → Type 0
 IsMatrixTree m [] nodes = ⊥
 IsMatrixTree m (text ∷ texts) nodes =
-    (rows : List (List ℕ)) × (order : List ℕ) × IsMatrix text rows × IsOrderOf m.perm (length rows) texts order × IsFrontTree m.fronts rows order nodes
+    (rows : List (List ℕ)) × (order : List ℕ) × IsMatrixFile text rows × IsOrderOf m.perm (length rows) texts order × IsFrontTree m.fronts rows order nodes
 
 abbrev pub IsTreeOf : TreeInput → List (List ℕ) → List Node → Type 0
 IsTreeOf (tree_named name) [] nodes = ⊥
-IsTreeOf (tree_named name) (text ∷ []) nodes = IsTree text nodes
+IsTreeOf (tree_named name) (text ∷ []) nodes = IsTreeFile text nodes
 IsTreeOf (tree_named name) (text ∷ more ∷ texts) nodes = ⊥
 IsTreeOf (matrix_named m) texts nodes = IsMatrixTree m texts nodes
 
@@ -111,7 +111,7 @@ abbrev pub IsSystemOf : Input → List (List ℕ) → TaskSystem → Type 0
 IsSystemOf (tree_input input) texts system = (nodes : List Node) × IsTreeOf input texts nodes × (system ≡ system_of_nodes nodes)
 IsSystemOf (workflow_named name) [] system = ⊥
 IsSystemOf (workflow_named name) (text ∷ []) system =
-    (positions : List Position) × (term : Term) × IsWorkflow text positions × Denotes positions term × (system ≡ system_of_term term)
+    (positions : List Position) × (term : Term) × IsWorkflowFile text positions × Denotes positions term × (system ≡ system_of_term term)
 IsSystemOf (workflow_named name) (text ∷ more ∷ texts) system = ⊥
 
 -- the system of an input, and the positions of its term: a tree's are those of its forest, children in rising number
@@ -121,23 +121,23 @@ IsSystemWithTerm (tree_input input) texts system positions =
     × IsForestOf nodes forest × (positions ≡ forest_positions nodes forest)
 IsSystemWithTerm (workflow_named name) [] system positions = ⊥
 IsSystemWithTerm (workflow_named name) (text ∷ []) system positions =
-    (term : Term) × IsWorkflow text positions × Denotes positions term × (system ≡ system_of_term term)
+    (term : Term) × IsWorkflowFile text positions × Denotes positions term × (system ≡ system_of_term term)
 IsSystemWithTerm (workflow_named name) (text ∷ more ∷ texts) system positions = ⊥
 
 -- the order that a source gives
 abbrev pub IsOrderFrom : OrderSource → List ℕ → List ℕ → Type 0
-IsOrderFrom (order_named name) text numbers = IsOrder text numbers
+IsOrderFrom (order_named name) text numbers = IsOrderFile text numbers
 IsOrderFrom (plan_named name) text numbers = (plan : PlanText) × IsPlanFile text plan × (numbers ≡ plan.order)
 
 -- a permutation file stands after the matrix file whose vertices it orders
 abbrev pub IsRefusedPerm : List (List ℕ) → List ℕ → Answer → Type 0
 IsRefusedPerm [] text answer = ⊥
 IsRefusedPerm (matrix ∷ earlier) text answer =
-    (rows : List (List ℕ)) × IsMatrix matrix rows × IsRefusedFile (codes "perm") perm_word (RefusesPerm (length rows) text) text answer
+    (rows : List (List ℕ)) × IsMatrixFile matrix rows × IsRefusedFile (codes "perm") perm_word (RefusesPerm (length rows) text) text answer
 
 abbrev pub IsAcceptedPerm : List (List ℕ) → List ℕ → Type 0
 IsAcceptedPerm [] text = ⊥
-IsAcceptedPerm (matrix ∷ earlier) text = (rows : List (List ℕ)) × (order : List ℕ) × IsMatrix matrix rows × IsPerm (length rows) text order
+IsAcceptedPerm (matrix ∷ earlier) text = (rows : List (List ℕ)) × (order : List ℕ) × IsMatrixFile matrix rows × IsPermFile (length rows) text order
 
 -- a priority file stands after the files of the input whose tasks it ranks, and that of the order
 abbrev pub IsRefusedPriority : Input → List (List ℕ) → List ℕ → Answer → Type 0
@@ -148,7 +148,7 @@ IsRefusedPriority input earlier text answer =
 abbrev pub IsAcceptedPriority : Input → List (List ℕ) → List ℕ → Type 0
 IsAcceptedPriority input earlier text =
     (mine : List (List ℕ)) × (one : List ℕ) × (system : TaskSystem) × (priority : List ℕ) × (earlier ≡ mine ++ one ∷ [])
-    × IsSystemOf input mine system × IsPerm (length system.tasks) text priority
+    × IsSystemOf input mine system × IsPermFile (length system.tasks) text priority
 
 -- the file is refused with this answer, after these texts of earlier files
 abbrev pub IsRefused : FileRole → List (List ℕ) → List ℕ → Answer → Type 0
@@ -161,24 +161,24 @@ IsRefused plan_file earlier text answer = IsRefusedFile (codes "plan") plan_word
 IsRefused (priority_file input) earlier text answer = IsRefusedPriority input earlier text answer
 
 -- the file has a value, after these texts of earlier files
-abbrev pub IsAccepted : FileRole → List (List ℕ) → List ℕ → Type 0
-IsAccepted tree_file earlier text = (nodes : List Node) × IsTree text nodes
-IsAccepted workflow_file earlier text = (positions : List Position) × IsWorkflow text positions
-IsAccepted matrix_file earlier text = (rows : List (List ℕ)) × IsMatrix text rows
-IsAccepted perm_file earlier text = IsAcceptedPerm earlier text
-IsAccepted order_file earlier text = (numbers : List ℕ) × IsOrder text numbers
-IsAccepted plan_file earlier text = (plan : PlanText) × IsPlanFile text plan
-IsAccepted (priority_file input) earlier text = IsAcceptedPriority input earlier text
+abbrev pub HasValue : FileRole → List (List ℕ) → List ℕ → Type 0
+HasValue tree_file earlier text = (nodes : List Node) × IsTreeFile text nodes
+HasValue workflow_file earlier text = (positions : List Position) × IsWorkflowFile text positions
+HasValue matrix_file earlier text = (rows : List (List ℕ)) × IsMatrixFile text rows
+HasValue perm_file earlier text = IsAcceptedPerm earlier text
+HasValue order_file earlier text = (numbers : List ℕ) × IsOrderFile text numbers
+HasValue plan_file earlier text = (plan : PlanText) × IsPlanFile text plan
+HasValue (priority_file input) earlier text = IsAcceptedPriority input earlier text
 
 -- some file is refused with this answer, and those before it have values; after earlier texts
 abbrev pub IsFirstRefusal : List NamedFile → List (List ℕ) → List (List ℕ) → Answer → Type 0
 IsFirstRefusal [] earlier texts answer = ⊥
 IsFirstRefusal (file ∷ files) earlier [] answer = ⊥
 IsFirstRefusal (file ∷ files) earlier (text ∷ texts) answer =
-    IsRefused file.role earlier text answer ⊎ (IsAccepted file.role earlier text × IsFirstRefusal files (earlier ++ text ∷ []) texts answer)
+    IsRefused file.role earlier text answer ⊎ (HasValue file.role earlier text × IsFirstRefusal files (earlier ++ text ∷ []) texts answer)
 
 -- each of these files has a value; after earlier texts
 abbrev pub AreAccepted : List NamedFile → List (List ℕ) → List (List ℕ) → Type 0
 AreAccepted [] earlier texts = Unit {0}
 AreAccepted (file ∷ files) earlier [] = ⊥
-AreAccepted (file ∷ files) earlier (text ∷ texts) = IsAccepted file.role earlier text × AreAccepted files (earlier ++ text ∷ []) texts
+AreAccepted (file ∷ files) earlier (text ∷ texts) = HasValue file.role earlier text × AreAccepted files (earlier ++ text ∷ []) texts

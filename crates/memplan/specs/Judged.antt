@@ -6,18 +6,18 @@ use Rattle.mp_text.specs.declared.refusals.Refusal.{Refusal}
 use Rattle.mp_text.specs.declared.refusals.Refusal.TheVariants as refusals
 use Rattle.least_peak.specs.declared.problem.Origin.{Origin}
 use Rattle.least_peak.specs.declared.problem.Origin.TheVariants as origins
-use Rattle.ordering.specs.Perm.{IsPerm as IsPermutation}
+use Rattle.ordering.specs.Perm.{IsPerm}
 use Rattle.ordering.specs.PermFile.{RefusesPerm}
 use Rattle.sp_terms.specs.Postfix.{Denotes}
 use Rattle.sp_terms.specs.Values.{term_of}
 use Rattle.memplan.specs.Answer.{IsReport}
-use Rattle.memplan.specs.Files.{Answer, IsRefused, IsRefusedAs, IsRefusedFile, IsFirstRefusal, IsOrderFrom, IsPerm, IsTreeOf, IsWorkflow, AreAccepted}
+use Rattle.memplan.specs.Files.{Answer, IsRefused, IsRefusedAs, IsRefusedFile, IsFirstRefusal, IsOrderFrom, IsPermFile, IsTreeOf, IsWorkflowFile, AreAccepted}
 use Rattle.memplan.specs.Simulate.{IsOwnPriority, priority_or}
 use Rattle.memplan.specs.Clauses.{AreTold, HasFailed}
 use Rattle.memplan.specs.Pages.{answer_of}
 use Rattle.ordering.specs.Kinds.{perm_word}
 use Rattle.memplan.specs.Request.{Input, tree_input, workflow_named, NamedFile, OrderSource, Request, input_files, source_file, files_of}
-use Rattle.memplan.specs.Sound.{IsSound}
+use Rattle.memplan.specs.Sound.{IsSoundReport}
 use Rattle.memplan.specs.declared.commands.simulate.Priority.{Priority}
 use Rattle.memplan.specs.declared.commands.simulate.Priority.TheVariants as priorities
 use Rattle.memplan.specs.declared.files.Ranked.{Ranked}
@@ -87,7 +87,7 @@ IsRefusedOrder n (text ∷ texts) answer = IsRefusedFile (codes "perm") perm_wor
 abbrev pub IsProblemOf : Input → List (List ℕ) → Origin → Type 0
 IsProblemOf (tree_input input) texts (origins.Tree nodes) = IsTreeOf input texts nodes
 IsProblemOf (workflow_named name) (text ∷ []) (origins.Workflow positions) =
-    IsWorkflow text positions × Denotes positions (term_of positions)
+    IsWorkflowFile text positions × Denotes positions (term_of positions)
 IsProblemOf input texts origin = ⊥
 
 -- the tasks of an order that was read
@@ -125,7 +125,7 @@ pub record IsOrderedOf (input : Input) (source : OrderSource) (texts : List (Lis
 -- the priority of a file, where one is named
 abbrev pub IsPriorityOf : Option (List ℕ) → ℕ → List (List ℕ) → Priority → Type 0
 IsPriorityOf None n [] priorities.Own = Unit {0}
-IsPriorityOf (Some name) n (text ∷ []) (priorities.Given numbers) = IsPerm n text numbers.items
+IsPriorityOf (Some name) n (text ∷ []) (priorities.Given numbers) = IsPermFile n text numbers.items
 IsPriorityOf name n texts priority = ⊥
 
 -- a priority file of n tasks is refused
@@ -136,7 +136,7 @@ IsRefusedRanking n (text ∷ texts) answer = IsRefusedFile (codes "priority") pe
 -- what a file gives holds each of 1 to n once
 abbrev pub IsRanking : ℕ → Priority → Type 0
 IsRanking n priorities.Own = Unit {0}
-IsRanking n (priorities.Given numbers) = IsPermutation n numbers.items
+IsRanking n (priorities.Given numbers) = IsPerm n numbers.items
 
 -- the priority of a run, beside the order
 abbrev pub priority_beside : Order → Priority → List ℕ
@@ -149,5 +149,5 @@ priority_beside order (priorities.Given numbers) = numbers.items
 abbrev pub IsReported : (List ℕ → Option (List ℕ)) → (List ℕ → ℕ) → (List ℕ → ℕ) → Request → Result Page Stop → Type 0
 IsReported told before after request result =
     AreJudged told before after (files_of request)
-    (λ texts page. IsReport request texts (answer_of page) × IsSound request texts (answer_of page))
+    (λ texts page. IsReport request texts (answer_of page) × IsSoundReport request texts (answer_of page))
     (IsFirstRefusal (files_of request) []) result

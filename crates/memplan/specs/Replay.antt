@@ -13,8 +13,8 @@ use Rattle.memplan.specs.Files.{IsSystemOf, order_refused, IsOrderFrom, Answer}
 abbrev pub peak_answer : ℕ → Answer
 peak_answer peak = record { status = status.Done; text = line_text (codes "peak" ∷ decimal peak ∷ []) }
 
-abbrev pub IsReplay : TaskSystem → List ℕ → Answer → Type 0
-IsReplay system order answer =
+abbrev pub IsReplayAnswer : TaskSystem → List ℕ → Answer → Type 0
+IsReplayAnswer system order answer =
     (IsTraversal system order × (answer ≡ peak_answer (peak_of system order)))
     ⊎ ((place : ℕ) × (kind : OrderKind) × (first_fault system order ≡ Some (place, kind)) × (answer ≡ order_refused place kind))
 
@@ -22,4 +22,4 @@ IsReplay system order answer =
 abbrev pub IsReplayOf : Input → OrderSource → List (List ℕ) → Answer → Type 0
 IsReplayOf input source texts answer =
     (mine : List (List ℕ)) × (text : List ℕ) × (system : TaskSystem) × (numbers : List ℕ)
-    × (texts ≡ mine ++ text ∷ []) × IsSystemOf input mine system × IsOrderFrom source text numbers × IsReplay system numbers answer
+    × (texts ≡ mine ++ text ∷ []) × IsSystemOf input mine system × IsOrderFrom source text numbers × IsReplayAnswer system numbers answer

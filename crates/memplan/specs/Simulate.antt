@@ -15,7 +15,7 @@ use Rattle.memplan.specs.declared.status.Status.TheVariants as status
 use Rattle.activation.specs.Runs.{AreLegal, state_after_all, IsWithinBound, EachOnce}
 use Rattle.activation.specs.declared.events.EventKind.{EventKind}
 use Rattle.activation.specs.declared.events.EventKind.TheVariants.{Activate, Start, Finish}
-use Rattle.memplan.specs.Files.{IsSystemOf, order_refused, Answer, IsPerm, IsPlanFile, IsOrderFrom}
+use Rattle.memplan.specs.Files.{IsSystemOf, order_refused, Answer, IsPermFile, IsPlanFile, IsOrderFrom}
 
 abbrev pub event_word : EventKind → List ℕ
 event_word Activate = codes "activate"
@@ -63,7 +63,7 @@ abbrev pub IsPriorityFrom : OrderSource → Option (List ℕ) → ℕ → List �
 IsPriorityFrom source None n text [] order priority = IsOwnPriority source text order priority
 IsPriorityFrom source None n text (file ∷ files) order priority = ⊥
 IsPriorityFrom source (Some name) n text [] order priority = ⊥
-IsPriorityFrom source (Some name) n text (file ∷ []) order priority = IsPerm n file priority
+IsPriorityFrom source (Some name) n text (file ∷ []) order priority = IsPermFile n file priority
 IsPriorityFrom source (Some name) n text (file ∷ more ∷ files) order priority = ⊥
 
 abbrev pub simulation_answer : Setting → List Event → Answer
@@ -90,7 +90,7 @@ IsSimulationOf input source s texts answer =
 
 -- the events of a run that was printed are events of the machine, one after the other; each task is activated, started and finished once; and
 -- in every state along them used memory is at most booked memory, and that at most the bound
-pub record IsRun (c : Setting) (printed : List ℕ) : Type 0 where
+pub record IsPrintedRun (c : Setting) (printed : List ℕ) : Type 0 where
   pub traversal : IsTraversal c.system c.order
   pub peak_within : peak_of c.system c.order ≤ c.bound
   pub events : List Event
@@ -110,4 +110,4 @@ pub record IsSimulated (input : Input) (source : OrderSource) (s : Simulation) (
   pub is_system : IsSystemOf input mine system
   pub order : List ℕ
   pub is_order : IsOrderFrom source text order
-  pub run : IsRun (setting_of system order s) printed
+  pub run : IsPrintedRun (setting_of system order s) printed

@@ -9,10 +9,10 @@ use Rattle.memplan.specs.Simulate.{IsSimulated}
 use Rattle.memplan.specs.Request.{Request, replay, tree, post, check, planning, simulate}
 
 -- a yes certifies, a plan is best, and a run was simulated
-abbrev pub IsSound : Request → List (List ℕ) → Answer → Type 0
-IsSound (replay input source) texts answer = Unit {0}
-IsSound (tree m) texts answer = Unit {0}
-IsSound (post input) texts answer = Unit {0}
-IsSound (check input plan workers) texts answer = answer.status ≡ Done → IsCertified input texts answer.text
-IsSound (planning input) texts answer = answer.status ≡ Done → IsBestPlan input texts answer.text
-IsSound (simulate input source s) texts answer = answer.status ≡ Done → IsSimulated input source s texts answer.text
+abbrev pub IsSoundReport : Request → List (List ℕ) → Answer → Type 0
+IsSoundReport (replay input source) texts answer = Unit {0}
+IsSoundReport (tree m) texts answer = Unit {0}
+IsSoundReport (post input) texts answer = Unit {0}
+IsSoundReport (check input plan workers) texts answer = answer.status ≡ Done → IsCertified input texts answer.text
+IsSoundReport (planning input) texts answer = answer.status ≡ Done → IsBestPlan input texts answer.text
+IsSoundReport (simulate input source s) texts answer = answer.status ≡ Done → IsSimulated input source s texts answer.text

@@ -1,7 +1,7 @@
 //! `replay`: the peak of an order of an input's tasks.
 
 ghost use Rattle.std.specs.Prelude.{◌≡◌, ◌≤◌, ℕ, List, [], IfOk, IfSome, option_map};
-ghost use Rattle.memplan.specs.Replay.{IsReplay};
+ghost use Rattle.memplan.specs.Replay.{IsReplayAnswer};
 ghost use Rattle.memplan.specs.Judged.{IsReported};
 ghost use Rattle.memplan.specs.GivenViews.{given_views};
 ghost use Rattle.memplan.specs.Pages.{answer_of};
@@ -39,7 +39,7 @@ pub fn replay_of<'a>(options: &[Given<'a>]) -> Option<Request<'a>>
 
 // `peak PEAK`, or where the order is no traversal.
 fn replay_page(alloc: Global, problem: &Problem, order: &[u32]) -> Result<Page, AllocError>
-    ensures { IfOk result (λ page. IsReplay (system_of problem.now) order.now (answer_of page)) }
+    ensures { IfOk result (λ page. IsReplayAnswer (system_of problem.now) order.now (answer_of page)) }
 {
     match problem.replay(alloc, order) {
         Ok(peak) => line_page(

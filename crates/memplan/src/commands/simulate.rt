@@ -5,7 +5,7 @@ ghost use Rattle.activation.specs.Schedule.{HoldsEach};
 ghost use Rattle.least_peak.specs.Problem.{system_of};
 ghost use Rattle.mp_system.specs.Traversal.{IsTraversal};
 ghost use Rattle.mp_text.specs.Report.{is_token, is_line_start, line_text, text_of_lines};
-ghost use Rattle.memplan.specs.Simulate.{IsSimulation, IsRun, event_word as event_text, event_line, report_lines};
+ghost use Rattle.memplan.specs.Simulate.{IsSimulation, IsPrintedRun, event_word as event_text, event_line, report_lines};
 ghost use Rattle.memplan.specs.GivenViews.{given_views};
 ghost use Rattle.memplan.specs.Judged.{AreJudged, IsReported, IsPriorityOf, IsRefusedRanking, IsRanking, priority_beside, numbers_of};
 ghost use Rattle.memplan.specs.Pages.{answer_of};
@@ -202,7 +202,7 @@ fn simulation_page(
     ensures answer { IfOk result (λ page. IsSimulation
         (record { system = system_of ordered.now.problem; order = numbers_of ordered.now.order; bound = bound; workers = workers })
         priority.now (answer_of page)) }
-    ensures run { IfOk result (λ page. (answer_of page).status ≡ Done → IsRun
+    ensures run { IfOk result (λ page. (answer_of page).status ≡ Done → IsPrintedRun
         (record { system = system_of ordered.now.problem; order = numbers_of ordered.now.order; bound = bound; workers = workers })
         (answer_of page).text) }
 {

@@ -2,7 +2,7 @@ use Rattle.std.proofs.Common.{ℕ, List, [], ◌∷◌, inl, sym, subst}
 use Rattle.std.specs.Prelude.{codes}
 use Rattle.tree_input.specs.Kinds.{word_of}
 use Rattle.tree_input.specs.TreeFile.{RefusesTree}
-use Rattle.memplan.specs.Files.{IsTree, IsTreeOf, IsRefusedFile, IsFirstRefusal}
+use Rattle.memplan.specs.Files.{IsTreeFile, IsTreeOf, IsRefusedFile, IsFirstRefusal}
 use Rattle.memplan.specs.Judged.{AreJudged}
 use Rattle.memplan.specs.Request.{NamedFile, tree_file, tree_named, tree_input_files}
 use Rattle.memplan.specs.RequestViews.{tree_input_view}
@@ -18,5 +18,5 @@ returns-in-Tree-clause-judged g c =
     let file : NamedFile = record { role = tree_file; name = c.in-Tree.name.now } in
     subst (λ (input : TreeInput). AreJudged told before after (tree_input_files (tree_input_view input)) (IsTreeOf (tree_input_view input)) (IsFirstRefusal (tree_input_files (tree_input_view input)) []) c.judge.result)
     (sym c.in-Tree.is)
-    (alone_judged told before after file IsTree (λ (text : List ℕ). IsRefusedFile (codes "tree") word_of (RefusesTree text) text) (IsTreeOf (tree_named c.in-Tree.name.now)) (IsFirstRefusal (file ∷ []) [])
+    (alone_judged told before after file IsTreeFile (λ (text : List ℕ). IsRefusedFile (codes "tree") word_of (RefusesTree text) text) (IsTreeOf (tree_named c.in-Tree.name.now)) (IsFirstRefusal (file ∷ []) [])
     (λ text x is. is) (λ text answer refused. inl refused) c.judge.result c.judge.ensures.judged)

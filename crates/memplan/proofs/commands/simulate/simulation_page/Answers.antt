@@ -4,7 +4,7 @@ use Rattle.activation.specs.Machine.{Setting}
 use Rattle.least_peak.specs.Problem.{system_of}
 use Rattle.mp_text.specs.Report.{text_of_lines}
 use Rattle.memplan.specs.Files.{Answer}
-use Rattle.memplan.specs.Simulate.{IsRun, report_lines}
+use Rattle.memplan.specs.Simulate.{IsPrintedRun, report_lines}
 use Rattle.memplan.specs.Pages.{answer_of}
 use Rattle.memplan.specs.declared.page.Page.{Page}
 use Rattle.memplan.specs.declared.status.Status.TheVariants.{Done}
@@ -19,7 +19,7 @@ returns-in_ok-simulator-in-Ok-clause-run c =
     let same : c.in-Ok.core.setting ≡ record { system = system_of c.args.ordered.now.problem; order = c.numbers-order.result.now; bound = c.args.bound; workers = c.args.workers } = core.setting in
     let text = λ (page : Page). answer_of page ≡ record { status = Done; text = text_of_lines (report_lines trace.makespan trace.used trace.booked trace.events.items) } in
     IfOk-weaker c.trace_page.result text _
-    (λ page is done. subst (λ (setting : Setting). IsRun setting page.report)
+    (λ page is done. subst (λ (setting : Setting). IsPrintedRun setting page.report)
     (same ∙ ap (λ (order : List ℕ). record { system = system_of c.args.ordered.now.problem; order = order; bound = c.args.bound; workers = c.args.workers }) c.numbers-order.ensures)
     (is_run c.in-Ok.core.setting trace.events.items trace.makespan trace.used trace.booked run.makespan run.used run.booked core.within
     run.legal run.each_once run.stays_within page.report (ap (λ (a : Answer). a.text) is)))
