@@ -88,8 +88,8 @@ impl Problem {
         &self.system
     }
 
-    /// A traversal of least peak, with claims that certify it; `check` accepts it. `NoMemory` says nothing of the problem. Near linear; only
-    /// the claims may take longer, by the segments that each parallel composition keeps. Liu 1987.
+    /// A traversal of least peak, with claims that certify it; `check` accepts it. `NoMemory` says nothing of the problem. Near linear;
+    /// only the claims may take longer, by the segments that each parallel composition keeps. Liu 1987.
     pub fn plan(&self, alloc: Global) -> Result<PlanFile, NoMemory>
         // the order is a traversal, the peak is its own, and no traversal has a lower one
         ensures best { IfOk result (λ plan. IsBestTraversal (system_of self.now) plan.order plan.peak) }
@@ -119,9 +119,9 @@ impl Problem {
         }
     }
 
-    /// Judges a plan: yes with its peak, which no traversal beats, or the first objection. The claims are judged by up to 4,096 workers, each
-    /// of which calls the gate once; the verdict is the same for every number of workers and every gate. `NoMemory` says nothing of the
-    /// plan. Linear in the tasks, the items and the claims.
+    /// Judges a plan: yes with its peak, which no traversal beats, or the first objection. The claims are judged by up to 4,096 workers,
+    /// each of which calls the gate once; the verdict is the same for every number of workers and every gate. `NoMemory` says nothing of
+    /// the plan. Linear in the tasks, the items and the claims.
     pub fn check<R: Threads + Sync, G: Gate>(
         &self,
         rt: &R,
@@ -163,7 +163,8 @@ impl Problem {
     }
 
     /// The core that runs the tasks on 1 to 4,096 workers within a bound on memory, activated in an order;
-    /// a [`Simulator`](activation::Simulator) runs it in simulated time. Refused are an order that is no traversal, and a bound below its peak.
+    /// a [`Simulator`](activation::Simulator) runs it in simulated time. Refused are an order that is no traversal,
+    /// and a bound below its peak.
     pub fn core(
         &self,
         alloc: Global,

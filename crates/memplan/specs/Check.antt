@@ -41,7 +41,8 @@ IsCheck system positions plan answer = (verdict : Verdict) × IsVerdict system p
 abbrev pub IsCheckOf : Input → List (List ℕ) → Answer → Type 0
 IsCheckOf input texts answer =
     (mine : List (List ℕ)) × (text : List ℕ) × (system : TaskSystem) × (positions : List Position) × (plan : PlanText)
-    × (texts ≡ mine ++ text ∷ []) × IsSystemWithTerm input mine system positions × IsPlanFile text plan × IsCheck system positions plan answer
+    × (texts ≡ mine ++ text ∷ []) × IsSystemWithTerm input mine system positions × IsPlanFile text plan
+    × IsCheck system positions plan answer
 
 -- the order of the plan is a traversal of the input's system, its peak is the one that the plan states and that was printed, and no
 -- traversal has a lower one; the texts are those of the input's files and that of the plan

@@ -35,7 +35,8 @@ AreTold told (file ∷ files) (text ∷ texts) = (told file.name ≡ Some text) 
 
 -- where all files of the request tell their texts, P holds of an answer over them
 abbrev pub SomeAnswer : (List ℕ → Option (List ℕ)) → Request → (Answer → Type 0) → Type 0
-SomeAnswer told request P = (texts : List (List ℕ)) → AreTold told (files_of request) texts → (answer : Answer) × IsAnswer request texts answer × P answer
+SomeAnswer told request P =
+    (texts : List (List ℕ)) → AreTold told (files_of request) texts → (answer : Answer) × IsAnswer request texts answer × P answer
 
 -- the status and the bytes that were appended are an answer
 abbrev pub IsAnswered : (List ℕ → Option (List ℕ)) → Request → Status → Option (List ℕ) → Option (List ℕ) → Type 0
@@ -43,7 +44,8 @@ IsAnswered told request ended before after = SomeAnswer told request (λ answer.
 
 -- a proper prefix of the text of an answer was appended
 abbrev pub IsCutShort : (List ℕ → Option (List ℕ)) → Request → Option (List ℕ) → Option (List ℕ) → Type 0
-IsCutShort told request before after = SomeAnswer told request (λ answer. (n : ℕ) × (n < length answer.text) × Appended before after (take n answer.text))
+IsCutShort told request before after =
+    SomeAnswer told request (λ answer. (n : ℕ) × (n < length answer.text) × Appended before after (take n answer.text))
 
 -- the count of one of the files rose, and every file before it has a value, where the texts of those are told
 pub record HasFailed (told : List ℕ → Option (List ℕ)) (before after : List ℕ → ℕ) (files : List NamedFile) : Type 0 where

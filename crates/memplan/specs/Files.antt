@@ -41,7 +41,8 @@ pub record Answer : Type 0 where
 
 -- `refused format FILE KIND LINE`
 abbrev pub format_refused : List ℕ → List ℕ → ℕ → Answer
-format_refused file kind line = record { status = status.Format; text = line_text (codes "refused" ∷ codes "format" ∷ file ∷ kind ∷ decimal line ∷ []) }
+format_refused file kind line =
+    record { status = status.Format; text = line_text (codes "refused" ∷ codes "format" ∷ file ∷ kind ∷ decimal line ∷ []) }
 
 -- `refused limit FILE NAME`
 abbrev pub limit_refused : List ℕ → List ℕ → Answer
@@ -49,7 +50,8 @@ limit_refused file name = record { status = status.Limit; text = line_text (code
 
 -- `no order PLACE KIND`
 abbrev pub order_refused : ℕ → OrderKind → Answer
-order_refused place kind = record { status = status.No; text = line_text (codes "no" ∷ codes "order" ∷ decimal place ∷ order_word kind ∷ []) }
+order_refused place kind =
+    record { status = status.No; text = line_text (codes "no" ∷ codes "order" ∷ decimal place ∷ order_word kind ∷ []) }
 
 -- the line of a refusal of a file; with the word for the file, and the words for its kinds
 abbrev pub IsRefusedAs : {K : Type 0} → List ℕ → (K → List ℕ) → Refusal K → Answer → Type 0
@@ -98,7 +100,8 @@ IsOrderOf (Some name) n (text ∷ more ∷ texts) order = ⊥
 abbrev pub IsMatrixTree : Matrix → List (List ℕ) → List Node → Type 0
 IsMatrixTree m [] nodes = ⊥
 IsMatrixTree m (text ∷ texts) nodes =
-    (rows : List (List ℕ)) × (order : List ℕ) × IsMatrixFile text rows × IsOrderOf m.perm (length rows) texts order × IsFrontTree m.fronts rows order nodes
+    (rows : List (List ℕ)) × (order : List ℕ) × IsMatrixFile text rows × IsOrderOf m.perm (length rows) texts order
+    × IsFrontTree m.fronts rows order nodes
 
 abbrev pub IsTreeOf : TreeInput → List (List ℕ) → List Node → Type 0
 IsTreeOf (tree_named name) [] nodes = ⊥
@@ -137,7 +140,8 @@ IsRefusedPerm (matrix ∷ earlier) text answer =
 
 abbrev pub IsAcceptedPerm : List (List ℕ) → List ℕ → Type 0
 IsAcceptedPerm [] text = ⊥
-IsAcceptedPerm (matrix ∷ earlier) text = (rows : List (List ℕ)) × (order : List ℕ) × IsMatrixFile matrix rows × IsPermFile (length rows) text order
+IsAcceptedPerm (matrix ∷ earlier) text =
+    (rows : List (List ℕ)) × (order : List ℕ) × IsMatrixFile matrix rows × IsPermFile (length rows) text order
 
 -- a priority file stands after the files of the input whose tasks it ranks, and that of the order
 abbrev pub IsRefusedPriority : Input → List (List ℕ) → List ℕ → Answer → Type 0

@@ -29,7 +29,8 @@ pub record IsPlanOf (input : Input) (texts : List (List ℕ)) (answer : Answer) 
   pub answer_is : answer ≡ plan_answer plan
 
 -- the printed text is a plan file; its order is a traversal of the input's system, whose peak is the one that the plan states, and no
--- traversal has a lower one; and `check` of this file over the same input answers yes with that peak. The texts are those of the input's files
+-- traversal has a lower one; and `check` of this file over the same input answers yes with that peak.
+-- The texts are those of the input's files
 pub record IsBestPlan (input : Input) (texts : List (List ℕ)) (printed : List ℕ) : Type 0 where
   pub system : TaskSystem
   pub is_system : IsSystemOf input texts system

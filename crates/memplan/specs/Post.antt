@@ -11,7 +11,9 @@ use Rattle.memplan.specs.Files.{Answer}
 -- `peak PEAK`, `order N`, the nodes, `end`
 abbrev pub post_lines : ℕ → List ℕ → List (List (List ℕ))
 post_lines peak order =
-    (codes "peak" ∷ decimal peak ∷ []) ∷ (codes "order" ∷ decimal (length order) ∷ []) ∷ map (λ v. decimal v ∷ []) order ++ (codes "end" ∷ []) ∷ []
+    (codes "peak" ∷ decimal peak ∷ [])
+    ∷ (codes "order" ∷ decimal (length order) ∷ [])
+    ∷ map (λ v. decimal v ∷ []) order ++ (codes "end" ∷ []) ∷ []
 
 abbrev pub post_answer : ℕ → List ℕ → Answer
 post_answer peak order = record { status = status.Done; text = text_of_lines (post_lines peak order) }

@@ -81,7 +81,8 @@ shape_of true = shapes.Square
 abbrev pub matrix_names : List (List ℕ)
 matrix_names = codes "--matrix" ∷ codes "--perm" ∷ codes "--ordering" ∷ codes "--shape" ∷ codes "--amalgamate" ∷ codes "--inplace" ∷ []
 
--- `--matrix NAME`, and of `--perm NAME` or `--ordering natural`, `--shape triangle|square`, `--amalgamate ZEROS` and `--inplace no|yes` what is given
+-- `--matrix NAME`, and what is given of `--perm NAME` or `--ordering natural`, `--shape triangle|square`, `--amalgamate ZEROS` and
+-- `--inplace no|yes`
 abbrev pub matrix_of : List Given → Option Matrix
 matrix_of options =
     option_and_then (λ name.
@@ -103,10 +104,12 @@ matrix_of options =
 -- ---- inputs; each of them with these other options besides its own, so at most one of them is there
 
 abbrev pub tree_of : List (List ℕ) → List Given → Option TreeInput
-tree_of others options = if are_among (codes "--tree" ∷ others) options then option_map tree_named (value_of (codes "--tree") options) else None
+tree_of others options =
+    if are_among (codes "--tree" ∷ others) options then option_map tree_named (value_of (codes "--tree") options) else None
 
 abbrev pub workflow_of : List (List ℕ) → List Given → Option Input
-workflow_of others options = if are_among (codes "--workflow" ∷ others) options then option_map workflow_named (value_of (codes "--workflow") options) else None
+workflow_of others options =
+    if are_among (codes "--workflow" ∷ others) options then option_map workflow_named (value_of (codes "--workflow") options) else None
 
 abbrev pub matrix_among : List (List ℕ) → List Given → Option Matrix
 matrix_among others options = if are_among (matrix_names ++ others) options then matrix_of options else None

@@ -56,7 +56,8 @@ priority_or order (v ∷ vs) = v ∷ vs
 -- the priority without a file: of the plan, where there is one and it has a priority, else the order
 abbrev pub IsOwnPriority : OrderSource → List ℕ → List ℕ → List ℕ → Type 0
 IsOwnPriority (order_named name) text order priority = priority ≡ order
-IsOwnPriority (plan_named name) text order priority = (plan : PlanText) × IsPlanFile text plan × (priority ≡ priority_or order plan.priority)
+IsOwnPriority (plan_named name) text order priority =
+    (plan : PlanText) × IsPlanFile text plan × (priority ≡ priority_or order plan.priority)
 
 -- the priority of n tasks, over the text of the order or the plan and those of the files after it
 abbrev pub IsPriorityFrom : OrderSource → Option (List ℕ) → ℕ → List ℕ → List (List ℕ) → List ℕ → List ℕ → Type 0
@@ -73,7 +74,8 @@ simulation_answer c events = record { status = status.Done; text = text_of_lines
 abbrev pub setting_of : TaskSystem → List ℕ → Simulation → Setting
 setting_of system order s = record { system = system; order = order; bound = s.bound; workers = s.workers }
 
--- the order is no traversal, and its first fault is told; or the bound is below its peak; or the run of the setting and the priority is told
+-- the order is no traversal, and its first fault is told; or the bound is below its peak;
+-- or the run of the setting and the priority is told
 abbrev pub IsSimulation : Setting → List ℕ → Answer → Type 0
 IsSimulation c priority answer =
     ((place : ℕ) × (kind : OrderKind) × (first_fault c.system c.order ≡ Some (place, kind)) × (answer ≡ order_refused place kind))
@@ -86,10 +88,11 @@ abbrev pub IsSimulationOf : Input → OrderSource → Simulation → List (List 
 IsSimulationOf input source s texts answer =
     (mine : List (List ℕ)) × (text : List ℕ) × (rest : List (List ℕ)) × (system : TaskSystem) × (order : List ℕ) × (priority : List ℕ)
     × (texts ≡ mine ++ text ∷ rest) × IsSystemOf input mine system × IsOrderFrom source text order
-    × IsPriorityFrom source s.priority (length system.tasks) text rest order priority × IsSimulation (setting_of system order s) priority answer
+    × IsPriorityFrom source s.priority (length system.tasks) text rest order priority
+    × IsSimulation (setting_of system order s) priority answer
 
--- the events of a run that was printed are events of the machine, one after the other; each task is activated, started and finished once; and
--- in every state along them used memory is at most booked memory, and that at most the bound
+-- the events of a run that was printed are events of the machine, one after the other; each task is activated, started and finished once;
+-- and in every state along them used memory is at most booked memory, and that at most the bound
 pub record IsPrintedRun (c : Setting) (printed : List ℕ) : Type 0 where
   pub traversal : IsTraversal c.system c.order
   pub peak_within : peak_of c.system c.order ≤ c.bound
@@ -99,8 +102,8 @@ pub record IsPrintedRun (c : Setting) (printed : List ℕ) : Type 0 where
   pub within : (before rest : List Event) → events ≡ before ++ rest → IsWithinBound c (state_after_all (start_state c) before)
   pub printed_is : printed ≡ (simulation_answer c events).text
 
--- such a run of the input's system along the order was printed; the texts are those of the input's files, that of the order or the plan, and
--- those after it
+-- such a run of the input's system along the order was printed; the texts are those of the input's files, that of the order or the plan,
+-- and those after it
 pub record IsSimulated (input : Input) (source : OrderSource) (s : Simulation) (texts : List (List ℕ)) (printed : List ℕ) : Type 0 where
   pub mine : List (List ℕ)
   pub text : List ℕ

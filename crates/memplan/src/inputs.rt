@@ -63,7 +63,8 @@ pub fn judge_matrix<F: Files>(
     matrix: Matrix<'_>,
 ) -> Result<Tree, Stop>
     ensures judged { AreJudged (F.bytes_of files.old) (F.faults_of files.old) (F.faults_of files.new)
-        (matrix_files (matrix_view matrix.entry)) (IsMatrixTree (matrix_view matrix.entry)) (IsFirstRefusal (matrix_files (matrix_view matrix.entry)) []) result }
+        (matrix_files (matrix_view matrix.entry)) (IsMatrixTree (matrix_view matrix.entry))
+        (IsFirstRefusal (matrix_files (matrix_view matrix.entry)) []) result }
     ensures same { (other : List ℕ) → F.bytes_of files.new other ≡ F.bytes_of files.old other }
     ensures later { (other : List ℕ) → F.faults_of files.old other ≤ F.faults_of files.new other }
 {
@@ -166,7 +167,8 @@ fn judge_order<F: Files>(
     source: OrderSource<'_>,
 ) -> Result<Order, Stop>
     ensures judged { AreJudged (F.bytes_of files.old) (F.faults_of files.old) (F.faults_of files.new)
-        (source_file (source_view source.entry) ∷ []) (IsOrderRead (source_view source.entry)) (IsRefusedSource (source_view source.entry)) result }
+        (source_file (source_view source.entry) ∷ []) (IsOrderRead (source_view source.entry))
+        (IsRefusedSource (source_view source.entry)) result }
     ensures same { (other : List ℕ) → F.bytes_of files.new other ≡ F.bytes_of files.old other }
     ensures later { (other : List ℕ) → F.faults_of files.old other ≤ F.faults_of files.new other }
 {

@@ -19,7 +19,8 @@ use std::thread::Threads;
 /// Does what the words ask for: reads the files that they name, and writes the report or the refusal to the sink, whole before its
 /// first byte is written.
 ///
-/// `words` are the words after the program's name. `rt` and `gate` are for the threads of the checker: its answer is the same with any gate.
+/// `words` are the words after the program's name. `rt` and `gate` are for the threads of the checker:
+/// its answer is the same with any gate.
 pub fn run_words<R: Threads + Sync, F: Files, S: Sink, G: Gate>(
     rt: &R,
     alloc: Global,
@@ -35,7 +36,8 @@ pub fn run_words<R: Threads + Sync, F: Files, S: Sink, G: Gate>(
     // where a plan was checked and accepted, its order is a traversal of the input's system, its peak is the one that it states and that
     // was printed, and no traversal has a lower one
     ensures certified { result ≡ Status.Done → (input : Input) (plan : List ℕ) (workers : ℕ)
-        → Asks words.now (check input plan workers) → (texts : List (List ℕ)) → AreTold (F.bytes_of files.old) (files_of (check input plan workers)) texts
+        → Asks words.now (check input plan workers)
+        → (texts : List (List ℕ)) → AreTold (F.bytes_of files.old) (files_of (check input plan workers)) texts
         → (printed : List ℕ) × IsCertified input texts printed × Appended (S.written sink.old) (S.written sink.new) printed }
 
     // where a plan was made, what was printed is a plan file: its order is a traversal of the input's system, its peak is the one that it
@@ -47,7 +49,8 @@ pub fn run_words<R: Threads + Sync, F: Files, S: Sink, G: Gate>(
     // where a run was simulated to its end, its events are one activation, one start and one finish of each task of the input's system, and
     // memory stayed within the bound, which is at least the peak of the order
     ensures simulated { result ≡ Status.Done → (input : Input) (source : OrderSource) (s : Simulation)
-        → Asks words.now (simulate input source s) → (texts : List (List ℕ)) → AreTold (F.bytes_of files.old) (files_of (simulate input source s)) texts
+        → Asks words.now (simulate input source s)
+        → (texts : List (List ℕ)) → AreTold (F.bytes_of files.old) (files_of (simulate input source s)) texts
         → (printed : List ℕ) × IsSimulated input source s texts printed × Appended (S.written sink.old) (S.written sink.new) printed }
 
     // nothing is appended at usage, read fault and want of memory
