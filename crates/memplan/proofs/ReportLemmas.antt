@@ -14,7 +14,7 @@ use Rattle.claim_check.specs.declared.verdict.Verdict.{Verdict}
 use Rattle.claim_check.specs.declared.verdict.Verdict.TheVariants as verdicts
 use Rattle.claim_check.specs.declared.verdict.Verdict.TheVariants.{Yes}
 use Rattle.memplan.specs.declared.status.Status.TheVariants as status
-use Rattle.memplan.specs.Answer.{IsReport}
+use Rattle.memplan.specs.Commands.{IsReport}
 use Rattle.memplan.specs.Check.{yes_line, verdict_answer, IsCertified}
 use Rattle.memplan.specs.Files.{Answer, IsPlanFile}
 use Rattle.memplan.specs.Plan.{plan_answer, IsBestPlan}

@@ -12,7 +12,7 @@ use Rattle.sp_terms.specs.WorkflowFile.{RefusesWorkflow}
 use Rattle.matrix_market.specs.Kinds.{word_of as matrix_word}
 use Rattle.matrix_market.specs.MatrixFile.{RefusesPattern}
 use Rattle.plan_text.specs.PlanFile.{RefusesPlan}
-use Rattle.memplan.specs.Answer.{IsAnswer, IsReport}
+use Rattle.memplan.specs.Commands.{IsAnswer, IsReport}
 use Rattle.memplan.specs.Files.{Answer, IsRefusedAs, IsRefusedFile, IsRefusedPerm, IsRefused, IsFirstRefusal}
 use Rattle.memplan.specs.Clauses.{AreTold, IsAnswered, IsCutShort}
 use Rattle.sp_terms.specs.Kinds.{word_of as workflow_word}

@@ -1,7 +1,7 @@
 -- A simulation over the texts of the input, of the order and of the priority, and what a printed trace says of its run.
 use Rattle.std.proofs.Common.{◌≡◌, ◌∙◌, ℕ, ◌≤◌, List, [], ◌∷◌, ◌++◌, Option, Some, None, length, sym, ap, subst, inl, inr, arith, append_assoc}
 use Rattle.least_peak.specs.Problem.{system_of}
-use Rattle.memplan.specs.Answer.{IsReport}
+use Rattle.memplan.specs.Commands.{IsReport}
 use Rattle.memplan.specs.Files.{Answer, IsFirstRefusal}
 use Rattle.memplan.specs.Simulate.{IsOwnPriority, IsPriorityFrom, IsSimulation, setting_of, priority_or, IsPrintedRun, report_lines}
 use Rattle.memplan.specs.Clauses.{AreTold}

@@ -1,5 +1,5 @@
--- The report of `check`: the verdict on a plan; and what a yes says: it speaks of the plan and of the input alone, whoever made the plan.
-use Rattle.std.specs.Prelude.{◌≡◌, ℕ, List, [], ◌∷◌, ◌++◌, codes, decimal}
+-- `check`: the verdict on a plan; and what a yes says: it speaks of the plan and of the input alone, whoever made the plan.
+use Rattle.std.specs.Prelude.{◌≡◌, ℕ, List, [], ◌∷◌, ◌++◌, Option, option_map, option_and_then, codes, decimal}
 use Rattle.mp_text.specs.Report.{line_text}
 use Rattle.mp_system.specs.System.{TaskSystem}
 use Rattle.mp_system.specs.Memory.{peak_of}
@@ -9,7 +9,8 @@ use Rattle.plan_text.specs.Plan.{PlanText}
 use Rattle.claim_check.specs.declared.objection.Objection.{Objection}
 use Rattle.claim_check.specs.declared.verdict.Verdict.{Verdict}
 use Rattle.claim_check.specs.Verdicts.{IsVerdict}
-use Rattle.memplan.specs.Request.{Input}
+use Rattle.memplan.specs.Words.{Given, value_of}
+use Rattle.memplan.specs.Request.{Request, check, Input, input_of, workers_or_one}
 use Rattle.mp_system.specs.Refusal.{word_of as order_word}
 use Rattle.claim_check.specs.Shapes.{word_of as shape_word}
 use Rattle.claim_check.specs.declared.objection.Objection.TheVariants as objections
@@ -17,6 +18,15 @@ use Rattle.claim_check.specs.declared.verdict.Verdict.TheVariants as verdicts
 use Rattle.memplan.specs.declared.status.Status.TheVariants as status
 use Rattle.claim_check.specs.declared.verdict.Verdict.TheVariants.{Yes}
 use Rattle.memplan.specs.Files.{IsSystemOf, IsPlanFile, Answer, IsSystemWithTerm}
+
+-- `check`, one input, `--plan NAME`, and `--workers N` if it is given
+abbrev pub check_of : List Given → Option Request
+check_of options =
+    option_and_then (λ input.
+    option_and_then (λ plan.
+    option_map (check input plan) (workers_or_one (value_of (codes "--workers") options)))
+    (value_of (codes "--plan") options))
+    (input_of (codes "--plan" ∷ codes "--workers" ∷ []) options)
 
 -- `yes PEAK`
 abbrev pub yes_line : ℕ → List ℕ

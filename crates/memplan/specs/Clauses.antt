@@ -1,8 +1,8 @@
 -- The words of the contract of the top call.
 use Rattle.std.specs.Prelude.{◌≡◌, ℕ, ◌<◌, List, [], ◌∷◌, ◌++◌, length, map, take, Option, Some, None, String, string_bytes}
 use Rattle.mp_outside.specs.Outside.{Rose, Appended}
-use Rattle.memplan.specs.Request.{Request, NamedFile, files_of, request_of}
-use Rattle.memplan.specs.Answer.{IsAnswer}
+use Rattle.memplan.specs.Request.{Request, NamedFile, files_of}
+use Rattle.memplan.specs.Commands.{request_of, IsAnswer}
 use Rattle.memplan.specs.Files.{Answer, AreAccepted}
 use Rattle.memplan.specs.declared.status.Status.{Status}
 use Rattle.memplan.specs.declared.status.Status.TheVariants as status

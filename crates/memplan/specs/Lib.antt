@@ -10,7 +10,7 @@ pub mod Post
 pub mod Check
 pub mod Plan
 pub mod Simulate
-pub mod Answer
+pub mod Commands
 pub mod Clauses
 pub mod Pages
 pub mod Sound

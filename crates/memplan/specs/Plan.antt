@@ -1,17 +1,22 @@
--- The report of `plan`: a traversal of least peak, and a certificate of that, which `check` accepts.
-use Rattle.std.specs.Prelude.{◌≡◌, ℕ, List, [], ◌∷◌, ◌++◌}
+-- `plan`: a traversal of least peak, and a certificate of that, which `check` accepts.
+use Rattle.std.specs.Prelude.{◌≡◌, ℕ, List, [], ◌∷◌, ◌++◌, Option, option_map}
 use Rattle.mp_system.specs.System.{TaskSystem}
 use Rattle.mp_system.specs.Memory.{peak_of}
 use Rattle.mp_system.specs.Traversal.{IsTraversal, IsLeast}
 use Rattle.sp_terms.specs.declared.position.Position.{Position}
 use Rattle.plan_text.specs.Plan.{PlanText, IsPlan}
-use Rattle.memplan.specs.Request.{Input}
+use Rattle.memplan.specs.Words.{Given}
+use Rattle.memplan.specs.Request.{Request, planning, Input, input_of}
 use Rattle.plan_text.specs.Printed as plans
 use Rattle.claim_check.specs.Accepted as judged
 use Rattle.memplan.specs.declared.status.Status.TheVariants as status
 use Rattle.claim_check.specs.declared.verdict.Verdict.TheVariants.{Yes}
 use Rattle.memplan.specs.Files.{IsSystemOf, IsPlanFile, Answer, IsSystemWithTerm}
 use Rattle.memplan.specs.Check.{IsCheckOf, verdict_answer}
+
+-- `plan` and one input
+abbrev pub plan_of : List Given → Option Request
+plan_of options = option_map planning (input_of [] options)
 
 -- the plan file of a plan
 abbrev pub plan_answer : PlanText → Answer

@@ -1,13 +1,21 @@
--- The report of `replay`: the peak of an order.
-use Rattle.std.specs.Prelude.{◌≡◌, ℕ, List, [], ◌∷◌, ◌++◌, Some, codes, decimal, ◌⊎◌}
+-- `replay`: the peak of an order.
+use Rattle.std.specs.Prelude.{◌≡◌, ℕ, List, [], ◌∷◌, ◌++◌, Option, Some, option_map, option_and_then, codes, decimal, ◌⊎◌}
 use Rattle.mp_text.specs.Report.{line_text}
 use Rattle.mp_system.specs.declared.system.OrderKind.{OrderKind}
 use Rattle.mp_system.specs.System.{TaskSystem}
 use Rattle.mp_system.specs.Memory.{peak_of}
 use Rattle.mp_system.specs.Traversal.{IsTraversal, first_fault}
-use Rattle.memplan.specs.Request.{Input, OrderSource}
+use Rattle.memplan.specs.Words.{Given, value_of}
+use Rattle.memplan.specs.Request.{Request, replay, Input, OrderSource, input_of, source_of}
 use Rattle.memplan.specs.declared.status.Status.TheVariants as status
 use Rattle.memplan.specs.Files.{IsSystemOf, order_refused, IsOrderFrom, Answer}
+
+-- `replay`, one input, and `--order NAME` or `--plan NAME`
+abbrev pub replay_of : List Given → Option Request
+replay_of options =
+    option_and_then (λ input.
+    option_map (replay input) (source_of (value_of (codes "--order") options) (value_of (codes "--plan") options)))
+    (input_of (codes "--order" ∷ codes "--plan" ∷ []) options)
 
 -- the peak of a traversal, or the first fault of an order that is none
 abbrev pub peak_answer : ℕ → Answer

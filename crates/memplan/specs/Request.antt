@@ -1,4 +1,4 @@
--- Requests: what words ask for, and the files that a request names.
+-- Requests: what can be asked for, what the commands share of the words for it, and the files that a request names.
 use Rattle.std.specs.Prelude.{ℕ, ◌^◌, ◌≤◌, Bool, true, false, ◌&&◌, nat_le, List, [], ◌∷◌, ◌++◌, Option, Some, None, option_map, option_and_then, codes, if◌then◌else◌}
 use Rattle.std.specs.Option.{option_or}
 use Rattle.std.specs.Str.{bytes_eq}
@@ -7,7 +7,7 @@ use Rattle.mp_text.specs.Text.{number_of}
 use Rattle.assembly_tree.specs.declared.front.Shape.{Shape}
 use Rattle.assembly_tree.specs.declared.front.Shape.TheVariants as shapes
 use Rattle.symbolic.specs.declared.options.FrontOptions.{FrontOptions}
-use Rattle.memplan.specs.Words.{Given, options_of, value_of, are_distinct, are_among}
+use Rattle.memplan.specs.Words.{Given, value_of, are_among}
 
 -- a matrix, by the name of its file, and how it becomes a tree of fronts
 pub record Matrix : Type 0 where
@@ -122,7 +122,7 @@ tree_input_of others options = option_or (tree_of others options) (option_map ma
 abbrev pub input_of : List (List ℕ) → List Given → Option Input
 input_of others options = option_or (option_map tree_input (tree_input_of others options)) (workflow_of others options)
 
--- ---- commands
+-- ---- what several commands ask for
 
 -- an order file or a plan file, not both
 abbrev pub source_of : Option (List ℕ) → Option (List ℕ) → Option OrderSource
@@ -130,21 +130,6 @@ source_of None None = None
 source_of None (Some plan) = Some (plan_named plan)
 source_of (Some order) None = Some (order_named order)
 source_of (Some order) (Some plan) = None
-
-abbrev pub with_source : List Given → Input → Option Request
-with_source options input = option_map (replay input) (source_of (value_of (codes "--order") options) (value_of (codes "--plan") options))
-
--- `replay`, one input, and `--order NAME` or `--plan NAME`
-abbrev pub replay_of : List Given → Option Request
-replay_of options = option_and_then (with_source options) (input_of (codes "--order" ∷ codes "--plan" ∷ []) options)
-
--- `tree` and a matrix
-abbrev pub tree_request_of : List Given → Option Request
-tree_request_of options = option_map tree (matrix_among [] options)
-
--- `post` and a tree or a matrix
-abbrev pub post_of : List Given → Option Request
-post_of options = option_map post (tree_input_of [] options)
 
 -- 1 to 4,096 workers
 abbrev pub workers_within : ℕ → Option ℕ
@@ -160,67 +145,13 @@ abbrev pub AreWorkers : ℕ → Type 0
 AreWorkers n = (1 ≤ n) × (n ≤ most_workers)
 
 abbrev pub HasWorkers : Request → Type 0
-HasWorkers (replay input source) = Unit {0}
-HasWorkers (tree m) = Unit {0}
-HasWorkers (post input) = Unit {0}
 HasWorkers (check input plan workers) = AreWorkers workers
-HasWorkers (planning input) = Unit {0}
 HasWorkers (simulate input source s) = AreWorkers s.workers
-
-abbrev pub with_plan : List Given → Input → Option Request
-with_plan options input =
-    option_and_then (λ plan. option_map (check input plan) (workers_or_one (value_of (codes "--workers") options)))
-    (value_of (codes "--plan") options)
-
--- `check`, one input, `--plan NAME`, and `--workers N` if it is given
-abbrev pub check_of : List Given → Option Request
-check_of options = option_and_then (with_plan options) (input_of (codes "--plan" ∷ codes "--workers" ∷ []) options)
-
--- `plan` and one input
-abbrev pub plan_of : List Given → Option Request
-plan_of options = option_map planning (input_of [] options)
+HasWorkers request = Unit {0}
 
 -- a number that is given
 abbrev pub number_given : Option (List ℕ) → Option ℕ
 number_given given = option_and_then number_of given
-
--- `--bound B` and `--workers N`, and `--priority NAME` if it is given
-abbrev pub simulation_of : List Given → Option Simulation
-simulation_of options =
-    option_and_then (λ bound.
-    option_map (λ workers. record { bound = bound; workers = workers; priority = value_of (codes "--priority") options })
-    (option_and_then workers_within (number_given (value_of (codes "--workers") options))))
-    (number_given (value_of (codes "--bound") options))
-
-abbrev pub with_simulation : List Given → Input → Option Request
-with_simulation options input =
-    option_and_then (λ source. option_map (simulate input source) (simulation_of options))
-    (source_of (value_of (codes "--order") options) (value_of (codes "--plan") options))
-
-abbrev pub simulation_names : List (List ℕ)
-simulation_names = codes "--order" ∷ codes "--plan" ∷ codes "--bound" ∷ codes "--workers" ∷ codes "--priority" ∷ []
-
--- `simulate`, one input, `--order NAME` or `--plan NAME`, and how the run is simulated
-abbrev pub simulate_of : List Given → Option Request
-simulate_of options = option_and_then (with_simulation options) (input_of simulation_names options)
-
-abbrev pub command_of : List ℕ → List Given → Option Request
-command_of command options =
-    if bytes_eq command (codes "replay") then replay_of options
-    else if bytes_eq command (codes "tree") then tree_request_of options
-    else if bytes_eq command (codes "post") then post_of options
-    else if bytes_eq command (codes "check") then check_of options
-    else if bytes_eq command (codes "plan") then plan_of options
-    else if bytes_eq command (codes "simulate") then simulate_of options
-    else None
-
-abbrev pub distinct_request : List ℕ → List Given → Option Request
-distinct_request command options = if are_distinct options then command_of command options else None
-
--- the request of the words after the program's name: a command, and options of it, each at most once
-abbrev pub request_of : List (List ℕ) → Option Request
-request_of [] = None
-request_of (command ∷ words) = option_and_then (distinct_request command) (options_of words)
 
 -- ---- files
 

@@ -1,6 +1,6 @@
--- The report of `simulate`: the run of an order on several workers within a bound; what is printed speaks of the input, the order and the
+-- `simulate`: the run of an order on several workers within a bound; what is printed speaks of the input, the order and the
 -- run alone, whatever the priority.
-use Rattle.std.specs.Prelude.{◌≡◌, ℕ, ◌<◌, ◌≤◌, List, [], ◌∷◌, ◌++◌, length, map, Option, Some, None, codes, decimal, ◌⊎◌}
+use Rattle.std.specs.Prelude.{◌≡◌, ℕ, ◌<◌, ◌≤◌, List, [], ◌∷◌, ◌++◌, length, map, Option, Some, None, option_map, option_and_then, codes, decimal, ◌⊎◌}
 use Rattle.mp_text.specs.Report.{line_text, text_of_lines}
 use Rattle.mp_system.specs.declared.system.OrderKind.{OrderKind}
 use Rattle.mp_system.specs.System.{TaskSystem}
@@ -10,12 +10,26 @@ use Rattle.plan_text.specs.Plan.{PlanText}
 use Rattle.activation.specs.declared.events.Event.{Event}
 use Rattle.activation.specs.Machine.{Setting, start_state}
 use Rattle.activation.specs.Schedule.{IsSchedule, first_moment, last_time, most_used, most_booked}
-use Rattle.memplan.specs.Request.{Input, OrderSource, order_named, plan_named, Simulation}
+use Rattle.memplan.specs.Words.{Given, value_of}
+use Rattle.memplan.specs.Request.{Request, simulate, Input, OrderSource, order_named, plan_named, Simulation, input_of, source_of, workers_within, number_given}
 use Rattle.memplan.specs.declared.status.Status.TheVariants as status
 use Rattle.activation.specs.Runs.{AreLegal, state_after_all, IsWithinBound, EachOnce}
 use Rattle.activation.specs.declared.events.EventKind.{EventKind}
 use Rattle.activation.specs.declared.events.EventKind.TheVariants.{Activate, Start, Finish}
 use Rattle.memplan.specs.Files.{IsSystemOf, order_refused, Answer, IsPermFile, IsPlanFile, IsOrderFrom}
+
+-- `simulate`, one input, `--order NAME` or `--plan NAME`, `--bound B` and `--workers N`, and `--priority NAME` if it is given
+abbrev pub simulate_of : List Given → Option Request
+simulate_of options =
+    option_and_then (λ input.
+    option_and_then (λ source.
+    option_and_then (λ bound.
+    option_map (λ workers.
+    simulate input source (record { bound = bound; workers = workers; priority = value_of (codes "--priority") options }))
+    (option_and_then workers_within (number_given (value_of (codes "--workers") options))))
+    (number_given (value_of (codes "--bound") options)))
+    (source_of (value_of (codes "--order") options) (value_of (codes "--plan") options)))
+    (input_of (codes "--order" ∷ codes "--plan" ∷ codes "--bound" ∷ codes "--workers" ∷ codes "--priority" ∷ []) options)
 
 abbrev pub event_word : EventKind → List ℕ
 event_word Activate = codes "activate"

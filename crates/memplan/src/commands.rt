@@ -7,7 +7,9 @@ pub mod replay;
 pub mod simulate;
 pub mod tree;
 
-ghost use Rattle.std.specs.Prelude.{◌≡◌, ◌≤◌, ℕ, List};
+ghost use Rattle.std.specs.Prelude.{◌≡◌, ◌≤◌, ℕ, List, IfOk, IfSome, map, string_bytes, option_map};
+ghost use Rattle.memplan.specs.Commands.{command_of, request_of};
+ghost use Rattle.memplan.specs.GivenViews.{given_views};
 ghost use Rattle.memplan.specs.Judged.{IsReported};
 ghost use Rattle.memplan.specs.Request.{HasWorkers};
 ghost use Rattle.memplan.specs.RequestViews.{request_view};
@@ -15,9 +17,43 @@ ghost use Rattle.memplan.specs.RequestViews.{request_view};
 use crate::page::Page;
 use crate::request::Request;
 use crate::stop::Stop;
+use crate::words::{Given, are_distinct, options_of};
 use mp_outside::{Files, Gate};
-use std::alloc::Global;
+use std::alloc::{AllocError, Global};
 use std::thread::Threads;
+
+fn command_of<'a>(command: &str, options: &[Given<'a>]) -> Option<Request<'a>>
+    ensures value { option_map request_view result ≡ command_of command.now (given_views options.now) }
+    ensures workers { IfSome result (λ request. HasWorkers (request_view request)) }
+{
+    match command {
+        "replay" => replay::replay_of(options),
+        "tree" => tree::tree_request_of(options),
+        "post" => post::post_of(options),
+        "check" => check::check_of(options),
+        "plan" => plan::plan_of(options),
+        "simulate" => simulate::simulate_of(options),
+        _ => None,
+    }
+}
+
+/// The request of the words after the program's name, if they have one.
+pub fn request_of(alloc: Global, words: &[String]) -> Result<Option<Request<'_>>, AllocError>
+    ensures value { IfOk result (λ request. option_map request_view request ≡ request_of (map (λ w. string_bytes w) words.now)) }
+    ensures workers { IfOk result (λ request. IfSome request (λ r. HasWorkers (request_view r))) }
+{
+    let [command, words @ ..] = words else {
+        return Ok(None);
+    };
+    let Some(options) = options_of(alloc, words)? else {
+        return Ok(None);
+    };
+    if are_distinct(&options) {
+        Ok(command_of(command.as_str(), &options))
+    } else {
+        Ok(None)
+    }
+}
 
 /// The page of the report that a request asks for. `rt` and `gate` are for the threads of the checker.
 pub fn report<R: Threads + Sync, F: Files, G: Gate>(

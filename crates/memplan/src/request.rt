@@ -1,20 +1,15 @@
-ghost use Rattle.std.specs.Prelude.{◌≡◌, ◌≤◌, ◌++◌, List, MatchOption, IfOk, IfSome, Some, None, map, string_bytes, option_map};
-ghost use Rattle.memplan.specs.Request as spec;
-ghost use Rattle.memplan.specs.Request.{is_second, chooses_order, zeros_within, zeros_of, matrix_of, matrix_among, tree_input_of, input_of, replay_of, tree_request_of, post_of, source_of, workers_within, workers_or_one, check_of, plan_of, number_given, simulate_of, command_of, request_of, AreWorkers, HasWorkers};
-ghost use Rattle.memplan.specs.RequestViews.{matrix_view, tree_input_view, input_view, source_view, simulation_view, request_view};
+ghost use Rattle.std.specs.Prelude.{◌≡◌, IfSome, map, option_map};
+ghost use Rattle.memplan.specs.Request.{is_second, chooses_order, zeros_of, matrix_of, matrix_among, tree_input_of, input_of, source_of, workers_within, workers_or_one, number_given, AreWorkers};
+ghost use Rattle.memplan.specs.RequestViews.{matrix_view, tree_input_view, input_view, source_view};
 ghost use Rattle.memplan.specs.GivenViews.{given_views};
 
-use crate::commands::check::{Check, check_of};
-use crate::commands::plan::plan_of;
-use crate::commands::post::post_of;
-use crate::commands::replay::{Replay, replay_of};
-use crate::commands::simulate::{Simulation, simulate_of};
-use crate::commands::tree::tree_request_of;
-use crate::words::{Given, are_among, are_distinct, options_of, value_of};
+use crate::commands::check::Check;
+use crate::commands::replay::Replay;
+use crate::commands::simulate::Simulation;
+use crate::words::{Given, are_among, value_of};
 use assembly_tree::Shape;
 use limits::MOST_WORKERS;
 use mp_text::number;
-use std::alloc::{AllocError, Global};
 use symbolic::FrontOptions;
 
 /// A matrix, by the name of its file, and how it becomes a tree of fronts.
@@ -222,39 +217,4 @@ pub fn number_given(given: Option<&str>) -> Option<u64>
     ensures { result ≡ number_given (option_map (λ s. s.now) given.entry) }
 {
     number(given?.as_bytes())
-}
-
-// ---- commands
-
-fn command_of<'a>(command: &str, options: &[Given<'a>]) -> Option<Request<'a>>
-    ensures value { option_map request_view result ≡ command_of command.now (given_views options.now) }
-    ensures workers { IfSome result (λ request. HasWorkers (request_view request)) }
-{
-    match command {
-        "replay" => replay_of(options),
-        "tree" => tree_request_of(options),
-        "post" => post_of(options),
-        "check" => check_of(options),
-        "plan" => plan_of(options),
-        "simulate" => simulate_of(options),
-        _ => None,
-    }
-}
-
-/// The request of the words after the program's name, if they have one.
-pub fn request_of(alloc: Global, words: &[String]) -> Result<Option<Request<'_>>, AllocError>
-    ensures value { IfOk result (λ request. option_map request_view request ≡ request_of (map (λ w. string_bytes w) words.now)) }
-    ensures workers { IfOk result (λ request. IfSome request (λ r. HasWorkers (request_view r))) }
-{
-    let [command, words @ ..] = words else {
-        return Ok(None);
-    };
-    let Some(options) = options_of(alloc, words)? else {
-        return Ok(None);
-    };
-    if are_distinct(&options) {
-        Ok(command_of(command.as_str(), &options))
-    } else {
-        Ok(None)
-    }
 }

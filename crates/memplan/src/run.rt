@@ -7,9 +7,8 @@ ghost use Rattle.memplan.specs.Simulate.{IsSimulated};
 ghost use Rattle.memplan.specs.Pages.{answer_of, status_of};
 ghost use Rattle.memplan.specs.Clauses.{Asks, AsksNothing, AreTold, HasText, IsAnswered, IsCutShort, HasFailed, AreQuiet};
 
-use crate::commands::report;
+use crate::commands::{report, request_of};
 use crate::page::{Page, PageKind};
-use crate::request::request_of;
 use crate::status::Status;
 use crate::stop::Stop;
 use mp_outside::{Files, Gate, Sink, write_all};

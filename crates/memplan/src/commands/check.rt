@@ -1,11 +1,11 @@
 //! `check`: whether a plan is accepted for an input.
 
 ghost use Rattle.std.specs.Prelude.{◌≡◌, ◌≤◌, ◌∷◌, [], ◌++◌, ℕ, List, IfOk, IfSome, option_map};
-ghost use Rattle.memplan.specs.Check.{verdict_answer};
+ghost use Rattle.memplan.specs.Check.{check_of, verdict_answer};
 ghost use Rattle.memplan.specs.Judged.{IsReported};
 ghost use Rattle.memplan.specs.GivenViews.{given_views};
 ghost use Rattle.memplan.specs.Pages.{answer_of};
-ghost use Rattle.memplan.specs.Request.{AreWorkers, HasWorkers, check, check_of};
+ghost use Rattle.memplan.specs.Request.{AreWorkers, HasWorkers, check};
 ghost use Rattle.memplan.specs.RequestViews.{input_view, request_view};
 
 use crate::files::{PlanTextFile, judge};

@@ -1,11 +1,11 @@
 //! `plan`: a traversal of least peak, with its certificate.
 
 ghost use Rattle.std.specs.Prelude.{◌≡◌, ◌≤◌, ℕ, List, IfOk, IfSome, option_map};
-ghost use Rattle.memplan.specs.Plan.{plan_answer};
+ghost use Rattle.memplan.specs.Plan.{plan_of, plan_answer};
 ghost use Rattle.memplan.specs.Judged.{IsReported};
 ghost use Rattle.memplan.specs.GivenViews.{given_views};
 ghost use Rattle.memplan.specs.Pages.{answer_of};
-ghost use Rattle.memplan.specs.Request.{HasWorkers, planning, plan_of};
+ghost use Rattle.memplan.specs.Request.{HasWorkers, planning};
 ghost use Rattle.memplan.specs.RequestViews.{input_view, request_view};
 
 use crate::inputs::judge_input;

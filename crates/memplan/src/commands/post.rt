@@ -1,11 +1,11 @@
 //! `post`: the best postorder of a tree, and its peak.
 
 ghost use Rattle.std.specs.Prelude.{◌≡◌, ◌≤◌, ℕ, List, IfOk, IfSome, option_map};
-ghost use Rattle.memplan.specs.Post.{IsPost, post_answer};
+ghost use Rattle.memplan.specs.Post.{post_of, IsPost, post_answer};
 ghost use Rattle.memplan.specs.Judged.{IsReported};
 ghost use Rattle.memplan.specs.GivenViews.{given_views};
 ghost use Rattle.memplan.specs.Pages.{answer_of};
-ghost use Rattle.memplan.specs.Request.{HasWorkers, post, post_of};
+ghost use Rattle.memplan.specs.Request.{HasWorkers, post};
 ghost use Rattle.memplan.specs.RequestViews.{tree_input_view, request_view};
 
 use crate::inputs::judge_tree;

@@ -1,11 +1,11 @@
 //! `replay`: the peak of an order of an input's tasks.
 
 ghost use Rattle.std.specs.Prelude.{◌≡◌, ◌≤◌, ℕ, List, [], IfOk, IfSome, option_map};
-ghost use Rattle.memplan.specs.Replay.{IsReplayAnswer};
+ghost use Rattle.memplan.specs.Replay.{replay_of, IsReplayAnswer};
 ghost use Rattle.memplan.specs.Judged.{IsReported};
 ghost use Rattle.memplan.specs.GivenViews.{given_views};
 ghost use Rattle.memplan.specs.Pages.{answer_of};
-ghost use Rattle.memplan.specs.Request.{HasWorkers, replay, replay_of};
+ghost use Rattle.memplan.specs.Request.{HasWorkers, replay};
 ghost use Rattle.memplan.specs.RequestViews.{input_view, source_view, request_view};
 ghost use Rattle.least_peak.specs.Problem.{system_of};
 

@@ -5,11 +5,11 @@ ghost use Rattle.activation.specs.Schedule.{HoldsEach};
 ghost use Rattle.least_peak.specs.Problem.{system_of};
 ghost use Rattle.mp_system.specs.Traversal.{IsTraversal};
 ghost use Rattle.mp_text.specs.Report.{is_token, is_line_start, line_text, text_of_lines};
-ghost use Rattle.memplan.specs.Simulate.{IsSimulation, IsPrintedRun, event_word as event_text, event_line, report_lines};
+ghost use Rattle.memplan.specs.Simulate.{simulate_of, IsSimulation, IsPrintedRun, event_word as event_text, event_line, report_lines};
 ghost use Rattle.memplan.specs.GivenViews.{given_views};
 ghost use Rattle.memplan.specs.Judged.{AreJudged, IsReported, IsPriorityOf, IsRefusedRanking, IsRanking, priority_beside, numbers_of};
 ghost use Rattle.memplan.specs.Pages.{answer_of};
-ghost use Rattle.memplan.specs.Request.{AreWorkers, HasWorkers, Input as AnyInput, simulate as simulation, simulate_of, priority_files};
+ghost use Rattle.memplan.specs.Request.{AreWorkers, HasWorkers, Input as AnyInput, simulate as simulation, priority_files};
 ghost use Rattle.memplan.specs.RequestViews.{input_view, source_view, simulation_view, request_view};
 ghost use Rattle.memplan.specs.declared.status.Status.TheVariants.{Done};
 

@@ -1,11 +1,11 @@
 //! `tree`: the tree of the fronts of a matrix.
 
 ghost use Rattle.std.specs.Prelude.{◌≡◌, ◌≤◌, ℕ, List, IfOk, IfSome, option_map};
-ghost use Rattle.memplan.specs.Tree.{tree_answer};
+ghost use Rattle.memplan.specs.Tree.{tree_request_of, tree_answer};
 ghost use Rattle.memplan.specs.Judged.{IsReported};
 ghost use Rattle.memplan.specs.GivenViews.{given_views};
 ghost use Rattle.memplan.specs.Pages.{answer_of};
-ghost use Rattle.memplan.specs.Request.{HasWorkers, tree, tree_request_of};
+ghost use Rattle.memplan.specs.Request.{HasWorkers, tree};
 ghost use Rattle.memplan.specs.RequestViews.{matrix_view, request_view};
 
 use crate::inputs::judge_matrix;

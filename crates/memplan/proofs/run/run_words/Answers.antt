@@ -1,5 +1,6 @@
 use Rattle.std.proofs.Common.{◌≡◌, ◌∙◌, map, string_bytes, Some, sym, ap, subst, option_map}
-use Rattle.memplan.specs.Request.{Request, files_of, request_of, check, planning, simulate}
+use Rattle.memplan.specs.Request.{Request, files_of, check, planning, simulate}
+use Rattle.memplan.specs.Commands.{request_of}
 use Rattle.memplan.specs.RequestViews.{request_view}
 use Rattle.memplan.specs.Clauses.{AreQuiet}
 use Rattle.memplan.specs.Pages.{answer_of}

@@ -1,7 +1,7 @@
 use Rattle.std.proofs.Common.{◌∙◌, ℕ, List, [], ◌∷◌, inl, arith}
 use Rattle.std.specs.Prelude.{codes}
 use Rattle.plan_text.specs.PlanFile.{RefusesPlan}
-use Rattle.memplan.specs.Answer.{IsReport}
+use Rattle.memplan.specs.Commands.{IsReport}
 use Rattle.memplan.specs.Files.{IsFirstRefusal, IsRefusedFile}
 use Rattle.memplan.specs.Pages.{answer_of}
 use Rattle.plan_text.specs.Kinds.{word_of as plan_word}

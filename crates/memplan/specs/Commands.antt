@@ -1,0 +1,43 @@
+-- The commands: the words that ask for each, and what is answered over the contents of its files, a status and a text. There is one
+-- answer for a first refusal, in the order of the files, and else the report.
+use Rattle.std.specs.Prelude.{◌≡◌, ℕ, List, [], ◌∷◌, Option, None, option_and_then, codes, if◌then◌else◌, ◌⊎◌}
+use Rattle.std.specs.Str.{bytes_eq}
+use Rattle.tree_input.specs.declared.node.Node.{Node}
+use Rattle.memplan.specs.Request.{Request, replay, tree, post, check, planning, simulate, files_of}
+use Rattle.memplan.specs.Replay.{replay_of, IsReplayOf}
+use Rattle.memplan.specs.Files.{IsTreeOf, IsFirstRefusal, IsMatrixTree, Answer}
+use Rattle.memplan.specs.Check.{check_of, IsCheckOf}
+use Rattle.memplan.specs.Simulate.{simulate_of, IsSimulationOf}
+use Rattle.memplan.specs.Plan.{plan_of, IsPlanOf}
+use Rattle.memplan.specs.Tree.{tree_request_of, tree_answer}
+use Rattle.memplan.specs.Post.{post_of, IsPost}
+use Rattle.memplan.specs.Words.{Given, options_of, are_distinct}
+
+abbrev pub command_of : List ℕ → List Given → Option Request
+command_of command options =
+    if bytes_eq command (codes "replay") then replay_of options
+    else if bytes_eq command (codes "tree") then tree_request_of options
+    else if bytes_eq command (codes "post") then post_of options
+    else if bytes_eq command (codes "check") then check_of options
+    else if bytes_eq command (codes "plan") then plan_of options
+    else if bytes_eq command (codes "simulate") then simulate_of options
+    else None
+
+-- the request of the words after the program's name: a command, and options of it, each at most once
+abbrev pub request_of : List (List ℕ) → Option Request
+request_of [] = None
+request_of (command ∷ words) =
+    option_and_then (λ options. if are_distinct options then command_of command options else None) (options_of words)
+
+-- what is answered where all files have values
+abbrev pub IsReport : Request → List (List ℕ) → Answer → Type 0
+IsReport (replay input source) texts answer = IsReplayOf input source texts answer
+IsReport (tree m) texts answer = (nodes : List Node) × IsMatrixTree m texts nodes × (answer ≡ tree_answer nodes)
+IsReport (post input) texts answer = (nodes : List Node) × IsTreeOf input texts nodes × IsPost nodes answer
+IsReport (check input plan workers) texts answer = IsCheckOf input texts answer
+IsReport (planning input) texts answer = IsPlanOf input texts answer
+IsReport (simulate input source s) texts answer = IsSimulationOf input source s texts answer
+
+-- the answer to a request over the texts of its files
+abbrev pub IsAnswer : Request → List (List ℕ) → Answer → Type 0
+IsAnswer request texts answer = IsFirstRefusal (files_of request) [] texts answer ⊎ IsReport request texts answer
