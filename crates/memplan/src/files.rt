@@ -59,10 +59,7 @@ fn load<F: Files>(alloc: Global, files: &mut F, name: &str, word: &str) -> Resul
 {
     match read_whole(alloc, files, name) {
         Ok(text) => Ok(text),
-        Err(ReadRefusal::TooLong) => {
-            let page = limit_page(alloc, word, LimitName::Bytes)?;
-            Err(Stop::Refused(page))
-        }
+        Err(ReadRefusal::TooLong) => Err(Stop::Refused(limit_page(alloc, word, LimitName::Bytes)?)),
         Err(ReadRefusal::ReadFault) => Err(Stop::ReadFault),
         Err(ReadRefusal::NoMemory) => Err(Stop::NoMemory),
     }
@@ -79,10 +76,7 @@ fn taken<T, K: Kind>(alloc: Global, word: &str, read: Result<T, Refusal<K>>) -> 
             let page = format_page(alloc, word, fault.kind.word(), fault.line)?;
             Err(Stop::Refused(page))
         }
-        Err(Refusal::Limit(limit)) => {
-            let page = limit_page(alloc, word, limit)?;
-            Err(Stop::Refused(page))
-        }
+        Err(Refusal::Limit(limit)) => Err(Stop::Refused(limit_page(alloc, word, limit)?)),
         Err(Refusal::NoMemory) => Err(Stop::NoMemory),
     }
 }

@@ -44,15 +44,8 @@ fn judge_perm<F: Files>(
     let Some(name) = name else {
         return Ok(identity(alloc, n)?);
     };
-    let perm = judge(
-        alloc,
-        files,
-        name,
-        &PermFile {
-            ranked: Ranked::Vertices,
-            n,
-        },
-    )?;
+    let ranked = Ranked::Vertices;
+    let perm = judge(alloc, files, name, &PermFile { ranked, n })?;
     Ok(perm)
 }
 

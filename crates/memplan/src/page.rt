@@ -9,6 +9,7 @@ ghost use Rattle.memplan.specs.Pages.{answer_of, status_of};
 
 use limits::LimitName;
 use mp_system::OrderFault;
+use mp_text::Token::{Number, Word};
 use mp_text::laws::printed_lines;
 use mp_text::{Report, Token};
 use std::alloc::{AllocError, Global};
@@ -51,17 +52,9 @@ pub fn format_page<'a>(
     requires kind { IsTrue (is_token kind.now) }
     ensures { IfOk result (λ page. answer_of page ≡ format_refused file.now kind.now line) }
 {
-    line_page(
-        alloc,
-        PageKind::Format,
-        &[
-            Token::Word("refused"),
-            Token::Word("format"),
-            Token::Word(file),
-            Token::Word(kind),
-            Token::Number(line),
-        ],
-    )
+    let (file, kind, line) = (Word(file), Word(kind), Number(line));
+    let words = [Word("refused"), Word("format"), file, kind, line];
+    line_page(alloc, PageKind::Format, &words)
 }
 
 /// `refused limit FILE NAME`
@@ -69,32 +62,18 @@ pub fn limit_page(alloc: Global, file: &str, limit: LimitName) -> Result<Page, A
     requires { IsTrue (is_token file.now) }
     ensures { IfOk result (λ page. answer_of page ≡ limit_refused file.now (word_of limit)) }
 {
-    line_page(
-        alloc,
-        PageKind::Limit,
-        &[
-            Token::Word("refused"),
-            Token::Word("limit"),
-            Token::Word(file),
-            Token::Word(limit.word()),
-        ],
-    )
+    let (file, name) = (Word(file), Word(limit.word()));
+    let words = [Word("refused"), Word("limit"), file, name];
+    line_page(alloc, PageKind::Limit, &words)
 }
 
 /// `no order PLACE KIND`
 pub fn order_page(alloc: Global, fault: OrderFault) -> Result<Page, AllocError>
     ensures { IfOk result (λ page. answer_of page ≡ order_refused fault.place fault.kind) }
 {
-    line_page(
-        alloc,
-        PageKind::No,
-        &[
-            Token::Word("no"),
-            Token::Word("order"),
-            Token::Number(fault.place),
-            Token::Word(fault.kind.word()),
-        ],
-    )
+    let (place, kind) = (Number(fault.place), Word(fault.kind.word()));
+    let words = [Word("no"), Word("order"), place, kind];
+    line_page(alloc, PageKind::No, &words)
 }
 
 /// A word and a number on a line.
@@ -104,7 +83,7 @@ pub fn print_count(word: &str, number: u64, report: &mut Report) -> Result<(), A
     ensures start { OnOk result (IsTrue (is_line_start report.new)) }
     ensures text { OnOk result (report.new ≡ report.old ++ line_text (word.now ∷ decimal number ∷ [])) }
 {
-    report.line(&[Token::Word(word), Token::Number(number)])
+    report.line(&[Word(word), Number(number)])
 }
 
 /// Each number on a line of its own.
@@ -115,7 +94,7 @@ pub fn print_numbers(numbers: &[u32], report: &mut Report) -> Result<(), AllocEr
 {
     printed_lines();
     for number in numbers {
-        report.line(&[Token::Number(u64::from(*number))])?;
+        report.line(&[Number(u64::from(*number))])?;
     }
     Ok(())
 }
@@ -125,5 +104,5 @@ pub fn print_end(report: &mut Report) -> Result<(), AllocError>
     requires { IsTrue (is_line_start report.old) }
     ensures { OnOk result (report.new ≡ report.old ++ line_text (codes "end" ∷ [])) }
 {
-    report.line(&[Token::Word("end")])
+    report.line(&[Word("end")])
 }

@@ -125,14 +125,8 @@ fn matrix_of<'a>(options: &[Given<'a>]) -> Option<Matrix<'a>>
     Some(Matrix { name, perm, fronts })
 }
 
-const MATRIX_NAMES: [&str; 6] = [
-    "--matrix",
-    "--perm",
-    "--ordering",
-    "--shape",
-    "--amalgamate",
-    "--inplace",
-];
+#[rattlefmt::skip]
+const MATRIX_NAMES: [&str; 6] = ["--matrix", "--perm", "--ordering", "--shape", "--amalgamate", "--inplace"];
 
 // ---- inputs; each of them with these other options besides its own
 

@@ -20,15 +20,9 @@ use std::thread::Threads;
 // Files by their names, with what they hold.
 type Texts = &'static [(&'static str, &'static str)];
 
-/// Runs that end alike over the same files.
-struct Case {
-    /// The words of each run, cut at blanks; `''` stands for an empty word.
-    runs: &'static [&'static str],
-    files: Texts,
-    status: Status,
-    /// All that each run writes.
-    text: &'static str,
-}
+// Runs that end alike over the same files: the words of each, cut at blanks, where `''` stands for an empty word; the files; the status;
+// and all that each run writes.
+type Case = (&'static [&'static str], Texts, Status, &'static str);
 
 // ---- inputs that several tables share
 
@@ -71,13 +65,10 @@ const GRID: &str =
 const EMPTY: &str = "%%MatrixMarket matrix coordinate pattern general\n2 2 0\n";
 
 // Checks of a plan by several numbers of workers.
+#[rattlefmt::skip]
 const CHECK_TREE: &[&str] = &[
-    "check --tree t --plan p",
-    "check --tree t --plan p --workers 1",
-    "check --tree t --plan p --workers 2",
-    "check --tree t --plan p --workers 3",
-    "check --tree t --plan p --workers 13",
-    "check --tree t --plan p --workers 4096",
+    "check --tree t --plan p", "check --tree t --plan p --workers 1", "check --tree t --plan p --workers 2",
+    "check --tree t --plan p --workers 3", "check --tree t --plan p --workers 13", "check --tree t --plan p --workers 4096",
 ];
 
 // ---- runs
@@ -127,23 +118,20 @@ fn check_run<R: Threads + Sync + Abort, F: Files>(
     Ok(())
 }
 
-fn check_case<R: Threads + Sync + Abort>(
-    rt: &R,
-    alloc: Global,
-    case: &Case,
-) -> Result<(), AllocError> {
-    for run in case.runs {
-        let mut files = files_of(alloc, case.files)?;
-        check_run(rt, alloc, run, &mut files, case.status, case.text)?;
+fn check_case(rt: &(impl Threads + Sync + Abort), alloc: Global, case: &Case) -> Result<(), Fail> {
+    let (runs, texts, status, text) = case;
+    for run in *runs {
+        let mut files = files_of(alloc, texts)?;
+        check_run(rt, alloc, run, &mut files, *status, text)?;
     }
     Ok(())
 }
 
-fn check_cases<R: Threads + Sync + Abort>(
-    rt: &R,
+fn check_cases(
+    rt: &(impl Threads + Sync + Abort),
     alloc: Global,
     cases: &[Case],
-) -> Result<(), AllocError> {
+) -> Result<(), Fail> {
     for case in cases {
         check_case(rt, alloc, case)?;
     }

@@ -3,8 +3,7 @@
 ghost use Rattle.std.specs.Prelude.{◌≡◌, MatchOption, IfOk, IfSome, IsNone, IsTrue, ◌↔◌, Some, None, List, ℕ, map, string_bytes, option_map, length, drop, slice_index_or, ◌+◌, ◌<◌, ◌++◌, ◌||◌};
 ghost use Rattle.std.specs.List.{list_any, list_all};
 ghost use Rattle.std.specs.Str.{bytes_eq};
-ghost use Rattle.memplan.specs.Words as words;
-ghost use Rattle.memplan.specs.Words.{options_of, value_of, are_distinct, are_among};
+ghost use Rattle.memplan.specs.Words.{is_value, options_of, value_of, are_distinct, are_among};
 ghost use Rattle.memplan.specs.declared.words.Given.{Given as GivenCode};
 ghost use Rattle.memplan.specs.GivenViews.{given_views};
 
@@ -19,7 +18,7 @@ pub struct Given<'a> {
 
 // A value is not empty and does not begin with `-`.
 fn is_value(word: &str) -> bool
-    ensures { result ≡ words.is_value word.now }
+    ensures { result ≡ is_value word.now }
 {
     match word.as_bytes() {
         [] => false,

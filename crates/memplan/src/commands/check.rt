@@ -16,7 +16,7 @@ use crate::stop::Stop;
 use crate::words::{Given, value_of};
 use claim_check::{Objection, Verdict};
 use mp_outside::{Files, Gate};
-use mp_text::Token;
+use mp_text::Token::{Number, Word};
 use std::alloc::{AllocError, Global};
 use std::thread::Threads;
 
@@ -48,32 +48,22 @@ pub fn check_of<'a>(options: &[Given<'a>]) -> Option<Request<'a>>
 fn verdict_page(alloc: Global, verdict: Verdict) -> Result<Page, AllocError>
     ensures { IfOk result (λ page. answer_of page ≡ verdict_answer verdict) }
 {
-    let (yes, no) = (Token::Word("yes"), Token::Word("no"));
+    let (yes, no) = (Word("yes"), Word("no"));
     match verdict {
-        Verdict::Yes(peak) => line_page(alloc, PageKind::Done, &[yes, Token::Number(peak)]),
+        Verdict::Yes(peak) => line_page(alloc, PageKind::Done, &[yes, Number(peak)]),
         Verdict::No(Objection::Order(fault)) => order_page(alloc, fault),
         Verdict::No(Objection::Peak { replayed, printed }) => {
-            let (replayed, printed) = (Token::Number(replayed), Token::Number(printed));
-            line_page(
-                alloc,
-                PageKind::No,
-                &[no, Token::Word("peak"), replayed, printed],
-            )
+            let words = [no, Word("peak"), Number(replayed), Number(printed)];
+            line_page(alloc, PageKind::No, &words)
         }
         Verdict::No(Objection::Root { last }) => {
-            let last = Token::Number(u64::from(last));
-            line_page(alloc, PageKind::No, &[no, Token::Word("root"), last])
+            let last = Number(u64::from(last));
+            line_page(alloc, PageKind::No, &[no, Word("root"), last])
         }
         Verdict::No(Objection::Claim { position, shape }) => {
-            let (position, shape) = (
-                Token::Number(u64::from(position)),
-                Token::Word(shape.word()),
-            );
-            line_page(
-                alloc,
-                PageKind::No,
-                &[no, Token::Word("claim"), position, shape],
-            )
+            let position = Number(u64::from(position));
+            let words = [no, Word("claim"), position, Word(shape.word())];
+            line_page(alloc, PageKind::No, &words)
         }
     }
 }

@@ -34,10 +34,8 @@ fn plan_page(alloc: Global, plan: &PlanFile) -> Result<Page, AllocError>
 {
     let mut report = Report::new(alloc);
     print_plan(plan, &mut report)?;
-    Ok(Page {
-        kind: PageKind::Done,
-        report,
-    })
+    let kind = PageKind::Done;
+    Ok(Page { kind, report })
 }
 
 /// The plan of the input, as a file.

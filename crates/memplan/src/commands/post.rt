@@ -39,10 +39,8 @@ fn post_page(alloc: Global, peak: u64, order: &[u32]) -> Result<Page, AllocError
     print_count("order", order.len() as u64, &mut report)?;
     print_numbers(order, &mut report)?;
     print_end(&mut report)?;
-    Ok(Page {
-        kind: PageKind::Done,
-        report,
-    })
+    let kind = PageKind::Done;
+    Ok(Page { kind, report })
 }
 
 // The page of the best postorder.

@@ -17,7 +17,7 @@ use crate::words::{Given, value_of};
 use least_peak::Problem;
 use mp_outside::Files;
 use mp_system::ReplayRefusal;
-use mp_text::Token;
+use mp_text::Token::{Number, Word};
 use std::alloc::{AllocError, Global};
 
 /// An input, and where its order stands.
@@ -42,11 +42,7 @@ fn replay_page(alloc: Global, problem: &Problem, order: &[u32]) -> Result<Page, 
     ensures { IfOk result (λ page. IsReplayAnswer (system_of problem.now) order.now (answer_of page)) }
 {
     match problem.replay(alloc, order) {
-        Ok(peak) => line_page(
-            alloc,
-            PageKind::Done,
-            &[Token::Word("peak"), Token::Number(peak)],
-        ),
+        Ok(peak) => line_page(alloc, PageKind::Done, &[Word("peak"), Number(peak)]),
         Err(ReplayRefusal::Order(fault)) => order_page(alloc, fault),
         Err(ReplayRefusal::NoMemory) => Err(AllocError),
     }

@@ -23,8 +23,9 @@ use crate::stop::Stop;
 use crate::words::{Given, value_of};
 use activation::{CoreRefusal, Event, EventKind, Simulator, Trace};
 use mp_outside::Files;
+use mp_text::Report;
+use mp_text::Token::{Number, Word};
 use mp_text::laws::printed_lines;
-use mp_text::{Report, Token};
 use ordering::Perm;
 use ordering::laws::read_is_perm;
 use std::alloc::{AllocError, Global};
@@ -80,12 +81,8 @@ fn print_event(event: Event, report: &mut Report) -> Result<(), AllocError>
     ensures start { OnOk result (IsTrue (is_line_start report.new)) }
     ensures text { OnOk result (report.new ≡ report.old ++ line_text (event_line event)) }
 {
-    let word = Token::Word(event_word(event.kind));
-    report.line(&[
-        Token::Number(event.time),
-        word,
-        Token::Number(u64::from(event.task)),
-    ])
+    let task = Number(u64::from(event.task));
+    report.line(&[Number(event.time), Word(event_word(event.kind)), task])
 }
 
 fn print_events(events: &[Event], report: &mut Report) -> Result<(), AllocError>
@@ -115,10 +112,8 @@ fn trace_page(alloc: Global, trace: &Trace) -> Result<Page, AllocError>
     print_count("events", trace.events.len() as u64, &mut report)?;
     print_events(&trace.events, &mut report)?;
     print_end(&mut report)?;
-    Ok(Page {
-        kind: PageKind::Done,
-        report,
-    })
+    let kind = PageKind::Done;
+    Ok(Page { kind, report })
 }
 
 // ---- the priority
@@ -161,15 +156,8 @@ fn judge_priority<F: Files>(
     let Some(name) = name else {
         return Ok(Priority::Own);
     };
-    let perm = judge(
-        alloc,
-        files,
-        name,
-        &PermFile {
-            ranked: Ranked::Tasks,
-            n,
-        },
-    )?;
+    let ranked = Ranked::Tasks;
+    let perm = judge(alloc, files, name, &PermFile { ranked, n })?;
     Ok(Priority::Given(numbers_of(alloc, &perm)?))
 }
 
@@ -214,8 +202,7 @@ fn simulation_page(
         }
         Err(CoreRefusal::Order(fault)) => order_page(alloc, fault),
         Err(CoreRefusal::BoundBelow { bound, peak }) => {
-            let (bound, peak) = (Token::Number(bound), Token::Number(peak));
-            let words = [Token::Word("refused"), Token::Word("bound"), bound, peak];
+            let words = [Word("refused"), Word("bound"), Number(bound), Number(peak)];
             line_page(alloc, PageKind::Bound, &words)
         }
         Err(CoreRefusal::NoMemory) => Err(AllocError),

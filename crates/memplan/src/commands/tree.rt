@@ -33,10 +33,8 @@ fn tree_page(alloc: Global, tree: &Tree) -> Result<Page, AllocError>
 {
     let mut report = Report::new(alloc);
     print_tree(tree, &mut report)?;
-    Ok(Page {
-        kind: PageKind::Done,
-        report,
-    })
+    let kind = PageKind::Done;
+    Ok(Page { kind, report })
 }
 
 /// The tree of the matrix, as a file.

@@ -51,33 +51,30 @@ fn each_load_fails_in_turn(rt: HostRuntime) -> Result<(), Fail> {
 // A refused file ends a run before a later one is loaded, and one that is not held ends it before a later one is judged.
 #[rattlefmt::skip]
 const NOT_HELD: &[Case] = &[
-    Case { runs: &["replay --tree t --order none"], files: &[("t", FIVE)], status: ReadFault, text: "" },
-    Case { runs: &["replay --tree t --order none", "replay --tree t --plan none", "check --tree t --plan none",
+    (&["replay --tree t --order none"], &[("t", FIVE)], ReadFault, ""),
+    (&["replay --tree t --order none", "replay --tree t --plan none", "check --tree t --plan none",
             "simulate --tree t --order none --priority none --bound 0 --workers 1"],
-        files: &[("t", "tree 1\nnodes 0\n")], status: Format, text: "refused format tree count 2\n" },
-    Case { runs: &["replay --tree none --order o", "replay --tree none --plan o", "check --tree none --plan o",
-            "replay --workflow none --order o", "replay --matrix none --order o", "plan --tree none", "post --tree none",
-            "tree --matrix none"],
-        files: &[("o", "x")], status: ReadFault, text: "" },
-    Case { runs: &["tree --matrix m --perm none", "plan --matrix m --perm none", "post --matrix m --perm none"],
-        files: &[("m", ARROW)], status: ReadFault, text: "" },
-    Case { runs: &["tree --matrix m --perm none", "replay --matrix m --perm none --order none"],
-        files: &[("m", "")], status: Format, text: "refused format matrix banner 1\n" },
-    Case { runs: &["replay --matrix m --perm p --order none", "plan --matrix m --perm p", "tree --matrix m --perm p"],
-        files: &[("m", ARROW), ("p", "0\n")], status: Format, text: "refused format perm range 1\n" },
-    Case { runs: &["replay --matrix m --perm none --order o", "simulate --matrix m --perm none --order o --bound 0 --workers 1"],
-        files: &[("m", ARROW), ("o", "x")], status: ReadFault, text: "" },
-    Case { runs: &["simulate --tree t --order o --priority none --bound 0 --workers 1"],
-        files: &[("t", FOUR), ("o", "x\n")], status: Format, text: "refused format order number 1\n" },
-    Case { runs: &["simulate --tree t --order none --priority p --bound 0 --workers 1",
+        &[("t", "tree 1\nnodes 0\n")], Format, "refused format tree count 2\n"),
+    (&["replay --tree none --order o", "replay --tree none --plan o", "check --tree none --plan o", "replay --workflow none --order o",
+            "replay --matrix none --order o", "plan --tree none", "post --tree none", "tree --matrix none"],
+        &[("o", "x")], ReadFault, ""),
+    (&["tree --matrix m --perm none", "plan --matrix m --perm none", "post --matrix m --perm none"], &[("m", ARROW)], ReadFault, ""),
+    (&["tree --matrix m --perm none", "replay --matrix m --perm none --order none"], &[("m", "")], Format,
+        "refused format matrix banner 1\n"),
+    (&["replay --matrix m --perm p --order none", "plan --matrix m --perm p", "tree --matrix m --perm p"],
+        &[("m", ARROW), ("p", "0\n")], Format, "refused format perm range 1\n"),
+    (&["replay --matrix m --perm none --order o", "simulate --matrix m --perm none --order o --bound 0 --workers 1"],
+        &[("m", ARROW), ("o", "x")], ReadFault, ""),
+    (&["simulate --tree t --order o --priority none --bound 0 --workers 1"], &[("t", FOUR), ("o", "x\n")], Format,
+        "refused format order number 1\n"),
+    (&["simulate --tree t --order none --priority p --bound 0 --workers 1",
             "simulate --tree t --order o --priority none --bound 0 --workers 1"],
-        files: &[("t", FOUR), ("o", "1 1\n"), ("p", "x")], status: ReadFault, text: "" },
+        &[("t", FOUR), ("o", "1 1\n"), ("p", "x")], ReadFault, ""),
 ];
 
 #[test]
 fn files_that_are_not_held(rt: HostRuntime) -> Result<(), Fail> {
-    check_cases(&rt, rt.alloc(), NOT_HELD)?;
-    Ok(())
+    check_cases(&rt, rt.alloc(), NOT_HELD)
 }
 
 // ---- writes

@@ -52,13 +52,10 @@ fn text_of(alloc: Global, lines: &Lines) -> Result<String, AllocError> {
     Ok(text)
 }
 
-// A run over files that are generated, its status and its text.
-struct Row {
-    run: &'static str,
-    files: &'static [(&'static str, Lines)],
-    status: Status,
-    text: &'static str,
-}
+type Texts = &'static [(&'static str, Lines)];
+
+// A run over files that are generated, the files, its status and its text.
+type Row = (&'static str, Texts, Status, &'static str);
 
 const OF_TREE: &str = "replay --tree t --order o";
 
@@ -85,58 +82,51 @@ const GREATEST: &str = "data 1099511627776\n";
 #[rattlefmt::skip]
 const TREES: &[Row] = &[
     // sizes of 2^60 together, and one more
-    Row { run: OF_TREE, status: Done, text: "peak 576461851815051264\n", files: &[
-        ("t", Lines { head: STAR, first: None, line: LEAF, count: 524_288, tail: "0 0 0 1\nend\n" }), ("o", ALL)] },
-    Row { run: OF_TREE, status: Limit, text: "refused limit tree total\n", files: &[
-        ("t", Lines { head: STAR, first: None, line: LEAF, count: 524_288, tail: "0 0 1 1\nend\n" }), ("o", ALL)] },
+    (OF_TREE, &[("t", Lines { head: STAR, first: None, line: LEAF, count: 524_288, tail: "0 0 0 1\nend\n" }), ("o", ALL)],
+        Done, "peak 576461851815051264\n"),
+    (OF_TREE, &[("t", Lines { head: STAR, first: None, line: LEAF, count: 524_288, tail: "0 0 1 1\nend\n" }), ("o", ALL)],
+        Limit, "refused limit tree total\n"),
     // the most numbers of an order, and one more
-    Row { run: OF_TREE, status: No, text: "no order 2 repeated\n", files: &[
-        ("t", FIVE_NODES), ("o", Lines { head: "", first: None, line: "1\n", count: 1_000_000, tail: "" })] },
-    Row { run: OF_TREE, status: Limit, text: "refused limit order tasks\n", files: &[
-        ("t", FIVE_NODES), ("o", Lines { head: "", first: None, line: "1\n", count: 1_000_001, tail: "" })] },
+    (OF_TREE, &[("t", FIVE_NODES), ("o", Lines { head: "", first: None, line: "1\n", count: 1_000_000, tail: "" })],
+        No, "no order 2 repeated\n"),
+    (OF_TREE, &[("t", FIVE_NODES), ("o", Lines { head: "", first: None, line: "1\n", count: 1_000_001, tail: "" })],
+        Limit, "refused limit order tasks\n"),
     // vertex 1 is joined to all others, so the fill has about 2 * 10^10 pairs
-    Row { run: "tree --matrix m", status: Done, text: "tree 1\nnodes 1\n0 0 20000100000 200000\nend\n", files: &[
-        ("m", Lines { head: "%%MatrixMarket matrix coordinate pattern symmetric\n200000 200000 199999\n",
-            first: Some(2), line: " 1\n", count: 199_999, tail: "" })] },
+    ("tree --matrix m", &[("m", Lines { head: "%%MatrixMarket matrix coordinate pattern symmetric\n200000 200000 199999\n",
+            first: Some(2), line: " 1\n", count: 199_999, tail: "" })], Done, "tree 1\nnodes 1\n0 0 20000100000 200000\nend\n"),
 ];
 
 #[rattlefmt::skip]
 const WORKFLOWS: &[Row] = &[
     // sizes of 2^60 together, and one more
-    Row { run: OF_FLOW, status: Done, text: "peak 1152921504606846976\n", files: &[
-        ("t", Lines { head: ITEMS, first: None, line: GREATEST, count: 1_048_576, tail: "par 1048576\nend\n" }), ("o", NOTHING)] },
-    Row { run: OF_FLOW, status: Limit, text: "refused limit workflow total\n", files: &[
-        ("t", Lines { head: ITEMS, first: None, line: GREATEST, count: 1_048_576, tail: "data 1\nend\n" }), ("o", NOTHING)] },
+    (OF_FLOW, &[("t", Lines { head: ITEMS, first: None, line: GREATEST, count: 1_048_576, tail: "par 1048576\nend\n" }), ("o", NOTHING)],
+        Done, "peak 1152921504606846976\n"),
+    (OF_FLOW, &[("t", Lines { head: ITEMS, first: None, line: GREATEST, count: 1_048_576, tail: "data 1\nend\n" }), ("o", NOTHING)],
+        Limit, "refused limit workflow total\n"),
     // the most positions, and one more
-    Row { run: OF_FLOW, status: Done, text: "peak 0\n", files: &[
-        ("t", Lines { head: ITEMS, first: None, line: "data 0\n", count: 4_000_000, tail: "par 4000000\nend\n" }), ("o", NOTHING)] },
-    Row { run: OF_FLOW, status: Limit, text: "refused limit workflow positions\n", files: &[
-        ("t", Lines { head: ITEMS, first: None, line: "data 0\n", count: 4_000_001, tail: "par 4000001\nend\n" }), ("o", NOTHING)] },
+    (OF_FLOW, &[("t", Lines { head: ITEMS, first: None, line: "data 0\n", count: 4_000_000, tail: "par 4000000\nend\n" }), ("o", NOTHING)],
+        Done, "peak 0\n"),
+    (OF_FLOW, &[("t", Lines { head: ITEMS, first: None, line: "data 0\n", count: 4_000_001, tail: "par 4000001\nend\n" }), ("o", NOTHING)],
+        Limit, "refused limit workflow positions\n"),
 ];
 
-fn check_rows<R: Threads + Sync + Abort>(
-    rt: &R,
-    alloc: Global,
-    rows: &[Row],
-) -> Result<(), AllocError> {
-    for row in rows {
+fn check_rows(rt: &(impl Threads + Sync + Abort), alloc: Global, rows: &[Row]) -> Result<(), Fail> {
+    for (run, texts, status, text) in rows {
         let mut files = MemFiles::new(alloc)?;
-        for (name, lines) in row.files {
+        for (name, lines) in *texts {
             files.put(name, text_of(alloc, lines)?.as_bytes())?;
         }
-        check_run(rt, alloc, row.run, &mut files, row.status, row.text)?;
+        check_run(rt, alloc, run, &mut files, *status, text)?;
     }
     Ok(())
 }
 
 #[test]
 fn trees_at_the_limits(rt: HostRuntime) -> Result<(), Fail> {
-    check_rows(&rt, rt.alloc(), TREES)?;
-    Ok(())
+    check_rows(&rt, rt.alloc(), TREES)
 }
 
 #[test]
 fn workflows_at_the_limits(rt: HostRuntime) -> Result<(), Fail> {
-    check_rows(&rt, rt.alloc(), WORKFLOWS)?;
-    Ok(())
+    check_rows(&rt, rt.alloc(), WORKFLOWS)
 }

@@ -37,23 +37,11 @@ fn check_plan<R: Threads + Sync + Abort>(
     assert_eq!(rt; expected.unwrap_or(peak), peak, "{input}");
     files.put("made", plan.written())?;
     let run = format!(in alloc; "check {input} --plan made")?;
-    check_run(
-        rt,
-        alloc,
-        &run,
-        files,
-        Done,
-        &format!(in alloc; "yes {peak}\n")?,
-    )?;
+    let text = format!(in alloc; "yes {peak}\n")?;
+    check_run(rt, alloc, &run, files, Done, &text)?;
     let run = format!(in alloc; "replay {input} --plan made")?;
-    check_run(
-        rt,
-        alloc,
-        &run,
-        files,
-        Done,
-        &format!(in alloc; "peak {peak}\n")?,
-    )
+    let text = format!(in alloc; "peak {peak}\n")?;
+    check_run(rt, alloc, &run, files, Done, &text)
 }
 
 // ---- the worked rows
