@@ -47,7 +47,10 @@ par_ends ends k = take (length ends - k) ends ++ beside (drop (length ends - k) 
 abbrev pub series_ends : List Ends → List Ends
 series_ends ends =
     take (length ends - 2) ends
-    ++ record { initial = (slice_index_or ends (length ends - 2) no_ends).initial; fin = (slice_index_or ends (length ends - 1) no_ends).fin } ∷ []
+    ++ record {
+      initial = (slice_index_or ends (length ends - 2) no_ends).initial;
+      fin = (slice_index_or ends (length ends - 1) no_ends).fin;
+    } ∷ []
 
 -- the ends after a position
 abbrev pub next_ends : Position → List Ends → List Ends

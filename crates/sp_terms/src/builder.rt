@@ -238,7 +238,9 @@ fn append(
     requires long { is_short (length ends.old.items) p ≡ false }
     requires initial { sum_by initial_at ends.old.items ≤ most_total }
     requires fin { sum_by fin_at ends.old.items ≤ most_total }
-    ensures positions { MatchResult result (λ _. positions.new.items ≡ positions.old.items ++ p ∷ []) (λ _. positions.new.items ≡ positions.old.items) }
+    ensures positions { MatchResult result
+        (λ _. positions.new.items ≡ positions.old.items ++ p ∷ [])
+        (λ _. positions.new.items ≡ positions.old.items) }
     ensures ends { MatchResult result (λ _. ends.new.items ≡ next_ends p ends.old.items) (λ _. ends.new.items ≡ ends.old.items) }
 {
     match p {

@@ -68,6 +68,7 @@ pub fn position_law()
         IsTermAt (slice_index_or positions (k - 1) d) (term_of_position positions k) }
     ensures allowed { (positions : List Position) (k : ℕ) → IsTerms positions → 1 ≤ k → k ≤ length positions →
         IsAllowed (term_of_position positions k) }
-    ensures small { (positions : List Position) (k : ℕ) (a : Term) (v : Task) (b : Term) → IsTerms positions → 1 ≤ k → k ≤ length positions →
+    ensures small { (positions : List Position) (k : ℕ) (a : Term) (v : Task) (b : Term) →
+        IsTerms positions → 1 ≤ k → k ≤ length positions →
         term_of_position positions k ≡ series a v b → final_of a + (v.extra + initial_of b) ≤ most_total }
 {}
