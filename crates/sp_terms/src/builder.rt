@@ -1,8 +1,9 @@
-ghost use Rattle.std.specs.Prelude.{◌≡◌, ◌≤◌, ◌++◌, ◌∷◌, [], None, MatchResult, length, false};
+ghost use Rattle.std.specs.Prelude.{◌≡◌, ◌≤◌, ◌++◌, ◌∷◌, [], None, List, MatchResult, length, false};
 ghost use Rattle.limits.specs.Limits.{most_positions, most_size, most_total};
 ghost use Rattle.sp_terms.specs.Builder.{IsPosition, refusal_of, IsPushRefusal, is_short, passed_limit, total_limit, IsOneTerm};
-ghost use Rattle.sp_terms.specs.Ends.{over_ends, beside, next_ends, initial_at, fin_at, par_ends, series_ends};
+ghost use Rattle.sp_terms.specs.Ends.{IsBuilder, over_ends, beside, next_ends, initial_at, fin_at, par_ends, series_ends};
 ghost use Rattle.sp_terms.specs.Values.{added_tasks, added_size, stack_of};
+ghost use Rattle.sp_terms.specs.declared.position.Position.{Position};
 ghost use Rattle.std.specs.List.{sum_by};
 
 use crate::position::Position;
@@ -63,10 +64,6 @@ pub struct TermBuilder {
 }
 
 impl Model for TermBuilder {
-    ghost use Rattle.std.specs.Prelude.{List};
-    ghost use Rattle.sp_terms.specs.Ends.{IsBuilder};
-    ghost use Rattle.sp_terms.specs.declared.position.Position.{Position};
-
     ghost Value = { List Position };
 
     ghost view = { λ b. b.positions.items };

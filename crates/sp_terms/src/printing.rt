@@ -52,14 +52,6 @@ fn print_positions(
     Ok(())
 }
 
-// How many tasks there are.
-fn count_tasks(positions: &[Position]) -> u64
-    requires { sum_by added_tasks positions.now ≤ most_tasks }
-    ensures { result ≡ sum_by added_tasks positions.now }
-{
-    positions.iter().map(|position| count(*position)).sum()
-}
-
 // Appends the lines of a version, or some bytes.
 fn print_part(version: Version, positions: &[Position], report: &mut Report) -> Result<(), NoMemory>
     requires few { sum_by added_tasks positions.now ≤ most_tasks }
@@ -69,7 +61,8 @@ fn print_part(version: Version, positions: &[Position], report: &mut Report) -> 
 {
     printed_lines();
     report.line(&[Token::Word("workflow"), Token::Word(version.word())])?;
-    report.line(&[Token::Word("tasks"), Token::Number(count_tasks(positions))])?;
+    let tasks = positions.iter().map(|position| count(*position)).sum();
+    report.line(&[Token::Word("tasks"), Token::Number(tasks)])?;
     print_positions(version, positions, report)?;
     report.line(&[Token::Word("end")])
 }

@@ -1,4 +1,4 @@
-ghost use Rattle.std.specs.Prelude.{◌≡◌, ◌≤◌, ◌-◌, length, slice_index_or};
+ghost use Rattle.std.specs.Prelude.{◌≡◌, ◌≤◌, ◌-◌, List, length, slice_index_or};
 ghost use Rattle.sp_terms.specs.Values.{IsTerms};
 ghost use Rattle.sp_terms.specs.declared.position.Position.{Position};
 
@@ -13,10 +13,6 @@ pub struct Terms {
 }
 
 impl Model for Terms {
-    ghost use Rattle.std.specs.Prelude.{List};
-    ghost use Rattle.sp_terms.specs.Values.{IsTerms};
-    ghost use Rattle.sp_terms.specs.declared.position.Position.{Position};
-
     ghost Value = { List Position };
 
     ghost view = { λ t. t.positions.items };

@@ -2,7 +2,7 @@ ghost use Rattle.std.specs.Prelude.{◌≡◌, ◌≤◌, ◌<◌, ◌+◌, ◌-
 ghost use Rattle.sp_terms.specs.Term.{Term, hill_of};
 ghost use Rattle.sp_terms.specs.Values.{IsTaskPosition, IsTerms, AreValues, values_of, term_at};
 ghost use Rattle.sp_terms.specs.declared.position.Position.{Position};
-ghost use Rattle.sp_terms.specs.declared.position.Position.TheVariants.{Hold, Par};
+ghost use Rattle.sp_terms.specs.declared.position.Position.TheVariants.{Par};
 
 use crate::NoMemory;
 use crate::position::{Position, Values};

@@ -1,6 +1,6 @@
 //! One function for each line of a tree file: its tests in the order of the format's table.
 
-ghost use Rattle.std.specs.Prelude.{◌≡◌, ◌≤◌, ◌+◌, IfOk};
+ghost use Rattle.std.specs.Prelude.{◌≤◌, ◌+◌, IfOk};
 ghost use Rattle.limits.specs.Limits.{most_tasks, most_total};
 ghost use Rattle.mp_text.specs.Ahead.{row};
 ghost use Rattle.mp_text.specs.Reading.{Gives, tested};
@@ -15,10 +15,7 @@ use mp_text::{Line, Refusal, Version, after_word, fault, is_word, number, versio
 pub fn header_on(line: Line<'_>) -> Result<Version, Refusal<TreeKind>>
     ensures { let r = row line.entry.number line.entry.text.now in Gives (tested (header_tests r) (version_stated r)) result }
 {
-    match version_of(line.text, b"tree") {
-        Some(version) => Ok(version),
-        None => Err(fault(line.number, TreeKind::Header)),
-    }
+    version_of(line.text, b"tree").ok_or(fault(line.number, TreeKind::Header))
 }
 
 /// Line 2: the number of nodes.
@@ -26,12 +23,8 @@ pub fn count_on(line: Line<'_>) -> Result<u64, Refusal<TreeKind>>
     ensures judged { let r = row line.entry.number line.entry.text.now in Gives (tested (count_tests r) (count_stated r)) result }
     ensures few { IfOk result (λ n. n ≤ most_tasks) }
 {
-    let Some(count) = after_word(line.text, b"nodes") else {
-        return Err(fault(line.number, TreeKind::Header));
-    };
-    let Some(count) = number(count) else {
-        return Err(fault(line.number, TreeKind::Number));
-    };
+    let count = after_word(line.text, b"nodes").ok_or(fault(line.number, TreeKind::Header))?;
+    let count = number(count).ok_or(fault(line.number, TreeKind::Number))?;
     if count == 0 {
         return Err(fault(line.number, TreeKind::Count));
     }
@@ -57,9 +50,7 @@ pub fn node_on(
     if is_word(line.text, b"end") {
         return Err(fault(line.number, TreeKind::Count));
     }
-    let Some(fields) = fields_on(version, line.text) else {
-        return Err(fault(line.number, TreeKind::Number));
-    };
+    let fields = fields_on(version, line.text).ok_or(fault(line.number, TreeKind::Number))?;
     if fields.time == 0 {
         return Err(fault(line.number, TreeKind::Number));
     }

@@ -16,20 +16,13 @@ fn print_node(version: Version, node: &Node, report: &mut Report) -> Result<(), 
     ensures start { OnOk result (IsTrue (is_line_start report.new)) }
     ensures err { OnErr result (report.new ≡ report.old) }
 {
-    let Node {
-        parent,
-        out,
-        extra,
-        share,
-        time,
-    } = *node;
-    let parent = Token::Number(u64::from(parent));
-    let out = Token::Number(out);
-    let extra = Token::Number(extra);
-    let time = Token::Number(time);
+    let parent = Token::Number(u64::from(node.parent));
+    let out = Token::Number(node.out);
+    let extra = Token::Number(node.extra);
+    let time = Token::Number(node.time);
     match version {
         Version::One => report.line(&[parent, out, extra, time]),
-        Version::Two => report.line(&[parent, out, extra, Token::Number(share), time]),
+        Version::Two => report.line(&[parent, out, extra, Token::Number(node.share), time]),
     }
 }
 

@@ -1,6 +1,6 @@
-ghost use Rattle.std.specs.Prelude.{◌≡◌, ◌≤◌, ◌+◌, ◌==◌, ℕ, length, IfOk, map, take, Some, None, if◌then◌else◌};
+ghost use Rattle.std.specs.Prelude.{◌≡◌, ◌≤◌, ◌+◌, ◌==◌, length, IfOk, map, Some, None, if◌then◌else◌};
 ghost use Rattle.limits.specs.Limits.{most_tasks};
-ghost use Rattle.tree_input.specs.Tree.{system_of_nodes, task_of, item_of, items_from};
+ghost use Rattle.tree_input.specs.Tree.{system_of_nodes, task_of, items_from};
 
 use crate::NoMemory;
 use crate::node::Node;
@@ -25,11 +25,7 @@ fn tasks_of(alloc: Global, nodes: &[Node]) -> Result<Vec<Task>, NoMemory>
 fn consumer_of(node: &Node) -> Option<u32>
     ensures { result ≡ (if node.now.parent == 0 then None else Some node.now.parent) }
 {
-    if node.parent == 0 {
-        None
-    } else {
-        Some(node.parent)
-    }
+    (node.parent != 0).then_some(node.parent)
 }
 
 fn items_of(alloc: Global, nodes: &[Node]) -> Result<Vec<Item>, NoMemory>

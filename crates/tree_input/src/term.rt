@@ -1,7 +1,6 @@
 //! The term of a tree.
 
-ghost use Rattle.std.specs.Prelude.{◌≡◌, ◌≤◌, ◌<◌, ◌++◌, ◌^◌, IfOk, OnOk, length};
-ghost use Rattle.std.specs.List.{All};
+ghost use Rattle.std.specs.Prelude.{◌≡◌, ◌≤◌, ◌<◌, ◌++◌, ◌^◌, All, IfOk, OnOk, length};
 ghost use Rattle.limits.specs.Limits.{most_tasks};
 ghost use Rattle.mp_system.specs.Renaming.{IsRenamed};
 ghost use Rattle.sp_terms.specs.SystemOfTerm.{system_of_term};

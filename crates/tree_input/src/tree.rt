@@ -1,5 +1,7 @@
-ghost use Rattle.std.specs.Prelude.{◌≡◌, ◌≤◌, ◌-◌, ℕ, length, IfOk, IfErr, MatchResult, slice_index_or};
+ghost use Rattle.std.specs.Prelude.{◌≡◌, ◌≤◌, ◌-◌, List, length, IfOk, IfErr, MatchResult, slice_index_or};
 ghost use Rattle.mp_text.specs.Grammar.{fault_at};
+ghost use Rattle.tree_input.specs.declared.node.Node.{Node};
+ghost use Rattle.tree_input.specs.Tree.{IsTree};
 ghost use Rattle.tree_input.specs.TreeFile.{ReadsTree, IsTreeRefusal};
 ghost use Rattle.tree_input.specs.Stated.{AreStated};
 
@@ -19,11 +21,7 @@ pub struct Tree {
 }
 
 impl Model for Tree {
-    ghost use Rattle.std.specs.Prelude.{List};
-    ghost use Rattle.tree_input.specs.Tree.{IsTree};
-    ghost use Rattle.tree_input.specs.declared.node.Node.{Node as NodeValue};
-
-    ghost Value = { List NodeValue };
+    ghost Value = { List Node };
 
     ghost view = { λ t. t.nodes.items };
 
@@ -31,8 +29,6 @@ impl Model for Tree {
 }
 
 impl Tree {
-    ghost use Rattle.tree_input.specs.Tree.{IsTree};
-
     /// A tree of these nodes, numbered from 1.
     pub fn new(nodes: Vec<Node>) -> Tree
         requires { IsTree nodes.items }
