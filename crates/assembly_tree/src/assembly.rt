@@ -1,5 +1,5 @@
 ghost use Rattle.std.specs.Prelude.{◌≡◌, ◌≤◌, length};
-ghost use Rattle.assembly_tree.specs.Assembly.{IsAssembly, super_of};
+ghost use Rattle.assembly_tree.specs.Assembly.{AssemblyTree, IsAssembly, super_of};
 
 use std::marker::Model;
 
@@ -23,8 +23,6 @@ pub struct Assembly {
 }
 
 impl Model for Assembly {
-    ghost use Rattle.assembly_tree.specs.Assembly.{AssemblyTree, IsAssembly};
-
     ghost Value = { AssemblyTree };
 
     ghost view = { λ a. record { supers = a.supers.items; nodes = a.nodes.items } };

@@ -3,7 +3,6 @@
 ghost use Rattle.std.specs.Prelude.{◌≡◌, ◌<◌, ◌≤◌, ◌+◌, ◌*◌, ◌^◌, ◌↔◌, ℕ, length, map, filter, All, slice_index, IfOk, IsTrue};
 ghost use Rattle.std.specs.List.{range_with_len, sum_by};
 ghost use Rattle.limits.specs.Limits.{most_order};
-ghost use Rattle.assembly_tree.specs.declared.assembly.Super.{Super as SuperValue};
 ghost use Rattle.assembly_tree.specs.Assembly.{IsSuper, IsSuperWithin, IsAssembly, super_at, front_of, columns_in, reparented};
 ghost use Rattle.assembly_tree.specs.Amalgamation.{zeros_of, merged_supers, is_left, new_number, amalgamated};
 ghost use Rattle.assembly_tree.specs.MergeTables.{AreNames, AreNewNumbers, IsMerging, left_of};

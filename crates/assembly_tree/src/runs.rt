@@ -1,9 +1,8 @@
 //! The fundamental supernodes of an elimination tree.
 
-ghost use Rattle.std.specs.Prelude.{◌≡◌, ◌≤◌, ◌<◌, ◌+◌, ◌↔◌, ℕ, length, map, All, IfOk, IsTrue};
+ghost use Rattle.std.specs.Prelude.{◌≡◌, ◌≤◌, ◌<◌, ◌+◌, ◌↔◌, length, map, All, IfOk, IsTrue};
 ghost use Rattle.ordering.specs.Perm.{IsVertex};
 ghost use Rattle.elim_tree.specs.Trees.{IsForest};
-ghost use Rattle.assembly_tree.specs.declared.assembly.Super.{Super as SuperValue};
 ghost use Rattle.assembly_tree.specs.Assembly.{super_of, reparented};
 ghost use Rattle.assembly_tree.specs.Supernodes.{count_at, AreColumnCounts, AreSupernodes, Continues};
 ghost use Rattle.assembly_tree.specs.RunTables.{AreFirstChildren, AreRuns};
