@@ -1,53 +1,64 @@
 //! Assembly trees worked by hand.
 
-ghost use Rattle.std.specs.Prelude.{◌≤◌, length};
-ghost use Rattle.limits.specs.Limits.{most_order};
-
-use crate::{Assembly, Shape, Super, amalgamate, are_counts, fronts, is_count, supernodes};
+use crate::{Assembly, Shape, amalgamate, are_counts, fronts, is_count, supernodes};
 use elim_tree::{Parents, etree};
 use matrix_market::read_pattern;
 use ordering::read_perm;
 use std::alloc::Global;
 use std::process::Abort;
 use std::test::Fail;
-use tree_input::Node;
 
-const ARROW: &str = "4 4 3\n2 1\n3 1\n4 1\n";
+const ARROW: &str = "%%MatrixMarket matrix coordinate pattern symmetric\n4 4 3\n2 1\n3 1\n4 1\n";
 
-const GRID: &str = "4 4 4\n2 1\n3 1\n4 2\n4 3\n";
+const GRID: &str =
+    "%%MatrixMarket matrix coordinate pattern symmetric\n4 4 4\n2 1\n3 1\n4 2\n4 3\n";
 
-fn supernode(columns: u32, rest: u32, parent: u32) -> Super {
-    Super {
-        columns,
-        rest,
-        parent,
-    }
+const NO_ENTRIES: &str = "%%MatrixMarket matrix coordinate pattern symmetric\n4 4 0\n";
+
+// Fronts of a shape, with in-place assembly or without: of each the parent, block, extra, share and time.
+type Fronts = (Shape, bool, &'static [(u32, u64, u64, u64, u64)]);
+
+// An assembly tree of four columns: its supernodes by columns, rest and parent, the supernode of each column, and its fronts.
+struct Expected {
+    supers: &'static [(u32, u32, u32)],
+    nodes: [u32; 4],
+    fronts: &'static [Fronts],
 }
 
-fn node(parent: u32, out: u64, extra: u64, share: u64, time: u64) -> Node {
-    Node {
-        parent,
-        out,
-        extra,
-        share,
-        time,
-    }
-}
+#[rattlefmt::skip]
+const WHOLE: Expected = Expected { supers: &[(4, 0, 0)], nodes: [1, 1, 1, 1], fronts: &[
+    (Shape::Triangle, false, &[(0, 0, 10, 0, 4)]),
+    (Shape::Triangle, true, &[(0, 0, 10, 0, 4)]),
+    (Shape::Square, false, &[(0, 0, 16, 0, 4)]),
+    (Shape::Square, true, &[(0, 0, 16, 0, 4)]),
+] };
 
-fn tree_of(
-    rt: &impl Abort,
-    alloc: Global,
-    entries: &str,
-    order: &str,
-    n: u32,
-) -> Result<Parents, Fail>
-    requires { n ≤ most_order }
-{
-    let matrix = format!(in alloc;
-        "%%MatrixMarket matrix coordinate pattern symmetric\n{entries}"
-    )?;
+#[rattlefmt::skip]
+const TWO_LEAVES: Expected = Expected { supers: &[(1, 1, 3), (1, 1, 3), (2, 0, 0)], nodes: [1, 2, 3, 3], fronts: &[
+    (Shape::Triangle, false, &[(3, 1, 2, 0, 1), (3, 1, 2, 0, 1), (0, 0, 3, 0, 2)]),
+    (Shape::Triangle, true, &[(3, 1, 2, 0, 1), (3, 1, 2, 0, 1), (0, 0, 3, 1, 2)]),
+    (Shape::Square, false, &[(3, 1, 3, 0, 1), (3, 1, 3, 0, 1), (0, 0, 4, 0, 2)]),
+    (Shape::Square, true, &[(3, 1, 3, 0, 1), (3, 1, 3, 0, 1), (0, 0, 4, 1, 2)]),
+] };
+
+#[rattlefmt::skip]
+const ONE_LEAF: Expected = Expected { supers: &[(1, 1, 2), (3, 0, 0)], nodes: [2, 1, 2, 2], fronts: &[
+    (Shape::Triangle, false, &[(2, 1, 2, 0, 1), (0, 0, 6, 0, 3)]),
+] };
+
+#[rattlefmt::skip]
+const OF_GRID: Expected = Expected { supers: &[(1, 2, 2), (3, 0, 0)], nodes: [1, 2, 2, 2], fronts: &[
+    (Shape::Triangle, false, &[(2, 3, 3, 0, 1), (0, 0, 6, 0, 3)]),
+] };
+
+#[rattlefmt::skip]
+const ALONE: Expected = Expected { supers: &[(1, 0, 0), (1, 0, 0), (1, 0, 0), (1, 0, 0)], nodes: [1, 2, 3, 4], fronts: &[
+    (Shape::Triangle, true, &[(0, 0, 1, 0, 1), (0, 0, 1, 0, 1), (0, 0, 1, 0, 1), (0, 0, 1, 0, 1)]),
+] };
+
+fn tree_of(rt: &impl Abort, alloc: Global, matrix: &str, order: &str) -> Result<Parents, Fail> {
     let pattern = read_pattern(alloc, matrix.as_bytes())?;
-    let perm = read_perm(alloc, order.as_bytes(), n)?;
+    let perm = read_perm(alloc, order.as_bytes(), pattern.order())?;
     assert_eq!(rt; pattern.order(), perm.len());
     Ok(etree(alloc, &pattern, &perm)?)
 }
@@ -55,36 +66,50 @@ fn tree_of(
 fn supernodes_of(
     rt: &impl Abort,
     alloc: Global,
-    entries: &str,
+    matrix: &str,
     order: &str,
-    counts: &[u32],
-) -> Result<Assembly, Fail>
-    requires { length counts.now ≤ most_order }
-{
-    let parents = tree_of(rt, alloc, entries, order, counts.len() as u32)?;
-    assert!(rt; are_counts(&parents, counts));
-    Ok(supernodes(alloc, &parents, counts)?)
-}
-
-fn check_assembly(rt: &impl Abort, assembly: &Assembly, supers: &[Super], nodes: [u32; 4]) {
-    assert!(rt; assembly.supers() == supers);
-    assert_eq!(rt; assembly.columns(), 4);
-    assert_eq!(rt; assembly.super_of(0), 0);
-    for j in 1..=4u32 {
-        assert_eq!(rt; assembly.super_of(j), nodes[j as usize - 1]);
-    }
+    counts: [u32; 4],
+) -> Result<Assembly, Fail> {
+    let parents = tree_of(rt, alloc, matrix, order)?;
+    assert!(rt; are_counts(&parents, &counts));
+    Ok(supernodes(alloc, &parents, &counts)?)
 }
 
 fn check_fronts(
     rt: &impl Abort,
     alloc: Global,
     assembly: &Assembly,
-    shape: Shape,
-    inplace: bool,
-    nodes: &[Node],
+    expected: Fronts,
 ) -> Result<(), Fail> {
+    let (shape, inplace, nodes) = expected;
     let tree = fronts(alloc, assembly, shape, inplace)?;
-    assert!(rt; tree.nodes() == nodes);
+    assert_eq!(rt; tree.nodes().len(), nodes.len());
+    for (node, expected) in tree.nodes().iter().zip(nodes) {
+        let found = (node.parent, node.out, node.extra, node.share, node.time);
+        assert_eq!(rt; found, *expected);
+    }
+    Ok(())
+}
+
+fn check(
+    rt: &impl Abort,
+    alloc: Global,
+    assembly: &Assembly,
+    expected: &Expected,
+) -> Result<(), Fail> {
+    assert_eq!(rt; assembly.supers().len(), expected.supers.len());
+    for (found, expected) in assembly.supers().iter().zip(expected.supers) {
+        assert_eq!(rt; (found.columns, found.rest, found.parent), *expected);
+    }
+    assert_eq!(rt; assembly.columns(), 4);
+    assert_eq!(rt; assembly.super_of(0), 0);
+    let nodes = expected.nodes;
+    for j in 1..=4u32 {
+        assert_eq!(rt; assembly.super_of(j), nodes[j as usize - 1]);
+    }
+    for fronts in expected.fronts {
+        check_fronts(rt, alloc, assembly, *fronts)?;
+    }
     Ok(())
 }
 
@@ -92,147 +117,48 @@ fn check_fronts(
 #[test]
 fn the_arrow(rt: HostRuntime) -> Result<(), Fail> {
     let alloc = rt.alloc();
-    let assembly = supernodes_of(&rt, alloc, ARROW, "1 2 3 4", &[4, 3, 2, 1])?;
-    check_assembly(&rt, &assembly, &[supernode(4, 0, 0)], [1, 1, 1, 1]);
-    for inplace in [false, true] {
-        check_fronts(
-            &rt,
-            alloc,
-            &assembly,
-            Shape::Triangle,
-            inplace,
-            &[node(0, 0, 10, 0, 4)],
-        )?;
-        check_fronts(
-            &rt,
-            alloc,
-            &assembly,
-            Shape::Square,
-            inplace,
-            &[node(0, 0, 16, 0, 4)],
-        )?;
-    }
-    let merged = amalgamate(alloc, &assembly, 1)?;
-    check_assembly(&rt, &merged, &[supernode(4, 0, 0)], [1, 1, 1, 1]);
-    Ok(())
+    let arrow = supernodes_of(&rt, alloc, ARROW, "1 2 3 4", [4, 3, 2, 1])?;
+    check(&rt, alloc, &arrow, &WHOLE)?;
+    check(&rt, alloc, &amalgamate(alloc, &arrow, 1)?, &WHOLE)
 }
 
 // With its centre third nothing is filled in: columns 1 and 2 have one parent, and 3 goes on with none of them.
+fn turned_arrow(rt: &impl Abort, alloc: Global) -> Result<Assembly, Fail> {
+    supernodes_of(rt, alloc, ARROW, "2 3 1 4", [2, 2, 2, 1])
+}
+
 #[test]
 fn the_turned_arrow(rt: HostRuntime) -> Result<(), Fail> {
+    let turned = turned_arrow(&rt, rt.alloc())?;
+    check(&rt, rt.alloc(), &turned, &TWO_LEAVES)
+}
+
+// The first leaf costs one zero; then the second would cost two.
+#[test]
+fn merges_of_the_turned_arrow(rt: HostRuntime) -> Result<(), Fail> {
     let alloc = rt.alloc();
-    let assembly = supernodes_of(&rt, alloc, ARROW, "2 3 1 4", &[2, 2, 2, 1])?;
-    let leaves = [supernode(1, 1, 3), supernode(1, 1, 3), supernode(2, 0, 0)];
-    check_assembly(&rt, &assembly, &leaves, [1, 2, 3, 3]);
-    for (shape, inplace, nodes) in [
-        (
-            Shape::Triangle,
-            false,
-            [
-                node(3, 1, 2, 0, 1),
-                node(3, 1, 2, 0, 1),
-                node(0, 0, 3, 0, 2),
-            ],
-        ),
-        (
-            Shape::Triangle,
-            true,
-            [
-                node(3, 1, 2, 0, 1),
-                node(3, 1, 2, 0, 1),
-                node(0, 0, 3, 1, 2),
-            ],
-        ),
-        (
-            Shape::Square,
-            false,
-            [
-                node(3, 1, 3, 0, 1),
-                node(3, 1, 3, 0, 1),
-                node(0, 0, 4, 0, 2),
-            ],
-        ),
-        (
-            Shape::Square,
-            true,
-            [
-                node(3, 1, 3, 0, 1),
-                node(3, 1, 3, 0, 1),
-                node(0, 0, 4, 1, 2),
-            ],
-        ),
-    ] {
-        check_fronts(&rt, alloc, &assembly, shape, inplace, &nodes)?;
+    let turned = turned_arrow(&rt, alloc)?;
+    for (zeros, expected) in [(0, &TWO_LEAVES), (1, &ONE_LEAF), (2, &WHOLE)] {
+        check(&rt, alloc, &amalgamate(alloc, &turned, zeros)?, expected)?;
     }
-    check_assembly(
-        &rt,
-        &amalgamate(alloc, &assembly, 0)?,
-        &leaves,
-        [1, 2, 3, 3],
-    );
-    // the first leaf costs one zero; then the second would cost two
-    let merged = amalgamate(alloc, &assembly, 1)?;
-    check_assembly(
-        &rt,
-        &merged,
-        &[supernode(1, 1, 2), supernode(3, 0, 0)],
-        [2, 1, 2, 2],
-    );
-    check_fronts(
-        &rt,
-        alloc,
-        &merged,
-        Shape::Triangle,
-        false,
-        &[node(2, 1, 2, 0, 1), node(0, 0, 6, 0, 3)],
-    )?;
-    let whole = amalgamate(alloc, &assembly, 2)?;
-    check_assembly(&rt, &whole, &[supernode(4, 0, 0)], [1, 1, 1, 1]);
     Ok(())
 }
 
 #[test]
 fn the_grid_and_no_entries(rt: HostRuntime) -> Result<(), Fail> {
     let alloc = rt.alloc();
-    let grid = supernodes_of(&rt, alloc, GRID, "1 2 3 4", &[3, 3, 2, 1])?;
-    check_assembly(
-        &rt,
-        &grid,
-        &[supernode(1, 2, 2), supernode(3, 0, 0)],
-        [1, 2, 2, 2],
-    );
-    check_fronts(
-        &rt,
-        alloc,
-        &grid,
-        Shape::Triangle,
-        false,
-        &[node(2, 3, 3, 0, 1), node(0, 0, 6, 0, 3)],
-    )?;
-    let alone = [supernode(1, 0, 0); 4];
-    let none = supernodes_of(&rt, alloc, "4 4 0\n", "1 2 3 4", &[1, 1, 1, 1])?;
-    check_assembly(&rt, &none, &alone, [1, 2, 3, 4]);
-    check_assembly(
-        &rt,
-        &amalgamate(alloc, &none, 1 << 40)?,
-        &alone,
-        [1, 2, 3, 4],
-    );
-    check_fronts(
-        &rt,
-        alloc,
-        &none,
-        Shape::Triangle,
-        true,
-        &[node(0, 0, 1, 0, 1); 4],
-    )
+    let grid = supernodes_of(&rt, alloc, GRID, "1 2 3 4", [3, 3, 2, 1])?;
+    check(&rt, alloc, &grid, &OF_GRID)?;
+    let none = supernodes_of(&rt, alloc, NO_ENTRIES, "1 2 3 4", [1, 1, 1, 1])?;
+    check(&rt, alloc, &none, &ALONE)?;
+    check(&rt, alloc, &amalgamate(alloc, &none, 1 << 40)?, &ALONE)
 }
 
 // Of the arrow in its natural order, a path from 1 up to 4: a count is 0, a root's is 2, a count falls by two, one is missing.
 #[test]
 fn counts_that_no_column_has(rt: HostRuntime) -> Result<(), Fail> {
     let alloc = rt.alloc();
-    let parents = tree_of(&rt, alloc, ARROW, "1 2 3 4", 4)?;
+    let parents = tree_of(&rt, alloc, ARROW, "1 2 3 4")?;
     assert_eq!(rt; parents.len(), 4);
     for (counts, each) in [
         ([4, 3, 2, 1], [true, true, true, true]),

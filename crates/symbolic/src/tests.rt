@@ -7,7 +7,6 @@ use ordering::read_perm;
 use std::alloc::Global;
 use std::process::Abort;
 use std::test::Fail;
-use tree_input::Node;
 
 // Vertex 1 is joined to all others.
 const ARROW: &str = "%%MatrixMarket matrix coordinate pattern symmetric\n4 4 3\n2 1\n3 1\n4 1\n";
@@ -26,87 +25,45 @@ const PLAIN: FrontOptions = FrontOptions {
     inplace: false,
 };
 
-// The fronts of a matrix of four columns, by parent, block, extra, share and time.
-fn check_fronts(
-    rt: &impl Abort,
-    alloc: Global,
-    matrix: &str,
-    order: &str,
+// A matrix of four columns, an order of them, and its fronts: of each the parent, block, extra, share and time.
+struct Case {
+    matrix: &'static str,
+    order: &'static str,
     options: FrontOptions,
-    fronts: &[(u32, u64, u64, u64, u64)],
-) -> Result<(), Fail> {
-    let pattern = read_pattern(alloc, matrix.as_bytes())?;
-    let perm = read_perm(alloc, order.as_bytes(), pattern.order())?;
+    fronts: &'static [(u32, u64, u64, u64, u64)],
+}
+
+#[rattlefmt::skip]
+const CASES: &[Case] = &[
+    Case { matrix: ARROW, order: IN_TURN, options: PLAIN, fronts: &[(0, 0, 10, 0, 4)] },
+    Case { matrix: PAIRS, order: IN_TURN, options: PLAIN, fronts: &[(0, 0, 3, 0, 2), (0, 0, 3, 0, 2)] },
+    Case { matrix: ARROW, order: ENDS_FIRST, options: PLAIN,
+        fronts: &[(3, 1, 2, 0, 1), (3, 1, 2, 0, 1), (0, 0, 3, 0, 2)] },
+    Case { matrix: ARROW, order: ENDS_FIRST, options: FrontOptions { shape: Shape::Square, ..PLAIN },
+        fronts: &[(3, 1, 3, 0, 1), (3, 1, 3, 0, 1), (0, 0, 4, 0, 2)] },
+    Case { matrix: ARROW, order: ENDS_FIRST, options: FrontOptions { zeros: Some(1), ..PLAIN },
+        fronts: &[(2, 1, 2, 0, 1), (0, 0, 6, 0, 3)] },
+    Case { matrix: ARROW, order: ENDS_FIRST, options: FrontOptions { inplace: true, ..PLAIN },
+        fronts: &[(3, 1, 2, 0, 1), (3, 1, 2, 0, 1), (0, 0, 3, 1, 2)] },
+];
+
+fn check_fronts(rt: &impl Abort, alloc: Global, case: &Case) -> Result<(), Fail> {
+    let pattern = read_pattern(alloc, case.matrix.as_bytes())?;
+    let perm = read_perm(alloc, case.order.as_bytes(), pattern.order())?;
     assert_eq!(rt; perm.len(), pattern.order());
-    let tree = front_tree(alloc, &pattern, &perm, options)?;
-    let mut nodes = Vec::new(alloc);
-    for (parent, out, extra, share, time) in fronts {
-        nodes.push(Node {
-            parent: *parent,
-            out: *out,
-            extra: *extra,
-            share: *share,
-            time: *time,
-        })?;
+    let tree = front_tree(alloc, &pattern, &perm, case.options)?;
+    assert_eq!(rt; tree.nodes().len(), case.fronts.len());
+    for (node, front) in tree.nodes().iter().zip(case.fronts) {
+        let found = (node.parent, node.out, node.extra, node.share, node.time);
+        assert_eq!(rt; found, *front);
     }
-    assert!(rt; tree.nodes() == nodes.as_slice());
     Ok(())
 }
 
 #[test]
 fn fronts_by_hand(rt: HostRuntime) -> Result<(), Fail> {
-    let alloc = rt.alloc();
-    let square = FrontOptions {
-        shape: Shape::Square,
-        ..PLAIN
-    };
-    let merged = FrontOptions {
-        zeros: Some(1),
-        ..PLAIN
-    };
-    let inplace = FrontOptions {
-        inplace: true,
-        ..PLAIN
-    };
-    check_fronts(&rt, alloc, ARROW, IN_TURN, PLAIN, &[(0, 0, 10, 0, 4)])?;
-    check_fronts(
-        &rt,
-        alloc,
-        PAIRS,
-        IN_TURN,
-        PLAIN,
-        &[(0, 0, 3, 0, 2), (0, 0, 3, 0, 2)],
-    )?;
-    check_fronts(
-        &rt,
-        alloc,
-        ARROW,
-        ENDS_FIRST,
-        PLAIN,
-        &[(3, 1, 2, 0, 1), (3, 1, 2, 0, 1), (0, 0, 3, 0, 2)],
-    )?;
-    check_fronts(
-        &rt,
-        alloc,
-        ARROW,
-        ENDS_FIRST,
-        square,
-        &[(3, 1, 3, 0, 1), (3, 1, 3, 0, 1), (0, 0, 4, 0, 2)],
-    )?;
-    check_fronts(
-        &rt,
-        alloc,
-        ARROW,
-        ENDS_FIRST,
-        merged,
-        &[(2, 1, 2, 0, 1), (0, 0, 6, 0, 3)],
-    )?;
-    check_fronts(
-        &rt,
-        alloc,
-        ARROW,
-        ENDS_FIRST,
-        inplace,
-        &[(3, 1, 2, 0, 1), (3, 1, 2, 0, 1), (0, 0, 3, 1, 2)],
-    )
+    for case in CASES {
+        check_fronts(&rt, rt.alloc(), case)?;
+    }
+    Ok(())
 }

@@ -1,6 +1,6 @@
 ghost use Rattle.sp_terms.specs.Builder.{IsPosition};
 
-use super::files::{WORKFLOW, read};
+use super::{BRANCHES, read};
 use crate::{Position, PushRefusal, TermBuilder, Values, hill, system_of, values, values_at};
 use limits::{LimitName, MOST_SIZE, MOST_TIME};
 use mp_system::{Item, Task};
@@ -17,9 +17,8 @@ fn task(extra: u64, share: u64) -> Position
 }
 
 #[test]
-fn positions_values_and_system(rt: HostRuntime) -> Result<(), Fail> {
-    let alloc = rt.alloc();
-    let terms = read(alloc, WORKFLOW)?;
+fn positions_of_a_file(rt: HostRuntime) -> Result<(), Fail> {
+    let terms = read(rt.alloc(), BRANCHES)?;
     let half = [
         Position::Hold(4),
         Position::Hold(1),
@@ -33,31 +32,36 @@ fn positions_values_and_system(rt: HostRuntime) -> Result<(), Fail> {
         assert_eq!(rt; terms.at(place as u32 + 6), *position);
     }
     assert_eq!(rt; terms.at(11), Position::Par(2));
+    Ok(())
+}
+
+fn row_of(values: &Values) -> (u64, u64, u64, u32) {
+    (values.initial, values.fin, values.least, values.width)
+}
+
+#[test]
+fn values_of_a_half_and_the_whole(rt: HostRuntime) -> Result<(), Fail> {
+    let alloc = rt.alloc();
+    let terms = read(alloc, BRANCHES)?;
+    assert_eq!(rt; terms.len(), 11);
     let all = values(alloc, &terms)?;
-    let rows: [(u64, u64, u64, u32); 5] = [
+    for (values, row) in all.iter().zip([
         (4, 4, 4, 1),
         (1, 1, 1, 1),
         (4, 1, 1, 3),
         (3, 3, 3, 1),
         (4, 3, 1, 5),
-    ];
-    for (place, (initial, fin, least, width)) in rows.into_iter().enumerate() {
-        let row = Values {
-            initial,
-            fin,
-            least,
-            width,
-        };
-        assert_eq!(rt; all.get(place).copied(), Some(row));
+    ]) {
+        assert_eq!(rt; row_of(values), row);
     }
-    let whole = Values {
-        initial: 8,
-        fin: 6,
-        least: 2,
-        width: 11,
-    };
-    assert_eq!(rt; values_at(&terms, &all, 11), whole);
-    let system = system_of(alloc, &terms)?;
+    assert_eq!(rt; row_of(&values_at(&terms, &all, 11)), (8, 6, 2, 11));
+    Ok(())
+}
+
+#[test]
+fn items_and_tasks_of_the_system(rt: HostRuntime) -> Result<(), Fail> {
+    let alloc = rt.alloc();
+    let system = system_of(alloc, &read(alloc, BRANCHES)?)?;
     let items = [
         (4, None, Some(1)),
         (1, Some(1), Some(2)),
@@ -65,16 +69,15 @@ fn positions_values_and_system(rt: HostRuntime) -> Result<(), Fail> {
         (4, None, Some(3)),
         (1, Some(3), Some(4)),
         (3, Some(4), None),
-    ];
-    assert_eq!(rt; system.items().len(), items.len());
-    for ((size, from, to), item) in items.into_iter().zip(system.items()) {
-        assert_eq!(rt; *item, Item { size, from, to });
-    }
-    let extras: [u64; 4] = [0, 6, 0, 6];
-    assert_eq!(rt; system.tasks().len(), extras.len());
-    for (extra, task) in extras.into_iter().zip(system.tasks()) {
-        assert_eq!(rt; task.extra, extra);
-    }
+    ]
+    .map(|(size, from, to)| Item { size, from, to });
+    assert_eq!(rt; system.items(), items.as_slice());
+    let tasks = [0, 6, 0, 6].map(|extra| Task {
+        extra,
+        share: 0,
+        time: 1,
+    });
+    assert_eq!(rt; system.tasks(), tasks.as_slice());
     Ok(())
 }
 

@@ -1,16 +1,12 @@
-use crate::{Node, Tree, TreeKind, print_tree, print_tree_2, read_tree, system_of_tree};
-use limits::LimitName;
+use super::{FIVE, SHARED, read};
+use crate::{Node, print_tree, print_tree_2, read_tree, system_of_tree};
 use mp_system::{Item, Task};
-use mp_text::{Fault, Refusal, Report};
+use mp_text::Report;
 use std::alloc::Global;
 use std::test::Fail;
 
-const FIVE: &[u8] = b"tree 1\nnodes 5\n2 1 9 1\n5 5 0 1\n4 1 9 1\n5 5 0 1\n0 0 0 1\nend\n";
-
-const FIVE_2: &[u8] =
-    b"tree 2\nnodes 5\n2 1 9 0 1\n5 5 0 0 1\n4 1 9 0 1\n5 5 0 0 1\n0 0 0 0 1\nend\n";
-
-const SHARED: &[u8] = b"tree 2\nnodes 2\n2 4 0 0 1\n0 3 2 4 1\nend\n";
+const FIVE_2: &str =
+    "tree 2\nnodes 5\n2 1 9 0 1\n5 5 0 0 1\n4 1 9 0 1\n5 5 0 0 1\n0 0 0 0 1\nend\n";
 
 fn node(parent: u32, out: u64, extra: u64, share: u64) -> Node {
     Node {
@@ -22,32 +18,8 @@ fn node(parent: u32, out: u64, extra: u64, share: u64) -> Node {
     }
 }
 
-fn task(extra: u64) -> Task {
-    Task {
-        extra,
-        share: 0,
-        time: 1,
-    }
-}
-
-fn item(size: u64, from: u32, to: Option<u32>) -> Item {
-    Item {
-        size,
-        from: Some(from),
-        to,
-    }
-}
-
-fn refusal_of(alloc: Global, text: &[u8]) -> Option<Refusal<TreeKind>> {
-    read_tree(alloc, text).err()
-}
-
-fn read(alloc: Global, text: &[u8]) -> Result<Tree, Fail> {
-    Ok(read_tree(alloc, text)?)
-}
-
 #[test]
-fn reads_prints_and_converts(rt: HostRuntime) -> Result<(), Fail> {
+fn reads_and_prints(rt: HostRuntime) -> Result<(), Fail> {
     let alloc = rt.alloc();
     let five = [
         node(2, 1, 9, 0),
@@ -66,181 +38,121 @@ fn reads_prints_and_converts(rt: HostRuntime) -> Result<(), Fail> {
         assert_eq!(rt; tree.nodes(), nodes);
         let mut report = Report::new(alloc);
         print_tree(&tree, &mut report)?;
-        assert_eq!(rt; report.bytes(), printed);
+        assert_eq!(rt; report.bytes(), printed.as_bytes());
         let mut report = Report::new(alloc);
         print_tree_2(&tree, &mut report)?;
-        assert_eq!(rt; report.bytes(), printed_2);
+        assert_eq!(rt; report.bytes(), printed_2.as_bytes());
     }
-    let system = system_of_tree(alloc, &read(alloc, FIVE)?)?;
-    assert_eq!(rt;
-        system.tasks(),
-        [task(9), task(0), task(9), task(0), task(0)].as_slice()
-    );
-    let items = [
-        item(1, 1, Some(2)),
-        item(5, 2, Some(5)),
-        item(1, 3, Some(4)),
-        item(5, 4, Some(5)),
-        item(0, 5, None),
-    ];
-    assert_eq!(rt; system.items(), items.as_slice());
     Ok(())
 }
 
 #[test]
 fn passes_over_what_says_nothing(rt: HostRuntime) -> Result<(), Fail> {
-    let alloc = rt.alloc();
-    let texts: [&[u8]; 6] = [
-        b"tree 1\nnodes 2\n2 4 0 1\n0 3 2 1\nend",
-        b"% a\n\n# b\ntree 1\n \t\nnodes 2\n#\n2 4 0 1\n%% c\n0 3 2 1\n\r\nend\n\n# d\n",
-        b"tree 1\r\nnodes 2\r\n2 4 0 1\r\n0 3 2 1\r\nend\r\n",
-        b"\ttree\t1 \n nodes \t2\n\t2  4\t0 1\t\n0 3 2 1 \nend \n",
-        b"tree 1\nnodes 02\n0002 004 00 01\n000 3 2 1\nend\n",
-        b"tree 2\nnodes 2\n2 4 0 0 1\n0 3 2 00 1\nend\n",
-    ];
-    for text in texts {
-        let tree = read(alloc, text)?;
-        assert_eq!(rt;
-            tree.nodes(),
-            [node(2, 4, 0, 0), node(0, 3, 2, 0)].as_slice()
-        );
+    let nodes = [node(2, 4, 0, 0), node(0, 3, 2, 0)];
+    for text in [
+        "tree 1\nnodes 2\n2 4 0 1\n0 3 2 1\nend",
+        "% a\n\n# b\ntree 1\n \t\nnodes 2\n#\n2 4 0 1\n%% c\n0 3 2 1\n\r\nend\n\n# d\n",
+        "tree 1\r\nnodes 2\r\n2 4 0 1\r\n0 3 2 1\r\nend\r\n",
+        "\ttree\t1 \n nodes \t2\n\t2  4\t0 1\t\n0 3 2 1 \nend \n",
+        "tree 1\nnodes 02\n0002 004 00 01\n000 3 2 1\nend\n",
+        "tree 2\nnodes 2\n2 4 0 0 1\n0 3 2 00 1\nend\n",
+    ] {
+        let tree = read(rt.alloc(), text)?;
+        assert_eq!(rt; tree.nodes(), nodes.as_slice(), "at {text:?}");
     }
     Ok(())
 }
 
-const REFUSED_TEXTS: [(&[u8], u64, TreeKind); 34] = [
-    (b"", 1, TreeKind::NoEnd),
-    (b"tree 1\n", 2, TreeKind::NoEnd),
-    (b"tree 1\nnodes 5\n", 3, TreeKind::NoEnd),
-    (b"tree 1\nnodes 5\n2 1 9 1\n", 4, TreeKind::NoEnd),
-    (b"tree 1\nnodes 5\n2 1 9 1\n5 5 0 1\n", 5, TreeKind::NoEnd),
-    (
-        b"tree 1\nnodes 5\n2 1 9 1\n5 5 0 1\n4 1 9 1\n",
-        6,
-        TreeKind::NoEnd,
-    ),
-    (
-        b"tree 1\nnodes 5\n2 1 9 1\n5 5 0 1\n4 1 9 1\n5 5 0 1\n",
-        7,
-        TreeKind::NoEnd,
-    ),
-    (
-        b"tree 1\nnodes 5\n2 1 9 1\n5 5 0 1\n4 1 9 1\n5 5 0 1\n0 0 0 1\n",
-        8,
-        TreeKind::NoEnd,
-    ),
-    (
-        b"tree 1\nnodes 5\n2 1 9 1\n5 5 0 1\n4 1 9 1\n5 5 0 1\n0 0 0 1\nen",
-        8,
-        TreeKind::Count,
-    ),
-    (
-        b"tree 1\nnodes 5\n2 1 9 1\n5 5 0 1\n4 1 9 1\n5 5 0 1\n0 0 0 1\n0 0 0 1\nend\n",
-        8,
-        TreeKind::Count,
-    ),
-    (b"tree 1\nnodes 5\n2 1 9 1\nend\n", 4, TreeKind::Count),
-    (b"tree 1\nnodes 1\n0 0 0 1\nend\nend\n", 5, TreeKind::Count),
-    (b"tree 1\nnodes 1\n0 0 0 1\nend end\n", 4, TreeKind::Count),
-    (b"tree 3\nnodes 1\n0 0 0 1\nend\n", 1, TreeKind::Header),
-    (b"tree\nnodes 1\n", 1, TreeKind::Header),
-    (b"tree 1 1\nnodes 1\n", 1, TreeKind::Header),
-    (b"# a\ntree 01\n", 2, TreeKind::Header),
-    (b"tree 1\nnodes\n", 2, TreeKind::Header),
-    (b"tree 1\nnode 1\n", 2, TreeKind::Header),
-    (b"tree 1\nnodes 1 1\n", 2, TreeKind::Header),
-    (b"tree 1\nnodes 0\n", 2, TreeKind::Count),
-    (b"tree 1\nnodes x\n", 2, TreeKind::Number),
-    (b"tree 1\nnodes 5\n6 1 9 1\n", 3, TreeKind::Parent),
-    (b"tree 1\nnodes 5\n2 1 9\n", 3, TreeKind::Number),
-    (b"tree 1\nnodes 5\n2 1 9 0 1\n", 3, TreeKind::Number),
-    (b"tree 2\nnodes 5\n2 1 9 1\n", 3, TreeKind::Number),
-    (b"tree 1\nnodes 5\n2 1 9 0\n", 3, TreeKind::Number),
-    (
-        b"tree 1\nnodes 5\n2 1 18446744073709551616 1\n",
-        3,
-        TreeKind::Number,
-    ),
-    (b"tree 1\nnodes 5\n2 -1 9 1\n", 3, TreeKind::Number),
-    (b"tree 1\nnodes 5\n2 1\x009 9 1\n", 3, TreeKind::Number),
-    (
-        b"tree 1\nnodes 2\n2 0 0 1\n1 0 0 1\nend\n",
-        3,
-        TreeKind::Cycle,
-    ),
-    (
-        b"tree 1\nnodes 3\n0 0 0 1\n\n3 0 0 1\n3 0 0 1\nend\n",
-        5,
-        TreeKind::Cycle,
-    ),
-    (
-        b"tree 2\nnodes 2\n2 4 0 0 1\n0 3 2 5 1\nend\n",
-        4,
-        TreeKind::Share,
-    ),
-    (
-        b"tree 2\nnodes 2\n2 6 0 0 1\n0 3 2 6 1\nend\n",
-        4,
-        TreeKind::Share,
-    ),
-];
+#[test]
+fn each_node_is_a_task_and_an_item(rt: HostRuntime) -> Result<(), Fail> {
+    let alloc = rt.alloc();
+    let system = system_of_tree(alloc, &read(alloc, FIVE)?)?;
+    let tasks = [9, 0, 9, 0, 0].map(|extra| Task {
+        extra,
+        share: 0,
+        time: 1,
+    });
+    assert_eq!(rt; system.tasks(), tasks.as_slice());
+    let items = [
+        (1, 1, Some(2)),
+        (5, 2, Some(5)),
+        (1, 3, Some(4)),
+        (5, 4, Some(5)),
+        (0, 5, None),
+    ]
+    .map(|(size, from, to)| Item {
+        size,
+        from: Some(from),
+        to,
+    });
+    assert_eq!(rt; system.items(), items.as_slice());
+    Ok(())
+}
 
-const LIMITS: [(&[u8], LimitName); 5] = [
-    (b"tree 1\nnodes 1000001\n", LimitName::Tasks),
-    (
-        b"tree 1\nnodes 1\n0 1099511627777 0 1\nend\n",
-        LimitName::Size,
-    ),
-    (
-        b"tree 1\nnodes 1\n0 0 1099511627777 1\nend\n",
-        LimitName::Size,
-    ),
-    (
-        b"tree 1\nnodes 1\n0 1 1 1099511627777\nend\n",
-        LimitName::Time,
-    ),
-    (
-        b"tree 1\nnodes 1\n0 1099511627777 1 1099511627777\nend\n",
-        LimitName::Size,
-    ),
+// Why a file is refused, in words.
+fn refusal_of(alloc: Global, text: &str) -> Result<String, Fail> {
+    match read_tree(alloc, text.as_bytes()) {
+        Ok(_) => Err(Fail::new("this file is not refused")),
+        Err(refusal) => Ok(format!(in alloc; "{refusal}")?),
+    }
+}
+
+#[rattlefmt::skip]
+const REFUSALS: &[(&str, &str)] = &[
+    ("tree 1\nnodes 5\n2 1 9 1\n5 5 0 1\n4 1 9 1\n5 5 0 1\n0 0 0 1\nen", "count at line 8"),
+    ("tree 1\nnodes 5\n2 1 9 1\n5 5 0 1\n4 1 9 1\n5 5 0 1\n0 0 0 1\n0 0 0 1\nend\n", "count at line 8"),
+    ("tree 1\nnodes 5\n2 1 9 1\nend\n", "count at line 4"),
+    ("tree 1\nnodes 1\n0 0 0 1\nend\nend\n", "count at line 5"),
+    ("tree 1\nnodes 1\n0 0 0 1\nend end\n", "count at line 4"),
+    ("tree 3\nnodes 1\n0 0 0 1\nend\n", "header at line 1"),
+    ("tree\nnodes 1\n", "header at line 1"),
+    ("tree 1 1\nnodes 1\n", "header at line 1"),
+    ("# a\ntree 01\n", "header at line 2"),
+    ("tree 1\nnodes\n", "header at line 2"),
+    ("tree 1\nnode 1\n", "header at line 2"),
+    ("tree 1\nnodes 1 1\n", "header at line 2"),
+    ("tree 1\nnodes 0\n", "count at line 2"),
+    ("tree 1\nnodes x\n", "number at line 2"),
+    ("tree 1\nnodes 5\n6 1 9 1\n", "parent at line 3"),
+    ("tree 1\nnodes 5\n2 1 9\n", "number at line 3"),
+    ("tree 1\nnodes 5\n2 1 9 0 1\n", "number at line 3"),
+    ("tree 2\nnodes 5\n2 1 9 1\n", "number at line 3"),
+    ("tree 1\nnodes 5\n2 1 9 0\n", "number at line 3"),
+    ("tree 1\nnodes 5\n2 1 18446744073709551616 1\n", "number at line 3"),
+    ("tree 1\nnodes 5\n2 -1 9 1\n", "number at line 3"),
+    ("tree 1\nnodes 5\n2 1\09 9 1\n", "number at line 3"),
+    ("tree 1\nnodes 1\n1 1 2 1\nend\n", "cycle at line 3"),
+    ("tree 1\nnodes 2\n2 0 0 1\n1 0 0 1\nend\n", "cycle at line 3"),
+    ("tree 1\nnodes 3\n0 0 0 1\n\n3 0 0 1\n3 0 0 1\nend\n", "cycle at line 5"),
+    ("tree 2\nnodes 2\n2 4 0 0 1\n0 3 2 5 1\nend\n", "share at line 4"),
+    ("tree 2\nnodes 2\n2 6 0 0 1\n0 3 2 6 1\nend\n", "share at line 4"),
+    ("tree 1\nnodes 1000001\n", "limit tasks"),
+    ("tree 1\nnodes 1\n0 1099511627777 0 1\nend\n", "limit size"),
+    ("tree 1\nnodes 1\n0 0 1099511627777 1\nend\n", "limit size"),
+    ("tree 1\nnodes 1\n0 1 1 1099511627777\nend\n", "limit time"),
+    ("tree 1\nnodes 1\n0 1099511627777 1 1099511627777\nend\n", "limit size"),
 ];
 
 #[test]
-fn refuses_with_the_kind_and_the_line(rt: HostRuntime) {
+fn refuses_with_the_kind_and_the_line(rt: HostRuntime) -> Result<(), Fail> {
     let alloc = rt.alloc();
-    for (text, line, kind) in REFUSED_TEXTS {
-        let want = Some(Refusal::Format(Fault { line, kind }));
-        assert_eq!(rt; refusal_of(alloc, text), want, "at line {line}, {kind:?}");
+    for (text, words) in REFUSALS {
+        assert_eq!(rt; refusal_of(alloc, text)?.as_str(), *words, "at {text:?}");
     }
-    for (text, name) in LIMITS {
-        assert_eq!(rt;
-            refusal_of(alloc, text),
-            Some(Refusal::Limit(name)),
-            "{name:?}"
-        );
-    }
-    let most = b"tree 1\nnodes 1\n0 1099511627776 1099511627776 1099511627776\nend\n";
-    assert_eq!(rt; refusal_of(alloc, most), None);
+    let most = "tree 1\nnodes 1\n0 1099511627776 1099511627776 1099511627776\nend\n";
+    assert_eq!(rt; read(alloc, most)?.nodes().len(), 1);
+    Ok(())
 }
 
 #[test]
-fn tells_refusals_in_words(rt: HostRuntime) -> Result<(), Fail> {
-    for (text, words) in [
-        (b"tree 3\n".as_slice(), "header at line 1"),
-        (
-            b"tree 1\nnodes 1\n0 1 2\nend\n".as_slice(),
-            "number at line 3",
-        ),
-        (
-            b"tree 1\nnodes 1\n1 1 2 1\nend\n".as_slice(),
-            "cycle at line 3",
-        ),
-        (b"tree 1\nnodes 1\n0 1 2 1\n".as_slice(), "no-end at line 4"),
-    ] {
-        let Some(refusal) = refusal_of(rt.alloc(), text) else {
-            return Err(Fail::new("this file is not refused"));
-        };
-        assert_eq!(rt; format!(in rt.alloc(); "{refusal}")?.as_str(), words);
+fn a_file_that_ends_early_has_no_end(rt: HostRuntime) -> Result<(), Fail> {
+    let alloc = rt.alloc();
+    let mut text = String::new(alloc);
+    for (before, line) in FIVE.split_inclusive('\n').enumerate() {
+        let words = format!(in alloc; "no-end at line {}", before.saturating_add(1))?;
+        assert_eq!(rt; refusal_of(alloc, &text)?.as_str(), words.as_str());
+        text.push_str(line)?;
     }
+    assert_eq!(rt; text.as_str(), FIVE);
     Ok(())
 }

@@ -1,17 +1,81 @@
-use crate::{Names, read_tree, system_of_tree, terms_of_tree};
+use super::{FIVE, SHARED, read};
+use crate::{Names, system_of_tree, terms_of_tree};
 use mp_system::replay;
-use mp_text::Report;
-use sp_terms::{Position, system_of};
+use sp_terms::{read_workflow, system_of};
 use std::alloc::Global;
 use std::test::Fail;
 
-fn data(size: u64) -> Position {
-    Position::Hold(size)
+const ROOTS: &str = "tree 1\nnodes 2\n0 3 0 1\n0 4 1 2\nend\n";
+
+// A chain from its root.
+const CHAIN: &str = "tree 1\nnodes 3\n0 0 0 1\n1 1 0 1\n2 2 0 1\nend\n";
+
+// A tree, its term as a workflow, and the node that each task is.
+struct Case {
+    tree: &'static str,
+    workflow: &'static str,
+    names: &'static [u32],
 }
 
-fn task(extra: u64, share: u64, time: u64) -> Position {
-    Position::Task { extra, share, time }
+#[rattlefmt::skip]
+const CASES: &[Case] = &[
+    Case { tree: FIVE, names: &[1, 2, 3, 4, 5], workflow: "workflow 1\ntasks 5\n\
+        data 0\ndata 1\ntask 9 1\ndata 5\ntask 0 1\n\
+        data 0\ndata 1\ntask 9 1\ndata 5\ntask 0 1\n\
+        par 2\ndata 0\ntask 0 1\nend\n" },
+    // one node
+    Case { tree: "tree 1\nnodes 1\n0 7 2 3\nend\n", names: &[1], workflow: "workflow 1\ntasks 1\ndata 0\ndata 7\ntask 2 3\nend\n" },
+    Case { tree: ROOTS, names: &[1, 2],
+        workflow: "workflow 1\ntasks 2\ndata 0\ndata 3\ntask 0 1\ndata 0\ndata 4\ntask 1 2\npar 2\nend\n" },
+    // the root before its three children, one of which has a child of a higher number
+    Case { tree: "tree 1\nnodes 5\n3 1 0 1\n3 2 0 1\n0 3 0 1\n3 4 0 1\n2 5 0 1\nend\n", names: &[1, 5, 2, 4, 3],
+        workflow: "workflow 1\ntasks 5\n\
+        data 0\ndata 1\ntask 0 1\n\
+        data 0\ndata 5\ntask 0 1\ndata 2\ntask 0 1\n\
+        data 0\ndata 4\ntask 0 1\n\
+        par 3\ndata 3\ntask 0 1\nend\n" },
+    Case { tree: CHAIN, names: &[3, 2, 1],
+        workflow: "workflow 1\ntasks 3\ndata 0\ndata 2\ntask 0 1\ndata 1\ntask 0 1\ndata 0\ntask 0 1\nend\n" },
+    Case { tree: SHARED, names: &[1, 2], workflow: "workflow 2\ntasks 2\ndata 0\ndata 4\ntask 0 0 1\ndata 3\ntask 2 4 1\nend\n" },
+    // two roots, each after its child
+    Case { tree: "tree 1\nnodes 4\n0 1 5 1\n4 2 6 1\n1 3 7 1\n0 4 8 1\nend\n", names: &[3, 1, 2, 4],
+        workflow: "workflow 1\ntasks 4\n\
+        data 0\ndata 3\ntask 7 1\ndata 1\ntask 5 1\n\
+        data 0\ndata 2\ntask 6 1\ndata 4\ntask 8 1\n\
+        par 2\nend\n" },
+];
+
+#[test]
+fn terms_and_names(rt: HostRuntime) -> Result<(), Fail> {
+    let alloc = rt.alloc();
+    for case in CASES {
+        let named = terms_of_tree(alloc, &read(alloc, case.tree)?)?;
+        let terms = read_workflow(alloc, case.workflow.as_bytes())?;
+        assert_eq!(rt; named.terms.len(), terms.len(), "{}", case.tree);
+        for k in 1..=terms.len() {
+            assert_eq!(rt; named.terms.at(k), terms.at(k), "{}, at {k}", case.tree);
+        }
+        assert_eq!(rt; named.names.as_slice(), case.names, "{}", case.tree);
+        assert_eq!(rt;
+            named.names.into_vec().as_slice(),
+            case.names,
+            "{}",
+            case.tree
+        );
+    }
+    Ok(())
 }
+
+// Trees, orders of the tasks of their terms, and the peaks.
+#[rattlefmt::skip]
+const PEAKS: &[(&str, &[u32], u64)] = &[
+    (FIVE, &[1, 2, 3, 4, 5], 15),
+    (FIVE, &[1, 3, 2, 4, 5], 11),
+    (ROOTS, &[2, 1], 7),
+    (CHAIN, &[1, 2, 3], 3),
+    ("tree 1\nnodes 3\n0 1 2 1\n1 4 3 1\n1 2 6 1\nend\n", &[2, 1, 3], 9),
+    (SHARED, &[1, 2], 5),
+];
 
 // The nodes that the tasks of an order are.
 fn renamed(alloc: Global, names: &Names, order: &[u32]) -> Result<Vec<u32>, Fail> {
@@ -26,190 +90,28 @@ fn renamed(alloc: Global, names: &Names, order: &[u32]) -> Result<Vec<u32>, Fail
 }
 
 #[test]
-fn terms_and_names(rt: HostRuntime) -> Result<(), Fail> {
-    let alloc = rt.alloc();
-    let rows: [(&str, &[u8], &[Position], &[u32]); 7] = [
-        (
-            "five nodes, two like branches",
-            b"tree 1\nnodes 5\n2 1 9 1\n5 5 0 1\n4 1 9 1\n5 5 0 1\n0 0 0 1\nend\n",
-            &[
-                data(0),
-                data(1),
-                task(9, 0, 1),
-                data(5),
-                task(0, 0, 1),
-                data(0),
-                data(1),
-                task(9, 0, 1),
-                data(5),
-                task(0, 0, 1),
-                Position::Par(2),
-                data(0),
-                task(0, 0, 1),
-            ],
-            &[1, 2, 3, 4, 5],
-        ),
-        (
-            "one node",
-            b"tree 1\nnodes 1\n0 7 2 3\nend\n",
-            &[data(0), data(7), task(2, 0, 3)],
-            &[1],
-        ),
-        (
-            "two roots",
-            b"tree 1\nnodes 2\n0 3 0 1\n0 4 1 2\nend\n",
-            &[
-                data(0),
-                data(3),
-                task(0, 0, 1),
-                data(0),
-                data(4),
-                task(1, 0, 2),
-                Position::Par(2),
-            ],
-            &[1, 2],
-        ),
-        (
-            "the root before its three children, one of which has a child of a higher number",
-            b"tree 1\nnodes 5\n3 1 0 1\n3 2 0 1\n0 3 0 1\n3 4 0 1\n2 5 0 1\nend\n",
-            &[
-                data(0),
-                data(1),
-                task(0, 0, 1),
-                data(0),
-                data(5),
-                task(0, 0, 1),
-                data(2),
-                task(0, 0, 1),
-                data(0),
-                data(4),
-                task(0, 0, 1),
-                Position::Par(3),
-                data(3),
-                task(0, 0, 1),
-            ],
-            &[1, 5, 2, 4, 3],
-        ),
-        (
-            "a chain from its root",
-            b"tree 1\nnodes 3\n0 0 0 1\n1 1 0 1\n2 2 0 1\nend\n",
-            &[
-                data(0),
-                data(2),
-                task(0, 0, 1),
-                data(1),
-                task(0, 0, 1),
-                data(0),
-                task(0, 0, 1),
-            ],
-            &[3, 2, 1],
-        ),
-        (
-            "a block that the parent takes over",
-            b"tree 2\nnodes 2\n2 4 0 0 1\n0 3 2 4 1\nend\n",
-            &[data(0), data(4), task(0, 0, 1), data(3), task(2, 4, 1)],
-            &[1, 2],
-        ),
-        (
-            "two roots, each after its child",
-            b"tree 1\nnodes 4\n0 1 5 1\n4 2 6 1\n1 3 7 1\n0 4 8 1\nend\n",
-            &[
-                data(0),
-                data(3),
-                task(7, 0, 1),
-                data(1),
-                task(5, 0, 1),
-                data(0),
-                data(2),
-                task(6, 0, 1),
-                data(4),
-                task(8, 0, 1),
-                Position::Par(2),
-            ],
-            &[3, 1, 2, 4],
-        ),
-    ];
-    for (name, text, positions, names) in rows {
-        let named = terms_of_tree(alloc, &read_tree(alloc, text)?)?;
-        assert_eq!(rt; named.terms.len() as usize, positions.len(), "{name}");
-        for k in 1..=named.terms.len() {
-            assert_eq!(rt;
-                positions.get(k as usize - 1),
-                Some(&named.terms.at(k)),
-                "{name}, at {k}"
-            );
-        }
-        assert_eq!(rt; named.names.as_slice(), names, "{name}");
-        assert_eq!(rt; named.names.into_vec().as_slice(), names, "{name}");
-    }
-    Ok(())
-}
-
-#[test]
 fn peaks_under_both_names(rt: HostRuntime) -> Result<(), Fail> {
     let alloc = rt.alloc();
-    let rows: [(&[u8], &[u32], u64); 6] = [
-        (
-            b"tree 1\nnodes 5\n2 1 9 1\n5 5 0 1\n4 1 9 1\n5 5 0 1\n0 0 0 1\nend\n",
-            &[1, 2, 3, 4, 5],
-            15,
-        ),
-        (
-            b"tree 1\nnodes 5\n2 1 9 1\n5 5 0 1\n4 1 9 1\n5 5 0 1\n0 0 0 1\nend\n",
-            &[1, 3, 2, 4, 5],
-            11,
-        ),
-        (b"tree 1\nnodes 2\n0 3 0 1\n0 4 1 1\nend\n", &[2, 1], 7),
-        (
-            b"tree 1\nnodes 3\n0 0 0 1\n1 1 0 1\n2 2 0 1\nend\n",
-            &[1, 2, 3],
-            3,
-        ),
-        (
-            b"tree 1\nnodes 3\n0 1 2 1\n1 4 3 1\n1 2 6 1\nend\n",
-            &[2, 1, 3],
-            9,
-        ),
-        (b"tree 2\nnodes 2\n2 4 0 0 1\n0 3 2 4 1\nend\n", &[1, 2], 5),
-    ];
-    for (text, order, peak) in rows {
-        let tree = read_tree(alloc, text)?;
+    for (text, order, peak) in PEAKS {
+        let tree = read(alloc, text)?;
         let named = terms_of_tree(alloc, &tree)?;
-        let own = system_of(alloc, &named.terms)?;
         let nodes = renamed(alloc, &named.names, order)?;
-        assert_eq!(rt; replay(alloc, &own, order)?, peak);
-        assert_eq!(rt;
-            replay(alloc, &system_of_tree(alloc, &tree)?, &nodes)?,
-            peak
-        );
+        let of_term = system_of(alloc, &named.terms)?;
+        assert_eq!(rt; replay(alloc, &of_term, order)?, *peak, "{text}");
+        let of_tree = system_of_tree(alloc, &tree)?;
+        assert_eq!(rt; replay(alloc, &of_tree, &nodes)?, *peak, "{text}");
     }
     Ok(())
 }
 
 // The file of a tree in which each node is the child of the next, or each but the last a child of the last.
-fn large(alloc: Global, count: u64, chain: bool) -> Result<Report, Fail> {
-    let mut text = Report::new(alloc);
-    text.word("tree")?;
-    text.num(1)?;
-    text.end_line()?;
-    text.word("nodes")?;
-    text.num(count)?;
-    text.end_line()?;
-    for v in 1..=count {
-        let parent = if v == count {
-            0
-        } else if chain {
-            v.saturating_add(1)
-        } else {
-            count
-        };
-        for number in [parent, 1, 0, 1] {
-            text.num(number)?;
-        }
-        text.end_line()?;
+fn large(alloc: Global, count: u64, chain: bool) -> Result<String, Fail> {
+    let mut text = format!(in alloc; "tree 1\nnodes {count}\n")?;
+    for v in 1..count {
+        let parent = if chain { v + 1 } else { count };
+        text.push_str(&format!(in alloc; "{parent} 1 0 1\n")?)?;
     }
-    text.word("end")?;
-    text.end_line()?;
+    text.push_str("0 1 0 1\nend\n")?;
     Ok(text)
 }
 
@@ -217,8 +119,8 @@ fn large(alloc: Global, count: u64, chain: bool) -> Result<Report, Fail> {
 fn large_trees(rt: HostRuntime) -> Result<(), Fail> {
     let alloc = rt.alloc();
     for (chain, positions) in [(true, 20_001), (false, 30_000)] {
-        let text = large(alloc, 10_000, chain)?;
-        let named = terms_of_tree(alloc, &read_tree(alloc, text.bytes())?)?;
+        let tree = read(alloc, &large(alloc, 10_000, chain)?)?;
+        let named = terms_of_tree(alloc, &tree)?;
         assert_eq!(rt; named.terms.len(), positions);
         let names = named.names.as_slice();
         assert_eq!(rt; names.first(), Some(&1));
