@@ -84,9 +84,7 @@ fn five_words(text: &[u8]) -> Option<Banner<'_>>
 pub fn banner_on(line: Line<'_>) -> Result<usize, Refusal<MatrixKind>>
     ensures { let r = row line.entry.number line.entry.text.now in Gives (tested (banner_tests r) (values_stated r)) result }
 {
-    let Some(banner) = five_words(line.text) else {
-        return Err(fault(line.number, MatrixKind::Banner));
-    };
+    let banner = five_words(line.text).ok_or(fault(line.number, MatrixKind::Banner))?;
     if !is_word(banner.mark, b"%%MatrixMarket") {
         return Err(fault(line.number, MatrixKind::Banner));
     }
@@ -99,9 +97,7 @@ pub fn banner_on(line: Line<'_>) -> Result<usize, Refusal<MatrixKind>>
     if !is_word(banner.format, b"coordinate") {
         return Err(fault(line.number, MatrixKind::Banner));
     }
-    let Some(values) = values_of_field(banner.field) else {
-        return Err(fault(line.number, MatrixKind::Field));
-    };
+    let values = values_of_field(banner.field).ok_or(fault(line.number, MatrixKind::Field))?;
     if !is_symmetry(banner.symmetry) {
         return Err(fault(line.number, MatrixKind::Symmetry));
     }
@@ -142,9 +138,7 @@ pub fn size_on(line: Line<'_>) -> Result<Size, Refusal<MatrixKind>>
         Gives (tested (size_tests r) (record { order = (size_of r).rows; entries = (size_of r).entries })) result }
     ensures within { IfOk result (λ s. s.order ≤ most_order) }
 {
-    let Some(stated) = size_fields(line.text) else {
-        return Err(fault(line.number, MatrixKind::SizeLine));
-    };
+    let stated = size_fields(line.text).ok_or(fault(line.number, MatrixKind::SizeLine))?;
     let [rows, columns, entries] = stated;
     if rows == 0 || columns == 0 {
         return Err(fault(line.number, MatrixKind::SizeLine));
@@ -199,9 +193,7 @@ pub fn entry_on(
     if taken >= size.entries {
         return Err(fault(line.number, MatrixKind::TooMany));
     }
-    let Some((i, j)) = entry_indices(values, line.text) else {
-        return Err(fault(line.number, MatrixKind::Entry));
-    };
+    let (i, j) = entry_indices(values, line.text).ok_or(fault(line.number, MatrixKind::Entry))?;
     if !is_index(size.order, i) || !is_index(size.order, j) {
         return Err(fault(line.number, MatrixKind::Index));
     }

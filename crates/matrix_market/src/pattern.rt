@@ -1,7 +1,8 @@
 //! Patterns of symmetric matrices.
 
-ghost use Rattle.std.specs.Prelude.{◌≡◌, ◌≤◌, ◌+◌, All, length, IfOk};
+ghost use Rattle.std.specs.Prelude.{◌≡◌, ◌≤◌, ◌+◌, ℕ, List, All, length, drop, IfOk};
 ghost use Rattle.limits.specs.Limits.{most_order, most_entries};
+ghost use Rattle.matrix_market.specs.Pattern.{IsPattern, IsPatternOf, IsPairWithin, neighbours_of};
 
 use crate::NoMemory;
 use crate::pairs::{partner_counts, partner_lists, turned};
@@ -18,9 +19,6 @@ pub struct Pattern {
 }
 
 impl Model for Pattern {
-    ghost use Rattle.std.specs.Prelude.{ℕ, List, drop};
-    ghost use Rattle.matrix_market.specs.Pattern.{IsPattern};
-
     ghost Value = { List (List ℕ) };
 
     ghost view = { λ p. drop 1 p.table.lists };
@@ -29,8 +27,6 @@ impl Model for Pattern {
 }
 
 impl Pattern {
-    ghost use Rattle.matrix_market.specs.Pattern.{IsPattern, IsPatternOf, IsPairWithin, neighbours_of};
-
     /// What every value of this type keeps; a proof that needs it calls it. It does nothing.
     pub fn keeps(&self)
         ensures { IsPattern self.now }

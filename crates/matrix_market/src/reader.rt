@@ -1,7 +1,9 @@
-ghost use Rattle.std.specs.Prelude.{◌≡◌, [], IfOk, IfErr, MatchResult};
+ghost use Rattle.std.specs.Prelude.{◌≡◌, ◌≤◌, [], IfOk, IfErr, MatchResult};
+ghost use Rattle.limits.specs.Limits.{most_order};
 ghost use Rattle.mp_text.specs.Ahead.{row};
 ghost use Rattle.mp_text.specs.Reading.{Steps};
-ghost use Rattle.matrix_market.specs.MatrixFile.{ReadsPattern, IsMatrixRefusal};
+ghost use Rattle.matrix_market.specs.MatrixFile.{matrix_format, ReadsPattern, IsMatrixRefusal};
+ghost use Rattle.matrix_market.specs.Reader.{MatrixState, start, matrix_step, matrix_end, took};
 ghost use Rattle.matrix_market.specs.Stated.{AreStated};
 
 use crate::kind::MatrixKind;
@@ -22,20 +24,20 @@ struct MatrixReader {
 }
 
 impl Model for MatrixReader {
-    ghost use Rattle.std.specs.Prelude.{◌≤◌};
-    ghost use Rattle.limits.specs.Limits.{most_order};
-    ghost use Rattle.matrix_market.specs.Reader.{MatrixState};
-
     ghost Value = { MatrixState };
 
-    ghost view = { λ s. record { stage = s.stage; values = s.values; order = s.size.order; entries = s.size.entries; pairs = s.pairs.items } };
+    ghost view = { λ s. record {
+      stage = s.stage;
+      values = s.values;
+      order = s.size.order;
+      entries = s.size.entries;
+      pairs = s.pairs.items;
+    } };
 
     ghost invariant = { λ s. s.size.order ≤ most_order };
 }
 
 impl MatrixReader {
-    ghost use Rattle.matrix_market.specs.Reader.{start, matrix_step, matrix_end};
-
     /// A reader of which nothing was read.
     fn new(alloc: Global) -> MatrixReader
         ensures { result ≡ start }
@@ -94,9 +96,6 @@ impl MatrixReader {
 
 impl Reader for MatrixReader {
     type Kind = MatrixKind;
-
-    ghost use Rattle.matrix_market.specs.Reader.{took};
-    ghost use Rattle.matrix_market.specs.MatrixFile.{matrix_format};
 
     ghost format = { λ _. matrix_format };
 

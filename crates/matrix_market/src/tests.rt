@@ -1,23 +1,14 @@
 //! Rows worked by hand, and a plain search beside the lists.
 
-ghost use Rattle.std.specs.Prelude.{◌≡◌, ◌&&◌};
+ghost use Rattle.std.specs.Prelude.{◌≡◌};
 ghost use Rattle.std.specs.List.{list_any};
 ghost use Rattle.matrix_market.specs.Pattern.{names, are_named};
 
-use crate::{MatrixKind, Pattern, read_pattern};
-use limits::LimitName;
-use mp_text::{Fault, Refusal};
-use std::alloc::Global;
+use crate::{Pattern, read_pattern};
 use std::process::Abort;
 use std::test::Fail;
 
-const STAR: &[u8] = b"%%MatrixMarket matrix coordinate pattern symmetric\n4 4 3\n2 1\n3 1\n4 1\n";
-
-const STAR_ROWS: [&[u32]; 4] = [&[2, 3, 4], &[1], &[1], &[1]];
-
-// The same star as a general matrix: comments, blank lines, diagonal entries, repeats, both triangles, values that are no numbers.
-const GENERAL_STAR: &[u8] =
-    b"%%MatrixMarket MATRIX Coordinate Real General\r\n% arrow\r\n\r\n4 4 8\r\n1 1 1e400\r\n1 2 1.0\r\n2 1 1.0\r\n1 3 x\r\n3 3 -2\r\n 4\t1 7\r\n1 2 5.5\r\n4 4 0";
+const STAR: [&[u32]; 4] = [&[2, 3, 4], &[1], &[1], &[1]];
 
 fn check_rows(rt: &impl Abort, pattern: &Pattern, rows: &[&[u32]]) {
     assert_eq!(rt; pattern.order() as usize, rows.len());
@@ -26,16 +17,20 @@ fn check_rows(rt: &impl Abort, pattern: &Pattern, rows: &[&[u32]]) {
     }
 }
 
-fn refusal_of(alloc: Global, text: &[u8]) -> Option<Refusal<MatrixKind>> {
-    read_pattern(alloc, text).err()
-}
-
 #[test]
 fn reads(rt: HostRuntime) -> Result<(), Fail> {
     let alloc = rt.alloc();
-    check_rows(&rt, &read_pattern(alloc, STAR)?, &STAR_ROWS);
-    check_rows(&rt, &read_pattern(alloc, GENERAL_STAR)?, &STAR_ROWS);
-    let rows: [(&str, &[&[u32]]); 4] = [
+    let rows: [(&str, &[&[u32]]); 6] = [
+        (
+            "%%MatrixMarket matrix coordinate pattern symmetric\n4 4 3\n2 1\n3 1\n4 1\n",
+            &STAR,
+        ),
+        // the same as a general matrix: comments, blank lines, diagonal entries, repeats, both triangles, values that are no numbers
+        (
+            "%%MatrixMarket MATRIX Coordinate Real General\r\n% arrow\r\n\r\n4 4 8\r\n1 1 1e400\r\n1 2 1.0\r\n\
+            2 1 1.0\r\n1 3 x\r\n3 3 -2\r\n 4\t1 7\r\n1 2 5.5\r\n4 4 0",
+            &STAR,
+        ),
         (
             "%%MatrixMarket matrix coordinate pattern skew-symmetric\n1 1 1\n1 1\n",
             &[&[]],
@@ -59,183 +54,93 @@ fn reads(rt: HostRuntime) -> Result<(), Fail> {
     Ok(())
 }
 
-const REFUSED_TEXTS: [(&str, MatrixKind, u64); 30] = [
-    ("", MatrixKind::Banner, 1),
+// How a text begins, how it goes on, and the words of its refusal.
+const REFUSED: [(&str, &[(&str, &str)]); 5] = [
     (
-        "\n%%MatrixMarket matrix coordinate pattern general\n1 1 0\n",
-        MatrixKind::Banner,
-        1,
+        "",
+        &[
+            ("", "banner at line 1"),
+            (
+                "\n%%MatrixMarket matrix coordinate pattern general\n1 1 0\n",
+                "banner at line 1",
+            ),
+            (
+                "% a\n%%MatrixMarket matrix coordinate pattern general\n1 1 0\n",
+                "banner at line 1",
+            ),
+            (
+                "%MatrixMarket matrix coordinate pattern general\n1 1 0\n",
+                "banner at line 1",
+            ),
+            (
+                "%%MatrixMarket vector array real general\n",
+                "not-matrix at line 1",
+            ),
+        ],
     ),
     (
-        "% a\n%%MatrixMarket matrix coordinate pattern general\n1 1 0\n",
-        MatrixKind::Banner,
-        1,
+        "%%MatrixMarket matrix ",
+        &[
+            ("elemental pattern general\n1 1 0\n", "banner at line 1"),
+            ("array real general\n", "array-format at line 1"),
+        ],
     ),
     (
-        "%%MatrixMarket matrix coordinate pattern\n1 1 0\n",
-        MatrixKind::Banner,
-        1,
-    ),
-    (
-        "%MatrixMarket matrix coordinate pattern general\n1 1 0\n",
-        MatrixKind::Banner,
-        1,
-    ),
-    (
-        "%%MatrixMarket matrix elemental pattern general\n1 1 0\n",
-        MatrixKind::Banner,
-        1,
-    ),
-    (
-        "%%MatrixMarket vector array real general\n",
-        MatrixKind::NotMatrix,
-        1,
-    ),
-    (
-        "%%MatrixMarket matrix array real general\n",
-        MatrixKind::ArrayFormat,
-        1,
-    ),
-    (
-        "%%MatrixMarket matrix coordinate quaternion general\n",
-        MatrixKind::Field,
-        1,
-    ),
-    (
-        "%%MatrixMarket matrix coordinate pattern Symmetrical\n",
-        MatrixKind::Symmetry,
-        1,
+        "%%MatrixMarket matrix coordinate ",
+        &[
+            ("pattern\n1 1 0\n", "banner at line 1"),
+            ("quaternion general\n", "field at line 1"),
+            ("pattern Symmetrical\n", "symmetry at line 1"),
+            ("pattern symmetric", "size-line at line 2"),
+            ("complex symmetric\n4 4 3\n2 1 1\n", "entry at line 3"),
+            ("real symmetric\n4 4 3\n2 -1 1\n", "entry at line 3"),
+        ],
     ),
     (
         "%%MatrixMarket matrix coordinate pattern symmetric\n",
-        MatrixKind::SizeLine,
-        2,
+        &[
+            ("", "size-line at line 2"),
+            ("% a\n4 4\n", "size-line at line 3"),
+            ("4 4 3 1\n", "size-line at line 2"),
+            ("4 4 x\n", "size-line at line 2"),
+            ("# 4 4 3\n", "size-line at line 2"),
+            ("0 0 0\n", "size-line at line 2"),
+            ("1000001 4 10000001\n", "not-square at line 2"),
+            ("4 4 3\n2\n", "entry at line 3"),
+            ("4 4 3\n2 1 1\n", "entry at line 3"),
+            ("4 4 3\n0 1\n", "index at line 3"),
+            ("4 4 3\n1 5\n", "index at line 3"),
+            ("4 4 3\n", "too-few at line 3"),
+            ("4 4 3\n2 1\n", "too-few at line 4"),
+            ("4 4 3\n2 1\n3 1\n", "too-few at line 5"),
+            ("4 4 4\n2 1\n3 1\n4 1\n", "too-few at line 6"),
+            ("4 4 1\n2 1\n\nx\n", "too-many at line 5"),
+            ("4 4 0\n2 1\n", "too-many at line 3"),
+        ],
     ),
     (
-        "%%MatrixMarket matrix coordinate pattern symmetric\n% a\n4 4\n",
-        MatrixKind::SizeLine,
-        3,
-    ),
-    (
-        "%%MatrixMarket matrix coordinate pattern symmetric\n4 4 3 1\n",
-        MatrixKind::SizeLine,
-        2,
-    ),
-    (
-        "%%MatrixMarket matrix coordinate pattern symmetric\n4 4 x\n",
-        MatrixKind::SizeLine,
-        2,
-    ),
-    (
-        "%%MatrixMarket matrix coordinate pattern symmetric\n# 4 4 3\n",
-        MatrixKind::SizeLine,
-        2,
-    ),
-    (
-        "%%MatrixMarket matrix coordinate pattern symmetric\n0 0 0\n",
-        MatrixKind::SizeLine,
-        2,
-    ),
-    (
-        "%%MatrixMarket matrix coordinate pattern symmetric\n1000001 4 10000001\n",
-        MatrixKind::NotSquare,
-        2,
-    ),
-    (
-        "%%MatrixMarket matrix coordinate pattern symmetric\n4 4 3\n2\n",
-        MatrixKind::Entry,
-        3,
-    ),
-    (
-        "%%MatrixMarket matrix coordinate pattern symmetric\n4 4 3\n2 1 1\n",
-        MatrixKind::Entry,
-        3,
-    ),
-    (
-        "%%MatrixMarket matrix coordinate complex symmetric\n4 4 3\n2 1 1\n",
-        MatrixKind::Entry,
-        3,
-    ),
-    (
-        "%%MatrixMarket matrix coordinate real symmetric\n4 4 3\n2 -1 1\n",
-        MatrixKind::Entry,
-        3,
-    ),
-    (
-        "%%MatrixMarket matrix coordinate pattern symmetric\n4 4 3\n0 1\n",
-        MatrixKind::Index,
-        3,
-    ),
-    (
-        "%%MatrixMarket matrix coordinate pattern symmetric\n4 4 3\n1 5\n",
-        MatrixKind::Index,
-        3,
-    ),
-    (
-        "%%MatrixMarket matrix coordinate pattern symmetric\n4 4 3\n",
-        MatrixKind::TooFew,
-        3,
-    ),
-    (
-        "%%MatrixMarket matrix coordinate pattern symmetric\n4 4 3\n2 1\n",
-        MatrixKind::TooFew,
-        4,
-    ),
-    (
-        "%%MatrixMarket matrix coordinate pattern symmetric\n4 4 3\n2 1\n3 1\n",
-        MatrixKind::TooFew,
-        5,
-    ),
-    (
-        "%%MatrixMarket matrix coordinate pattern symmetric\n4 4 4\n2 1\n3 1\n4 1\n",
-        MatrixKind::TooFew,
-        6,
-    ),
-    (
-        "%%MatrixMarket matrix coordinate pattern symmetric\n4 4 1\n2 1\n\nx\n",
-        MatrixKind::TooMany,
-        5,
-    ),
-    (
-        "%%MatrixMarket matrix coordinate pattern symmetric\n4 4 0\n2 1\n",
-        MatrixKind::TooMany,
-        3,
-    ),
-    (
-        "%%MatrixMarket matrix coordinate pattern symmetric",
-        MatrixKind::SizeLine,
-        2,
-    ),
-];
-
-const LIMITS: [(&str, LimitName); 2] = [
-    (
-        "%%MatrixMarket matrix coordinate pattern general\n1000001 1000001 10000001\n",
-        LimitName::Order,
-    ),
-    (
-        "%%MatrixMarket matrix coordinate pattern general\n1000000 1000000 10000001\n",
-        LimitName::Entries,
+        "%%MatrixMarket matrix coordinate pattern general\n",
+        &[
+            ("1 2 0\n", "not-square at line 2"),
+            ("2 2 1\n", "too-few at line 3"),
+            ("1000001 1000001 0\n", "limit order"),
+            ("1000001 1000001 10000001\n", "limit order"),
+            ("1000000 1000000 10000001\n", "limit entries"),
+        ],
     ),
 ];
 
 #[test]
-fn refuses(rt: HostRuntime) {
+fn refuses(rt: HostRuntime) -> Result<(), Fail> {
     let alloc = rt.alloc();
-    for (text, kind, line) in REFUSED_TEXTS {
-        assert_eq!(rt;
-            refusal_of(alloc, text.as_bytes()),
-            Some(Refusal::Format(Fault { line, kind })),
-            "{text}"
-        );
+    for (start, rows) in REFUSED {
+        for (rest, said) in rows {
+            let text = format!(in alloc; "{start}{rest}")?;
+            let refusal = read_pattern(alloc, text.as_bytes()).err().ok_or(*rest)?;
+            assert_eq!(rt; format!(in alloc; "{refusal}")?.as_str(), *said, "{text}");
+        }
     }
-    for (text, limit) in LIMITS {
-        assert_eq!(rt;
-            refusal_of(alloc, text.as_bytes()),
-            Some(Refusal::Limit(limit)),
-            "{text}"
-        );
-    }
+    Ok(())
 }
 
 // Whether a pair names these two, in one order or the other.
@@ -286,21 +191,6 @@ fn joins_pairs(rt: HostRuntime) -> Result<(), Fail> {
                 "{a} {b}"
             );
         }
-    }
-    Ok(())
-}
-
-#[test]
-fn refusals_in_words(rt: HostRuntime) -> Result<(), Fail> {
-    let banner = "%%MatrixMarket matrix coordinate pattern general\n";
-    for (rest, said) in [
-        ("1 2 0\n", "not-square at line 2"),
-        ("2 2 1\n", "too-few at line 3"),
-        ("1000001 1000001 0\n", "limit order"),
-    ] {
-        let text = format!(in rt.alloc(); "{banner}{rest}")?;
-        let refusal = read_pattern(rt.alloc(), text.as_bytes()).err().ok_or(rest)?;
-        assert_eq!(rt; format!(in rt.alloc(); "{refusal}")?.as_str(), said);
     }
     Ok(())
 }

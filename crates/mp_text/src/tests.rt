@@ -87,6 +87,11 @@ fn reads_lines_and_tokens(rt: HostRuntime) -> Result<(), Fail> {
         let report = listed(rt.alloc(), text.as_bytes(), layout)?;
         assert_eq!(rt; report.bytes(), expected.as_bytes(), "at {text:?}");
     }
+    Ok(())
+}
+
+#[test]
+fn gives_raw_lines(rt: HostRuntime) {
     let mut lines = Lines::new(b"% b\n\nlast", Layout::Commented);
     for (line, text) in [(1, "% b"), (2, ""), (3, "last")] {
         let next = lines.raw().expect(&rt, "a line");
@@ -95,52 +100,32 @@ fn reads_lines_and_tokens(rt: HostRuntime) -> Result<(), Fail> {
     }
     assert!(rt; lines.raw().is_none());
     assert_eq!(rt; lines.past(), 4);
-    Ok(())
 }
 
 #[test]
-fn reads_and_prints_numbers(rt: HostRuntime) -> Result<(), Fail> {
-    for (token, expected) in [
-        ("0", Some(0)),
-        ("007", Some(7)),
-        ("18446744073709551615", Some(u64::MAX)),
-        ("0018446744073709551615", Some(u64::MAX)),
-        ("18446744073709551616", None),
-        ("", None),
-        ("-1", None),
-        ("+1", None),
-        ("1a", None),
+fn reads_numbers(rt: HostRuntime) {
+    // a token, and the number and the signed number that it spells
+    for (token, unsigned, with_sign) in [
+        ("0", Some(0), Some(0)),
+        ("007", Some(7), Some(7)),
+        ("-1", None, Some(-1)),
+        ("-0", None, Some(0)),
+        ("", None, None),
+        ("-", None, None),
+        ("--1", None, None),
+        ("+1", None, None),
+        ("1a", None, None),
+        ("18446744073709551615", Some(u64::MAX), None),
+        ("0018446744073709551615", Some(u64::MAX), None),
+        ("18446744073709551616", None, None),
+        ("9223372036854775807", Some(u64::MAX / 2), Some(i64::MAX)),
+        ("9223372036854775808", Some(u64::MAX / 2 + 1), None),
+        ("-9223372036854775808", None, Some(i64::MIN)),
+        ("-9223372036854775809", None, None),
     ] {
-        assert_eq!(rt; number(token.as_bytes()), expected, "at {token}");
+        assert_eq!(rt; number(token.as_bytes()), unsigned, "at {token}");
+        assert_eq!(rt; signed(token.as_bytes()), with_sign, "at {token}");
     }
-    for (token, expected) in [
-        ("-1", Some(-1)),
-        ("-0", Some(0)),
-        ("007", Some(7)),
-        ("-", None),
-        ("", None),
-        ("--1", None),
-        ("+1", None),
-        ("9223372036854775807", Some(i64::MAX)),
-        ("9223372036854775808", None),
-        ("-9223372036854775808", Some(i64::MIN)),
-        ("-9223372036854775809", None),
-    ] {
-        assert_eq!(rt; signed(token.as_bytes()), expected, "at {token}");
-    }
-    let mut report = Report::new(rt.alloc());
-    report.word("peak")?;
-    report.num(u64::MAX)?;
-    report.end_line()?;
-    report.end_line()?;
-    report.int(i64::MIN)?;
-    report.word("F")?;
-    report.int(7)?;
-    assert_eq!(rt;
-        report.bytes(),
-        "peak 18446744073709551615\n\n-9223372036854775808 F 7".as_bytes()
-    );
-    Ok(())
 }
 
 #[test]
@@ -161,7 +146,8 @@ fn reads_a_format(rt: HostRuntime) -> Result<(), Fail> {
 }
 
 #[test]
-fn reads_lines_of_a_form(rt: HostRuntime) -> Result<(), Fail> {
+fn counts_tokens(rt: HostRuntime) {
+    // a line, whether it is one, two or four tokens, and its two numbers
     for (text, one, two, four, numbers) in [
         ("", false, false, false, None),
         (" 7 ", true, false, false, None),
@@ -189,6 +175,11 @@ fn reads_lines_of_a_form(rt: HostRuntime) -> Result<(), Fail> {
     assert_eq!(rt; words.next_number(), Some(3));
     assert_eq!(rt; words.next_number(), None);
     assert_eq!(rt; words.numbers::<1>(), Some([5]));
+}
+
+#[test]
+fn reads_words(rt: HostRuntime) {
+    // a line, whether it is `end`, what follows `nodes`, and the version that `tree` has
     for (text, end, nodes, version) in [
         ("end", true, None, None),
         ("end end", false, None, None),
@@ -201,31 +192,34 @@ fn reads_lines_of_a_form(rt: HostRuntime) -> Result<(), Fail> {
         ("trees 1", false, None, None),
     ] {
         let line = text.as_bytes();
-        assert_eq!(rt; is_word(line, b"end"), end, "at {text:?}");
         let after = after_word(line, b"nodes").and_then(|token| str::from_utf8(token).ok());
+        assert_eq!(rt; is_word(line, b"end"), end, "at {text:?}");
         assert_eq!(rt; after, nodes, "at {text:?}");
         assert_eq!(rt; version_of(line, b"tree"), version, "at {text:?}");
     }
-    Ok(())
 }
 
 #[test]
-fn prints_lines(rt: HostRuntime) -> Result<(), Fail> {
+fn prints(rt: HostRuntime) -> Result<(), Fail> {
     let mut report = Report::new(rt.alloc());
     report.line(&[Token::Word("tree"), Token::Word(Version::Two.word())])?;
     report.line(&[])?;
-    let before = report.len();
+    let start = report.len();
     report.line(&[
         Token::Number(u64::MAX),
         Token::Word("F"),
         Token::Signed(i64::MIN),
     ])?;
-    assert_eq!(rt;
-        report.bytes(),
-        "tree 2\n\n18446744073709551615 F -9223372036854775808\n".as_bytes()
-    );
-    report.cut(before);
-    assert_eq!(rt; report.bytes(), "tree 2\n\n".as_bytes());
+    let lines = "tree 2\n\n18446744073709551615 F -9223372036854775808\n";
+    assert_eq!(rt; report.bytes(), lines.as_bytes());
+    report.cut(start);
+    report.word("peak")?;
+    report.num(u64::MAX)?;
+    report.end_line()?;
+    report.int(i64::MIN)?;
+    report.int(7)?;
+    let words = "tree 2\n\npeak 18446744073709551615\n-9223372036854775808 7";
+    assert_eq!(rt; report.bytes(), words.as_bytes());
     Ok(())
 }
 

@@ -1,9 +1,9 @@
-ghost use Rattle.std.specs.Prelude.{◌≡◌, [], MatchResult};
+ghost use Rattle.std.specs.Prelude.{◌≡◌, ℕ, List, [], MatchResult};
 ghost use Rattle.mp_text.specs.Ahead.{row};
 ghost use Rattle.mp_text.specs.Reading.{Steps};
 ghost use Rattle.ordering.specs.Kinds.{order_file_word};
-ghost use Rattle.ordering.specs.OrderFile.{ReadsOrder, IsOrderRefusal};
-ghost use Rattle.ordering.specs.Reader.{number_step, order_step};
+ghost use Rattle.ordering.specs.OrderFile.{order_format, ReadsOrder, IsOrderRefusal};
+ghost use Rattle.ordering.specs.Reader.{number_step, order_step, took_order};
 
 use limits::{LimitName, MOST_TASKS};
 use mp_text::{Kind, Layout, Line, Reader, Refusal, fault, number, read_with, tokens};
@@ -40,8 +40,6 @@ struct OrderReader {
 }
 
 impl Model for OrderReader {
-    ghost use Rattle.std.specs.Prelude.{ℕ, List};
-
     ghost Value = { List ℕ };
 
     ghost view = { λ s. s.numbers.items };
@@ -53,9 +51,7 @@ impl OrderReader {
     fn take(&mut self, line: u64, token: &[u8]) -> Result<(), Refusal<OrderFileKind>>
         ensures { Steps (number_step line self.old token.now) result self.new }
     {
-        let Some(value) = number(token) else {
-            return Err(fault(line, OrderFileKind::Number));
-        };
+        let value = number(token).ok_or(fault(line, OrderFileKind::Number))?;
         if value > u64::from(u32::MAX) {
             return Err(fault(line, OrderFileKind::Number));
         }
@@ -80,9 +76,6 @@ impl OrderReader {
 impl Reader for OrderReader {
     type Kind = OrderFileKind;
 
-    ghost use Rattle.ordering.specs.Reader.{took_order};
-    ghost use Rattle.ordering.specs.OrderFile.{order_format};
-
     ghost format = { λ _. order_format };
 
     ghost took = { took_order };
@@ -100,9 +93,7 @@ impl Reader for OrderReader {
 pub fn read_order(alloc: Global, bytes: &[u8]) -> Result<Vec<u32>, Refusal<OrderFileKind>>
     ensures { MatchResult result (λ numbers. ReadsOrder bytes.now numbers.items) (IsOrderRefusal bytes.now) }
 {
-    let reader = OrderReader {
-        numbers: Vec::new(alloc),
-    };
-    let reader = read_with(bytes, Layout::Commented, reader)?;
+    let numbers = Vec::new(alloc);
+    let reader = read_with(bytes, Layout::Commented, OrderReader { numbers })?;
     Ok(reader.numbers)
 }

@@ -1,6 +1,7 @@
-ghost use Rattle.std.specs.Prelude.{◌≡◌, ℕ, ◌+◌, ◌≤◌, ◌^◌, length, drop, slice_index, IfOk};
+ghost use Rattle.std.specs.Prelude.{◌≡◌, ℕ, ◌+◌, ◌≤◌, ◌^◌, List, length, drop, slice_index, IfOk};
 ghost use Rattle.std.specs.List.{range_with_len};
 ghost use Rattle.ordering.specs.Perm.{AreInverse, IsPerm, vertex_at, place_of};
+ghost use Rattle.ordering.specs.PermTables.{order_in, ArePermTables};
 
 pub(crate) use crate::NoMemory;
 use std::alloc::Global;
@@ -16,11 +17,7 @@ pub struct Perm {
 }
 
 impl Model for Perm {
-    ghost use Rattle.std.specs.Prelude.{ℕ, List};
-
     ghost Value = { List ℕ };
-
-    ghost use Rattle.ordering.specs.PermTables.{order_in, ArePermTables};
 
     ghost view = { λ p. order_in p.vertices.items };
 

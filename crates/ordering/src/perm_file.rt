@@ -4,8 +4,9 @@ ghost use Rattle.mp_text.specs.Reading.{Gives, Steps, tested};
 ghost use Rattle.ordering.specs.Kinds.{perm_word};
 ghost use Rattle.ordering.specs.OrderFile.{value_of};
 ghost use Rattle.ordering.specs.Perm.{IsVertex, times};
-ghost use Rattle.ordering.specs.PermFile.{perm_token_tests, ReadsPerm, IsPermRefusal};
-ghost use Rattle.ordering.specs.Reader.{vertex_step, perm_step, perm_end};
+ghost use Rattle.ordering.specs.PermFile.{perm_token_tests, perm_format, ReadsPerm, IsPermRefusal};
+ghost use Rattle.ordering.specs.PermTables.{order_in, ArePartTables};
+ghost use Rattle.ordering.specs.Reader.{PermState, vertex_step, perm_step, perm_end, took_perm};
 
 use crate::perm::{NoMemory, Perm};
 use mp_text::{Kind, Layout, Line, Reader, Refusal, fault, number, read_with, tokens};
@@ -54,11 +55,7 @@ struct PermReader {
 }
 
 impl Model for PermReader {
-    ghost use Rattle.ordering.specs.Reader.{PermState};
-
     ghost Value = { PermState };
-
-    ghost use Rattle.ordering.specs.PermTables.{order_in, ArePartTables};
 
     ghost view = { λ s. record { n = s.n; numbers = order_in s.vertices.items } };
 
@@ -95,9 +92,7 @@ impl PermReader {
         ensures range { IfOk result (λ v. IsVertex self.now.n v) }
         ensures fresh { IfOk result (λ v. times self.now.numbers v ≡ 0) }
     {
-        let Some(value) = number(token) else {
-            return Err(fault(line, PermKind::Number));
-        };
+        let value = number(token).ok_or(fault(line, PermKind::Number))?;
         if self.vertices.len() > self.n as usize {
             return Err(fault(line, PermKind::Count));
         }
@@ -146,9 +141,6 @@ impl PermReader {
 
 impl Reader for PermReader {
     type Kind = PermKind;
-
-    ghost use Rattle.ordering.specs.Reader.{took_perm};
-    ghost use Rattle.ordering.specs.PermFile.{perm_format};
 
     ghost format = { λ s. perm_format s.n };
 

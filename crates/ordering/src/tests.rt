@@ -1,31 +1,34 @@
-use crate::{OrderFileKind, Perm, PermKind, identity, read_order, read_perm};
-use mp_text::{Fault, Refusal};
+use crate::{Perm, identity, read_order, read_perm};
 use std::process::Abort;
 use std::test::Fail;
 
 #[test]
 fn order_files(rt: HostRuntime) -> Result<(), Fail> {
-    // the text, and its numbers or the line that is refused
-    let rows: [(&str, Result<&[u32], u64>); 9] = [
-        ("", Ok(&[])),
-        ("1 3 2 4 5\n", Ok(&[1, 3, 2, 4, 5])),
-        ("# tasks\r\n1\t3\r\n\n% more\n 002", Ok(&[1, 3, 2])),
-        ("0 4294967295", Ok(&[0, 4_294_967_295])),
-        ("1\n4294967296\n", Err(2)),
-        ("1 18446744073709551616\n", Err(1)),
-        ("1\n\n2 x\n", Err(3)),
-        ("1 # 2\n", Err(1)),
-        ("-1\n", Err(1)),
+    let rows: [(&str, &[u32]); 4] = [
+        ("", &[]),
+        ("1 3 2 4 5\n", &[1, 3, 2, 4, 5]),
+        ("# tasks\r\n1\t3\r\n\n% more\n 002", &[1, 3, 2]),
+        ("0 4294967295", &[0, 4_294_967_295]),
     ];
-    for (text, want) in rows {
-        match (read_order(rt.alloc(), text.as_bytes()), want) {
-            (Ok(numbers), Ok(wanted)) => assert_eq!(rt; numbers.as_slice(), wanted, "{text}"),
-            (Err(refusal), Err(line)) => {
-                let kind = OrderFileKind::Number;
-                assert_eq!(rt; refusal, Refusal::Format(Fault { line, kind }), "{text}");
-            }
-            _ => assert!(rt; false, "{text}"),
-        }
+    for (text, wanted) in rows {
+        let numbers = read_order(rt.alloc(), text.as_bytes())?;
+        assert_eq!(rt; numbers.as_slice(), wanted, "{text}");
+    }
+    Ok(())
+}
+
+#[test]
+fn refused_order_files(rt: HostRuntime) -> Result<(), Fail> {
+    let alloc = rt.alloc();
+    for (text, said) in [
+        ("1\n4294967296\n", "number at line 2"),
+        ("1 18446744073709551616\n", "number at line 1"),
+        ("1\n\n2 x\n", "number at line 3"),
+        ("1 # 2\n", "number at line 1"),
+        ("-1\n", "number at line 1"),
+    ] {
+        let refusal = read_order(alloc, text.as_bytes()).err().ok_or(text)?;
+        assert_eq!(rt; format!(in alloc; "{refusal}")?.as_str(), said, "{text}");
     }
     Ok(())
 }
@@ -74,47 +77,28 @@ fn orders_of_tables(rt: HostRuntime) -> Result<(), Fail> {
 
 #[test]
 fn refused_permutation_files(rt: HostRuntime) -> Result<(), Fail> {
-    // the text, and what is wrong with it as an order of 4 vertices, in which line
-    let rows: [(&str, PermKind, u64); 16] = [
-        ("2 2 1 4\n", PermKind::Repeated, 1),
-        ("5 1 2 3\n", PermKind::Range, 1),
-        ("x\n", PermKind::Number, 1),
-        ("1 2 3 4 5\n", PermKind::Count, 1),
-        ("2 3 1\n", PermKind::Count, 2),
-        ("", PermKind::Count, 1),
-        ("# none\n\n", PermKind::Count, 3),
-        ("0 1 2 3", PermKind::Range, 1),
-        ("1 2\n3\n2\n", PermKind::Repeated, 3),
-        ("1 2\r\n3 5\r\n", PermKind::Range, 2),
-        ("1 2 3 4\n1\n", PermKind::Count, 2),
-        ("1 2 3 4\nx\n", PermKind::Number, 2),
-        ("18446744073709551617 1 2 3", PermKind::Number, 1),
-        ("4294967297 1 2 3", PermKind::Range, 1),
-        ("1 2 3 # 4", PermKind::Number, 1),
-        ("-1 2 3 4", PermKind::Number, 1),
-    ];
-    for (text, kind, line) in rows {
-        match read_perm(rt.alloc(), text.as_bytes(), 4) {
-            Ok(_) => assert!(rt; false, "{text}"),
-            Err(refusal) => {
-                assert_eq!(rt; refusal, Refusal::Format(Fault { line, kind }), "{text}");
-            }
-        }
-    }
-    Ok(())
-}
-
-#[test]
-fn refusals_in_words(rt: HostRuntime) -> Result<(), Fail> {
-    let number = OrderFileKind::Number;
-    assert_eq!(rt; format!(in rt.alloc(); "{number}")?.as_str(), "number");
-    for (kind, word) in [
-        (PermKind::Number, "number"),
-        (PermKind::Range, "range"),
-        (PermKind::Repeated, "repeated"),
-        (PermKind::Count, "count"),
+    let alloc = rt.alloc();
+    // as orders of 4 vertices
+    for (text, said) in [
+        ("2 2 1 4\n", "repeated at line 1"),
+        ("5 1 2 3\n", "range at line 1"),
+        ("x\n", "number at line 1"),
+        ("1 2 3 4 5\n", "count at line 1"),
+        ("2 3 1\n", "count at line 2"),
+        ("", "count at line 1"),
+        ("# none\n\n", "count at line 3"),
+        ("0 1 2 3", "range at line 1"),
+        ("1 2\n3\n2\n", "repeated at line 3"),
+        ("1 2\r\n3 5\r\n", "range at line 2"),
+        ("1 2 3 4\n1\n", "count at line 2"),
+        ("1 2 3 4\nx\n", "number at line 2"),
+        ("18446744073709551617 1 2 3", "number at line 1"),
+        ("4294967297 1 2 3", "range at line 1"),
+        ("1 2 3 # 4", "number at line 1"),
+        ("-1 2 3 4", "number at line 1"),
     ] {
-        assert_eq!(rt; format!(in rt.alloc(); "{kind}")?.as_str(), word);
+        let refusal = read_perm(alloc, text.as_bytes(), 4).err().ok_or(text)?;
+        assert_eq!(rt; format!(in alloc; "{refusal}")?.as_str(), said, "{text}");
     }
     Ok(())
 }

@@ -6,7 +6,7 @@ use Rattle.mp_text.specs.Text.{Row}
 use Rattle.mp_text.specs.declared.words.Version.{Version}
 use Rattle.mp_text.specs.declared.words.Version.TheVariants.{One, Two}
 use Rattle.mp_text.specs.Reading.{tested}
-use Rattle.plan_text.specs.PlanFile.{Stated, version_stated, stated_on, task_on, claim_on, tests_after, end_tests_after, stated}
+use Rattle.plan_text.specs.PlanFile.{Stated, version_stated, stated_on, task_on, claim_on, staged_tests, end_tests_after, stated}
 use Rattle.plan_text.specs.declared.claim.PlanKind.{PlanKind}
 use Rattle.plan_text.specs.declared.stage.Stage.{Stage}
 use Rattle.plan_text.specs.declared.stage.Stage.TheVariants as stages
@@ -44,8 +44,11 @@ staged_next stages.Ended s row = s
 abbrev pub next : Stated → Row → Stated
 next s row = staged_next s.stage s row
 
+abbrev pub staged_step : Stage → Stated → Row → Result Stated (Refusal PlanKind)
+staged_step stage s row = tested (staged_tests stage s row) (staged_next stage s row)
+
 unfoldable pub plan_step : Stated → Row → Result Stated (Refusal PlanKind)
-plan_step s row = tested (tests_after s row) (next s row)
+plan_step s row = staged_step s.stage s row
 
 unfoldable pub plan_end : Stated → ℕ → Result Stated (Refusal PlanKind)
 plan_end s past = tested (end_tests_after s past) s

@@ -23,7 +23,7 @@ fn number_up_to(most: u64, token: &[u8]) -> Option<u64>
     ensures { MatchOption result (is_number_up_to most token.now ≡ false) (λ n. (number_of token.now ≡ Some n) × (n ≤ most)) }
 {
     let value = number(token)?;
-    if value > most { None } else { Some(value) }
+    (value <= most).then_some(value)
 }
 
 // The bound that a token spells, if it is from -2^60 to 2^60.
@@ -31,11 +31,7 @@ fn bound_of(token: &[u8]) -> Option<i64>
     ensures { MatchOption result (is_bound token.now ≡ false) (λ z. (signed_of token.now ≡ Some z) × (unsigned_abs z ≤ most_total)) }
 {
     let value = signed(token)?;
-    if value.unsigned_abs() > MOST_TOTAL {
-        None
-    } else {
-        Some(value)
-    }
+    (value.unsigned_abs() <= MOST_TOTAL).then_some(value)
 }
 
 // The direction that a token names.
@@ -56,28 +52,21 @@ fn dir_named(token: &[u8]) -> Option<Dir>
 pub fn header_on(line: Line<'_>) -> Result<Version, Refusal<PlanKind>>
     ensures { let r = row line.entry.number line.entry.text.now in Gives (tested (header_tests r) (version_stated r)) result }
 {
-    match version_of(line.text, b"plan") {
-        Some(version) => Ok(version),
-        None => Err(fault(line.number, PlanKind::Header)),
-    }
+    version_of(line.text, b"plan").ok_or(fault(line.number, PlanKind::Header))
 }
 
 // The number of a line that begins a section.
 fn section_on(line: Line<'_>, word: &[u8]) -> Result<u64, Refusal<PlanKind>>
     ensures { let r = row line.entry.number line.entry.text.now in Gives (tested (section_form word.now r) (stated_on word.now r)) result }
 {
-    let Some(stated) = after_word(line.text, word) else {
-        return Err(fault(line.number, PlanKind::Section));
-    };
-    match number(stated) {
-        Some(stated) => Ok(stated),
-        None => Err(fault(line.number, PlanKind::Number)),
-    }
+    let stated = after_word(line.text, word).ok_or(fault(line.number, PlanKind::Section))?;
+    number(stated).ok_or(fault(line.number, PlanKind::Number))
 }
 
 /// `order N`: the number of tasks.
 pub fn order_section_on(line: Line<'_>) -> Result<u64, Refusal<PlanKind>>
-    ensures judged { let r = row line.entry.number line.entry.text.now in Gives (tested (order_section_tests r) (stated_on (codes "order") r)) result }
+    ensures judged { let r = row line.entry.number line.entry.text.now in
+        Gives (tested (order_section_tests r) (stated_on (codes "order") r)) result }
     ensures few { IfOk result (λ n. n ≤ most_tasks) }
 {
     let count = section_on(line, b"order")?;
@@ -89,7 +78,8 @@ pub fn order_section_on(line: Line<'_>) -> Result<u64, Refusal<PlanKind>>
 
 /// `priority M`: the number of tasks that it ranks, all or none.
 pub fn priority_section_on(tasks: u64, line: Line<'_>) -> Result<u64, Refusal<PlanKind>>
-    ensures judged { let r = row line.entry.number line.entry.text.now in Gives (tested (priority_section_tests tasks r) (stated_on (codes "priority") r)) result }
+    ensures judged { let r = row line.entry.number line.entry.text.now in
+        Gives (tested (priority_section_tests tasks r) (stated_on (codes "priority") r)) result }
     ensures few { IfOk result (λ n. n ≤ tasks) }
 {
     let count = section_on(line, b"priority")?;
@@ -112,7 +102,8 @@ pub fn peak_on(line: Line<'_>) -> Result<u64, Refusal<PlanKind>>
 
 /// `claims C`: the number of claims.
 pub fn claims_section_on(line: Line<'_>) -> Result<u64, Refusal<PlanKind>>
-    ensures judged { let r = row line.entry.number line.entry.text.now in Gives (tested (claims_section_tests r) (stated_on (codes "claims") r)) result }
+    ensures judged { let r = row line.entry.number line.entry.text.now in
+        Gives (tested (claims_section_tests r) (stated_on (codes "claims") r)) result }
     ensures few { IfOk result (λ n. n ≤ most_positions) }
 {
     let count = section_on(line, b"claims")?;
@@ -126,26 +117,23 @@ pub fn claims_section_on(line: Line<'_>) -> Result<u64, Refusal<PlanKind>>
 pub fn order_on(line: Line<'_>) -> Result<u32, Refusal<PlanKind>>
     ensures { let r = row line.entry.number line.entry.text.now in Gives (tested (order_tests r) (task_on r)) result }
 {
-    let Some(token) = tokens(line.text).one() else {
-        return Err(fault(line.number, PlanKind::Order));
-    };
-    match number_up_to(MOST_NUMBER, token) {
-        Some(task) => Ok(task as u32),
-        None => Err(fault(line.number, PlanKind::Number)),
-    }
+    let token = tokens(line.text)
+        .one()
+        .ok_or(fault(line.number, PlanKind::Order))?;
+    let task = number_up_to(MOST_NUMBER, token).ok_or(fault(line.number, PlanKind::Number))?;
+    Ok(task as u32)
 }
 
 /// A priority line, after those that the ranking holds: the task.
 pub fn priority_on(ranking: &Ranking, line: Line<'_>) -> Result<u32, Refusal<PlanKind>>
-    ensures judged { let r = row line.entry.number line.entry.text.now in Gives (tested (priority_tests ranking.now.tasks ranking.now.ranked r) (task_on r)) result }
+    ensures judged { let r = row line.entry.number line.entry.text.now in
+        Gives (tested (priority_tests ranking.now.tasks ranking.now.ranked r) (task_on r)) result }
     ensures task { IfOk result (IsTask ranking.now.tasks) }
 {
-    let Some(token) = tokens(line.text).one() else {
-        return Err(fault(line.number, PlanKind::Priority));
-    };
-    let Some(task) = number(token) else {
-        return Err(fault(line.number, PlanKind::Number));
-    };
+    let token = tokens(line.text)
+        .one()
+        .ok_or(fault(line.number, PlanKind::Priority))?;
+    let task = number(token).ok_or(fault(line.number, PlanKind::Number))?;
     if !ranking.takes(task) {
         return Err(fault(line.number, PlanKind::Priority));
     }
@@ -166,21 +154,13 @@ fn last_position(claims: &[Claim]) -> u32
 fn claim_stated(line: Line<'_>) -> Result<Claim, Refusal<PlanKind>>
     ensures { let r = row line.entry.number line.entry.text.now in Gives (tested (claim_form r) (claim_on r)) result }
 {
-    let Some((position, dir, bound, rest)) = tokens(line.text).four() else {
-        return Err(fault(line.number, PlanKind::Claim));
-    };
-    let Some(dir) = dir_named(dir) else {
-        return Err(fault(line.number, PlanKind::Claim));
-    };
-    let Some(position) = number_up_to(MOST_NUMBER, position) else {
-        return Err(fault(line.number, PlanKind::Number));
-    };
-    let Some(bound) = bound_of(bound) else {
-        return Err(fault(line.number, PlanKind::Number));
-    };
-    let Some(rest) = number_up_to(MOST_TOTAL, rest) else {
-        return Err(fault(line.number, PlanKind::Number));
-    };
+    let no_claim = fault(line.number, PlanKind::Claim);
+    let no_number = fault(line.number, PlanKind::Number);
+    let (position, dir, bound, rest) = tokens(line.text).four().ok_or(no_claim)?;
+    let dir = dir_named(dir).ok_or(no_claim)?;
+    let position = number_up_to(MOST_NUMBER, position).ok_or(no_number)?;
+    let bound = bound_of(bound).ok_or(no_number)?;
+    let rest = number_up_to(MOST_TOTAL, rest).ok_or(no_number)?;
     Ok(Claim {
         position: position as u32,
         dir,

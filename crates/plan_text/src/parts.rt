@@ -55,7 +55,8 @@ pub fn is_plan(
     claims: &[Claim],
     priority: &[u32],
 ) -> Result<bool, NoMemory>
-    ensures { IfOk result (λ yes. IsTrue yes ↔ IsPlan (record { order = order.now; peak = peak; claims = claims.now; priority = priority.now })) }
+    ensures { IfOk result (λ yes. IsTrue yes
+        ↔ IsPlan (record { order = order.now; peak = peak; claims = claims.now; priority = priority.now })) }
 {
     if order.len() as u64 > MOST_TASKS || peak > MOST_TOTAL {
         return Ok(false);

@@ -1,4 +1,5 @@
 ghost use Rattle.std.specs.Prelude.{◌≡◌, MatchResult};
+ghost use Rattle.plan_text.specs.Plan.{PlanText, IsPlan};
 ghost use Rattle.plan_text.specs.PlanFile.{ReadsPlan, IsPlanRefusal};
 
 use crate::claim::{Claim, PlanKind};
@@ -18,18 +19,15 @@ pub struct PlanFile {
 }
 
 impl Model for PlanFile {
-    ghost use Rattle.plan_text.specs.Plan.{PlanText, IsPlan};
-
     ghost Value = { PlanText };
 
     ghost view = { λ p. record { order = p.order.items; peak = p.peak; claims = p.claims.items; priority = p.priority.items } };
 
-    ghost invariant = { λ p. IsPlan (record { order = p.order.items; peak = p.peak; claims = p.claims.items; priority = p.priority.items }) };
+    ghost invariant = { λ p.
+        IsPlan (record { order = p.order.items; peak = p.peak; claims = p.claims.items; priority = p.priority.items }) };
 }
 
 impl PlanFile {
-    ghost use Rattle.plan_text.specs.Plan.{PlanText, IsPlan};
-
     /// A plan of these parts. `is_plan` tells whether they make one.
     pub fn new(order: Vec<u32>, peak: u64, claims: Vec<Claim>, priority: Vec<u32>) -> PlanFile
         requires { IsPlan (record { order = order.items; peak = peak; claims = claims.items; priority = priority.items }) }

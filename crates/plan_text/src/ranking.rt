@@ -1,5 +1,6 @@
 ghost use Rattle.std.specs.Prelude.{◌≡◌, ◌==◌, ◌&&◌, [], ◌∷◌, ◌++◌, ◌≤◌, length, nat_le, IsTrue, OnOk};
 ghost use Rattle.plan_text.specs.Plan.{IsTask, most_number, times};
+ghost use Rattle.plan_text.specs.Ranking.{RankingState, AreMarks};
 
 use crate::NoMemory;
 use std::alloc::Global;
@@ -14,8 +15,6 @@ pub struct Ranking {
 }
 
 impl Model for Ranking {
-    ghost use Rattle.plan_text.specs.Ranking.{RankingState, AreMarks};
-
     ghost Value = { RankingState };
 
     ghost view = { λ s. record { tasks = s.tasks; ranked = s.ranked.items } };

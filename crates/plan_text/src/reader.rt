@@ -1,6 +1,9 @@
-ghost use Rattle.std.specs.Prelude.{◌≡◌, ◌≤◌, nat_lt, length};
+ghost use Rattle.std.specs.Prelude.{◌≡◌, ◌≤◌};
+ghost use Rattle.limits.specs.Limits.{most_positions};
 ghost use Rattle.mp_text.specs.Ahead.{row};
 ghost use Rattle.mp_text.specs.Reading.{Steps, tested};
+ghost use Rattle.plan_text.specs.PlanFile.{Stated, nothing, peak_tests, priority_section_tests, plan_format};
+ghost use Rattle.plan_text.specs.Reader.{peak_next, ranks_next, staged_step, plan_step, plan_end, took};
 
 use crate::claim::{Claim, PlanKind};
 use crate::lines::{
@@ -26,22 +29,23 @@ pub struct PlanReader {
 }
 
 impl Model for PlanReader {
-    ghost use Rattle.plan_text.specs.PlanFile.{Stated};
-
     ghost Value = { Stated };
 
-    ghost view = { λ s. record { stage = s.stage; version = s.version; count = s.count; tasks = s.ranking.tasks; order = s.order.items; priority = s.ranking.ranked; peak = s.peak; claims = s.claims.items } };
-
-    ghost use Rattle.std.specs.Prelude.{◌≤◌};
-    ghost use Rattle.limits.specs.Limits.{most_positions};
+    ghost view = { λ s. record {
+      stage = s.stage;
+      version = s.version;
+      count = s.count;
+      tasks = s.ranking.tasks;
+      order = s.order.items;
+      priority = s.ranking.ranked;
+      peak = s.peak;
+      claims = s.claims.items;
+    } };
 
     ghost invariant = { λ s. s.count ≤ most_positions };
 }
 
 impl PlanReader {
-    ghost use Rattle.plan_text.specs.PlanFile.{nothing, peak_tests, priority_section_tests, order_tests, priority_tests, claim_tests, staged_tests};
-    ghost use Rattle.plan_text.specs.Reader.{peak_next, ranks_next, with_task, with_rank, with_claim, staged_next, plan_step, plan_end};
-
     /// A reader of which nothing was read.
     pub fn new(alloc: Global) -> PlanReader
         ensures { result ≡ nothing }
@@ -59,7 +63,8 @@ impl PlanReader {
 
     // Takes `peak P`.
     fn peak_line(&mut self, line: Line<'_>) -> Result<(), Refusal<PlanKind>>
-        ensures { let r = row line.entry.number line.entry.text.now in Steps (tested (peak_tests r) (peak_next self.old r)) result self.new }
+        ensures { let r = row line.entry.number line.entry.text.now in
+            Steps (tested (peak_tests r) (peak_next self.old r)) result self.new }
     {
         self.peak = peak_on(line)?;
         self.stage = Stage::ClaimsSection;
@@ -68,7 +73,8 @@ impl PlanReader {
 
     // Takes `priority M`.
     fn priority_section(&mut self, line: Line<'_>) -> Result<(), Refusal<PlanKind>>
-        ensures { let r = row line.entry.number line.entry.text.now in Steps (tested (priority_section_tests self.old.count r) (ranks_next self.old r)) result self.new }
+        ensures { let r = row line.entry.number line.entry.text.now in
+            Steps (tested (priority_section_tests self.old.count r) (ranks_next self.old r)) result self.new }
     {
         let count = priority_section_on(self.count, line)?;
         self.ranking.begin(self.count as u32)?;
@@ -80,7 +86,7 @@ impl PlanReader {
     // Takes a line after `order N`.
     fn order_line(&mut self, line: Line<'_>) -> Result<(), Refusal<PlanKind>>
         requires { self.old.stage ≡ Stage.Order }
-        ensures { let r = row line.entry.number line.entry.text.now in Steps (tested (staged_tests Stage.Order self.old r) (staged_next Stage.Order self.old r)) result self.new }
+        ensures { Steps (staged_step Stage.Order self.old (row line.entry.number line.entry.text.now)) result self.new }
     {
         if (self.order.len() as u64) < self.count {
             let task = order_on(line)?;
@@ -96,7 +102,7 @@ impl PlanReader {
     // Takes a line after `priority M`.
     fn priority_line(&mut self, line: Line<'_>) -> Result<(), Refusal<PlanKind>>
         requires { self.old.stage ≡ Stage.Priority }
-        ensures { let r = row line.entry.number line.entry.text.now in Steps (tested (staged_tests Stage.Priority self.old r) (staged_next Stage.Priority self.old r)) result self.new }
+        ensures { Steps (staged_step Stage.Priority self.old (row line.entry.number line.entry.text.now)) result self.new }
     {
         if (self.ranking.len() as u64) < self.count {
             let task = priority_on(&self.ranking, line)?;
@@ -109,7 +115,7 @@ impl PlanReader {
     // Takes a line after `claims C`.
     fn body_line(&mut self, line: Line<'_>) -> Result<(), Refusal<PlanKind>>
         requires { self.old.stage ≡ Stage.Claims }
-        ensures { let r = row line.entry.number line.entry.text.now in Steps (tested (staged_tests Stage.Claims self.old r) (staged_next Stage.Claims self.old r)) result self.new }
+        ensures { Steps (staged_step Stage.Claims self.old (row line.entry.number line.entry.text.now)) result self.new }
     {
         if (self.claims.len() as u64) < self.count {
             let claim = claim_on(&self.claims, line)?;
@@ -163,9 +169,6 @@ impl PlanReader {
 
 impl Reader for PlanReader {
     type Kind = PlanKind;
-
-    ghost use Rattle.plan_text.specs.Reader.{took};
-    ghost use Rattle.plan_text.specs.PlanFile.{plan_format};
 
     ghost format = { λ _. plan_format };
 

@@ -1,7 +1,5 @@
 use crate::{Claim, Dir, PlanFile, PlanKind, is_plan, laws, print_plan, print_plan_2, read_plan};
-use mp_text::{Fault, Refusal, Report};
-use std::alloc::Global;
-use std::process::Abort;
+use mp_text::{Report, fault};
 use std::test::Fail;
 
 const FIVE: &[u8] =
@@ -13,11 +11,17 @@ const FIVE_2: &[u8] =
 const RANKED: &[u8] =
     b"plan 2\norder 4\n1\n2\n3\n4\npriority 4\n4\n3\n2\n1\npeak 6\nclaims 0\nend\n";
 
-const LEAST: &[u8] =
-    b"plan 1\norder 0\npeak 1152921504606846976\nclaims 2\n1 F -1 0\n4294967295 F -1152921504606846976 1152921504606846976\nend\n";
+const LEAST: &[u8] = b"plan 1\norder 0\npeak 1152921504606846976\nclaims 2\n1 F -1 0\n\
+    4294967295 F -1152921504606846976 1152921504606846976\nend\n";
 
 const LEAST_2: &[u8] =
-    b"plan 2\norder 0\npriority 0\npeak 1152921504606846976\nclaims 2\n1 F -1 0\n4294967295 F -1152921504606846976 1152921504606846976\nend\n";
+    b"plan 2\norder 0\npriority 0\npeak 1152921504606846976\nclaims 2\n1 F -1 0\n\
+    4294967295 F -1152921504606846976 1152921504606846976\nend\n";
+
+// 2^60, and its opposite.
+const MOST: u64 = 1_152_921_504_606_846_976;
+
+const LEAST_BOUND: i64 = -1_152_921_504_606_846_976;
 
 fn claim(position: u32, dir: Dir, bound: i64, rest: u64) -> Claim {
     Claim {
@@ -26,10 +30,6 @@ fn claim(position: u32, dir: Dir, bound: i64, rest: u64) -> Claim {
         bound,
         rest,
     }
-}
-
-fn read(alloc: Global, text: &[u8]) -> Result<PlanFile, Fail> {
-    Ok(read_plan(alloc, text)?)
 }
 
 #[test]
@@ -45,7 +45,7 @@ fn reads_and_prints(rt: HostRuntime) -> Result<(), Fail> {
         (RANKED, RANKED, RANKED),
         (LEAST, LEAST, LEAST_2),
     ] {
-        let plan = read(alloc, text)?;
+        let plan = read_plan(alloc, text)?;
         let mut report = Report::new(alloc);
         print_plan(&plan, &mut report)?;
         assert_eq!(rt; report.bytes(), printed);
@@ -59,57 +59,59 @@ fn reads_and_prints(rt: HostRuntime) -> Result<(), Fail> {
 #[test]
 fn gives_the_parts(rt: HostRuntime) -> Result<(), Fail> {
     let alloc = rt.alloc();
-    let plan = read(alloc, FIVE)?;
-    assert_eq!(rt; plan.order(), [1, 3, 2, 4, 5].as_slice());
-    assert_eq!(rt; plan.peak(), 11);
-    let claims = [
-        claim(5, Dir::R, 5, 5),
-        claim(10, Dir::R, 5, 5),
-        claim(11, Dir::R, 10, 10),
-        claim(13, Dir::R, 10, 0),
-    ];
-    assert_eq!(rt; plan.claims(), claims.as_slice());
-    assert!(rt; plan.priority().is_empty());
-    let ranked = read(alloc, RANKED)?;
-    assert_eq!(rt; ranked.priority(), [4, 3, 2, 1].as_slice());
-    assert_eq!(rt; ranked.peak(), 6);
-    let least = read(alloc, LEAST)?;
-    let claims = [
-        claim(1, Dir::F, -1, 0),
-        claim(
-            4_294_967_295,
-            Dir::F,
-            -1_152_921_504_606_846_976,
-            1_152_921_504_606_846_976,
+    let rows: [(&[u8], &[u32], u64, &[Claim], &[u32]); 4] = [
+        (
+            FIVE,
+            &[1, 3, 2, 4, 5],
+            11,
+            &[
+                claim(5, Dir::R, 5, 5),
+                claim(10, Dir::R, 5, 5),
+                claim(11, Dir::R, 10, 10),
+                claim(13, Dir::R, 10, 0),
+            ],
+            &[],
+        ),
+        (RANKED, &[1, 2, 3, 4], 6, &[], &[4, 3, 2, 1]),
+        (
+            LEAST,
+            &[],
+            MOST,
+            &[
+                claim(1, Dir::F, -1, 0),
+                claim(4_294_967_295, Dir::F, LEAST_BOUND, MOST),
+            ],
+            &[],
+        ),
+        (
+            b"# a\r\nplan  1 \r\n\n\torder 01\r\n%\n007\npeak 00\nclaims 1\n1\tF  -0 0\n end",
+            &[7],
+            0,
+            &[claim(1, Dir::F, 0, 0)],
+            &[],
         ),
     ];
-    assert_eq!(rt; least.claims(), claims.as_slice());
-    let spaced = b"# a\r\nplan  1 \r\n\n\torder 01\r\n%\n007\npeak 00\nclaims 1\n1\tF  -0 0\n end";
-    let plan = read(alloc, spaced)?;
-    assert_eq!(rt; plan.order(), [7].as_slice());
-    assert_eq!(rt; plan.claims(), [claim(1, Dir::F, 0, 0)].as_slice());
-    let plan = PlanFile::new(
-        Vec::new(alloc),
-        plan.peak(),
-        Vec::new(alloc),
-        Vec::new(alloc),
-    );
+    for (text, order, peak, claims, priority) in rows {
+        let plan = read_plan(alloc, text)?;
+        assert_eq!(rt; plan.order(), order);
+        assert_eq!(rt; plan.peak(), peak);
+        assert_eq!(rt; plan.claims(), claims);
+        assert_eq!(rt; plan.priority(), priority);
+    }
+    let plan = PlanFile::new(Vec::new(alloc), 0, Vec::new(alloc), Vec::new(alloc));
     assert!(rt; plan.order().is_empty());
     Ok(())
 }
 
 #[test]
 fn tells_which_parts_make_a_plan(rt: HostRuntime) -> Result<(), Fail> {
-    let most = 1_152_921_504_606_846_976;
-    let claims = [claim(2, Dir::F, -5, 0), claim(7, Dir::R, 0, most)];
-    let (low, high) = (
-        claim(2, Dir::F, -1_152_921_504_606_846_977, 0),
-        claim(2, Dir::F, 0, most + 1),
-    );
+    let claims = [claim(2, Dir::F, -5, 0), claim(7, Dir::R, 0, MOST)];
+    let low = claim(2, Dir::F, LEAST_BOUND - 1, 0);
+    let high = claim(2, Dir::F, 0, MOST + 1);
     let rows: [(u64, &[Claim], &[u32], bool); 11] = [
-        (most, &claims, &[2, 3, 1], true),
+        (MOST, &claims, &[2, 3, 1], true),
         (0, &[], &[], true),
-        (most + 1, &claims, &[], false),
+        (MOST + 1, &claims, &[], false),
         (9, &[claims[1], claims[0]], &[], false),
         (9, &[claims[0], claims[0]], &[], false),
         (9, &[claim(0, Dir::F, 0, 0)], &[], false),
@@ -133,98 +135,93 @@ fn refuses_what_ends_early(rt: HostRuntime) -> Result<(), Fail> {
     let ends = [0, 7, 15, 17, 19, 21, 23, 25, 33, 42, 50, 59, 70, 80];
     for (before, bytes) in ends.iter().enumerate() {
         let part = FIVE.get(..*bytes).ok_or("a part of the file")?;
-        let want = Fault {
-            line: before as u64 + 1,
-            kind: PlanKind::NoEnd,
-        };
-        assert_eq!(rt; read_plan(alloc, part).err(), Some(Refusal::Format(want)));
+        let refusal = fault(before as u64 + 1, PlanKind::NoEnd);
+        assert_eq!(rt; read_plan(alloc, part).err(), Some(refusal));
     }
     Ok(())
 }
 
-// Texts, and the words of their refusals.
-const REFUSED: [(&str, &str); 18] = [
-    ("plan 3\n", "header at line 1"),
-    ("plan\n", "header at line 1"),
-    ("plan 1 1\n", "header at line 1"),
-    ("tree 1\n", "header at line 1"),
-    ("# a\nplan 01\n", "header at line 2"),
-    ("plan 1\npeak 0\n", "section at line 2"),
-    ("plan 1\norder\n", "section at line 2"),
-    ("plan 1\norder 1 1\n", "section at line 2"),
-    ("plan 1\norder x\n", "number at line 2"),
-    ("plan 1\norder 0\npriority 0\n", "section at line 3"),
-    ("plan 2\norder 0\npeak 0\n", "section at line 3"),
-    ("plan 2\norder 0\npriority x\n", "number at line 3"),
-    ("plan 2\norder 2\n1\n2\npriority 1\n", "priority at line 5"),
+// How a text begins, how it goes on, and the words of its refusal.
+const REFUSED: [(&str, &[(&str, &str)]); 4] = [
     (
-        "plan 2\norder 4\n1\n2\n3\n4\npriority 4\n3\n3\n1\n4\npeak 6\nclaims 0\nend\n",
-        "priority at line 9",
+        "",
+        &[
+            ("plan 3\n", "header at line 1"),
+            ("plan\n", "header at line 1"),
+            ("plan 1 1\n", "header at line 1"),
+            ("tree 1\n", "header at line 1"),
+            ("# a\nplan 01\n", "header at line 2"),
+            ("plan 1\npeak 0\n", "section at line 2"),
+            ("plan 1\norder\n", "section at line 2"),
+            ("plan 1\norder 1 1\n", "section at line 2"),
+            ("plan 1\norder x\n", "number at line 2"),
+            ("plan 1\norder 0\npriority 0\n", "section at line 3"),
+            ("plan 2\norder 0\npeak 0\n", "section at line 3"),
+            ("plan 2\norder 0\npriority x\n", "number at line 3"),
+            ("plan 2\norder 2\n1\n2\npriority 1\n", "priority at line 5"),
+            (
+                "plan 2\norder 4\n1\n2\n3\n4\npriority 4\n3\n3\n1\n4\npeak 6\nclaims 0\nend\n",
+                "priority at line 9",
+            ),
+            ("plan 1\norder 0\nclaims 0\n", "section at line 3"),
+            ("plan 1\norder 0\npeak -1\n", "number at line 3"),
+            (
+                "plan 1\norder 0\npeak 1152921504606846977\n",
+                "number at line 3",
+            ),
+            ("plan 1\norder 1000001\n", "limit tasks"),
+        ],
     ),
-    ("plan 1\norder 0\nclaims 0\n", "section at line 3"),
-    ("plan 1\norder 0\npeak -1\n", "number at line 3"),
     (
-        "plan 1\norder 0\npeak 1152921504606846977\n",
-        "number at line 3",
+        "plan 1\norder 1\n",
+        &[
+            ("1 1\n", "order at line 3"),
+            ("x\n", "number at line 3"),
+            ("end\n", "number at line 3"),
+            ("4294967296\n", "number at line 3"),
+            ("1\n2\n", "section at line 4"),
+        ],
     ),
-    ("plan 1\norder 1000001\n", "limit tasks"),
+    (
+        "plan 2\norder 1\n1\n",
+        &[
+            ("priority 2\n", "priority at line 4"),
+            ("priority 1\n1 1\n", "priority at line 5"),
+            ("priority 1\nx\n", "number at line 5"),
+            ("priority 1\n0\n", "priority at line 5"),
+            ("priority 1\n2\n", "priority at line 5"),
+        ],
+    ),
+    (
+        "plan 1\norder 0\npeak 0\n",
+        &[
+            ("end\n", "section at line 4"),
+            ("claims x\n", "number at line 4"),
+            ("claims 1\n1 F 0\n", "claim at line 5"),
+            ("claims 1\n1 f 0 0\n", "claim at line 5"),
+            ("claims 1\nend\n", "claim at line 5"),
+            ("claims 1\nx F 0 0\n", "number at line 5"),
+            ("claims 1\n1 F -1152921504606846977 0\n", "number at line 5"),
+            ("claims 1\n1 F 0 1152921504606846977\n", "number at line 5"),
+            ("claims 1\n0 F 0 0\n", "claim at line 5"),
+            ("claims 2\n2 F 0 0\n2 R 0 0\n", "claim at line 6"),
+            ("claims 0\nend end\n", "no-end at line 5"),
+            ("claims 0\n1 F 0 0\n", "no-end at line 5"),
+            ("claims 0\nend\n\nend\n", "no-end at line 7"),
+            ("claims 4000002\n", "limit positions"),
+        ],
+    ),
 ];
-
-// The rest of texts that begin with an order of one task, and the words of their refusals.
-const REFUSED_ORDERS: [(&str, &str); 5] = [
-    ("1 1\n", "order at line 3"),
-    ("x\n", "number at line 3"),
-    ("end\n", "number at line 3"),
-    ("4294967296\n", "number at line 3"),
-    ("1\n2\n", "section at line 4"),
-];
-
-// The rest of texts that begin with an order of one task, in version 2, and the words of their refusals.
-const REFUSED_PRIORITIES: [(&str, &str); 5] = [
-    ("priority 2\n", "priority at line 4"),
-    ("priority 1\n1 1\n", "priority at line 5"),
-    ("priority 1\nx\n", "number at line 5"),
-    ("priority 1\n0\n", "priority at line 5"),
-    ("priority 1\n2\n", "priority at line 5"),
-];
-
-// The rest of texts that begin with an order of no task and a peak, and the words of their refusals.
-const REFUSED_CLAIMS: [(&str, &str); 14] = [
-    ("end\n", "section at line 4"),
-    ("claims x\n", "number at line 4"),
-    ("claims 1\n1 F 0\n", "claim at line 5"),
-    ("claims 1\n1 f 0 0\n", "claim at line 5"),
-    ("claims 1\nend\n", "claim at line 5"),
-    ("claims 1\nx F 0 0\n", "number at line 5"),
-    ("claims 1\n1 F -1152921504606846977 0\n", "number at line 5"),
-    ("claims 1\n1 F 0 1152921504606846977\n", "number at line 5"),
-    ("claims 1\n0 F 0 0\n", "claim at line 5"),
-    ("claims 2\n2 F 0 0\n2 R 0 0\n", "claim at line 6"),
-    ("claims 0\nend end\n", "no-end at line 5"),
-    ("claims 0\n1 F 0 0\n", "no-end at line 5"),
-    ("claims 0\nend\n\nend\n", "no-end at line 7"),
-    ("claims 4000002\n", "limit positions"),
-];
-
-fn check_refusals(
-    rt: &impl Abort,
-    alloc: Global,
-    start: &str,
-    rows: &[(&str, &str)],
-) -> Result<(), Fail> {
-    for (rest, said) in rows {
-        let text = format!(in alloc; "{start}{rest}")?;
-        let refusal = read_plan(alloc, text.as_bytes()).err().ok_or("a refusal")?;
-        assert_eq!(rt; format!(in alloc; "{refusal}")?.as_str(), *said, "{text}");
-    }
-    Ok(())
-}
 
 #[test]
 fn refuses_with_the_kind_and_the_line(rt: HostRuntime) -> Result<(), Fail> {
     let alloc = rt.alloc();
-    check_refusals(&rt, alloc, "", &REFUSED)?;
-    check_refusals(&rt, alloc, "plan 1\norder 1\n", &REFUSED_ORDERS)?;
-    check_refusals(&rt, alloc, "plan 2\norder 1\n1\n", &REFUSED_PRIORITIES)?;
-    check_refusals(&rt, alloc, "plan 1\norder 0\npeak 0\n", &REFUSED_CLAIMS)
+    for (start, rows) in REFUSED {
+        for (rest, said) in rows {
+            let text = format!(in alloc; "{start}{rest}")?;
+            let refusal = read_plan(alloc, text.as_bytes()).err().ok_or(*rest)?;
+            assert_eq!(rt; format!(in alloc; "{refusal}")?.as_str(), *said, "{text}");
+        }
+    }
+    Ok(())
 }
