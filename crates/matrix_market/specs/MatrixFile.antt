@@ -12,6 +12,7 @@ use Rattle.mp_text.specs.declared.layout.Layout.TheVariants.{Banner}
 use Rattle.mp_text.specs.Text.{Row, number_of, numbers_of}
 use Rattle.mp_text.specs.Ahead.{rows_of_bytes, past_of_bytes}
 use Rattle.mp_text.specs.Grammar.{Test, test, Format, IsWellFormed, Refuses, fault, fault_at, token_at}
+use Rattle.mp_text.specs.Reading.{IsRefusal}
 use Rattle.matrix_market.specs.Pattern.{IsPatternOf}
 use Rattle.matrix_market.specs.declared.kind.MatrixKind.{MatrixKind}
 use Rattle.matrix_market.specs.declared.kind.MatrixKind.TheVariants as kinds
@@ -116,14 +117,12 @@ matrix_format = record { line_tests = matrix_line_tests; end_tests = matrix_end_
 
 -- the order that the lines state, and the pairs of indices of their entries
 abbrev pub order_stated : List Row → ℕ
-order_stated [] = 0
-order_stated (banner ∷ []) = 0
 order_stated (banner ∷ size ∷ entries) = (size_of size).rows
+order_stated _ = 0
 
 abbrev pub pairs_stated : List Row → List (ℕ × ℕ)
-pairs_stated [] = []
-pairs_stated (banner ∷ []) = []
 pairs_stated (banner ∷ size ∷ entries) = map (pair_of (values_stated banner)) entries
+pairs_stated _ = []
 
 -- every line passes, and the pattern is that of the order and the pairs stated
 pub record ReadsPattern (bytes : List ℕ) (rows : List (List ℕ)) : Type 0 where
@@ -135,6 +134,4 @@ RefusesPattern bytes refusal = Refuses matrix_format (rows_of_bytes Banner bytes
 
 -- an answer that is no pattern: a refusal of the file, or memory ran out
 abbrev pub IsMatrixRefusal : List ℕ → Refusal MatrixKind → Type 0
-IsMatrixRefusal bytes refusals.NoMemory = Unit {0}
-IsMatrixRefusal bytes (refusals.Format f) = RefusesPattern bytes (refusals.Format f)
-IsMatrixRefusal bytes (refusals.Limit l) = RefusesPattern bytes (refusals.Limit l)
+IsMatrixRefusal bytes refusal = IsRefusal matrix_format (rows_of_bytes Banner bytes) (past_of_bytes bytes) refusal

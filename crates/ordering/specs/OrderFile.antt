@@ -1,5 +1,5 @@
 -- Order files: task numbers, the tokens of all lines in order. What a file reads as, and what it is refused with.
-use Rattle.std.specs.Prelude.{◌≡◌, ℕ, ◌^◌, Bool, ◌&&◌, nat_lt, is_some, unwrap_or, List, [], ◌∷◌, length, map}
+use Rattle.std.specs.Prelude.{◌≡◌, ℕ, ◌^◌, ◌&&◌, nat_lt, is_some, unwrap_or, List, [], ◌∷◌, length, map}
 use Rattle.std.specs.List.{flat_map}
 use Rattle.limits.specs.declared.name.LimitName.TheVariants as limits
 use Rattle.limits.specs.Limits.{most_tasks}
@@ -21,14 +21,10 @@ value_of token = unwrap_or (number_of token) 0
 abbrev pub tokens_of_rows : List Row → List (List ℕ)
 tokens_of_rows rows = flat_map (λ row. row.tokens) rows
 
--- whether a token is a number below 2^32
-abbrev pub is_task_number : List ℕ → Bool
-is_task_number token = is_some (number_of token) && nat_lt (value_of token) (2 ^ 32)
-
 -- a number below 2^32, and not too many of them; after so many others
 abbrev pub order_token_tests : ℕ → ℕ → List ℕ → List (Test OrderFileKind)
 order_token_tests line taken token =
-    test (is_task_number token) (fault_at line Number)
+    test (is_some (number_of token) && nat_lt (value_of token) (2 ^ 32)) (fault_at line Number)
     ∷ test (nat_lt taken most_tasks) (refusals.Limit limits.Tasks)
     ∷ []
 
