@@ -30,7 +30,8 @@ order_token_tests line taken token =
 
 abbrev pub order_format : Format OrderFileKind
 order_format = record {
-  line_tests = λ before row. tests_of_all (λ earlier token. order_token_tests row.number (length earlier) token) (tokens_of_rows before) row.tokens;
+  line_tests = λ before row.
+      tests_of_all (λ earlier token. order_token_tests row.number (length earlier) token) (tokens_of_rows before) row.tokens;
   end_tests = λ rows past. [];
 }
 

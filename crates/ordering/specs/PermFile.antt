@@ -29,7 +29,8 @@ perm_count_tests n taken past = test (nat_le n taken) (fault_at past kinds.Count
 
 abbrev pub perm_format : ℕ → Format PermKind
 perm_format n = record {
-  line_tests = λ before row. tests_of_all (λ earlier token. perm_token_tests n row.number (map value_of earlier) token) (tokens_of_rows before) row.tokens;
+  line_tests = λ before row.
+      tests_of_all (λ earlier token. perm_token_tests n row.number (map value_of earlier) token) (tokens_of_rows before) row.tokens;
   end_tests = λ rows past. perm_count_tests n (length (tokens_of_rows rows)) past;
 }
 

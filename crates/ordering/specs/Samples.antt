@@ -53,7 +53,8 @@ abbrev pub grid : ℕ → ℕ → Bool
 grid = joined_by ((1, 2) ∷ (1, 3) ∷ (2, 4) ∷ (3, 4) ∷ [])
 
 pub grid_structures : map (λ j. map (structure_of grid j) (range_with_len 1 4)) (range_with_len 1 4)
-    ≡ (true ∷ true ∷ true ∷ false ∷ []) ∷ (false ∷ true ∷ true ∷ true ∷ []) ∷ (false ∷ false ∷ true ∷ true ∷ []) ∷ (false ∷ false ∷ false ∷ true ∷ []) ∷ []
+    ≡ (true ∷ true ∷ true ∷ false ∷ []) ∷ (false ∷ true ∷ true ∷ true ∷ [])
+    ∷ (false ∷ false ∷ true ∷ true ∷ []) ∷ (false ∷ false ∷ false ∷ true ∷ []) ∷ []
 unfolding graph_at eliminate
 grid_structures = refl
 

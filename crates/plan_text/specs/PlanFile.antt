@@ -70,7 +70,8 @@ peak_tests row = section_form (codes "peak") row ++ test (nat_le (stated_on (cod
 
 abbrev pub claims_section_tests : Row → List (Test PlanKind)
 claims_section_tests row =
-    section_form (codes "claims") row ++ test (nat_le (stated_on (codes "claims") row) most_positions) (refusals.Limit limits.Positions) ∷ []
+    section_form (codes "claims") row
+    ++ test (nat_le (stated_on (codes "claims") row) most_positions) (refusals.Limit limits.Positions) ∷ []
 
 -- ---- a line within a section
 
@@ -121,7 +122,8 @@ last_position claims = (slice_index_or claims (length claims - 1) (record { posi
 abbrev pub claim_form : Row → List (Test PlanKind)
 claim_form row =
     test ((length row.tokens == 4) && is_some (dir_named (token_at 1 row))) (fault kinds.Claim row)
-    ∷ test (is_number_up_to most_number (token_at 0 row) && is_bound (token_at 2 row) && is_number_up_to most_total (token_at 3 row)) (fault kinds.Number row)
+    ∷ test (is_number_up_to most_number (token_at 0 row) && is_bound (token_at 2 row) && is_number_up_to most_total (token_at 3 row))
+    (fault kinds.Number row)
     ∷ []
 
 -- with the claims of the lines before
@@ -172,7 +174,8 @@ abbrev pub with_ranks : Stated → List Row → Stated
 with_ranks s [] = s
 with_ranks s (section ∷ rows) =
     let count = stated_on (codes "priority") section in
-    with_peak (record s { stage = stages.Priority; tasks = s.count; count = count; priority = map task_on (take count rows) }) (drop count rows)
+    with_peak (record s { stage = stages.Priority; tasks = s.count; count = count; priority = map task_on (take count rows) })
+    (drop count rows)
 
 -- the lines after the order lines
 abbrev pub after_order_in : Version → Stated → List Row → Stated
@@ -218,7 +221,10 @@ abbrev pub end_tests_after : Stated → ℕ → List (Test PlanKind)
 end_tests_after s past = test (is_ended s.stage) (fault_at past kinds.NoEnd) ∷ []
 
 abbrev pub plan_format : Format PlanKind
-plan_format = record { line_tests = λ before row. tests_after (stated before) row; end_tests = λ rows past. end_tests_after (stated rows) past }
+plan_format = record {
+  line_tests = λ before row. tests_after (stated before) row;
+  end_tests = λ rows past. end_tests_after (stated rows) past;
+}
 
 -- ---- the whole file
 

@@ -47,7 +47,8 @@ printed = refl
 
 -- ---- reading
 
-pub stated_plan : plan_of (stated (rows_of_bytes Commented (codes "# two tasks\nplan 2\norder 2\n1\n2\n\npriority 2\n2\n01\npeak 6\nclaims 1\n1 F -1 0\nend"))) ≡ ranked
+pub stated_plan : plan_of (stated (rows_of_bytes Commented
+    (codes "# two tasks\nplan 2\norder 2\n1\n2\n\npriority 2\n2\n01\npeak 6\nclaims 1\n1 F -1 0\nend"))) ≡ ranked
 unfolding lines_of tokens_of number_of number_from signed_of rows_from after_word version_of dir_named stated
 stated_plan = refl
 
@@ -64,7 +65,8 @@ pub refusals_of : map refusal_of (
     ∷ codes "plan 1\norder 0\npeak 3\nclaims 1\n3 R 2\nend\n"
     ∷ codes "plan 2\norder 2\n1\n2\npriority 2\n2\n2\n"
     ∷ codes "plan 1\norder 0\npeak 0\nclaims 4000002\n"
-    ∷ []) ≡ None ∷ Some (fault_at 6 kinds.NoEnd) ∷ Some (fault_at 5 kinds.Claim) ∷ Some (fault_at 7 kinds.Priority) ∷ Some (refusals.Limit limits.Positions) ∷ []
+    ∷ []) ≡ None ∷ Some (fault_at 6 kinds.NoEnd) ∷ Some (fault_at 5 kinds.Claim) ∷ Some (fault_at 7 kinds.Priority)
+    ∷ Some (refusals.Limit limits.Positions) ∷ []
 unfolding lines_of tokens_of number_of number_from signed_of rows_from after_word version_of dir_named stated
 refusals_of = refl
 
