@@ -16,8 +16,8 @@ use step_count::Steps;
 // Puts the segments of `far` behind those of `near`. Those that are not higher than the last of `near` are joined to it, and are gone
 // for good. The rest is higher throughout, so that either side can be moved into the other.
 pub(crate) fn append_side<L: Ledger>(
-    far: Side,
-    near: Side,
+    mut far: Side,
+    mut near: Side,
     ropes: &mut Ropes,
     steps: &mut Steps<L>,
 ) -> Result<Side, NoMemory>
@@ -31,8 +31,6 @@ pub(crate) fn append_side<L: Ledger>(
     ensures near_steps { steps.new ≤ steps.old + max 1 (length near) }
 {
     laws::all();
-    let mut far = far;
-    let mut near = near;
     while let Some(seg) = far.take_first_within(near.last_up()) {
         near.append(ropes, seg.up, seg.net, seg.tasks)?;
     }

@@ -161,14 +161,7 @@ pub(crate) fn with_peak(part: Part, ropes: &Ropes) -> Part
 {
     laws::all();
     let peak = part.front.top(part.initial).max(part.back.top(part.fin));
-    Part {
-        front: part.front,
-        back: part.back,
-        initial: part.initial,
-        fin: part.fin,
-        least: part.least,
-        peak,
-    }
+    Part { peak, ..part }
 }
 
 // The same for parts whose peaks are bounds. The bound is their sum.

@@ -40,8 +40,8 @@ pub(crate) fn way_over(side: &Side, task: u32, ropes: &mut Ropes) -> Result<Rope
 
 // The side that goes down `near` to the level `end`, over the way, and down `far`.
 pub(crate) fn lead_over<L: Ledger>(
-    near: Side,
-    far: Side,
+    mut near: Side,
+    mut far: Side,
     end: u64,
     over: Over,
     ropes: &mut Ropes,
@@ -63,8 +63,6 @@ pub(crate) fn lead_over<L: Ledger>(
     ensures steps { steps.new ≤ steps.old + min (length far) (length near + 1) }
 {
     laws::all();
-    let mut near = near;
-    let mut far = far;
     let over = go_above(&mut far, ropes, end, over)?;
     near.append(ropes, over.hill - end, end - over.level, over.tasks)?;
     append_side(far, near, ropes, steps)
