@@ -2,6 +2,7 @@
 
 use crate::{etree, postorder, renumber};
 use matrix_market::{Pattern, read_pattern};
+use mp_text::{Report, Token};
 use ordering::{Perm, read_perm};
 use std::alloc::Global;
 use std::collections::BTreeSet;
@@ -92,22 +93,23 @@ const ROWS: [Row; 8] = [
     },
 ];
 
+const BANNER: [&str; 5] = ["%%MatrixMarket", "matrix", "coordinate", "pattern", "symmetric"];
+
 // The pattern of four vertices that joins these pairs.
 fn pattern_of(alloc: Global, pairs: &[(u32, u32)]) -> Result<Pattern, Fail> {
-    let count = pairs.len();
-    let mut text = format!(in alloc;
-        "%%MatrixMarket matrix coordinate pattern symmetric\n4 4 {count}\n"
-    )?;
+    let mut text = Report::new(alloc);
+    text.line(&BANNER.map(Token::Word))?;
+    text.line(&[Token::Number(4), Token::Number(4), Token::Number(pairs.len() as u64)])?;
     for (a, b) in pairs {
-        text.push_str(format!(in alloc; "{b} {a}\n")?.as_str())?;
+        text.line(&[Token::Number((*b).into()), Token::Number((*a).into())])?;
     }
-    Ok(read_pattern(alloc, text.as_bytes())?)
+    Ok(read_pattern(alloc, text.bytes())?)
 }
 
 fn order_of(alloc: Global, order: [u32; 4]) -> Result<Perm, Fail> {
-    let [a, b, c, d] = order;
-    let text = format!(in alloc; "{a} {b} {c} {d}\n")?;
-    Ok(read_perm(alloc, text.as_bytes(), 4)?)
+    let mut text = Report::new(alloc);
+    text.line(&order.map(|vertex| Token::Number(vertex.into())))?;
+    Ok(read_perm(alloc, text.bytes(), 4)?)
 }
 
 // The parents, the plain way: one vertex after another joins those after it that it is joined to, and the first of them is its parent.

@@ -1,5 +1,5 @@
-ghost use Rattle.std.specs.Prelude.{◌≡◌, [], IfOk, IfErr, MatchResult};
-ghost use Rattle.mp_text.specs.Ahead.{row, rows_of_bytes, past_of_bytes};
+ghost use Rattle.std.specs.Prelude.{◌≡◌};
+ghost use Rattle.mp_text.specs.Ahead.{row};
 
 use crate::lines::{count_on, header_on, last_on, node_on};
 use crate::node::{Node, TreeKind};
@@ -24,12 +24,14 @@ impl Model for TreeReader {
 
     ghost Value = { ReaderState };
 
-    ghost view = { λ s. record { stage = s.stage; version = s.version; count = s.count; nodes = s.nodes.items; lines = s.lines.items; total = s.total } };
+    ghost view = { λ s. record {
+        stage = s.stage; version = s.version; count = s.count; nodes = s.nodes.items; lines = s.lines.items; total = s.total } };
 
     ghost use Rattle.tree_input.specs.Reader.{IsReaderState};
 
     ghost invariant = { λ s.
-        IsReaderState (record { stage = s.stage; version = s.version; count = s.count; nodes = s.nodes.items; lines = s.lines.items; total = s.total }) };
+        IsReaderState (record {
+        stage = s.stage; version = s.version; count = s.count; nodes = s.nodes.items; lines = s.lines.items; total = s.total }) };
 }
 
 impl TreeReader {
