@@ -1,5 +1,6 @@
-ghost use Rattle.std.specs.Prelude.{◌≡◌, ◌≤◌, length};
+ghost use Rattle.std.specs.Prelude.{◌≡◌, ◌≤◌, ℕ, List, length};
 ghost use Rattle.elim_tree.specs.Trees.{IsForest, parent_at};
+ghost use Rattle.elim_tree.specs.ParentTables.{parents_in, IsParentTable};
 
 use std::marker::Model;
 
@@ -12,11 +13,7 @@ pub struct Parents {
 }
 
 impl Model for Parents {
-    ghost use Rattle.std.specs.Prelude.{ℕ, List};
-
     ghost Value = { List ℕ };
-
-    ghost use Rattle.elim_tree.specs.ParentTables.{parents_in, IsParentTable};
 
     ghost view = { λ p. parents_in p.table.items };
 

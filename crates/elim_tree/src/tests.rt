@@ -1,6 +1,8 @@
 //! Trees and postorders worked by hand, and a plain elimination beside them.
 
-use crate::{etree, postorder, renumber};
+ghost use Rattle.std.specs.Prelude.{◌≡◌, length, IfOk};
+
+use crate::{Parents, etree, postorder, renumber};
 use matrix_market::{Pattern, read_pattern};
 use mp_text::{Report, Token};
 use ordering::{Perm, read_perm};
@@ -21,33 +23,27 @@ struct Row {
     carried: [u32; 4],
 }
 
-const ROWS: [Row; 8] = [
+// Pairs, an order, and the parents of the columns, which are numbered in postorder already.
+const IN_POSTORDER: [(&[(u32, u32)], [u32; 4], [u32; 4]); 6] = [
     // the arrow, whose tree is a chain; and with its middle third
-    Row {
-        pairs: &[(1, 2), (1, 3), (1, 4)],
-        order: [1, 2, 3, 4],
-        parents: [2, 3, 4, 0],
-        post: [1, 2, 3, 4],
-        perm: [1, 2, 3, 4],
-        carried: [2, 3, 4, 0],
-    },
-    Row {
-        pairs: &[(1, 2), (1, 3), (1, 4)],
-        order: [2, 3, 1, 4],
-        parents: [3, 3, 4, 0],
-        post: [1, 2, 3, 4],
-        perm: [2, 3, 1, 4],
-        carried: [3, 3, 4, 0],
-    },
-    // two pairs that stand together, two that come to stand together, and two by falling numbers
-    Row {
-        pairs: &[(1, 2), (3, 4)],
-        order: [1, 2, 3, 4],
-        parents: [2, 0, 4, 0],
-        post: [1, 2, 3, 4],
-        perm: [1, 2, 3, 4],
-        carried: [2, 0, 4, 0],
-    },
+    (&[(1, 2), (1, 3), (1, 4)], [1, 2, 3, 4], [2, 3, 4, 0]),
+    (&[(1, 2), (1, 3), (1, 4)], [2, 3, 1, 4], [3, 3, 4, 0]),
+    // two pairs that stand together
+    (&[(1, 2), (3, 4)], [1, 2, 3, 4], [2, 0, 4, 0]),
+    // column 4 has the children 1 and 3
+    (&[(1, 4), (2, 3), (3, 4)], [1, 2, 3, 4], [4, 3, 4, 0]),
+    // the grid of 2 by 2
+    (
+        &[(1, 2), (1, 3), (2, 4), (3, 4)],
+        [1, 2, 3, 4],
+        [2, 3, 4, 0],
+    ),
+    // roots alone
+    (&[], [4, 3, 2, 1], [0, 0, 0, 0]),
+];
+
+// Two pairs that come to stand together, and two by falling numbers.
+const RENUMBERED: [Row; 2] = [
     Row {
         pairs: &[(1, 3), (2, 4)],
         order: [1, 2, 3, 4],
@@ -63,33 +59,6 @@ const ROWS: [Row; 8] = [
         post: [2, 3, 1, 4],
         perm: [3, 2, 4, 1],
         carried: [2, 0, 4, 0],
-    },
-    // column 4 has the children 1 and 3
-    Row {
-        pairs: &[(1, 4), (2, 3), (3, 4)],
-        order: [1, 2, 3, 4],
-        parents: [4, 3, 4, 0],
-        post: [1, 2, 3, 4],
-        perm: [1, 2, 3, 4],
-        carried: [4, 3, 4, 0],
-    },
-    // the grid of 2 by 2
-    Row {
-        pairs: &[(1, 2), (1, 3), (2, 4), (3, 4)],
-        order: [1, 2, 3, 4],
-        parents: [2, 3, 4, 0],
-        post: [1, 2, 3, 4],
-        perm: [1, 2, 3, 4],
-        carried: [2, 3, 4, 0],
-    },
-    // roots alone
-    Row {
-        pairs: &[],
-        order: [4, 3, 2, 1],
-        parents: [0, 0, 0, 0],
-        post: [1, 2, 3, 4],
-        perm: [4, 3, 2, 1],
-        carried: [0, 0, 0, 0],
     },
 ];
 
@@ -140,35 +109,38 @@ fn parents_by_elimination(
     Ok(parents)
 }
 
-fn check_parents(
+// The four vertices, in their order.
+fn vertices(perm: &Perm) -> [u32; 4]
+    requires { length perm.now ≡ 4 }
+{
+    [perm.at(1), perm.at(2), perm.at(3), perm.at(4)]
+}
+
+fn parents_in(tree: &Parents) -> [u32; 4]
+    requires { length tree.now ≡ 4 }
+{
+    [tree.at(1), tree.at(2), tree.at(3), tree.at(4)]
+}
+
+// The order, and the elimination tree along it, which is that of the plain elimination.
+fn tree_of(
     rt: &impl Abort,
     alloc: Global,
     pairs: &[(u32, u32)],
     order: [u32; 4],
-    wanted: [u32; 4],
-) -> Result<(), Fail> {
+) -> Result<(Perm, Parents), Fail>
+    ensures { IfOk result (λ r. (length r.0 ≡ 4) × (length r.1 ≡ 4)) }
+{
     let pattern = pattern_of(alloc, pairs)?;
     let perm = order_of(alloc, order)?;
     assert_eq!(rt; pattern.order(), 4);
     assert_eq!(rt; perm.len(), 4);
-    let parents = etree(alloc, &pattern, &perm)?;
-    assert_eq!(rt; parents.len(), 4);
-    assert_eq!(rt; parents.at(0), 0);
-    for j in 1..=4u32 {
-        assert_eq!(rt; parents.at(j), wanted[j as usize - 1]);
-    }
-    Ok(())
-}
-
-#[test]
-fn parents(rt: HostRuntime) -> Result<(), Fail> {
-    let alloc = rt.alloc();
-    for row in ROWS {
-        check_parents(&rt, alloc, row.pairs, row.order, row.parents)?;
-        let plain = parents_by_elimination(alloc, row.pairs, row.order)?;
-        assert_eq!(rt; plain, row.parents);
-    }
-    Ok(())
+    let tree = etree(alloc, &pattern, &perm)?;
+    assert_eq!(rt; tree.len(), 4);
+    assert_eq!(rt; tree.at(0), 0);
+    let plain = parents_by_elimination(alloc, pairs, order)?;
+    assert_eq!(rt; parents_in(&tree), plain);
+    Ok((perm, tree))
 }
 
 #[test]
@@ -184,38 +156,41 @@ fn parents_of_all_patterns_of_four_vertices(rt: HostRuntime) -> Result<(), Fail>
                 }
                 rest /= 2;
             }
-            let plain = parents_by_elimination(alloc, &pairs, order)?;
-            check_parents(&rt, alloc, &pairs, order, plain)?;
+            tree_of(&rt, alloc, &pairs, order)?;
         }
     }
     Ok(())
 }
 
-fn check_postorder(rt: &impl Abort, alloc: Global, row: Row) -> Result<(), Fail> {
-    let pattern = pattern_of(alloc, row.pairs)?;
-    let perm = order_of(alloc, row.order)?;
-    assert_eq!(rt; pattern.order(), 4);
-    assert_eq!(rt; perm.len(), 4);
-    let parents = etree(alloc, &pattern, &perm)?;
-    let post = postorder(alloc, &parents)?;
+fn check_row(rt: &impl Abort, alloc: Global, row: Row) -> Result<(), Fail> {
+    let (perm, tree) = tree_of(rt, alloc, row.pairs, row.order)?;
+    assert_eq!(rt; parents_in(&tree), row.parents);
+    let post = postorder(alloc, &tree)?;
     assert_eq!(rt; post.len(), 4);
-    let numbered = renumber(alloc, &perm, &parents, &post)?;
+    assert_eq!(rt; vertices(&post), row.post);
+    let numbered = renumber(alloc, &perm, &tree, &post)?;
     assert_eq!(rt; numbered.perm.len(), 4);
+    assert_eq!(rt; vertices(&numbered.perm), row.perm);
     assert_eq!(rt; numbered.parents.len(), 4);
-    for k in 1..=4u32 {
-        let place = k as usize - 1;
-        let (wanted, vertex, parent) = (row.post[place], row.perm[place], row.carried[place]);
-        assert_eq!(rt; post.at(k), wanted);
-        assert_eq!(rt; numbered.perm.at(k), vertex);
-        assert_eq!(rt; numbered.parents.at(k), parent);
-    }
+    assert_eq!(rt; parents_in(&numbered.parents), row.carried);
     Ok(())
 }
 
 #[test]
-fn postorders(rt: HostRuntime) -> Result<(), Fail> {
-    for row in ROWS {
-        check_postorder(&rt, rt.alloc(), row)?;
+fn trees_by_hand_and_their_postorders(rt: HostRuntime) -> Result<(), Fail> {
+    for row in RENUMBERED {
+        check_row(&rt, rt.alloc(), row)?;
+    }
+    for (pairs, order, parents) in IN_POSTORDER {
+        let row = Row {
+            pairs,
+            order,
+            parents,
+            post: [1, 2, 3, 4],
+            perm: order,
+            carried: parents,
+        };
+        check_row(&rt, rt.alloc(), row)?;
     }
     Ok(())
 }
