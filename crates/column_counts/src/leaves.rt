@@ -5,8 +5,7 @@ ghost use Rattle.std.specs.List.{range_with_len};
 ghost use Rattle.limits.specs.Limits.{most_order};
 ghost use Rattle.matrix_market.specs.Pattern.{is_joined};
 ghost use Rattle.ordering.specs.Fill.{renumbered, count_of, parents_of};
-ghost use Rattle.column_counts.specs.Leaves.{IsFirsts, AreSpans, with_entry, AreEmpty, AreReady, HoldLeaves, CanTakeColumn};
-ghost use Rattle.column_counts.specs.Leaves.{AreLeavesBefore, AreAtMost, growth, AreBalanced, AreSums, HasCount};
+ghost use Rattle.column_counts.specs.Leaves.{IsFirsts, AreSpans, with_entry, AreEmpty, AreReady, HoldLeaves, CanTakeColumn, AreLeavesBefore, AreAtMost, growth, AreBalanced, AreSums, HasCount};
 
 use crate::NoMemory;
 use crate::ancestors::Ancestors;

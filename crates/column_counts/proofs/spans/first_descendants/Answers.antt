@@ -1,4 +1,5 @@
-use Rattle.std.proofs.Common.{◌≡◌, ◌+◌, length, length-set, get_or, arith, ap, ◌∙◌, subst}
+use Rattle.std.proofs.Common.{◌≡◌, ◌+◌, length, length-set, get_or, arith, ap, ◌∙◌, subst, refl, ℕ, Ok}
+use Rattle.std.proofs.lemmas.Iterator.{items_from_collect, YieldsList-from_range}
 use Rattle.std.proofs.lemmas.List.FromFn.{get_or-range_with_len, length-range_with_len}
 use Rattle.column_counts.proofs.MarkLemmas.{read_at}
 use Rattle.column_counts.proofs.SpanRows.{AreCarried, carried_none, carried_up, carried_on, are_firsts}
@@ -7,8 +8,8 @@ use Rattle.column_counts.proofs.spans.first_descendants.Goals.{then-first-index,
 
 pub loop-j-init : goal.loop-j-init
 loop-j-init c =
-    let all = c.in_ok-firsts.ensures in
     let n = length c.args.parents.now in
+    let all = items_from_collect {E = ℕ} (Ok c.in_ok-firsts.firsts) c.in_ok-firsts.ensures.ran (YieldsList-from_range 0 (c.len.result + 1) (n + 1) refl (omega arith)) in
     record {
       len = ap length all ∙ length-range_with_len 0 (n + 1);
       carried = carried_none c.args.parents.now c.len-j-end.ensures.forest c.in_ok-firsts.firsts.items
