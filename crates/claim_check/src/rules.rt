@@ -79,14 +79,8 @@ pub fn value_in(part: &Part, dir: Dir) -> u64
     ensures { (t : Term) → part.now.values ≡ values_of t → result ≡ value_in (direction_of dir) t (option_map claim_of part.now.claim) }
 {
     match part.claim {
-        None => part.values.least,
-        Some(claim) => {
-            if is_same(dir, claim.dir) {
-                claim.rest
-            } else {
-                part.values.least
-            }
-        }
+        Some(claim) if is_same(dir, claim.dir) => claim.rest,
+        _ => part.values.least,
     }
 }
 

@@ -6,8 +6,8 @@ ghost use Rattle.plan_text.specs.Plan.{claim_of, claim_at, RiseFrom};
 ghost use Rattle.sp_terms.specs.Values.{IsTerms, values_of};
 ghost use Rattle.sp_terms.specs.Places.{term_of_position};
 ghost use Rattle.sp_terms.specs.declared.position.Position.{Position};
-ghost use Rattle.claim_check.specs.Claimed.{AreClaims};
-ghost use Rattle.claim_check.specs.Judgeable.{IsPlaced, IsClaimTable, named_claim, entry_of};
+ghost use Rattle.claim_check.specs.Claimed.{Claimed, AreClaims};
+ghost use Rattle.claim_check.specs.Judgeable.{IsJudgeable, IsPlaced, IsClaimTable, named_claim, entry_of};
 ghost use Rattle.claim_check.specs.Lowest.{IsLowestFrom};
 ghost use Rattle.claim_check.specs.Shapes.{shape_at};
 
@@ -31,9 +31,6 @@ pub struct View<'a> {
 }
 
 impl<'a> Model for View<'a> {
-    ghost use Rattle.claim_check.specs.Claimed.{Claimed};
-    ghost use Rattle.claim_check.specs.Judgeable.{IsJudgeable};
-
     ghost Value = { Claimed };
 
     ghost view = { λ v. record { positions = v.terms.now; claims = v.claims.now } };
@@ -49,8 +46,6 @@ pub struct Part {
 }
 
 impl<'a> View<'a> {
-    ghost use Rattle.claim_check.specs.Claimed.{Claimed};
-
     /// A term with these claims, which are as in a plan file: `are_claims` tells. Claims at positions past the last are kept. Linear.
     pub fn new(alloc: Global, terms: &'a Terms, claims: &'a [Claim]) -> Result<View<'a>, NoMemory>
         requires { AreClaims claims.now }
