@@ -6,7 +6,7 @@ ghost use Rattle.sp_terms.specs.Builder.{IsPosition};
 use crate::{NoMemory, claims_of};
 use claim_check::{Verdict, check};
 use mp_outside::NoGate;
-use plan_text::{Claim, Dir, read_plan};
+use plan_text::{Claim, PlanFile, is_plan};
 use rand_core::utils::NextWord;
 use rand_pcg::Pcg32;
 use sp_cuts::{Plan, plan_terms};
@@ -20,13 +20,11 @@ use std::thread::Threads;
 use step_count::Steps;
 
 // A plan, and claims that certify its peak.
-#[derive(Drop)]
-struct Certified {
-    plan: Plan,
-    claims: Vec<Claim>,
-}
-
-fn certify<L: Ledger>(alloc: Global, blank: Blank, terms: &Terms) -> Result<Certified, NoMemory>
+fn certified<L: Ledger>(
+    alloc: Global,
+    blank: Blank,
+    terms: &Terms,
+) -> Result<(Plan, Vec<Claim>), NoMemory>
     requires name { blank.name ≡ L.name }
     requires parts { blank.parts ≡ L.parts }
     requires some { 0 < blank.parts }
@@ -34,38 +32,7 @@ fn certify<L: Ledger>(alloc: Global, blank: Blank, terms: &Terms) -> Result<Cert
     let mut steps = Steps::<L>::new(blank);
     let plan = plan_terms(alloc, terms, &mut steps)?;
     let claims = claims_of(alloc, terms, &plan, &mut steps)?;
-    Ok(Certified { plan, claims })
-}
-
-fn planned(alloc: Global, terms: &Terms) -> Result<Certified, NoMemory> {
-    certify::<Brand>(alloc, Blank::new(1), terms)
-}
-
-// The text of a plan file.
-fn text_of(alloc: Global, certified: &Certified) -> Result<String, Fail> {
-    let mut text = String::new(alloc);
-    let plan = &certified.plan;
-    let head = format!(in alloc; "plan 1\norder {}\n", plan.order.len())?;
-    text.push_str(&head)?;
-    for task in plan.order.iter() {
-        let line = format!(in alloc; "{}\n", *task)?;
-        text.push_str(&line)?;
-    }
-    let middle = format!(in alloc; "peak {}\nclaims {}\n", plan.peak, certified.claims.len())?;
-    text.push_str(&middle)?;
-    for claim in certified.claims.iter() {
-        let word = match claim.dir {
-            Dir::F => "F",
-            Dir::R => "R",
-        };
-        let line = format!(in alloc;
-            "{} {} {} {}\n",
-            claim.position, word, claim.bound, claim.rest
-        )?;
-        text.push_str(&line)?;
-    }
-    text.push_str("end\n")?;
-    Ok(text)
+    Ok((plan, claims))
 }
 
 // The plan with its claims is accepted, with its peak.
@@ -74,18 +41,19 @@ fn assert_accepted<R: Threads + Sync + Abort>(
     alloc: Global,
     terms: &Terms,
 ) -> Result<u64, Fail> {
-    let certified = planned(alloc, terms)?;
-    let text = text_of(alloc, &certified)?;
-    let plan = read_plan(alloc, text.as_bytes())?;
+    let (plan, claims) = certified::<Brand>(alloc, Blank::new(1), terms)?;
+    let peak = plan.peak;
+    assert!(rt; is_plan(alloc, &plan.order, peak, &claims, &[])?);
+    let file = PlanFile::new(plan.order, peak, claims, Vec::new(alloc));
     let system = system_of(alloc, terms)?;
-    let said = check(rt, alloc, &system, terms, &plan, 1, &NoGate)?;
-    assert_eq!(rt; said, Verdict::Yes(certified.plan.peak));
-    Ok(certified.plan.peak)
+    let said = check(rt, alloc, &system, terms, &file, 1, &NoGate)?;
+    assert_eq!(rt; said, Verdict::Yes(peak));
+    Ok(peak)
 }
 
 // Two nodes that need 10 and leave 1, each below one that leaves 5, below a root.
-const FIVE: &[u8] =
-    b"workflow 1\ntasks 5\ndata 0\ndata 1\ntask 9 1\ndata 5\ntask 0 1\ndata 0\ndata 1\ntask 9 1\ndata 5\ntask 0 1\npar 2\ndata 0\ntask 0 1\nend\n";
+const FIVE: &[u8] = b"workflow 1\ntasks 5\ndata 0\ndata 1\ntask 9 1\ndata 5\ntask 0 1\n\
+    data 0\ndata 1\ntask 9 1\ndata 5\ntask 0 1\npar 2\ndata 0\ntask 0 1\nend\n";
 
 const ONE_NODE: &[u8] = b"workflow 1\ntasks 1\ndata 0\ndata 7\ntask 2 1\nend\n";
 
@@ -94,13 +62,13 @@ const NOTHING: &[u8] = b"workflow 1\ntasks 0\ndata 0\nend\n";
 const NODE_OF_NOTHING: &[u8] = b"workflow 1\ntasks 1\ndata 0\ndata 0\ntask 0 1\nend\n";
 
 // Three leaves that leave 2 each, below a root.
-const STAR: &[u8] =
-    b"workflow 1\ntasks 4\ndata 0\ndata 2\ntask 0 1\ndata 0\ndata 2\ntask 0 1\ndata 0\ndata 2\ntask 0 1\npar 3\ndata 0\ntask 0 1\nend\n";
+const STAR: &[u8] = b"workflow 1\ntasks 4\ndata 0\ndata 2\ntask 0 1\ndata 0\ndata 2\ntask 0 1\n\
+    data 0\ndata 2\ntask 0 1\npar 3\ndata 0\ntask 0 1\nend\n";
 
 const DATA_ALONE: &[u8] = b"workflow 1\ntasks 0\ndata 10\ndata 10\npar 2\nend\n";
 
-const TWO_CHAINS: &[u8] =
-    b"workflow 1\ntasks 4\ndata 4\ndata 1\ntask 0 1\ndata 3\ntask 6 1\ndata 4\ndata 1\ntask 0 1\ndata 3\ntask 6 1\npar 2\nend\n";
+const TWO_CHAINS: &[u8] = b"workflow 1\ntasks 4\ndata 4\ndata 1\ntask 0 1\ndata 3\ntask 6 1\n\
+    data 4\ndata 1\ntask 0 1\ndata 3\ntask 6 1\npar 2\nend\n";
 
 const TWO_ROOTS: &[u8] =
     b"workflow 1\ntasks 2\ndata 0\ndata 3\ntask 0 1\ndata 0\ndata 4\ntask 1 1\npar 2\nend\n";
@@ -144,22 +112,15 @@ fn put(builder: &mut TermBuilder, position: Position)
 
 // A task with this share, where it is allowed, and else with none.
 fn put_task(builder: &mut TermBuilder, extra: u64, share: u64) {
-    if builder
-        .push(Position::Task {
+    for share in [share, 0] {
+        let task = Position::Task {
             extra,
             share,
             time: 1,
-        })
-        .is_err()
-    {
-        put(
-            builder,
-            Position::Task {
-                extra,
-                share: 0,
-                time: 1,
-            },
-        );
+        };
+        if builder.push(task).is_ok() {
+            return;
+        }
     }
 }
 
