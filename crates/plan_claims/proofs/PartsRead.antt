@@ -1,5 +1,5 @@
 -- Parts whose sides were read, and series of them.
-use Rattle.std.proofs.Common.{◌≡◌, ℕ, ◌+◌, ◌-◌, ◌<◌, ◌≤◌, ◌⊎◌, max, inl, inr, true, false, refl, sym, subst, ap, arith, ◌∙◌, List, [], ◌++◌, append-nil, Vec, Global}
+use Rattle.std.proofs.Common.{◌≡◌, ℕ, ◌+◌, ◌-◌, ◌<◌, ◌≤◌, max, inl, inr, refl, sym, subst, ap, arith, ◌∙◌, List, Vec, Global}
 use Rattle.side_laws.specs.Segments.{Segment, net_sum}
 use Rattle.hill_valley.specs.declared.side.Seg.{Seg}
 use Rattle.hill_valley.specs.Ropes.{Extends}
@@ -12,7 +12,7 @@ use Rattle.sp_cuts.specs.Parts.{cut_of, IsPart, hill_between, CanJoin}
 use Rattle.plan_text.specs.declared.claim.Dir.TheVariants.{F, R}
 use Rattle.plan_claims.specs.declared.entries.Entry.{Entry}
 use Rattle.plan_claims.specs.Below.{LawsBelow}
-use Rattle.plan_claims.specs.Entries.{IsEntry, IsSeriesOf, IsNotedPart}
+use Rattle.plan_claims.specs.Entries.{IsEntry, IsSeriesOf}
 use Rattle.plan_claims.specs.Notes.{AreFirst}
 use Rattle.plan_claims.proofs.Crossed.{first_over, second_over, is_first, is_second}
 
@@ -177,51 +177,3 @@ module _ (laws : LawsBelow) (r0 r1 r2 r3 : List (List ℕ)) (a b : Entry) (near 
 
 pub kept_on : LawsBelow → (r0 r1 r2 r3 : List (List ℕ)) → Extends r0 r1 → Extends r1 r2 → Extends r2 r3 → Extends r0 r3
 kept_on laws r0 r1 r2 r3 k1 k2 k3 = laws.sides.runs.on r0 r2 r3 (laws.sides.runs.on r0 r1 r2 k1 k2) k3
-
--- ---- one part, with what is noted of it
-
-all_first : (side first : List Segment) (level : ℕ) → AreFirst side first level 0 → first ≡ side
-all_first side first level h = sym (append-nil first) ∙ ended h.ends
-  where
-    ended : (h.rest ≡ []) ⊎ (level - net_sum first < 0) → first ++ [] ≡ side
-    ended (inl none) = ap (λ (l : List Segment). first ++ l) (sym none) ∙ sym h.whole
-    ended (inr lt) = absurd (omega arith)
-
-pub read_noted : (r0 r1 r2 : List (List ℕ)) (e : Entry) (front back : Part) (fs bs : Vec Seg Global) → IsEntry r0 e → cut_of r1 front ≡ cut_of r0 e.part → front.peak ≡ e.part.peak
-    → AreFirst (run_profile (cut_of r0 e.part).front) (profile fs.items) e.part.initial 0
-    → IsPart r2 back → cut_of r2 back ≡ cut_of r1 front → back.peak ≡ front.peak → AreFirst (run_profile (cut_of r1 front).back) (profile bs.items) front.fin 0
-    → IsNotedPart r0 r2 e true back (record { initial = e.part.initial; fin = e.part.fin; front_top = e.front_top; back_top = e.back_top; read = true; front = fs; back = bs })
-read_noted r0 r1 r2 e front back fs bs h fc fp ff bp bc bk bf = record {
-  is_part = bp;
-  cut = bc ∙ fc;
-  peak = bk ∙ fp;
-  note = record {
-    initial_is = refl;
-    fin_is = refl;
-    front_top = h.front_is;
-    back_top = h.back_is;
-    front_is = λ x. all_first (run_profile (cut_of r0 e.part).front) (profile fs.items) e.part.initial ff;
-    back_is = λ x. all_first (run_profile (cut_of r1 front).back) (profile bs.items) front.fin bf ∙ ap (λ (c : Cut). run_profile c.back) fc;
-  };
-  read_is = refl;
-}
-
-pub left_noted : (r0 : List (List ℕ)) (e : Entry) (fs bs : Vec Seg Global) → IsEntry r0 e
-    → IsNotedPart r0 r0 e false e.part (record { initial = e.part.initial; fin = e.part.fin; front_top = e.front_top; back_top = e.back_top; read = false; front = fs; back = bs })
-left_noted r0 e fs bs h = record {
-  is_part = h.is_part;
-  cut = refl;
-  peak = refl;
-  note = record {
-    initial_is = refl;
-    fin_is = refl;
-    front_top = h.front_is;
-    back_top = h.back_is;
-    front_is = λ x. absurd (apart x);
-    back_is = λ x. absurd (apart x);
-  };
-  read_is = refl;
-}
-  where
-    apart : false ≡ true → ⊥
-    apart e = cc

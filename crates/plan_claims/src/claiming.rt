@@ -1,6 +1,6 @@
 //! The claims of a plan: the second pass, from the last position down.
 
-ghost use Rattle.std.specs.Prelude.{◌≡◌, ◌+◌, ◌-◌, ◌<◌, ◌≤◌, ◌++◌, [], ◌∷◌, ℕ, pos, ◌≤ℤ◌, ◌+ℤ◌, max, length, reverse, All, List, Some, IfOk, IfSome, OnOk};
+ghost use Rattle.std.specs.Prelude.{◌≡◌, ◌+◌, ◌-◌, ◌<◌, ◌≤◌, ◌++◌, ℕ, pos, ◌≤ℤ◌, ◌+ℤ◌, max, length, reverse, All, List, Some, IfOk, IfSome, OnOk};
 ghost use Rattle.limits.specs.Limits.{most_positions, most_total};
 ghost use Rattle.mp_system.specs.Traversal.{IsLeast};
 ghost use Rattle.sp_terms.specs.SystemOfTerm.{system_of_term};
@@ -66,22 +66,17 @@ fn want_whole(whole: &Entry, peak: u64) -> Wanted
     ensures shows { (lists : List (List ℕ)) → IsEntry lists whole.now → Shows (cut_of lists whole.now.part) result }
 {
     below();
-    let limit = peak;
-    if limit <= whole.front_top {
-        Wanted {
-            dir: Dir::F,
-            limit,
-            low: whole
-                .part
-                .front
-                .lowest(whole.part.initial, limit as i64 - 1),
-        }
+    let part = &whole.part;
+    let bound = peak as i64 - 1;
+    let (dir, low) = if peak <= whole.front_top {
+        (Dir::F, part.front.lowest(part.initial, bound))
     } else {
-        Wanted {
-            dir: Dir::R,
-            limit,
-            low: whole.part.back.lowest(whole.part.fin, limit as i64 - 1),
-        }
+        (Dir::R, part.back.lowest(part.fin, bound))
+    };
+    Wanted {
+        dir,
+        limit: peak,
+        low,
     }
 }
 
@@ -89,14 +84,13 @@ fn want_whole(whole: &Entry, peak: u64) -> Wanted
 fn claims_from(
     alloc: Global,
     terms: &Terms,
-    notes: Vec<Note>,
+    mut notes: Vec<Note>,
     root: Wanted,
 ) -> Result<Vec<Claim>, NoMemory>
     requires notes { AreNotesOf terms.now notes.items (length terms.now) }
     requires root { Shows (cut_at (term_of terms.now)) root }
     ensures claims { IfOk result (λ claims. AreClaimsOf terms.now root claims.items) }
 {
-    let mut notes = notes;
     let mut todo = Vec::new(alloc);
     todo.push(Some(root))?;
     let mut claims = Vec::new(alloc);
@@ -128,21 +122,12 @@ fn claim_at_position(
     let Some(note) = notes.pop() else {
         unreachable!()
     };
-    let wanted = last_wanted(todo);
+    let Some(wanted) = todo.pop() else {
+        unreachable!()
+    };
     put_claim(position, wanted, claims)?;
     hand_down(&note, wanted, todo)?;
     Ok(())
-}
-
-// Takes what is wanted of the last term.
-fn last_wanted(todo: &mut Vec<Option<Wanted>>) -> Option<Wanted>
-    requires { 0 < length todo.old.items }
-    ensures { todo.old.items ≡ todo.new.items ++ result ∷ [] }
-{
-    match todo.pop() {
-        Some(wanted) => wanted,
-        None => unreachable!(),
-    }
 }
 
 fn put_claim(position: u32, wanted: Option<Wanted>, claims: &mut Vec<Claim>) -> Result<(), NoMemory>

@@ -46,11 +46,7 @@ pub(crate) fn read_front(
     Ok(ReadPart {
         part: Part {
             front: read.side,
-            back: part.back,
-            initial: part.initial,
-            fin: part.fin,
-            least: part.least,
-            peak: part.peak,
+            ..part
         },
         first: read.first,
     })
@@ -74,12 +70,8 @@ pub(crate) fn read_back(
     let read = read_first(alloc, part.back, part.fin, stop, ropes)?;
     Ok(ReadPart {
         part: Part {
-            front: part.front,
             back: read.side,
-            initial: part.initial,
-            fin: part.fin,
-            least: part.least,
-            peak: part.peak,
+            ..part
         },
         first: read.first,
     })
@@ -117,13 +109,11 @@ fn take_first(alloc: Global, side: Side, level: u64, stop: u64) -> Result<Read, 
     let mut first = Vec::new(alloc);
     let mut at = level;
     while stop <= at {
-        match rest.take_first() {
-            Some(seg) => {
-                at -= seg.net;
-                first.push(seg)?;
-            }
-            None => break,
-        }
+        let Some(seg) = rest.take_first() else {
+            break;
+        };
+        at -= seg.net;
+        first.push(seg)?;
     }
     Ok(Read { side: rest, first })
 }

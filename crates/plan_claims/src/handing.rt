@@ -38,10 +38,7 @@ pub(crate) fn hand_down(
             todo.push(second)?;
             Ok(())
         }
-        Note::Par(parts) => {
-            par_wants(parts, wanted, todo)?;
-            Ok(())
-        }
+        Note::Par(parts) => par_wants(parts, wanted, todo),
     }
 }
 
@@ -79,8 +76,8 @@ fn near_and_far(note: &SeriesNote, wanted: &Wanted) -> (Option<Wanted>, Option<W
         (
             Some(Wanted {
                 dir: wanted.dir.opposite(),
-                limit,
                 low: lowest_below(&note.between, note.between_start, limit),
+                ..*wanted
             }),
             None,
         )
@@ -90,9 +87,8 @@ fn near_and_far(note: &SeriesNote, wanted: &Wanted) -> (Option<Wanted>, Option<W
         (
             None,
             Some(Wanted {
-                dir: wanted.dir,
-                limit,
                 low: far_low(note, wanted),
+                ..*wanted
             }),
         )
     }
@@ -116,10 +112,7 @@ fn is_same(one: Dir, two: Dir) -> bool
     ensures same { result ≡ true → direction_of one ≡ direction_of two }
     ensures turned { result ≡ false → direction_of one ≡ other (direction_of two) }
 {
-    match (one, two) {
-        (Dir::F, Dir::F) | (Dir::R, Dir::R) => true,
-        _ => false,
-    }
+    one == two
 }
 
 // The level at which the next segment would reach the limit, or the level after the last one.
@@ -219,17 +212,9 @@ fn left_of(parts: &[PartNote], dir: Dir, over: u64, total: u64) -> u64
 fn level_or(part: &PartNote, dir: Dir, over: u64, rest: u64) -> u64
     ensures { result ≡ (if part.now.read then noted_level (direction_of dir) over part.now else rest) }
 {
-    if part.read {
-        level_of(part, dir, over)
-    } else {
-        rest
+    if !part.read {
+        return rest;
     }
-}
-
-// The level of a part that was read.
-fn level_of(part: &PartNote, dir: Dir, over: u64) -> u64
-    ensures { result ≡ noted_level (direction_of dir) over part.now }
-{
     match dir {
         Dir::F => level_after(&part.front, part.initial, over),
         Dir::R => level_after(&part.back, part.fin, over),

@@ -1,6 +1,6 @@
 //! The first pass: the cut of each term, and what the claims need of it.
 
-ghost use Rattle.std.specs.Prelude.{◌≡◌, ◌<◌, ◌≤◌, ℕ, true, false, List, length, sum_by, IfOk, OnOk};
+ghost use Rattle.std.specs.Prelude.{◌≡◌, ◌<◌, ◌≤◌, ℕ, List, length, sum_by, IfOk, OnOk};
 ghost use Rattle.hill_valley.specs.Ropes.{Extends};
 ghost use Rattle.limits.specs.Limits.{most_total};
 ghost use Rattle.sp_terms.specs.Term.{Term, series, par, Parts, count, IsAllowed};
@@ -51,18 +51,14 @@ pub(crate) fn note_terms<L: Ledger>(
         let note = note_position(alloc, position, &mut stack, &mut ropes, steps)?;
         notes.push(note)?;
     }
-    match stack.pop() {
-        Some(whole) => Ok(Noted {
-            notes,
-            whole,
-            ropes,
-        }),
-        None => Ok(Noted {
-            notes,
-            whole: hold_entry(alloc, 0),
-            ropes,
-        }),
-    }
+    let Some(whole) = stack.pop() else {
+        unreachable!()
+    };
+    Ok(Noted {
+        notes,
+        whole,
+        ropes,
+    })
 }
 
 // One position: the entries of its parts are taken from the stack, and that of its term is put there.
@@ -87,13 +83,9 @@ fn note_position<L: Ledger>(
             Ok(Note::Data)
         }
         Position::Task { extra, share, time } => {
-            let note = note_task(alloc, Task { extra, share, time }, stack, ropes, steps)?;
-            Ok(note)
+            note_task(alloc, Task { extra, share, time }, stack, ropes, steps)
         }
-        Position::Par(many) => {
-            let note = note_par(alloc, many, stack, ropes, steps)?;
-            Ok(note)
-        }
+        Position::Par(many) => note_par(alloc, many, stack, ropes, steps),
     }
 }
 
@@ -337,6 +329,7 @@ struct NotedPart {
     note: PartNote,
 }
 
+// The sides are noted if they are read.
 fn note_part(
     alloc: Global,
     entry: Entry,
@@ -347,53 +340,23 @@ fn note_part(
     ensures noted { IfOk result (λ n. IsNotedPart ropes.old ropes.new entry read n.part n.note) }
     ensures kept { Extends ropes.old ropes.new }
 {
-    if read {
-        read_part(alloc, entry, ropes)
-    } else {
-        Ok(leave_part(alloc, entry, ropes))
-    }
-}
-
-// The part with its sides noted.
-fn read_part(alloc: Global, entry: Entry, ropes: &mut Ropes) -> Result<NotedPart, NoMemory>
-    requires entry { IsEntry ropes.old entry }
-    ensures noted { IfOk result (λ n. IsNotedPart ropes.old ropes.new entry true n.part n.note) }
-    ensures kept { Extends ropes.old ropes.new }
-{
     below();
-    let (initial, fin) = (entry.part.initial, entry.part.fin);
-    let front = read_front(alloc, entry.part, 0, ropes)?;
-    let back = read_back(alloc, front.part, 0, ropes)?;
-    Ok(NotedPart {
-        part: back.part,
-        note: PartNote {
-            initial,
-            fin,
-            front_top: entry.front_top,
-            back_top: entry.back_top,
-            read: true,
-            front: front.first,
-            back: back.first,
-        },
-    })
-}
-
-// The part without its sides.
-fn leave_part(alloc: Global, entry: Entry, ropes: &Ropes) -> NotedPart
-    requires entry { IsEntry ropes.now entry }
-    ensures noted { IsNotedPart ropes.now ropes.now entry false result.part result.note }
-{
-    let (initial, fin) = (entry.part.initial, entry.part.fin);
-    NotedPart {
-        part: entry.part,
-        note: PartNote {
-            initial,
-            fin,
-            front_top: entry.front_top,
-            back_top: entry.back_top,
-            read: false,
-            front: Vec::new(alloc),
-            back: Vec::new(alloc),
-        },
+    let mut part = entry.part;
+    let mut note = PartNote {
+        initial: part.initial,
+        fin: part.fin,
+        front_top: entry.front_top,
+        back_top: entry.back_top,
+        read,
+        front: Vec::new(alloc),
+        back: Vec::new(alloc),
+    };
+    if read {
+        let front = read_front(alloc, part, 0, ropes)?;
+        let back = read_back(alloc, front.part, 0, ropes)?;
+        part = back.part;
+        note.front = front.first;
+        note.back = back.first;
     }
+    Ok(NotedPart { part, note })
 }

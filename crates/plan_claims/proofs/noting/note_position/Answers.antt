@@ -1,3 +1,4 @@
+use Rattle.std.proofs.lemmas.Result.{IfOk-weaker}
 use Rattle.plan_claims.proofs.Stacked.{hold_fits, hold_entries, hold_done, task_ready, task_at, par_ready, par_at}
 use Rattle.plan_claims.proofs.noting.note_position.Goals as goal
 
@@ -16,8 +17,8 @@ returns-in_ok-push-in-Hold-clause-entries g c = hold_entries c.below.ensures c.a
 pub returns-in_ok-push-in-Hold-clause-done : goal.returns-in_ok-push-in-Hold-clause-done
 returns-in_ok-push-in-Hold-clause-done g c = hold_done c.below.ensures c.args.ropes.now c.args.stack.now.items _ _ _ c.hold_entry.result c.in-Hold.is c.requires.entries c.in_ok-push-in-Hold.ensures.items (c.hold_entry.ensures.cut _)
 
-pub returns-in_ok-note-in-Task-clause-done : goal.returns-in_ok-note-in-Task-clause-done
-returns-in_ok-note-in-Task-clause-done g c = task_at c.args.ropes.now _ c.args.stack.now.items _ _ _ _ _ _ c.in-Task.is c.in_ok-note-in-Task.ensures.done
+pub returns-in-Task-clause-done : goal.returns-in-Task-clause-done
+returns-in-Task-clause-done g c = IfOk-weaker c.note_task.result _ _ (λ n done. task_at c.args.ropes.now _ c.args.stack.now.items _ _ _ _ _ _ c.in-Task.is done) c.note_task.ensures.done
 
-pub returns-in_ok-note-in-Par-clause-done : goal.returns-in_ok-note-in-Par-clause-done
-returns-in_ok-note-in-Par-clause-done g c = par_at c.args.ropes.now _ c.args.stack.now.items _ _ _ _ c.in-Par.is c.in_ok-note-in-Par.ensures.done
+pub returns-in-Par-clause-done : goal.returns-in-Par-clause-done
+returns-in-Par-clause-done g c = IfOk-weaker c.note_par.result _ _ (λ n done. par_at c.args.ropes.now _ c.args.stack.now.items _ _ _ _ c.in-Par.is done) c.note_par.ensures.done

@@ -1,5 +1,6 @@
-use Rattle.std.proofs.Common.{arith}
-use Rattle.plan_claims.proofs.Stacked.{next_ready, next_done, whole_entry, index_is}
+use Rattle.std.proofs.Common.{rules, arith}
+use Rattle.std.proofs.lemmas.Grind.{common_steps}
+use Rattle.plan_claims.proofs.Stacked.{next_ready, next_done, whole_entry, some_entry, index_is}
 use Rattle.plan_claims.proofs.noting.note_terms.Goals as goal
 
 pub note_position-requires : goal.note_position-requires
@@ -14,12 +15,17 @@ loop-done-preserved g c =
     c.loop-done.invariant.cuts c.loop-done.invariant.notes c.in_ok-note.ensures.done c.in_ok-push.ensures.items in
     record { entries = c.in_ok-note.ensures.entries; cuts = x.cuts; notes = x.notes }
 
-pub returns-in-Some-clause-whole : goal.returns-in-Some-clause-whole
-returns-in-Some-clause-whole g c =
+pub unreachable-requires : goal.unreachable-requires
+unreachable-requires g c =
+    some_entry c.args.terms.now c.loop-done.done c.loop-done.ropes c.loop-done.stack.items c.len-done-end.ensures.terms (let a = c.loop-done.auto.done-end in let b = c.loop-done-test.false in let e = c.len-done-end.ensures.value in omega arith)
+    c.loop-done.invariant.cuts (first_of (search rules, omega (arith, c.in_default.ensures.cases.0, c.loop-done.stack.ok), grind (arith, common_steps)))
+
+pub returns-clause-whole : goal.returns-clause-whole
+returns-clause-whole g c =
     (whole_entry c.args.terms.now c.loop-done.done c.loop-done.ropes c.loop-done.stack.items _ c.in-Some.whole c.len-done-end.ensures.terms (let a = c.loop-done.auto.done-end in let b = c.loop-done-test.false in let e = c.len-done-end.ensures.value in omega arith)
     c.loop-done.invariant.entries c.loop-done.invariant.cuts c.in-Some.ensures.items).0
 
-pub returns-in-Some-clause-cut : goal.returns-in-Some-clause-cut
-returns-in-Some-clause-cut g c =
+pub returns-clause-cut : goal.returns-clause-cut
+returns-clause-cut g c =
     (whole_entry c.args.terms.now c.loop-done.done c.loop-done.ropes c.loop-done.stack.items _ c.in-Some.whole c.len-done-end.ensures.terms (let a = c.loop-done.auto.done-end in let b = c.loop-done-test.false in let e = c.len-done-end.ensures.value in omega arith)
     c.loop-done.invariant.entries c.loop-done.invariant.cuts c.in-Some.ensures.items).1
