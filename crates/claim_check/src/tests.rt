@@ -13,8 +13,8 @@ use std::test::Fail;
 use std::thread::{Threads, yield_now};
 
 // Two chains of two tasks below a root, all with extras of 9 or 0: 13 positions, and a least peak of 11.
-const FIVE: &[u8] =
-    b"workflow 1\ntasks 5\ndata 0\ndata 1\ntask 9 1\ndata 5\ntask 0 1\ndata 0\ndata 1\ntask 9 1\ndata 5\ntask 0 1\npar 2\ndata 0\ntask 0 1\nend\n";
+const FIVE: &[u8] = b"workflow 1\ntasks 5\ndata 0\ndata 1\ntask 9 1\ndata 5\ntask 0 1\n\
+    data 0\ndata 1\ntask 9 1\ndata 5\ntask 0 1\npar 2\ndata 0\ntask 0 1\nend\n";
 
 const PLAN: &[u8] =
     b"plan 1\norder 5\n1\n3\n2\n4\n5\npeak 11\nclaims 4\n5 R 5 5\n10 R 5 5\n11 R 10 10\n13 R 10 0\nend\n";
@@ -64,18 +64,14 @@ fn a_claim_past_the_last_position_is_outside(rt: HostRuntime) -> Result<(), Fail
     Ok(())
 }
 
-// The lowest position whose claim fails, and its shape.
-fn lowest(alloc: Global, claims: &[Claim]) -> Result<Option<(u32, Shape)>, Fail> {
-    let terms = read_workflow(alloc, FIVE)?;
-    if are_claims(claims) {
-        let view = View::new(alloc, &terms, claims)?;
-        for position in 1..=13 {
-            if let Some(shape) = check_at(&view, position) {
-                return Ok(Some((position, shape)));
-            }
+// The lowest position of the term whose claim fails, and its shape.
+fn lowest(view: &View<'_>) -> Option<(u32, Shape)> {
+    for position in 1..=13 {
+        if let Some(shape) = check_at(view, position) {
+            return Some((position, shape));
         }
     }
-    Ok(None)
+    None
 }
 
 // One claim of the plan is altered. Whether the bound of the last claim is great enough for a peak isn't judged here.
@@ -100,13 +96,15 @@ const ALTERED: [(usize, u32, Dir, i64, u64, Option<(u32, Shape)>); 16] = [
 
 #[test]
 fn an_altered_claim_fails_or_is_met_otherwise(rt: HostRuntime) -> Result<(), Fail> {
+    let terms = read_workflow(rt.alloc(), FIVE)?;
     for (place, position, dir, bound, rest, expected) in ALTERED {
         let mut claims = certificate();
         if place < 4 {
             claims[place] = claim(position, dir, bound, rest);
         }
         assert!(rt; are_claims(&claims));
-        assert!(rt; lowest(rt.alloc(), &claims)? == expected);
+        let view = View::new(rt.alloc(), &terms, &claims)?;
+        assert!(rt; lowest(&view) == expected);
     }
     Ok(())
 }
@@ -128,69 +126,68 @@ fn verdict<R: Threads + Sync, G: Gate>(
     Ok(check(rt, alloc, &system, &terms, &plan, workers, gate)?)
 }
 
-#[test]
-fn a_plan_is_accepted_by_any_number_of_workers(rt: HostRuntime) -> Result<(), Fail> {
-    for workers in [1, 2, 3, 13, 4096] {
-        let said = verdict(&rt, rt.alloc(), FIVE, PLAN, workers, &NoGate)?;
-        assert_eq!(rt; said, Verdict::Yes(11));
-    }
-    Ok(())
+fn no_traversal(place: u64, kind: OrderKind) -> Objection {
+    Objection::Order(OrderFault { place, kind })
 }
 
-// A single node; one without memory; two data items side by side; two roots; two chains that shrink before they grow, also with a bound of
-// position 5 that is below 12 - 3; a task that takes over the 4 that it finds, so that its hill is 4 + 2 + 3 - 4, also with a bound of 5.
-const VERDICTS: [(&[u8], &[u8], Verdict); 8] = [
-    (
-        b"workflow 1\ntasks 1\ndata 0\ndata 7\ntask 2 1\nend\n",
-        b"plan 1\norder 1\n1\npeak 9\nclaims 1\n3 R 8 7\nend\n",
-        Verdict::Yes(9),
-    ),
-    (
-        b"workflow 1\ntasks 1\ndata 0\ndata 0\ntask 0 1\nend\n",
-        b"plan 1\norder 1\n1\npeak 0\nclaims 2\n1 F -1 0\n3 F -1 0\nend\n",
-        Verdict::Yes(0),
-    ),
-    (
-        b"workflow 1\ntasks 0\ndata 10\ndata 10\npar 2\nend\n",
-        b"plan 1\norder 0\npeak 20\nclaims 3\n1 F 9 10\n2 F 9 10\n3 F 19 20\nend\n",
-        Verdict::Yes(20),
-    ),
-    (
-        b"workflow 1\ntasks 2\ndata 0\ndata 3\ntask 0 1\ndata 0\ndata 4\ntask 1 1\npar 2\nend\n",
-        b"plan 1\norder 2\n2\n1\npeak 7\nclaims 3\n3 R 2 3\n6 R 3 4\n7 R 6 7\nend\n",
-        Verdict::Yes(7),
-    ),
-    (
-        b"workflow 1\ntasks 4\ndata 4\ndata 1\ntask 0 1\ndata 3\ntask 6 1\ndata 4\ndata 1\ntask 0 1\ndata 3\ntask 6 1\npar 2\nend\n",
-        b"plan 1\norder 4\n1\n3\n2\n4\npeak 13\nclaims 3\n5 R 9 3\n10 R 9 3\n11 R 12 6\nend\n",
-        Verdict::Yes(13),
-    ),
-    (
-        b"workflow 1\ntasks 4\ndata 4\ndata 1\ntask 0 1\ndata 3\ntask 6 1\ndata 4\ndata 1\ntask 0 1\ndata 3\ntask 6 1\npar 2\nend\n",
-        b"plan 1\norder 4\n1\n3\n2\n4\npeak 13\nclaims 3\n5 R 8 3\n10 R 9 3\n11 R 12 6\nend\n",
-        Verdict::No(Objection::Claim {
-            position: 11,
-            shape: Shape::Par,
-        }),
-    ),
-    (
-        b"workflow 2\ntasks 1\ndata 4\ndata 3\ntask 2 4 1\nend\n",
-        b"plan 1\norder 1\n1\npeak 5\nclaims 1\n3 F 4 4\nend\n",
-        Verdict::Yes(5),
-    ),
-    (
-        b"workflow 2\ntasks 1\ndata 4\ndata 3\ntask 2 4 1\nend\n",
-        b"plan 1\norder 1\n1\npeak 5\nclaims 1\n3 F 5 4\nend\n",
-        Verdict::No(Objection::Claim {
-            position: 3,
-            shape: Shape::Series,
-        }),
-    ),
-];
+fn claim_fails(position: u32, shape: Shape) -> Objection {
+    Objection::Claim { position, shape }
+}
 
+// Two chains that shrink before they grow.
+const TWO_CHAINS: &[u8] = b"workflow 1\ntasks 4\ndata 4\ndata 1\ntask 0 1\ndata 3\ntask 6 1\n\
+    data 4\ndata 1\ntask 0 1\ndata 3\ntask 6 1\npar 2\nend\n";
+
+// A task that takes over the 4 that it finds, so that its hill is 4 + 2 + 3 - 4.
+const IN_PLACE: &[u8] = b"workflow 2\ntasks 1\ndata 4\ndata 3\ntask 2 4 1\nend\n";
+
+// A single node; one without memory; two data items side by side; two roots; the two chains, also with a bound of position 5 that is below
+// 12 - 3; the task in place, also with a bound of 5.
 #[test]
 fn other_workflows_have_their_verdicts(rt: HostRuntime) -> Result<(), Fail> {
-    for (workflow, plan, expected) in VERDICTS {
+    let rows: [(&[u8], &[u8], Verdict); 8] = [
+        (
+            b"workflow 1\ntasks 1\ndata 0\ndata 7\ntask 2 1\nend\n",
+            b"plan 1\norder 1\n1\npeak 9\nclaims 1\n3 R 8 7\nend\n",
+            Verdict::Yes(9),
+        ),
+        (
+            b"workflow 1\ntasks 1\ndata 0\ndata 0\ntask 0 1\nend\n",
+            b"plan 1\norder 1\n1\npeak 0\nclaims 2\n1 F -1 0\n3 F -1 0\nend\n",
+            Verdict::Yes(0),
+        ),
+        (
+            b"workflow 1\ntasks 0\ndata 10\ndata 10\npar 2\nend\n",
+            b"plan 1\norder 0\npeak 20\nclaims 3\n1 F 9 10\n2 F 9 10\n3 F 19 20\nend\n",
+            Verdict::Yes(20),
+        ),
+        (
+            b"workflow 1\ntasks 2\ndata 0\ndata 3\ntask 0 1\ndata 0\ndata 4\ntask 1 1\npar 2\nend\n",
+            b"plan 1\norder 2\n2\n1\npeak 7\nclaims 3\n3 R 2 3\n6 R 3 4\n7 R 6 7\nend\n",
+            Verdict::Yes(7),
+        ),
+        (
+            TWO_CHAINS,
+            b"plan 1\norder 4\n1\n3\n2\n4\npeak 13\nclaims 3\n5 R 9 3\n10 R 9 3\n11 R 12 6\nend\n",
+            Verdict::Yes(13),
+        ),
+        (
+            TWO_CHAINS,
+            b"plan 1\norder 4\n1\n3\n2\n4\npeak 13\nclaims 3\n5 R 8 3\n10 R 9 3\n11 R 12 6\nend\n",
+            Verdict::No(claim_fails(11, Shape::Par)),
+        ),
+        (
+            IN_PLACE,
+            b"plan 1\norder 1\n1\npeak 5\nclaims 1\n3 F 4 4\nend\n",
+            Verdict::Yes(5),
+        ),
+        (
+            IN_PLACE,
+            b"plan 1\norder 1\n1\npeak 5\nclaims 1\n3 F 5 4\nend\n",
+            Verdict::No(claim_fails(3, Shape::Series)),
+        ),
+    ];
+    for (workflow, plan, expected) in rows {
         for workers in [1, 4] {
             let said = verdict(&rt, rt.alloc(), workflow, plan, workers, &NoGate)?;
             assert_eq!(rt; said, expected);
@@ -199,106 +196,71 @@ fn other_workflows_have_their_verdicts(rt: HostRuntime) -> Result<(), Fail> {
     Ok(())
 }
 
+// An order that is no traversal comes first, then the peak, the claim on the whole term, and the lowest claim that fails, at a position of
+// the term or past the last.
 #[test]
-fn an_order_that_is_no_traversal_is_objected_to_first(rt: HostRuntime) -> Result<(), Fail> {
-    let rows: [(&[u8], u64, OrderKind); 4] = [
+fn the_first_objection_wins(rt: HostRuntime) -> Result<(), Fail> {
+    let rows: [(&[u8], Objection); 13] = [
         (
             b"plan 1\norder 5\n2\n1\n3\n4\n5\npeak 11\nclaims 4\n5 R 5 5\n10 R 5 5\n11 R 10 10\n13 R 10 0\nend\n",
-            1,
-            OrderKind::TooEarly,
+            no_traversal(1, OrderKind::TooEarly),
         ),
         (
             b"plan 1\norder 2\n1\n1\npeak 10\nclaims 0\nend\n",
-            2,
-            OrderKind::Repeated,
+            no_traversal(2, OrderKind::Repeated),
         ),
         (
             b"plan 1\norder 1\n9\npeak 11\nclaims 0\nend\n",
-            1,
-            OrderKind::Unknown,
+            no_traversal(1, OrderKind::Unknown),
         ),
         (
             b"plan 1\norder 4\n1\n2\n3\n4\npeak 1\nclaims 1\n4 R 5 5\nend\n",
-            5,
-            OrderKind::Missing,
+            no_traversal(5, OrderKind::Missing),
+        ),
+        (
+            b"plan 1\norder 5\n1\n3\n2\n4\n5\npeak 10\nclaims 4\n5 R 5 5\n10 R 5 5\n11 R 10 10\n13 R 10 0\nend\n",
+            Objection::Peak {
+                replayed: 11,
+                printed: 10,
+            },
+        ),
+        (
+            b"plan 1\norder 5\n1\n2\n3\n4\n5\npeak 11\nclaims 1\n5 F 5 5\nend\n",
+            Objection::Peak {
+                replayed: 15,
+                printed: 11,
+            },
+        ),
+        (
+            b"plan 1\norder 5\n1\n3\n2\n4\n5\npeak 11\nclaims 3\n5 R 5 5\n10 R 5 5\n11 R 10 10\nend\n",
+            Objection::Root { last: 13 },
+        ),
+        (
+            b"plan 1\norder 5\n1\n3\n2\n4\n5\npeak 11\nclaims 4\n5 F 5 5\n10 R 5 5\n11 R 10 10\n13 R 9 0\nend\n",
+            Objection::Root { last: 13 },
+        ),
+        (
+            b"plan 1\norder 5\n1\n3\n2\n4\n5\npeak 11\nclaims 4\n5 R 5 5\n10 R 5 5\n11 R 10 11\n13 R 10 0\nend\n",
+            claim_fails(11, Shape::Par),
+        ),
+        (
+            b"plan 1\norder 5\n1\n3\n2\n4\n5\npeak 11\nclaims 5\n4 R 5 5\n5 F 5 5\n10 R 5 5\n11 R 10 11\n13 R 10 0\nend\n",
+            claim_fails(4, Shape::Hold),
+        ),
+        (
+            b"plan 1\norder 5\n1\n3\n2\n4\n5\npeak 11\nclaims 5\n5 R 5 5\n10 R 5 5\n11 R 10 10\n13 R 10 0\n99 R 0 0\nend\n",
+            claim_fails(99, Shape::Outside),
+        ),
+        (
+            b"plan 1\norder 5\n1\n3\n2\n4\n5\npeak 11\nclaims 6\n5 R 5 5\n10 R 5 5\n11 R 10 10\n13 R 10 0\n14 R 0 0\n99 R 0 0\nend\n",
+            claim_fails(14, Shape::Outside),
+        ),
+        (
+            b"plan 1\norder 5\n1\n3\n2\n4\n5\npeak 11\nclaims 5\n5 R 5 5\n10 R 5 5\n11 R 10 10\n13 R 10 1\n99 R 0 0\nend\n",
+            claim_fails(13, Shape::Series),
         ),
     ];
-    for (plan, place, kind) in rows {
-        for workers in [1, 3] {
-            let said = verdict(&rt, rt.alloc(), FIVE, plan, workers, &NoGate)?;
-            assert_eq!(rt;
-                said,
-                Verdict::No(Objection::Order(OrderFault { place, kind }))
-            );
-        }
-    }
-    Ok(())
-}
-
-// Then the peak, the claim on the whole term, and the lowest claim that fails, at a position of the term or past the last.
-const OBJECTIONS: [(&[u8], Objection); 9] = [
-    (
-        b"plan 1\norder 5\n1\n3\n2\n4\n5\npeak 10\nclaims 4\n5 R 5 5\n10 R 5 5\n11 R 10 10\n13 R 10 0\nend\n",
-        Objection::Peak {
-            replayed: 11,
-            printed: 10,
-        },
-    ),
-    (
-        b"plan 1\norder 5\n1\n2\n3\n4\n5\npeak 11\nclaims 1\n5 F 5 5\nend\n",
-        Objection::Peak {
-            replayed: 15,
-            printed: 11,
-        },
-    ),
-    (
-        b"plan 1\norder 5\n1\n3\n2\n4\n5\npeak 11\nclaims 3\n5 R 5 5\n10 R 5 5\n11 R 10 10\nend\n",
-        Objection::Root { last: 13 },
-    ),
-    (
-        b"plan 1\norder 5\n1\n3\n2\n4\n5\npeak 11\nclaims 4\n5 F 5 5\n10 R 5 5\n11 R 10 10\n13 R 9 0\nend\n",
-        Objection::Root { last: 13 },
-    ),
-    (
-        b"plan 1\norder 5\n1\n3\n2\n4\n5\npeak 11\nclaims 4\n5 R 5 5\n10 R 5 5\n11 R 10 11\n13 R 10 0\nend\n",
-        Objection::Claim {
-            position: 11,
-            shape: Shape::Par,
-        },
-    ),
-    (
-        b"plan 1\norder 5\n1\n3\n2\n4\n5\npeak 11\nclaims 5\n4 R 5 5\n5 F 5 5\n10 R 5 5\n11 R 10 11\n13 R 10 0\nend\n",
-        Objection::Claim {
-            position: 4,
-            shape: Shape::Hold,
-        },
-    ),
-    (
-        b"plan 1\norder 5\n1\n3\n2\n4\n5\npeak 11\nclaims 5\n5 R 5 5\n10 R 5 5\n11 R 10 10\n13 R 10 0\n99 R 0 0\nend\n",
-        Objection::Claim {
-            position: 99,
-            shape: Shape::Outside,
-        },
-    ),
-    (
-        b"plan 1\norder 5\n1\n3\n2\n4\n5\npeak 11\nclaims 6\n5 R 5 5\n10 R 5 5\n11 R 10 10\n13 R 10 0\n14 R 0 0\n99 R 0 0\nend\n",
-        Objection::Claim {
-            position: 14,
-            shape: Shape::Outside,
-        },
-    ),
-    (
-        b"plan 1\norder 5\n1\n3\n2\n4\n5\npeak 11\nclaims 5\n5 R 5 5\n10 R 5 5\n11 R 10 10\n13 R 10 1\n99 R 0 0\nend\n",
-        Objection::Claim {
-            position: 13,
-            shape: Shape::Series,
-        },
-    ),
-];
-
-#[test]
-fn the_first_objection_wins(rt: HostRuntime) -> Result<(), Fail> {
-    for (plan, objection) in OBJECTIONS {
+    for (plan, objection) in rows {
         for workers in [1, 2, 3, 13, 4096] {
             let said = verdict(&rt, rt.alloc(), FIVE, plan, workers, &NoGate)?;
             assert_eq!(rt; said, Verdict::No(objection));
@@ -322,7 +284,7 @@ impl Gate for Counts {
     }
 }
 
-// 13 positions come to chunks of 13, 7, 5, 2 and 1. Each chunk sets a bit.
+// 13 positions come to chunks of 13, 7, 5, 2 and 1. Each chunk sets a bit. Any number of workers accepts the plan.
 #[test]
 fn each_chunk_is_entered_once(rt: HostRuntime) -> Result<(), Fail> {
     for (workers, chunks) in [(1, 1), (2, 2), (3, 3), (12, 7), (13, 13), (4096, 13)] {
@@ -341,24 +303,19 @@ fn each_chunk_is_entered_once(rt: HostRuntime) -> Result<(), Fail> {
     Ok(())
 }
 
-// Holds each of the first two chunks until the other has entered, for so many looks at most.
+// Sets a bit for each chunk, and holds it until the first two have entered, for so many looks at most.
 #[derive(Drop)]
 struct Meeting {
-    first: AtomicBool,
-    second: AtomicBool,
+    entered: AtomicU32,
     gave_up: AtomicBool,
 }
 
 impl Gate for Meeting {
     fn enter(&self, chunk: u32) {
-        let (mine, other) = match chunk {
-            0 => (&self.first, &self.second),
-            1 => (&self.second, &self.first),
-            _ => return,
-        };
-        mine.store(true, Ordering::SeqCst);
+        self.entered
+            .fetch_or(1u32.wrapping_shl(chunk), Ordering::SeqCst);
         for _ in 0..10_000_000u32 {
-            if other.load(Ordering::SeqCst) {
+            if self.entered.load(Ordering::SeqCst) == 0b11 {
                 return;
             }
             yield_now();
@@ -370,14 +327,12 @@ impl Gate for Meeting {
 #[test]
 fn two_chunks_meet(rt: HostRuntime) -> Result<(), Fail> {
     let gate = Meeting {
-        first: AtomicBool::new(false),
-        second: AtomicBool::new(false),
+        entered: AtomicU32::new(0),
         gave_up: AtomicBool::new(false),
     };
     let said = verdict(&rt, rt.alloc(), FIVE, PLAN, 2, &gate)?;
     assert_eq!(rt; said, Verdict::Yes(11));
-    assert!(rt; gate.first.load(Ordering::SeqCst));
-    assert!(rt; gate.second.load(Ordering::SeqCst));
+    assert_eq!(rt; gate.entered.load(Ordering::SeqCst), 0b11);
     assert!(rt; !gate.gave_up.load(Ordering::SeqCst));
     Ok(())
 }
