@@ -11,7 +11,7 @@ use Rattle.assembly_tree.specs.declared.assembly.Super.{Super}
 use Rattle.assembly_tree.specs.Assembly.{AssemblyTree, IsSuper, IsSuperWithin, IsAssembly, no_super, super_at, super_of, columns_in, front_of, reparented}
 use Rattle.assembly_tree.specs.Supernodes.{count_at, AreColumnCounts, AreSupernodes, Continues, first_of, last_of}
 use Rattle.assembly_tree.specs.RunTables.{AreRuns}
-use Rattle.assembly_tree.proofs.ListLemmas.{sum_by-take-map, sum_by-map}
+use Rattle.assembly_tree.proofs.ListLemmas.{sum_by-take-map}
 use Rattle.assembly_tree.proofs.AssemblyLemmas.{front_fits}
 use Rattle.assembly_tree.proofs.RunLemmas.{last-more, last-le, last-within, last-all}
 

@@ -1,4 +1,4 @@
-use Rattle.std.proofs.Common.{ℕ, List, Option, Some, None, length, map, sym, subst, refl, arith}
+use Rattle.std.proofs.Common.{ℕ, Option, Some, None, length, map, sym, subst, refl, arith}
 use Rattle.ordering.specs.Perm.{vertex_at}
 use Rattle.ordering.specs.Fill.{parents_of, counts_of}
 use Rattle.elim_tree.specs.Paths.{IsWithin}
