@@ -96,7 +96,7 @@ source_refused source earlier [] answer refused = absurd refused
 source_refused source earlier (text ∷ []) answer refused = inl (refused earlier)
 source_refused source earlier (text ∷ more ∷ texts) answer refused = absurd refused
 
-source_accepted : (source : OrderSource) (earlier : List (List ℕ)) (text numbers : List ℕ) → IsOrderFrom source text numbers → HasValue (source_file source).role earlier text
+pub source_accepted : (source : OrderSource) (earlier : List (List ℕ)) (text numbers : List ℕ) → IsOrderFrom source text numbers → HasValue (source_file source).role earlier text
 source_accepted (order_named name) earlier text numbers is = (numbers, is)
 source_accepted (plan_named name) earlier text numbers (plan, is, same) = (plan, is)
 

@@ -6,3 +6,7 @@ pub mod SimulationLemmas
 pub mod RunLemmas
 pub mod PageLemmas
 pub mod WordLemmas
+pub mod OneInput
+pub mod OneFile
+pub mod OneReport
+pub mod SoundAnswer

@@ -50,7 +50,7 @@ refused plan_file earlier text answer r done = refused_file (codes "plan") plan_
 refused (priority_file input) earlier text answer (mine, one, system, split, is, r) done =
     refused_file (codes "priority") perm_word (RefusesPerm (length system.tasks) text) text answer r done
 
-first_refusal : (files : List NamedFile) (earlier texts : List (List ℕ)) (answer : Answer) → IsFirstRefusal files earlier texts answer → answer.status ≡ status.Done → ⊥
+pub first_refusal : (files : List NamedFile) (earlier texts : List (List ℕ)) (answer : Answer) → IsFirstRefusal files earlier texts answer → answer.status ≡ status.Done → ⊥
 first_refusal [] earlier texts answer r done = r
 first_refusal (file ∷ files) earlier [] answer r done = r
 first_refusal (file ∷ files) earlier (text ∷ texts) answer (inl r) done = refused file.role earlier text answer r done

@@ -4,6 +4,7 @@
 mod commands;
 mod files;
 mod inputs;
+pub mod laws;
 mod page;
 mod request;
 mod run;

@@ -1,0 +1,120 @@
+-- The texts of an input are read as one tree, one system and one term, within the limits.
+use Rattle.std.proofs.Common.{◌≡◌, ◌∙◌, ℕ, List, [], ◌∷◌, ◌++◌, Option, Some, None, length, refl, sym, ap, ap₂, subst, arith}
+use Rattle.std.proofs.lemmas.List.FromFn.{length-range_with_len}
+use Rattle.matrix_market.specs.MatrixFile.{ReadsPattern}
+use Rattle.matrix_market.specs.Pattern.{IsPattern}
+use Rattle.mp_system.specs.System.{TaskSystem, IsSystem}
+use Rattle.ordering.specs.Perm.{IsPerm}
+use Rattle.ordering.specs.PermFile.{ReadsPerm}
+use Rattle.sp_terms.specs.declared.position.Position.{Position}
+use Rattle.sp_terms.specs.Postfix.{Denotes}
+use Rattle.sp_terms.specs.SystemOfTerm.{system_of_term}
+use Rattle.sp_terms.specs.Term.{Term}
+use Rattle.sp_terms.specs.Values.{IsTerms, term_of}
+use Rattle.sp_terms.specs.WorkflowFile.{ReadsWorkflow}
+use Rattle.symbolic.specs.FrontTree.{IsFrontTree}
+use Rattle.symbolic.specs.declared.options.FrontOptions.{FrontOptions}
+use Rattle.tree_input.specs.declared.node.Node.{Node}
+use Rattle.tree_input.specs.Forest.{Forest, IsForestOf}
+use Rattle.tree_input.specs.Tree.{IsTree, system_of_nodes}
+use Rattle.tree_input.specs.TreeFile.{ReadsTree}
+use Rattle.tree_input.specs.TreeTerm.{forest_positions}
+use Rattle.memplan.specs.Files.{IsOrderOf, IsMatrixTree, IsTreeOf, IsSystemOf, IsSystemWithTerm}
+use Rattle.memplan.specs.Request.{Matrix, TreeInput, tree_named, matrix_named, Input, tree_input, workflow_named, perm_files, matrix_files, tree_input_files, input_files}
+
+-- lists that are cut at the same place
+same_cut : {A : Type 0} (a b : List A) (x y : A) (xs ys : List A) → length a ≡ length b → a ++ x ∷ xs ≡ b ++ y ∷ ys → (a ≡ b) × (x ≡ y) × (xs ≡ ys)
+same_cut [] [] x y xs ys len e = (refl, cc, cc)
+same_cut [] (q ∷ b) x y xs ys len e = absurd (omega arith)
+same_cut (p ∷ a) [] x y xs ys len e = absurd (omega arith)
+same_cut {A} (p ∷ a) (q ∷ b) x y xs ys len e =
+    let more = same_cut a b x y xs ys (omega arith) (cc) in
+    (ap₂ (λ (v : A) (vs : List A). v ∷ vs) (cc) more.0, more.1, more.2)
+
+pub one_term : (ps : List Position) (t u : Term) → Denotes ps t → Denotes ps u → t ≡ u
+one_term ps t u is other = let e : Some (t ∷ []) ≡ Some (u ∷ []) = sym is ∙ other in cc
+
+abbrev OneValue : {V : Type 0} → (List ℕ → V → Type 0) → Type 0
+OneValue {V} reads = (bytes : List ℕ) (one two : V) → reads bytes one → reads bytes two → one ≡ two
+
+-- what is known of the parts of an input
+pub record Parts : Type 0 where
+  pub trees : OneValue ReadsTree
+  pub tree : (bytes : List ℕ) (nodes : List Node) → ReadsTree bytes nodes → IsTree nodes
+  pub tree_system : (nodes : List Node) → IsTree nodes → IsSystem (system_of_nodes nodes)
+  pub forests : (nodes : List Node) (f g : Forest) → IsForestOf nodes f → IsForestOf nodes g → f ≡ g
+  pub patterns : OneValue ReadsPattern
+  pub perms : (n : ℕ) → OneValue (ReadsPerm n)
+  pub perm : (n : ℕ) (bytes order : List ℕ) → ReadsPerm n bytes order → IsPerm n order
+  pub fronts : (options : FrontOptions) (rows : List (List ℕ)) (order : List ℕ) (one two : List Node) → IsPattern rows → length order ≡ length rows
+      → IsFrontTree options rows order one → IsFrontTree options rows order two → one ≡ two
+  pub front_tree : (options : FrontOptions) (rows : List (List ℕ)) (order : List ℕ) (nodes : List Node) → IsPattern rows → length order ≡ length rows
+      → IsFrontTree options rows order nodes → IsTree nodes
+  pub workflows : OneValue ReadsWorkflow
+  pub terms : (bytes : List ℕ) (positions : List Position) → ReadsWorkflow bytes positions → IsTerms positions
+  pub denotes : (positions : List Position) → IsTerms positions → Denotes positions (term_of positions)
+  pub term_system : (positions : List Position) → IsTerms positions → IsSystem (system_of_term (term_of positions))
+
+module _ (p : Parts) where
+  one_order : (perm : Option (List ℕ)) (n : ℕ) (texts : List (List ℕ)) (a b : List ℕ) → IsOrderOf perm n texts a → IsOrderOf perm n texts b
+      → (a ≡ b) × (length a ≡ n) × (length texts ≡ length (perm_files perm))
+  one_order None n [] a b is other = (is ∙ sym other, ap length is ∙ length-range_with_len 1 n, refl)
+  one_order None n (t ∷ ts) a b is other = absurd is
+  one_order (Some name) n [] a b is other = absurd is
+  one_order (Some name) n (t ∷ []) a b is other = (p.perms n t a b is.1 other.1, (p.perm n t a is.1).len, refl)
+  one_order (Some name) n (t ∷ u ∷ ts) a b is other = absurd is
+
+  one_matrix_tree : (m : Matrix) (texts : List (List ℕ)) (a b : List Node) → IsMatrixTree m texts a → IsMatrixTree m texts b
+      → (a ≡ b) × IsTree a × (length texts ≡ length (matrix_files m))
+  one_matrix_tree m [] a b is other = absurd is
+  one_matrix_tree m (t ∷ ts) a b (rows, order, matrix, is_order, fronts) (rows', order', matrix', is_order', fronts') =
+      let same = p.patterns t rows rows' matrix.1 matrix'.1 in
+      let orders = one_order m.perm (length rows) ts order order' is_order (subst (λ (r : List (List ℕ)). IsOrderOf m.perm (length r) ts order') (sym same) is_order') in
+      let other = subst (λ (o : List ℕ). IsFrontTree m.fronts rows o b) (sym orders.0) (subst (λ (r : List (List ℕ)). IsFrontTree m.fronts r order' b) (sym same) fronts') in
+      let pattern = matrix.1.pattern.pattern in (
+        p.fronts m.fronts rows order a b pattern orders.1 fronts other,
+        p.front_tree m.fronts rows order a pattern orders.1 fronts,
+        omega (arith, orders.2),
+      )
+
+  pub one_tree : (input : TreeInput) (texts : List (List ℕ)) (a b : List Node) → IsTreeOf input texts a → IsTreeOf input texts b
+      → (a ≡ b) × IsTree a × (length texts ≡ length (tree_input_files input))
+  one_tree (tree_named name) [] a b is other = absurd is
+  one_tree (tree_named name) (t ∷ []) a b is other = (p.trees t a b is.1 other.1, p.tree t a is.1, refl)
+  one_tree (tree_named name) (t ∷ u ∷ ts) a b is other = absurd is
+  one_tree (matrix_named m) texts a b is other = one_matrix_tree m texts a b is other
+
+  pub one_system : (input : Input) (texts : List (List ℕ)) (s t : TaskSystem) → IsSystemOf input texts s → IsSystemOf input texts t
+      → (s ≡ t) × IsSystem s × (length texts ≡ length (input_files input))
+  one_system (tree_input input) texts s t (nodes, is, e) (nodes', is', e') =
+      let one = one_tree input texts nodes nodes' is is' in
+      (e ∙ ap system_of_nodes one.0 ∙ sym e', subst IsSystem (sym e) (p.tree_system nodes one.1), one.2)
+  one_system (workflow_named name) [] s t is other = absurd is
+  one_system (workflow_named name) (text ∷ []) s t (ps, u, w, d, e) (qs, v, w', d', e') =
+      let same = one_term ps u v d (subst (λ (x : List Position). Denotes x v) (sym (p.workflows text ps qs w.1 w'.1)) d') in
+      let terms = p.terms text ps w.1 in
+      let own = e ∙ ap system_of_term (one_term ps u (term_of ps) d (p.denotes ps terms)) in
+      (e ∙ ap system_of_term same ∙ sym e', subst IsSystem (sym own) (p.term_system ps terms), refl)
+  one_system (workflow_named name) (text ∷ more ∷ texts) s t is other = absurd is
+
+  pub one_list_of_positions : (input : Input) (texts : List (List ℕ)) (s t : TaskSystem) (ps qs : List Position) → IsSystemWithTerm input texts s ps → IsSystemWithTerm input texts t qs → ps ≡ qs
+  one_list_of_positions (tree_input input) texts s t ps qs (nodes, f, is, e, forest, at) (nodes', g, is', e', forest', at') =
+      let same = (one_tree input texts nodes nodes' is is').0 in
+      let forests = p.forests nodes f g forest (subst (λ (ns : List Node). IsForestOf ns g) (sym same) forest') in
+      at ∙ ap₂ (λ (ns : List Node) (h : Forest). forest_positions ns h) same forests ∙ sym at'
+  one_list_of_positions (workflow_named name) [] s t ps qs is other = absurd is
+  one_list_of_positions (workflow_named name) (text ∷ []) s t ps qs (u, w, d, e) (v, w', d', e') = p.workflows text ps qs w.1 w'.1
+  one_list_of_positions (workflow_named name) (text ∷ more ∷ texts) s t ps qs is other = absurd is
+
+-- what is known of systems
+abbrev pub Systems : Type 0
+Systems = (input : Input) (texts : List (List ℕ)) (one two : TaskSystem) → IsSystemOf input texts one → IsSystemOf input texts two
+    → (one ≡ two) × IsSystem one × (length texts ≡ length (input_files input))
+
+-- texts that begin with those of an input
+pub same_texts : Systems → (input : Input) (mine mine' : List (List ℕ)) (text text' : List ℕ) (rest rest' : List (List ℕ)) (s t : TaskSystem)
+    → mine ++ text ∷ rest ≡ mine' ++ text' ∷ rest' → IsSystemOf input mine s → IsSystemOf input mine' t → (mine ≡ mine') × (text ≡ text') × (rest ≡ rest') × (s ≡ t)
+same_texts systems input mine mine' text text' rest rest' s t split is is' =
+    let len = (systems input mine s s is is).2 ∙ sym ((systems input mine' t t is' is').2) in
+    let same = same_cut mine mine' text text' rest rest' len split in
+    (same.0, same.1, same.2, (systems input mine s t is (subst (λ (ts : List (List ℕ)). IsSystemOf input ts t) (sym same.0) is')).0)

@@ -1,0 +1,25 @@
+use Rattle.std.proofs.Common.{[], inl, inr}
+use Rattle.memplan.specs.Request.{check, planning, simulate, files_of}
+use Rattle.memplan.proofs.RunLemmas.{first_refusal}
+use Rattle.memplan.proofs.SoundAnswer.{certified, best, simulated}
+use Rattle.memplan.proofs.laws.what_answers_say.Goals as goal
+
+pub returns-clause-certified : goal.returns-clause-certified
+returns-clause-certified c = λ input plan workers texts answer is done. elim is [
+  | inl refused ↦ absurd (first_refusal (files_of (check input plan workers)) [] texts answer refused done)
+  | inr report ↦ certified (λ i ts nodes of_tree. (c.one_input.ensures.tree i ts nodes nodes of_tree of_tree).1) c.tree_term.ensures.terms c.tree_term.ensures.system c.read_law.ensures c.terms_law.ensures.denotes
+      c.accepted_law.ensures.own c.accepted_law.ensures.renamed input texts answer report done
+]
+
+pub returns-clause-planned : goal.returns-clause-planned
+returns-clause-planned c = λ input texts answer is done. elim is [
+  | inl refused ↦ absurd (first_refusal (files_of (planning input)) [] texts answer refused done)
+  | inr report ↦ best (λ i ts nodes of_tree. (c.one_input.ensures.tree i ts nodes nodes of_tree of_tree).1) c.tree_term.ensures.terms c.tree_term.ensures.system c.read_law.ensures c.terms_law.ensures.denotes
+      c.accepted_law.ensures.own c.accepted_law.ensures.renamed c.printed_plan.ensures.text c.printed_length.ensures.text input texts answer report
+]
+
+pub returns-clause-simulated : goal.returns-clause-simulated
+returns-clause-simulated c = λ input source s texts answer workers is done. elim is [
+  | inl refused ↦ absurd (first_refusal (files_of (simulate input source s)) [] texts answer refused done)
+  | inr report ↦ simulated c.one_input.ensures.system c.schedule_law.ensures.legal c.schedule_law.ensures.each_once c.schedule_law.ensures.within input source s texts answer workers report done
+]

@@ -1,0 +1,102 @@
+//! Laws of the answers: what holds of each, without a call.
+
+ghost use Rattle.std.specs.Prelude.{◌≡◌, ◌≤◌, ℕ, List, length};
+ghost use Rattle.mp_system.specs.System.{IsSystem, TaskSystem};
+ghost use Rattle.sp_terms.specs.declared.position.Position.{Position};
+ghost use Rattle.tree_input.specs.Tree.{IsTree};
+ghost use Rattle.tree_input.specs.declared.node.Node.{Node};
+ghost use Rattle.memplan.specs.Commands.{IsAnswer};
+ghost use Rattle.memplan.specs.Check.{IsCertified};
+ghost use Rattle.memplan.specs.Files.{Answer, HasValue, IsRefused, IsSystemOf, IsSystemWithTerm, IsTreeOf};
+ghost use Rattle.memplan.specs.Plan.{IsBestPlan};
+ghost use Rattle.memplan.specs.Request.{FileRole, HasWorkers, Input, OrderSource, Request, Simulation, TreeInput, check, input_files, planning, simulate, tree_input_files};
+ghost use Rattle.memplan.specs.Simulate.{IsSimulated};
+ghost use Rattle.memplan.specs.declared.status.Status.TheVariants.{Done};
+
+use activation::laws as run_laws;
+use claim_check::laws as claim_laws;
+use matrix_market::laws as matrix_laws;
+use mp_system::laws as system_laws;
+use ordering::laws as order_laws;
+use plan_text::laws as plan_laws;
+use postorder_best::laws as postorder_laws;
+use sp_terms::laws as term_laws;
+use symbolic::laws as front_laws;
+use tree_input::laws as tree_laws;
+
+// The texts of an input are of one tree, one system and one term, within the limits, and they are as many as its files.
+fn one_input()
+    ensures tree { (input : TreeInput) (texts : List (List ℕ)) (one two : List Node) → IsTreeOf input texts one → IsTreeOf input texts two →
+        (one ≡ two) × IsTree one × (length texts ≡ length (tree_input_files input)) }
+    ensures system { (input : Input) (texts : List (List ℕ)) (one two : TaskSystem) → IsSystemOf input texts one → IsSystemOf input texts two →
+        (one ≡ two) × IsSystem one × (length texts ≡ length (input_files input)) }
+    ensures term { (input : Input) (texts : List (List ℕ)) (system same : TaskSystem) (one two : List Position) →
+        IsSystemWithTerm input texts system one → IsSystemWithTerm input texts same two → one ≡ two }
+{
+    tree_laws::exactly_one();
+    tree_laws::read_is_tree();
+    tree_laws::tree_system();
+    tree_laws::forest_law();
+    matrix_laws::exactly_one();
+    order_laws::exactly_one_perm();
+    order_laws::read_is_perm();
+    front_laws::one_front_tree();
+    front_laws::front_tree_is_tree();
+    term_laws::exactly_one();
+    term_laws::read_law();
+    term_laws::terms_law();
+}
+
+// A file is accepted or refused, never both, and refused with one answer.
+fn one_file()
+    ensures not_both { (role : FileRole) (earlier : List (List ℕ)) (text : List ℕ) (answer : Answer) → HasValue role earlier text →
+        ¬ (IsRefused role earlier text answer) }
+    ensures one_refusal { (role : FileRole) (earlier : List (List ℕ)) (text : List ℕ) (one two : Answer) → IsRefused role earlier text one →
+        IsRefused role earlier text two → one ≡ two }
+{
+    one_input();
+    tree_laws::exactly_one();
+    term_laws::exactly_one();
+    matrix_laws::exactly_one();
+    order_laws::exactly_one();
+    order_laws::exactly_one_perm();
+    plan_laws::exactly_one();
+}
+
+/// A request has one answer over the texts of its files, and so the program prints what these decide; but `plan` may print any plan of
+/// least peak with a certificate.
+pub fn one_answer()
+    ensures { (request : Request) (texts : List (List ℕ)) (one two : Answer) → HasWorkers request →
+        ((input : Input) → ¬ (request ≡ planning input)) → IsAnswer request texts one → IsAnswer request texts two → one ≡ two }
+{
+    one_input();
+    one_file();
+    order_laws::exactly_one();
+    order_laws::exactly_one_perm();
+    order_laws::read_is_perm();
+    plan_laws::exactly_one();
+    plan_laws::read_law();
+    system_laws::traversal_law();
+    postorder_laws::one_best_postorder();
+    claim_laws::accepted_or_objected();
+    run_laws::schedule_law();
+}
+
+/// What an answer says: a yes certifies, a plan is best, and a trace is of a run that was simulated. It follows from being an answer.
+pub fn what_answers_say()
+    ensures certified { (input : Input) (plan : List ℕ) (workers : ℕ) (texts : List (List ℕ)) (answer : Answer) →
+        IsAnswer (check input plan workers) texts answer → answer.status ≡ Done → IsCertified input texts answer.text }
+    ensures planned { (input : Input) (texts : List (List ℕ)) (answer : Answer) →
+        IsAnswer (planning input) texts answer → answer.status ≡ Done → IsBestPlan input texts answer.text }
+    ensures simulated { (input : Input) (source : OrderSource) (s : Simulation) (texts : List (List ℕ)) (answer : Answer) → 1 ≤ s.workers →
+        IsAnswer (simulate input source s) texts answer → answer.status ≡ Done → IsSimulated input source s texts answer.text }
+{
+    one_input();
+    tree_laws::tree_term();
+    term_laws::read_law();
+    term_laws::terms_law();
+    claim_laws::accepted_law();
+    plan_laws::printed_plan();
+    plan_laws::printed_length();
+    run_laws::schedule_law();
+}
