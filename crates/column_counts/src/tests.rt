@@ -11,7 +11,13 @@ use std::collections::BTreeSet;
 use std::process::Abort;
 use std::test::Fail;
 
-const BANNER: [&str; 5] = ["%%MatrixMarket", "matrix", "coordinate", "pattern", "symmetric"];
+const BANNER: [&str; 5] = [
+    "%%MatrixMarket",
+    "matrix",
+    "coordinate",
+    "pattern",
+    "symmetric",
+];
 
 // The pattern of so many vertices that joins these pairs.
 fn pattern_of(alloc: Global, n: u32, pairs: &[(u32, u32)]) -> Result<Pattern, Fail> {

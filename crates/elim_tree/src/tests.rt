@@ -62,13 +62,23 @@ const RENUMBERED: [Row; 2] = [
     },
 ];
 
-const BANNER: [&str; 5] = ["%%MatrixMarket", "matrix", "coordinate", "pattern", "symmetric"];
+const BANNER: [&str; 5] = [
+    "%%MatrixMarket",
+    "matrix",
+    "coordinate",
+    "pattern",
+    "symmetric",
+];
 
 // The pattern of four vertices that joins these pairs.
 fn pattern_of(alloc: Global, pairs: &[(u32, u32)]) -> Result<Pattern, Fail> {
     let mut text = Report::new(alloc);
     text.line(&BANNER.map(Token::Word))?;
-    text.line(&[Token::Number(4), Token::Number(4), Token::Number(pairs.len() as u64)])?;
+    text.line(&[
+        Token::Number(4),
+        Token::Number(4),
+        Token::Number(pairs.len() as u64),
+    ])?;
     for (a, b) in pairs {
         text.line(&[Token::Number((*b).into()), Token::Number((*a).into())])?;
     }

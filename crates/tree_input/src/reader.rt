@@ -25,13 +25,25 @@ impl Model for TreeReader {
     ghost Value = { ReaderState };
 
     ghost view = { λ s. record {
-        stage = s.stage; version = s.version; count = s.count; nodes = s.nodes.items; lines = s.lines.items; total = s.total } };
+      stage = s.stage;
+      version = s.version;
+      count = s.count;
+      nodes = s.nodes.items;
+      lines = s.lines.items;
+      total = s.total;
+    } };
 
     ghost use Rattle.tree_input.specs.Reader.{IsReaderState};
 
     ghost invariant = { λ s.
         IsReaderState (record {
-        stage = s.stage; version = s.version; count = s.count; nodes = s.nodes.items; lines = s.lines.items; total = s.total }) };
+          stage = s.stage;
+          version = s.version;
+          count = s.count;
+          nodes = s.nodes.items;
+          lines = s.lines.items;
+          total = s.total;
+        }) };
 }
 
 impl TreeReader {
