@@ -1,4 +1,4 @@
--- What a page that answers a request says: a report, or a first refusal, which is not done.
+-- A page answers a request by a report, or by a first refusal, which is not done.
 use Rattle.std.proofs.Common.{◌≡◌, ◌∙◌, ℕ, ◌<◌, List, [], ◌∷◌, ◌++◌, Option, length, take, sym, ap, subst, inl, inr}
 use Rattle.std.specs.Prelude.{codes}
 use Rattle.mp_outside.specs.Outside.{Appended}
@@ -20,7 +20,6 @@ use Rattle.ordering.specs.Kinds.{perm_word}
 use Rattle.ordering.specs.Kinds.{order_file_word}
 use Rattle.plan_text.specs.Kinds.{word_of as plan_word}
 use Rattle.memplan.specs.Request.{Request, replay, tree, post, check, planning, simulate, FileRole, NamedFile, tree_file, workflow_file, matrix_file, perm_file, order_file, plan_file, priority_file, files_of}
-use Rattle.memplan.specs.Sound.{IsSoundReport}
 use Rattle.memplan.specs.declared.status.Status.{Status}
 use Rattle.memplan.specs.declared.status.Status.TheVariants as status
 
@@ -58,34 +57,25 @@ first_refusal (file ∷ files) earlier (text ∷ texts) answer (inr (accepted, r
 
 -- ---- a page that answers
 
--- the answer to a request, and what it says beside that
-abbrev pub IsSoundAnswer : (List ℕ → Option (List ℕ)) → Request → Answer → Type 0
-IsSoundAnswer told request answer = (texts : List (List ℕ)) → AreTold told (files_of request) texts → IsAnswer request texts answer × IsSoundReport request texts answer
+-- the answer to a request, where the files tell their texts
+abbrev pub Answers : (List ℕ → Option (List ℕ)) → Request → Answer → Type 0
+Answers told request answer = (texts : List (List ℕ)) → AreTold told (files_of request) texts → IsAnswer request texts answer
 
 pub reported : (told : List ℕ → Option (List ℕ)) (request : Request) (answer : Answer)
-    → ((texts : List (List ℕ)) → AreTold told (files_of request) texts → IsReport request texts answer × IsSoundReport request texts answer) → IsSoundAnswer told request answer
-reported told request answer h texts are = let t = h texts are in (inr t.0, t.1)
-
-sound_refusal : (request : Request) (texts : List (List ℕ)) (answer : Answer) → (answer.status ≡ status.Done → ⊥) → IsSoundReport request texts answer
-sound_refusal (replay input source) texts answer not_done = tt
-sound_refusal (tree m) texts answer not_done = tt
-sound_refusal (post input) texts answer not_done = tt
-sound_refusal (check input plan workers) texts answer not_done = λ done. absurd (not_done done)
-sound_refusal (planning input) texts answer not_done = λ done. absurd (not_done done)
-sound_refusal (simulate input source s) texts answer not_done = λ done. absurd (not_done done)
+    → ((texts : List (List ℕ)) → AreTold told (files_of request) texts → IsReport request texts answer) → Answers told request answer
+reported told request answer h texts are = inr (h texts are)
 
 pub was_refused : (told : List ℕ → Option (List ℕ)) (request : Request) (answer : Answer)
-    → ((texts : List (List ℕ)) → AreTold told (files_of request) texts → IsFirstRefusal (files_of request) [] texts answer) → IsSoundAnswer told request answer
-was_refused told request answer h texts are =
-    let refusal = h texts are in
-    (inl refusal, sound_refusal request texts answer (first_refusal (files_of request) [] texts answer refusal))
+    → ((texts : List (List ℕ)) → AreTold told (files_of request) texts → IsFirstRefusal (files_of request) [] texts answer) → Answers told request answer
+was_refused told request answer h texts are = inl (h texts are)
 
-module _ (told : List ℕ → Option (List ℕ)) (request : Request) (answer : Answer) (sound : IsSoundAnswer told request answer) where
+module _ (told : List ℕ → Option (List ℕ)) (request : Request) (answer : Answer) (answering : Answers told request answer) where
   pub answers : (ended : Status) (old new : Option (List ℕ)) → ended ≡ answer.status → Appended old new answer.text → IsAnswered told request ended old new
-  answers ended old new is appended = λ texts are. (answer, (sound texts are).0, (sym is, appended))
+  answers ended old new is appended = λ texts are. (answer, answering texts are, (sym is, appended))
 
   pub is_cut : (old new : Option (List ℕ)) → ((n : ℕ) × (n < length answer.text) × Appended old new (take n answer.text)) → IsCutShort told request old new
-  is_cut old new prefix = λ texts are. (answer, (sound texts are).0, prefix)
+  is_cut old new prefix = λ texts are. (answer, answering texts are, prefix)
 
-  pub says : (asked : Request) → request ≡ asked → (texts : List (List ℕ)) → AreTold told (files_of asked) texts → IsSoundReport asked texts answer
-  says asked is texts are = subst (λ (r : Request). AreTold told (files_of r) texts → IsSoundReport r texts answer) is (λ told_so. (sound texts told_so).1) are
+  -- it answers what was asked
+  pub says : (asked : Request) → request ≡ asked → Answers told asked answer
+  says asked is = subst (λ (r : Request). Answers told r answer) is answering

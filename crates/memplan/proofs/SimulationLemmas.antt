@@ -1,29 +1,22 @@
--- A simulation over the texts of the input, of the order and of the priority, and what a printed trace says of its run.
+-- A simulation over the texts of the input, of the order and of the priority.
 use Rattle.std.proofs.Common.{◌≡◌, ◌∙◌, ℕ, ◌≤◌, List, [], ◌∷◌, ◌++◌, Option, Some, None, length, sym, ap, subst, inl, inr, arith, append_assoc}
 use Rattle.least_peak.specs.Problem.{system_of}
 use Rattle.memplan.specs.Commands.{IsReport}
 use Rattle.memplan.specs.Files.{Answer, IsFirstRefusal}
-use Rattle.memplan.specs.Simulate.{IsOwnPriority, IsPriorityFrom, IsSimulation, setting_of, priority_or, IsPrintedRun, report_lines}
+use Rattle.memplan.specs.Simulate.{IsOwnPriority, IsPriorityFrom, IsSimulation, setting_of, priority_or}
 use Rattle.memplan.specs.Clauses.{AreTold}
 use Rattle.memplan.specs.Judged.{IsStop, IsOrderedOf, IsPriorityOf, IsRefusedRanking, numbers_of, own_priority, priority_beside}
 use Rattle.memplan.specs.Request.{Input, OrderSource, Simulation, NamedFile, simulate, input_files, source_file, priority_files, files_of}
-use Rattle.memplan.specs.Sound.{IsSoundReport}
 use Rattle.memplan.specs.declared.commands.simulate.Priority.{Priority}
 use Rattle.memplan.specs.declared.commands.simulate.Priority.TheVariants as priorities
 use Rattle.memplan.specs.declared.inputs.Order.{Order}
 use Rattle.memplan.specs.declared.inputs.OrderedProblem.{OrderedProblem}
-use Rattle.memplan.specs.declared.status.Status.TheVariants.{Done}
 use Rattle.memplan.specs.declared.stop.Stop.{Stop}
 use Rattle.memplan.proofs.StepLemmas.{over_both}
 use Rattle.memplan.proofs.InputLemmas.{problem_has_system}
-use Rattle.activation.specs.Machine.{Setting, IsSetting, start_state}
-use Rattle.activation.specs.Runs.{AreLegal, StaysWithinBound, EachOnce}
 use Rattle.activation.specs.Schedule.{HoldsEach}
-use Rattle.activation.specs.Schedule.{last_time, most_used, most_booked}
-use Rattle.activation.specs.declared.events.Event.{Event}
 use Rattle.mp_system.specs.System.{TaskSystem}
 use Rattle.mp_system.specs.Traversal.{IsTraversal}
-use Rattle.mp_text.specs.Report.{text_of_lines}
 use Rattle.ordering.specs.Perm.{IsPerm}
 use Rattle.plan_text.specs.Plan.{RanksAll, IsPriority}
 
@@ -44,21 +37,6 @@ pub of_own : (system : TaskSystem) (order priority : List ℕ) → IsTraversal s
 of_own system order [] traversal long is = of_traversal system order traversal
 of_own system order (v ∷ vs) traversal long (inl is) = absurd (cc is)
 of_own system order (v ∷ vs) traversal long (inr ranks) = of_ranks system (v ∷ vs) (subst (λ (n : ℕ). RanksAll n (v ∷ vs)) long ranks)
-
--- ---- a printed trace
-
-pub is_run : (c : Setting) (events : List Event) (makespan used booked : ℕ) → makespan ≡ last_time 0 events → used ≡ most_used c (start_state c) events
-    → booked ≡ most_booked c (start_state c) events → IsSetting c → AreLegal c (start_state c) events → EachOnce c events → StaysWithinBound c (start_state c) events
-    → (printed : List ℕ) → printed ≡ text_of_lines (report_lines makespan used booked events) → IsPrintedRun c printed
-is_run c events makespan used booked is_makespan is_used is_booked setting legal each_once within printed is = record {
-  traversal = setting.traversal;
-  peak_within = setting.bound;
-  events = events;
-  legal = legal;
-  each_once = each_once;
-  within = within;
-  printed_is = is ∙ rw (is_makespan, is_used, is_booked);
-}
 
 -- ---- the priority
 
@@ -106,38 +84,23 @@ module _ (told : List ℕ → Option (List ℕ)) (input : Input) (source : Order
     pub simulated : (are_ordered : (texts : List (List ℕ)) → AreTold told first texts → IsOrderedOf input source texts ordered) (priority : Priority) (answer : Answer)
         → ((texts : List (List ℕ)) → AreTold told more texts → IsPriorityOf s.priority (length (system_of ordered.problem).tasks) texts priority)
         → IsSimulation (setting_of (system_of ordered.problem) (numbers_of ordered.order) s) (priority_beside ordered.order priority) answer
-        → (answer.status ≡ Done → IsPrintedRun (setting_of (system_of ordered.problem) (numbers_of ordered.order) s) answer.text)
         → (texts : List (List ℕ)) → AreTold told (files_of (simulate input source s)) texts
-        → IsReport (simulate input source s) texts answer × IsSoundReport (simulate input source s) texts answer
-    simulated are_ordered priority answer is_priority is run texts are =
-        over_both told first more (λ ts. IsReport (simulate input source s) ts answer × IsSoundReport (simulate input source s) ts answer)
+        → IsReport (simulate input source s) texts answer
+    simulated are_ordered priority answer is_priority is texts are =
+        over_both told first more (λ ts. IsReport (simulate input source s) ts answer)
         (λ one two are_one are_two.
         let work = are_ordered one are_one in
         let split = ap (λ ts. ts ++ two) work.texts_are ∙ append_assoc work.mine (work.text ∷ []) two in
-        let system = system_of ordered.problem in
-        let is_system = problem_has_system input work.mine ordered.problem work.is_problem in (
-          (
-            work.mine,
-            work.text,
-            two,
-            system,
-            numbers_of ordered.order,
-            priority_beside ordered.order priority,
-            split,
-            is_system,
-            work.is_order.0,
-            priority_from source s.priority (length system.tasks) work.text two ordered.order priority work.is_order.1 (is_priority two are_two),
-            is,
-          ),
-          λ done. record {
-            mine = work.mine;
-            text = work.text;
-            rest = two;
-            texts_are = split;
-            system = system;
-            is_system = is_system;
-            order = numbers_of ordered.order;
-            is_order = work.is_order.0;
-            run = run done;
-          },
+        let system = system_of ordered.problem in (
+          work.mine,
+          work.text,
+          two,
+          system,
+          numbers_of ordered.order,
+          priority_beside ordered.order priority,
+          split,
+          problem_has_system input work.mine ordered.problem work.is_problem,
+          work.is_order.0,
+          priority_from source s.priority (length system.tasks) work.text two ordered.order priority work.is_order.1 (is_priority two are_two),
+          is,
         )) texts (subst (λ fs. AreTold told fs texts) (sym whole) are)

@@ -17,7 +17,6 @@ use Rattle.memplan.specs.Clauses.{AreTold, HasFailed}
 use Rattle.memplan.specs.Pages.{answer_of}
 use Rattle.ordering.specs.Kinds.{perm_word}
 use Rattle.memplan.specs.Request.{Input, tree_input, workflow_named, NamedFile, OrderSource, Request, input_files, source_file, files_of}
-use Rattle.memplan.specs.Sound.{IsSoundReport}
 use Rattle.memplan.specs.declared.commands.simulate.Priority.{Priority}
 use Rattle.memplan.specs.declared.commands.simulate.Priority.TheVariants as priorities
 use Rattle.memplan.specs.declared.files.Ranked.{Ranked}
@@ -149,5 +148,5 @@ priority_beside order (priorities.Given numbers) = numbers.items
 abbrev pub IsReported : (List ℕ → Option (List ℕ)) → (List ℕ → ℕ) → (List ℕ → ℕ) → Request → Result Page Stop → Type 0
 IsReported told before after request result =
     AreJudged told before after (files_of request)
-    (λ texts page. IsReport request texts (answer_of page) × IsSoundReport request texts (answer_of page))
+    (λ texts page. IsReport request texts (answer_of page))
     (IsFirstRefusal (files_of request) []) result

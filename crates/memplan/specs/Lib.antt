@@ -13,5 +13,4 @@ pub mod Simulate
 pub mod Commands
 pub mod Clauses
 pub mod Pages
-pub mod Sound
 pub mod Judged

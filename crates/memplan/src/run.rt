@@ -8,6 +8,7 @@ ghost use Rattle.memplan.specs.Pages.{answer_of, status_of};
 ghost use Rattle.memplan.specs.Clauses.{Asks, AsksNothing, AreTold, HasText, IsAnswered, IsCutShort, HasFailed, AreQuiet};
 
 use crate::commands::{report, request_of};
+use crate::laws::what_answers_say;
 use crate::page::{Page, PageKind};
 use crate::status::Status;
 use crate::stop::Stop;
@@ -79,6 +80,7 @@ pub fn run_words<R: Threads + Sync, F: Files, S: Sink, G: Gate>(
     ensures later { ((other : List ℕ) → F.faults_of files.old other ≤ F.faults_of files.new other)
         × (S.faults sink.old ≤ S.faults sink.new) }
 {
+    what_answers_say();
     let request = match request_of(alloc, words) {
         Ok(Some(request)) => request,
         Ok(None) => return Status::Usage,

@@ -15,7 +15,6 @@ use crate::stop::Stop;
 use crate::words::Given;
 use mp_outside::Files;
 use mp_text::Report;
-use plan_text::laws::{printed_length, printed_plan};
 use plan_text::{PlanFile, print_plan};
 use std::alloc::{AllocError, Global};
 
@@ -45,8 +44,6 @@ pub fn report_plan<F: Files>(alloc: Global, files: &mut F, input: Input<'_>) -> 
     ensures same { (other : List ℕ) → F.bytes_of files.new other ≡ F.bytes_of files.old other }
     ensures later { (other : List ℕ) → F.faults_of files.old other ≤ F.faults_of files.new other }
 {
-    printed_plan();
-    printed_length();
     let problem = judge_input(alloc, files, input)?;
     let plan = problem.plan(alloc)?;
     Ok(plan_page(alloc, &plan)?)

@@ -187,12 +187,9 @@ fn simulation_page(
     requires workers { AreWorkers workers }
     requires priority { IsTraversal (system_of ordered.now.problem) (numbers_of ordered.now.order) →
         HoldsEach (system_of ordered.now.problem) priority.now }
-    ensures answer { IfOk result (λ page. IsSimulation
+    ensures { IfOk result (λ page. IsSimulation
         (record { system = system_of ordered.now.problem; order = numbers_of ordered.now.order; bound = bound; workers = workers })
         priority.now (answer_of page)) }
-    ensures run { IfOk result (λ page. (answer_of page).status ≡ Done → IsPrintedRun
-        (record { system = system_of ordered.now.problem; order = numbers_of ordered.now.order; bound = bound; workers = workers })
-        (answer_of page).text) }
 {
     let order = ordered.order.numbers();
     match ordered.problem.core(alloc, order, bound, workers) {

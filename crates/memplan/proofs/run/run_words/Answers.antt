@@ -1,5 +1,5 @@
 use Rattle.std.proofs.Common.{◌≡◌, ◌∙◌, map, string_bytes, Some, sym, ap, subst, option_map}
-use Rattle.memplan.specs.Request.{Request, files_of, check, planning, simulate}
+use Rattle.memplan.specs.Request.{Request, HasWorkers, files_of, check, planning, simulate}
 use Rattle.memplan.specs.Commands.{request_of}
 use Rattle.memplan.specs.RequestViews.{request_view}
 use Rattle.memplan.specs.Clauses.{AreQuiet}
@@ -24,9 +24,9 @@ returns-in-Ok-clause-answered g c = λ has_text.
     let mine = request_view c.in-Ok-Some.request in
     let has_mine : request_of (map (λ w. string_bytes w) c.args.words.now) ≡ Some mine = sym c.in-Ok-Some.ensures.value ∙ ap (option_map request_view) c.in-Ok-Some.field-0-is in
     let answer = answer_of c.in-Ok.page in
-    let sound = reported told mine answer c.in-Ok.ensures.told in
+    let answering = reported told mine answer c.in-Ok.ensures.told in
     let whole = c.written.ensures.whole has_text in
-    (mine, has_mine, answers told mine answer sound c.written.result old (g.S.Sink.written c.written.new.sink) whole.0 whole.1)
+    (mine, has_mine, answers told mine answer answering c.written.result old (g.S.Sink.written c.written.new.sink) whole.0 whole.1)
 
 pub returns-in-Ok-clause-proper_prefix : goal.returns-in-Ok-clause-proper_prefix
 returns-in-Ok-clause-proper_prefix g c = λ fault.
@@ -35,8 +35,8 @@ returns-in-Ok-clause-proper_prefix g c = λ fault.
     let mine = request_view c.in-Ok-Some.request in
     let has_mine : request_of (map (λ w. string_bytes w) c.args.words.now) ≡ Some mine = sym c.in-Ok-Some.ensures.value ∙ ap (option_map request_view) c.in-Ok-Some.field-0-is in
     let answer = answer_of c.in-Ok.page in
-    let sound = reported told mine answer c.in-Ok.ensures.told in
-    (mine, has_mine, is_cut told mine answer sound old (g.S.Sink.written c.written.new.sink) (c.written.ensures.proper_prefix fault).1)
+    let answering = reported told mine answer c.in-Ok.ensures.told in
+    (mine, has_mine, is_cut told mine answer answering old (g.S.Sink.written c.written.new.sink) (c.written.ensures.proper_prefix fault).1)
 
 pub returns-in-Ok-clause-certified : goal.returns-in-Ok-clause-certified
 returns-in-Ok-clause-certified g c = λ done input plan workers has texts are.
@@ -45,9 +45,9 @@ returns-in-Ok-clause-certified g c = λ done input plan workers has texts are.
     let mine = request_view c.in-Ok-Some.request in
     let has_mine : request_of (map (λ w. string_bytes w) c.args.words.now) ≡ Some mine = sym c.in-Ok-Some.ensures.value ∙ ap (option_map request_view) c.in-Ok-Some.field-0-is in
     let answer = answer_of c.in-Ok.page in
-    let sound = reported told mine answer c.in-Ok.ensures.told in
+    let answering = reported told mine answer c.in-Ok.ensures.told in
     let whole = c.written.ensures.whole (rw done tt) in
-    (answer.text, says told mine answer sound (check input plan workers) (cc (sym has_mine ∙ has)) texts are (sym whole.0 ∙ done), whole.1)
+    (answer.text, c.what_answers_say.ensures.certified input plan workers texts answer (says told mine answer answering (check input plan workers) (cc (sym has_mine ∙ has)) texts are) (sym whole.0 ∙ done), whole.1)
 
 pub returns-in-Ok-clause-planned : goal.returns-in-Ok-clause-planned
 returns-in-Ok-clause-planned g c = λ done input has texts are.
@@ -56,9 +56,9 @@ returns-in-Ok-clause-planned g c = λ done input has texts are.
     let mine = request_view c.in-Ok-Some.request in
     let has_mine : request_of (map (λ w. string_bytes w) c.args.words.now) ≡ Some mine = sym c.in-Ok-Some.ensures.value ∙ ap (option_map request_view) c.in-Ok-Some.field-0-is in
     let answer = answer_of c.in-Ok.page in
-    let sound = reported told mine answer c.in-Ok.ensures.told in
+    let answering = reported told mine answer c.in-Ok.ensures.told in
     let whole = c.written.ensures.whole (rw done tt) in
-    (answer.text, says told mine answer sound (planning input) (cc (sym has_mine ∙ has)) texts are (sym whole.0 ∙ done), whole.1)
+    (answer.text, c.what_answers_say.ensures.planned input texts answer (says told mine answer answering (planning input) (cc (sym has_mine ∙ has)) texts are) (sym whole.0 ∙ done), whole.1)
 
 pub returns-in-Ok-clause-simulated : goal.returns-in-Ok-clause-simulated
 returns-in-Ok-clause-simulated g c = λ done input source s has texts are.
@@ -67,9 +67,11 @@ returns-in-Ok-clause-simulated g c = λ done input source s has texts are.
     let mine = request_view c.in-Ok-Some.request in
     let has_mine : request_of (map (λ w. string_bytes w) c.args.words.now) ≡ Some mine = sym c.in-Ok-Some.ensures.value ∙ ap (option_map request_view) c.in-Ok-Some.field-0-is in
     let answer = answer_of c.in-Ok.page in
-    let sound = reported told mine answer c.in-Ok.ensures.told in
+    let answering = reported told mine answer c.in-Ok.ensures.told in
     let whole = c.written.ensures.whole (rw done tt) in
-    (answer.text, says told mine answer sound (simulate input source s) (cc (sym has_mine ∙ has)) texts are (sym whole.0 ∙ done), whole.1)
+    let asked : mine ≡ simulate input source s = cc (sym has_mine ∙ has) in
+    let workers = subst HasWorkers asked c.in-Ok-Some.ensures.workers in
+    (answer.text, c.what_answers_say.ensures.simulated input source s texts answer workers.0 (says told mine answer answering (simulate input source s) asked texts are) (sym whole.0 ∙ done), whole.1)
 
 pub returns-in-Err-Refused-clause-answered : goal.returns-in-Err-Refused-clause-answered
 returns-in-Err-Refused-clause-answered g c = λ has_text.
@@ -78,9 +80,9 @@ returns-in-Err-Refused-clause-answered g c = λ has_text.
     let mine = request_view c.in-Ok-Some.request in
     let has_mine : request_of (map (λ w. string_bytes w) c.args.words.now) ≡ Some mine = sym c.in-Ok-Some.ensures.value ∙ ap (option_map request_view) c.in-Ok-Some.field-0-is in
     let answer = answer_of c.in-Err-Refused.page in
-    let sound = was_refused told mine answer (rw c.in-Err-Refused.field-0-is at c.in-Err-Refused.ensures.told) in
+    let answering = was_refused told mine answer (rw c.in-Err-Refused.field-0-is at c.in-Err-Refused.ensures.told) in
     let whole = c.written-in-Err-Refused.ensures.whole has_text in
-    (mine, has_mine, answers told mine answer sound c.written-in-Err-Refused.result old (g.S.Sink.written c.written-in-Err-Refused.new.sink) whole.0 whole.1)
+    (mine, has_mine, answers told mine answer answering c.written-in-Err-Refused.result old (g.S.Sink.written c.written-in-Err-Refused.new.sink) whole.0 whole.1)
 
 pub returns-in-Err-Refused-clause-proper_prefix : goal.returns-in-Err-Refused-clause-proper_prefix
 returns-in-Err-Refused-clause-proper_prefix g c = λ fault.
@@ -89,8 +91,8 @@ returns-in-Err-Refused-clause-proper_prefix g c = λ fault.
     let mine = request_view c.in-Ok-Some.request in
     let has_mine : request_of (map (λ w. string_bytes w) c.args.words.now) ≡ Some mine = sym c.in-Ok-Some.ensures.value ∙ ap (option_map request_view) c.in-Ok-Some.field-0-is in
     let answer = answer_of c.in-Err-Refused.page in
-    let sound = was_refused told mine answer (rw c.in-Err-Refused.field-0-is at c.in-Err-Refused.ensures.told) in
-    (mine, has_mine, is_cut told mine answer sound old (g.S.Sink.written c.written-in-Err-Refused.new.sink) (c.written-in-Err-Refused.ensures.proper_prefix fault).1)
+    let answering = was_refused told mine answer (rw c.in-Err-Refused.field-0-is at c.in-Err-Refused.ensures.told) in
+    (mine, has_mine, is_cut told mine answer answering old (g.S.Sink.written c.written-in-Err-Refused.new.sink) (c.written-in-Err-Refused.ensures.proper_prefix fault).1)
 
 pub returns-in-Err-Refused-clause-certified : goal.returns-in-Err-Refused-clause-certified
 returns-in-Err-Refused-clause-certified g c = λ done input plan workers has texts are.
@@ -99,9 +101,9 @@ returns-in-Err-Refused-clause-certified g c = λ done input plan workers has tex
     let mine = request_view c.in-Ok-Some.request in
     let has_mine : request_of (map (λ w. string_bytes w) c.args.words.now) ≡ Some mine = sym c.in-Ok-Some.ensures.value ∙ ap (option_map request_view) c.in-Ok-Some.field-0-is in
     let answer = answer_of c.in-Err-Refused.page in
-    let sound = was_refused told mine answer (rw c.in-Err-Refused.field-0-is at c.in-Err-Refused.ensures.told) in
+    let answering = was_refused told mine answer (rw c.in-Err-Refused.field-0-is at c.in-Err-Refused.ensures.told) in
     let whole = c.written-in-Err-Refused.ensures.whole (rw done tt) in
-    (answer.text, says told mine answer sound (check input plan workers) (cc (sym has_mine ∙ has)) texts are (sym whole.0 ∙ done), whole.1)
+    (answer.text, c.what_answers_say.ensures.certified input plan workers texts answer (says told mine answer answering (check input plan workers) (cc (sym has_mine ∙ has)) texts are) (sym whole.0 ∙ done), whole.1)
 
 pub returns-in-Err-Refused-clause-planned : goal.returns-in-Err-Refused-clause-planned
 returns-in-Err-Refused-clause-planned g c = λ done input has texts are.
@@ -110,9 +112,9 @@ returns-in-Err-Refused-clause-planned g c = λ done input has texts are.
     let mine = request_view c.in-Ok-Some.request in
     let has_mine : request_of (map (λ w. string_bytes w) c.args.words.now) ≡ Some mine = sym c.in-Ok-Some.ensures.value ∙ ap (option_map request_view) c.in-Ok-Some.field-0-is in
     let answer = answer_of c.in-Err-Refused.page in
-    let sound = was_refused told mine answer (rw c.in-Err-Refused.field-0-is at c.in-Err-Refused.ensures.told) in
+    let answering = was_refused told mine answer (rw c.in-Err-Refused.field-0-is at c.in-Err-Refused.ensures.told) in
     let whole = c.written-in-Err-Refused.ensures.whole (rw done tt) in
-    (answer.text, says told mine answer sound (planning input) (cc (sym has_mine ∙ has)) texts are (sym whole.0 ∙ done), whole.1)
+    (answer.text, c.what_answers_say.ensures.planned input texts answer (says told mine answer answering (planning input) (cc (sym has_mine ∙ has)) texts are) (sym whole.0 ∙ done), whole.1)
 
 pub returns-in-Err-Refused-clause-simulated : goal.returns-in-Err-Refused-clause-simulated
 returns-in-Err-Refused-clause-simulated g c = λ done input source s has texts are.
@@ -121,6 +123,8 @@ returns-in-Err-Refused-clause-simulated g c = λ done input source s has texts a
     let mine = request_view c.in-Ok-Some.request in
     let has_mine : request_of (map (λ w. string_bytes w) c.args.words.now) ≡ Some mine = sym c.in-Ok-Some.ensures.value ∙ ap (option_map request_view) c.in-Ok-Some.field-0-is in
     let answer = answer_of c.in-Err-Refused.page in
-    let sound = was_refused told mine answer (rw c.in-Err-Refused.field-0-is at c.in-Err-Refused.ensures.told) in
+    let answering = was_refused told mine answer (rw c.in-Err-Refused.field-0-is at c.in-Err-Refused.ensures.told) in
     let whole = c.written-in-Err-Refused.ensures.whole (rw done tt) in
-    (answer.text, says told mine answer sound (simulate input source s) (cc (sym has_mine ∙ has)) texts are (sym whole.0 ∙ done), whole.1)
+    let asked : mine ≡ simulate input source s = cc (sym has_mine ∙ has) in
+    let workers = subst HasWorkers asked c.in-Ok-Some.ensures.workers in
+    (answer.text, c.what_answers_say.ensures.simulated input source s texts answer workers.0 (says told mine answer answering (simulate input source s) asked texts are) (sym whole.0 ∙ done), whole.1)

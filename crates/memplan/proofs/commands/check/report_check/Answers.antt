@@ -7,7 +7,6 @@ use Rattle.memplan.specs.Pages.{answer_of}
 use Rattle.plan_text.specs.Kinds.{word_of as plan_word}
 use Rattle.memplan.specs.Request.{NamedFile, plan_file, check, input_files}
 use Rattle.memplan.specs.RequestViews.{input_view}
-use Rattle.memplan.specs.Sound.{IsSoundReport}
 use Rattle.memplan.proofs.StepLemmas.{passed, alone_stop, stop_before, stop_after, over_last}
 use Rattle.memplan.proofs.InputLemmas.{problem_accepted}
 use Rattle.memplan.proofs.ReportLemmas.{checked}
@@ -45,7 +44,7 @@ returns-clause-told g c =
     let answer = answer_of c.in_ok-verdict_page.field-0 in
     let by = c.in_ok-verdict.ensures.verdict in
     over_last (g.F.Files.bytes_of c.args.files.now) (input_files input) (plan_at name)
-    (λ texts. IsReport (check input name c.args.asked.workers) texts answer × IsSoundReport (check input name c.args.asked.workers) texts answer)
+    (λ texts. IsReport (check input name c.args.asked.workers) texts answer)
     (λ mine text are is. checked input mine text c.in_ok-problem.problem c.in_ok-plan.plan name c.args.asked.workers
     (c.in_ok-problem.ensures.judged mine are) (c.in_ok-plan.ensures.judged text (c.in_ok-problem.ensures.same name ∙ is))
-    by.0 c.in_ok-verdict.verdict answer by.1 by.2 c.in_ok-verdict.ensures.best c.in_ok-verdict_page.ensures)
+    by.0 c.in_ok-verdict.verdict answer by.1 by.2 c.in_ok-verdict_page.ensures)

@@ -11,5 +11,5 @@ pub returns-clause-told : goal.returns-clause-told
 returns-clause-told g c = λ texts are.
     let plan = c.in_ok-plan.plan in
     let by = c.in_ok-plan.ensures.accepted in
-    planned c.printed_plan.ensures.text c.printed_length.ensures.text (input_view c.args.input) texts c.in_ok-problem.problem by.0 plan (answer_of c.in_ok-plan_page.field-0)
-    (c.in_ok-problem.ensures.judged texts are) by.1 c.in_ok-plan.ensures.within by.2 c.in_ok-plan.ensures.priority c.in_ok-plan.ensures.best c.in_ok-plan_page.ensures
+    planned (input_view c.args.input) texts c.in_ok-problem.problem by.0 plan (answer_of c.in_ok-plan_page.field-0)
+    (c.in_ok-problem.ensures.judged texts are) by.1 c.in_ok-plan.ensures.within by.2 c.in_ok-plan.ensures.priority c.in_ok-plan_page.ensures

@@ -13,4 +13,4 @@ returns-clause-told g c = λ texts are.
     let is = c.in_ok-ordered.ensures.judged texts are in
     let ordered = c.in_ok-ordered.ordered in
     let is_system = problem_has_system (input_view c.args.asked.input) is.mine ordered.problem is.is_problem in
-    ((is.mine, is.text, system_of ordered.problem, numbers_of ordered.order, is.texts_are, is_system, is.is_order.0, rw (← c.numbers.ensures) c.in_ok-replay_page.ensures), tt)
+    (is.mine, is.text, system_of ordered.problem, numbers_of ordered.order, is.texts_are, is_system, is.is_order.0, rw (← c.numbers.ensures) c.in_ok-replay_page.ensures)

@@ -58,4 +58,4 @@ returns-clause-told g c =
     simulated told input source s ordered c.in_ok-ordered.ensures.judged priority answer
     (λ texts are. subst (λ (ts : List Task). IsPriorityOf s.priority (length ts) texts priority) (c.tasks.ensures.value ∙ ap (λ (system : TaskSystem). system.tasks) c.system.ensures)
     (c.in_ok-priority.ensures.judged input texts (told_same told now c.in_ok-ordered.ensures.same more texts are)))
-    (rw (← c.chosen-priority.ensures.value) c.in_ok-simulation_page.ensures.answer) c.in_ok-simulation_page.ensures.run
+    (rw (← c.chosen-priority.ensures.value) c.in_ok-simulation_page.ensures)
