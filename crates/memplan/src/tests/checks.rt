@@ -25,7 +25,7 @@ macro_rules! claims {
 }
 
 #[rattlefmt::skip]
-const CASES: &[Case] = &[
+const VERDICTS: &[Case] = &[
     // accepted
     (CHECK_TREE, &[("t", FIVE), ("p", PLAN)], Done, "yes 11\n"),
     (CHECK_TREE, &[("t", ONE), ("p", "plan 1\norder 1\n1\npeak 9\nclaims 1\n3 R 8 7\nend\n")], Done, "yes 9\n"),
@@ -56,7 +56,11 @@ const CASES: &[Case] = &[
         "no claim 5 series\n"),
     (CHECK_FLOW, &[("t", BRANCHES), ("p", "plan 1\norder 4\n1\n3\n2\n4\npeak 13\nclaims 3\n5 R 8 3\n10 R 9 3\n11 R 12 6\nend\n")], No,
         "no claim 11 par\n"),
-    // each differs from the plan that is accepted in one field of one claim
+];
+
+// Each differs from the plan that is accepted in one field of one claim.
+#[rattlefmt::skip]
+const ALTERED: &[Case] = &[
     (CHECK_TREE, claims!("5 R 6 5" "10 R 5 5" "11 R 10 10" "13 R 10 0"), No, "no claim 5 series\n"),
     (CHECK_TREE, claims!("5 R 4 5" "10 R 5 5" "11 R 10 10" "13 R 10 0"), No, "no claim 11 par\n"),
     (CHECK_TREE, claims!("5 R 5 6" "10 R 5 5" "11 R 10 10" "13 R 10 0"), No, "no claim 5 series\n"),
@@ -71,7 +75,10 @@ const CASES: &[Case] = &[
     (CHECK_TREE, claims!("5 R 5 5" "10 R 5 5" "11 R 10 10" "13 R 9 0"), No, "no root 13\n"),
     (CHECK_TREE, claims!("5 R 5 5" "10 R 5 5" "11 R 10 10" "13 R 10 1"), No, "no claim 13 series\n"),
     (CHECK_TREE, claims!("5 R 5 5" "10 R 5 5" "11 R 10 10" "13 F 10 0"), Done, "yes 11\n"),
-    // refused
+];
+
+#[rattlefmt::skip]
+const REFUSED: &[Case] = &[
     (CHECK_TREE, &[("t", FOUR), ("p", "plan 2\norder 4\n1\n2\n3\n4\npriority 4\n3\n3\n1\n4\npeak 6\nclaims 0\nend\n")], Format,
         "refused format plan priority 9\n"),
     (CHECK_TREE, &[("t", FOUR), ("p", "plan 1\norder 0\npeak 0\nclaims 4000002\n")], Limit, "refused limit plan positions\n"),
@@ -82,5 +89,8 @@ const CASES: &[Case] = &[
 
 #[test]
 fn checks(rt: HostRuntime) -> Result<(), Fail> {
-    check_cases(&rt, rt.alloc(), CASES)
+    for cases in [VERDICTS, ALTERED, REFUSED] {
+        check_cases(&rt, rt.alloc(), cases)?;
+    }
+    Ok(())
 }

@@ -17,7 +17,7 @@ const FLOW: &[&str] = &["replay --workflow t --order o"];
 const OF_PLAN: &[&str] = &["replay --tree t --plan p"];
 
 #[rattlefmt::skip]
-const CASES: &[Case] = &[
+const TREES: &[Case] = &[
     (TREE, &[("t", FIVE), ("o", ORDER)], Done, "peak 11\n"),
     (&["replay --order o --tree t"], &[("t", FIVE), ("o", "1 3 2 4 5")], Done, "peak 11\n"),
     (TREE, &[("t", FIVE), ("o", "1 2 3 4 5\n")], Done, "peak 15\n"),
@@ -36,7 +36,11 @@ const CASES: &[Case] = &[
     (TREE, &[("t", FIVE), ("o", "1 2 3 4\n")], No, "no order 5 missing\n"),
     (TREE, &[("t", FIVE), ("o", "2 1 3 4 5\n")], No, "no order 1 too-early\n"),
     (TREE, &[("t", FIVE), ("o", "0\n")], No, "no order 1 unknown\n"),
-    // the refusals of a tree come before those of its order
+];
+
+// The refusals of a tree come before those of its order.
+#[rattlefmt::skip]
+const REFUSED: &[Case] = &[
     (TREE, &[("t", "tree 1\nnodes 2\n2 0 0 1\n1 0 0 1\nend\n"), ("o", "x")], Format, "refused format tree cycle 3\n"),
     (TREE, &[("t", "tree 1\nnodes 1000001\n"), ("o", "x")], Limit, "refused limit tree tasks\n"),
     (TREE, &[("t", "tree 1\nnodes 1\n0 1099511627777 0 1\nend\n"), ("o", "x")], Limit, "refused limit tree size\n"),
@@ -49,7 +53,10 @@ const CASES: &[Case] = &[
     (TREE, &[("t", "tree 1\nnodes 1\n0 \0 0 1\nend\n"), ("o", "1")], Format, "refused format tree number 3\n"),
     (TREE, &[("t", "tree 1\nnodes 5\n2 1 9 1\n5 5 0 1\n4 1 9 1\n5 5 0 1\n0 0 0 1\nen"), ("o", ORDER)], Format,
         "refused format tree count 8\n"),
-    // workflows
+];
+
+#[rattlefmt::skip]
+const WORKFLOWS: &[Case] = &[
     (FLOW, &[("t", BRANCHES), ("o", "1 3 2 4\n")], Done, "peak 13\n"),
     (FLOW, &[("t", BRANCHES), ("o", "1 2 3 4\n")], Done, "peak 14\n"),
     (FLOW, &[("t", BRANCHES), ("o", "2 1 3 4\n")], No, "no order 1 too-early\n"),
@@ -75,7 +82,10 @@ const CASES: &[Case] = &[
 
 #[test]
 fn replays(rt: HostRuntime) -> Result<(), Fail> {
-    check_cases(&rt, rt.alloc(), CASES)
+    for cases in [TREES, REFUSED, WORKFLOWS] {
+        check_cases(&rt, rt.alloc(), cases)?;
+    }
+    Ok(())
 }
 
 // A file that ends early, by its name, its kind and its whole text, and another file.

@@ -77,7 +77,7 @@ const UNBOUND: &[&str] = &["simulate --priority p --tree t --order o --workers 1
 const ARROW_FILES: Texts = &[("t", ARROW), ("o", "1 2 3\n"), ("q", TURNED)];
 
 #[rattlefmt::skip]
-const CASES: &[Case] = &[
+const TREES: &[Case] = &[
     (&["simulate --tree t --order o --bound 11 --workers 1", "simulate --tree t --order o --bound 11 --workers 2",
         "simulate --tree t --order o --bound 11 --workers 4096"], FIVE_FILES, Done, TIGHT),
     (&["simulate --tree t --order o --bound 22 --workers 2"], FIVE_FILES, Done, WIDE),
@@ -91,7 +91,10 @@ const CASES: &[Case] = &[
     (&["simulate --tree t --order o --bound 10 --workers 2"], &[("t", FIVE), ("o", "2 1 3 4 5\n")], No, "no order 1 too-early\n"),
     (&["simulate --tree t --order o --bound 10 --workers 2"], &[("t", FIVE), ("o", "1 1\n")], No, "no order 2 repeated\n"),
     (&["simulate --tree t --order o --bound 10 --workers 2"], &[("t", FIVE), ("o", "9\n")], No, "no order 1 unknown\n"),
-    // workflows
+];
+
+#[rattlefmt::skip]
+const WORKFLOWS: &[Case] = &[
     (&["simulate --workflow t --order o --bound 20 --workers 1"], &[("t", NO_TASKS), ("o", "")], Done, NOTHING_RUN),
     (&["simulate --workflow t --order o --bound 19 --workers 1"], &[("t", NO_TASKS), ("o", "")], Bound, "refused bound 19 20\n"),
     (&["simulate --workflow t --order o --bound 14 --workers 1", "simulate --workflow t --order o --bound 14 --workers 2"],
@@ -100,7 +103,11 @@ const CASES: &[Case] = &[
     (&["simulate --workflow t --order o --bound 28 --workers 1"], BRANCH_FILES, Done, IN_TURN_BOOKED),
     (&["simulate --workflow t --order o --bound 13 --workers 2"], &[("t", BRANCHES), ("o", "1 3 2 4\n")], Done, BY_STEPS),
     (&["simulate --workflow t --order o --bound 13 --workers 2"], BRANCH_FILES, Bound, "refused bound 13 14\n"),
-    // a file comes before the order, and before the plan's own
+];
+
+// A file comes before the order, and before the plan's own.
+#[rattlefmt::skip]
+const PRIORITIES: &[Case] = &[
     (&["simulate --tree t --order o --bound 6 --workers 1"], &[("t", FOUR), ("o", "1 2 3 4\n")], Done, UNRANKED),
     (BY_PLAN, &[("t", FOUR), ("o", RANKED_PLAN)], Done, RANKED),
     (BY_PLAN, &[("t", FOUR), ("o", UNRANKED_PLAN)], Done, UNRANKED),
@@ -112,8 +119,12 @@ const CASES: &[Case] = &[
     // in the plan
     (BY_PLAN, &[("t", FOUR), ("o", "plan 2\norder 4\n1\n2\n3\n4\npriority 4\n3\n3\n1\n4\npeak 6\nclaims 0\nend\n")], Format,
         "refused format plan priority 9\n"),
-    // priorities that are refused; they rank the tasks of the tree, however long the order is; the order's format comes before them, and
-    // what it is no traversal for after them
+];
+
+// Priorities that are refused. They rank the tasks of the tree, however long the order is; the order's format comes before them, and
+// what it is no traversal for after them.
+#[rattlefmt::skip]
+const REFUSED: &[Case] = &[
     (UNBOUND, &[("t", FOUR), ("o", "1 2 3 4\n"), ("p", "1 2\n0 3\n")], Format, "refused format priority range 2\n"),
     (UNBOUND, &[("t", FOUR), ("o", "1 2 3 4\n"), ("p", "1 2 3 5\n")], Format, "refused format priority range 1\n"),
     (UNBOUND, &[("t", FOUR), ("o", "1 2 3 4\n"), ("p", "3\n2\n3\n4\n")], Format, "refused format priority repeated 3\n"),
@@ -132,5 +143,8 @@ const CASES: &[Case] = &[
 
 #[test]
 fn simulations(rt: HostRuntime) -> Result<(), Fail> {
-    check_cases(&rt, rt.alloc(), CASES)
+    for cases in [TREES, WORKFLOWS, PRIORITIES, REFUSED] {
+        check_cases(&rt, rt.alloc(), cases)?;
+    }
+    Ok(())
 }
