@@ -7,6 +7,7 @@ use mp_system::{OrderFault, OrderKind};
 use plan_text::{Claim, Dir, read_plan};
 use sp_terms::{read_workflow, system_of};
 use std::alloc::Global;
+use std::process::Abort;
 use std::rt::HostRuntime;
 use std::sync::atomic::{AtomicBool, AtomicU32, Ordering};
 use std::test::Fail;
@@ -143,9 +144,24 @@ const IN_PLACE: &[u8] = b"workflow 2\ntasks 1\ndata 4\ndata 3\ntask 2 4 1\nend\n
 
 // A single node; one without memory; two data items side by side; two roots; the two chains, also with a bound of position 5 that is below
 // 12 - 3; the task in place, also with a bound of 5.
+// Workflows, plans, and their verdicts by one worker and by four.
+fn check_verdicts<R: Threads + Sync + Abort>(
+    rt: &R,
+    alloc: Global,
+    rows: &[(&[u8], &[u8], Verdict)],
+) -> Result<(), Fail> {
+    for (workflow, plan, expected) in rows {
+        for workers in [1, 4] {
+            let said = verdict(rt, alloc, workflow, plan, workers, &NoGate)?;
+            assert_eq!(rt; said, *expected);
+        }
+    }
+    Ok(())
+}
+
 #[test]
-fn other_workflows_have_their_verdicts(rt: HostRuntime) -> Result<(), Fail> {
-    let rows: [(&[u8], &[u8], Verdict); 8] = [
+fn small_workflows_have_their_verdicts(rt: HostRuntime) -> Result<(), Fail> {
+    let rows: [(&[u8], &[u8], Verdict); 4] = [
         (
             b"workflow 1\ntasks 1\ndata 0\ndata 7\ntask 2 1\nend\n",
             b"plan 1\norder 1\n1\npeak 9\nclaims 1\n3 R 8 7\nend\n",
@@ -166,6 +182,13 @@ fn other_workflows_have_their_verdicts(rt: HostRuntime) -> Result<(), Fail> {
             b"plan 1\norder 2\n2\n1\npeak 7\nclaims 3\n3 R 2 3\n6 R 3 4\n7 R 6 7\nend\n",
             Verdict::Yes(7),
         ),
+    ];
+    check_verdicts(&rt, rt.alloc(), &rows)
+}
+
+#[test]
+fn chains_and_shares_have_their_verdicts(rt: HostRuntime) -> Result<(), Fail> {
+    let rows: [(&[u8], &[u8], Verdict); 4] = [
         (
             TWO_CHAINS,
             b"plan 1\norder 4\n1\n3\n2\n4\npeak 13\nclaims 3\n5 R 9 3\n10 R 9 3\n11 R 12 6\nend\n",
@@ -187,20 +210,27 @@ fn other_workflows_have_their_verdicts(rt: HostRuntime) -> Result<(), Fail> {
             Verdict::No(claim_fails(3, Shape::Series)),
         ),
     ];
-    for (workflow, plan, expected) in rows {
-        for workers in [1, 4] {
-            let said = verdict(&rt, rt.alloc(), workflow, plan, workers, &NoGate)?;
-            assert_eq!(rt; said, expected);
+    check_verdicts(&rt, rt.alloc(), &rows)
+}
+
+// Plans of the five tasks, and the first objection to each, by any number of workers.
+fn check_objections<R: Threads + Sync + Abort>(
+    rt: &R,
+    alloc: Global,
+    rows: &[(&[u8], Objection)],
+) -> Result<(), Fail> {
+    for (plan, objection) in rows {
+        for workers in [1, 2, 3, 13, 4096] {
+            let said = verdict(rt, alloc, FIVE, plan, workers, &NoGate)?;
+            assert_eq!(rt; said, Verdict::No(*objection));
         }
     }
     Ok(())
 }
 
-// An order that is no traversal comes first, then the peak, the claim on the whole term, and the lowest claim that fails, at a position of
-// the term or past the last.
 #[test]
-fn the_first_objection_wins(rt: HostRuntime) -> Result<(), Fail> {
-    let rows: [(&[u8], Objection); 13] = [
+fn an_order_that_is_no_traversal_comes_first(rt: HostRuntime) -> Result<(), Fail> {
+    let rows: [(&[u8], Objection); 4] = [
         (
             b"plan 1\norder 5\n2\n1\n3\n4\n5\npeak 11\nclaims 4\n5 R 5 5\n10 R 5 5\n11 R 10 10\n13 R 10 0\nend\n",
             no_traversal(1, OrderKind::TooEarly),
@@ -217,6 +247,13 @@ fn the_first_objection_wins(rt: HostRuntime) -> Result<(), Fail> {
             b"plan 1\norder 4\n1\n2\n3\n4\npeak 1\nclaims 1\n4 R 5 5\nend\n",
             no_traversal(5, OrderKind::Missing),
         ),
+    ];
+    check_objections(&rt, rt.alloc(), &rows)
+}
+
+#[test]
+fn then_the_peak_and_the_claim_on_the_whole(rt: HostRuntime) -> Result<(), Fail> {
+    let rows: [(&[u8], Objection); 4] = [
         (
             b"plan 1\norder 5\n1\n3\n2\n4\n5\npeak 10\nclaims 4\n5 R 5 5\n10 R 5 5\n11 R 10 10\n13 R 10 0\nend\n",
             Objection::Peak {
@@ -239,6 +276,14 @@ fn the_first_objection_wins(rt: HostRuntime) -> Result<(), Fail> {
             b"plan 1\norder 5\n1\n3\n2\n4\n5\npeak 11\nclaims 4\n5 F 5 5\n10 R 5 5\n11 R 10 10\n13 R 9 0\nend\n",
             Objection::Root { last: 13 },
         ),
+    ];
+    check_objections(&rt, rt.alloc(), &rows)
+}
+
+// At a position of the term, or past the last.
+#[test]
+fn then_the_lowest_claim_that_fails(rt: HostRuntime) -> Result<(), Fail> {
+    let rows: [(&[u8], Objection); 5] = [
         (
             b"plan 1\norder 5\n1\n3\n2\n4\n5\npeak 11\nclaims 4\n5 R 5 5\n10 R 5 5\n11 R 10 11\n13 R 10 0\nend\n",
             claim_fails(11, Shape::Par),
@@ -260,13 +305,7 @@ fn the_first_objection_wins(rt: HostRuntime) -> Result<(), Fail> {
             claim_fails(13, Shape::Series),
         ),
     ];
-    for (plan, objection) in rows {
-        for workers in [1, 2, 3, 13, 4096] {
-            let said = verdict(&rt, rt.alloc(), FIVE, plan, workers, &NoGate)?;
-            assert_eq!(rt; said, Verdict::No(objection));
-        }
-    }
-    Ok(())
+    check_objections(&rt, rt.alloc(), &rows)
 }
 
 // Counts how often chunks were entered, and adds up their numbers.
