@@ -84,8 +84,8 @@ impl TermBuilder {
         }
     }
 
-    // The number of terms that the positions leave.
-    pub(crate) fn height(&self) -> u64
+    /// The number of terms that the positions leave.
+    pub fn height(&self) -> u64
         ensures value { result ≡ length (stack_of self.now) }
         ensures few { result ≤ most_positions }
     {

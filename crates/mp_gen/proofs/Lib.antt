@@ -1,0 +1,4 @@
+pub mod DrawLemmas
+pub mod TreeLemmas
+pub mod RoomLemmas
+pub mod GridLemmas
