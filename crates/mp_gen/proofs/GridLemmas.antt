@@ -74,8 +74,8 @@ joins-within rows cols row col r c =
 joins-few : (rows cols row col : ℕ) → length (joins_at rows cols row col) ≤ 2
 unfolding joins_at
 joins-few rows cols row col =
-    let right = maybe-few (nat_lt (col + 1) cols) (vertex_at cols row col, vertex_at cols row (col + 1)) in
-    let lower = maybe-few (nat_lt (row + 1) rows) (vertex_at cols row col, vertex_at cols (row + 1) col) in
+    let right = maybe-few {A = ℕ × ℕ} (nat_lt (col + 1) cols) (vertex_at cols row col, vertex_at cols row (col + 1)) in
+    let lower = maybe-few {A = ℕ × ℕ} (nat_lt (row + 1) rows) (vertex_at cols row col, vertex_at cols (row + 1) col) in
     omega (arith, length-append {A = ℕ × ℕ}, right, lower)
 
 row-few : (rows cols row : ℕ) → length (joins_in_row rows cols row) ≤ cols * 2

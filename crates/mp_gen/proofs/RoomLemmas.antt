@@ -1,5 +1,5 @@
 -- What a builder has room for, one position further: so none of a random workflow is refused, and one term is left at the end.
-use Rattle.std.proofs.Common.{◌≡◌, ℕ, zero, suc, ◌+◌, ◌*◌, ◌<◌, ◌≤◌, Bool, true, false, cond, Option, Some, None, lit<, List, [], ◌∷◌, ◌++◌, length, refl, sym, ap, subst, ◌∙◌, arith, length-append, append_assoc}
+use Rattle.std.proofs.Common.{◌≡◌, ℕ, zero, suc, ◌+◌, ◌-◌, ◌*◌, ◌<◌, ◌≤◌, Bool, true, false, cond, Option, Some, None, lit<, List, [], ◌∷◌, ◌++◌, length, refl, sym, ap, subst, ◌∙◌, arith, length-append, append_assoc}
 use Rattle.std.specs.Prelude.{◌==◌, ◌&&◌, nat_le, nat_lt, option_and_then, if◌then◌else◌}
 use Rattle.std.specs.List.{sum_by}
 use Rattle.std.proofs.lemmas.Bool.{leb-true, leb-false, le-ltb}
@@ -26,11 +26,13 @@ pushed : (ps : List Position) (p : Position) (start stack out : List Term) → p
 pushed [] p start stack out e f =
     let same : start ≡ stack = cc in
     ap (λ (s : List Term). option_and_then (push_all []) (push p s)) same ∙ ap (option_and_then (push_all [])) f
-pushed (q ∷ ps) p start stack out e f = go (push q start) e
+pushed (q ∷ ps) p start stack out e f = go (push q start) e (λ mid g. pushed ps p mid stack out g f)
   where
-    go : (o : Option (List Term)) → option_and_then (push_all ps) o ≡ Some stack → option_and_then (push_all (ps ++ p ∷ [])) o ≡ Some out
-    go None e = cc
-    go (Some mid) e = pushed ps p mid stack out e f
+    go : (o : Option (List Term)) → option_and_then (push_all ps) o ≡ Some stack
+        → ((mid : List Term) → push_all ps mid ≡ Some stack → push_all (ps ++ p ∷ []) mid ≡ Some out)
+        → option_and_then (push_all (ps ++ p ∷ [])) o ≡ Some out
+    go None e rest = cc
+    go (Some mid) e rest = rest mid e
 
 gather-some : (k : ℕ) (stack : List Term) (ts : Parts) → k ≤ length stack → (r : Parts × List Term) × (gather k stack ts ≡ Some r) × (length r.1 + k ≡ length stack)
 gather-some zero stack ts le = ((ts, stack), refl, omega arith)

@@ -7,6 +7,7 @@ use rand_core::utils::NextWord;
 use rand_pcg::Pcg32;
 
 // The generator of a seed.
+#[tactic(auto, unfolding(crate::specs::Dice::dice_of))]
 pub(crate) fn dice_of(seed: u64) -> Pcg32
     ensures { result ≡ dice_of seed }
 {

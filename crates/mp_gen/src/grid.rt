@@ -18,6 +18,7 @@ fn vertex(cols: u32, row: u32, col: u32) -> u32
 }
 
 // Joins a vertex to its right and to its lower neighbour.
+#[tactic(auto, unfolding(crate::specs::Grid::joins_at))]
 fn join(
     pairs: &mut Vec<(u32, u32)>,
     rows: u32,

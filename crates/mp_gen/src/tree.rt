@@ -11,6 +11,7 @@ use std::alloc::Global;
 use tree_input::{Node, Tree};
 
 // The parent of node i of n.
+#[tactic(auto, unfolding(crate::specs::RandomTree::draw_parent))]
 fn draw_parent(dice: &mut Pcg32, i: u32, n: u32) -> u32
     requires within { i ≤ n }
     requires few { n ≤ most_tasks }
@@ -24,6 +25,7 @@ fn draw_parent(dice: &mut Pcg32, i: u32, n: u32) -> u32
 }
 
 // Node i of n.
+#[tactic(auto, unfolding(crate::specs::RandomTree::draw_node))]
 fn draw_node(dice: &mut Pcg32, i: u32, n: u32) -> Node
     requires within { i ≤ n }
     requires few { n ≤ most_tasks }

@@ -25,6 +25,7 @@ fn put(builder: &mut TermBuilder, position: Position) -> Result<(), NoMemory>
     }
 }
 
+#[tactic(auto, unfolding(crate::specs::RandomWorkflow::with_hold))]
 fn put_hold(builder: &mut TermBuilder, dice: &mut Pcg32) -> Result<(), NoMemory>
     requires { HasRoom builder.old 1 0 1000 }
     ensures { OnOk result ((builder.new, dice.new) ≡ with_hold builder.old dice.old) }
@@ -34,6 +35,7 @@ fn put_hold(builder: &mut TermBuilder, dice: &mut Pcg32) -> Result<(), NoMemory>
 }
 
 // Two data items; none, where two terms stand and the word is even.
+#[tactic(auto, unfolding(crate::specs::RandomWorkflow::with_data))]
 fn put_data(builder: &mut TermBuilder, dice: &mut Pcg32) -> Result<(), NoMemory>
     requires { HasRoom builder.old 2 0 2000 }
     ensures { OnOk result ((builder.new, dice.new) ≡ with_data builder.old dice.old) }
@@ -46,6 +48,7 @@ fn put_data(builder: &mut TermBuilder, dice: &mut Pcg32) -> Result<(), NoMemory>
     put_hold(builder, dice)
 }
 
+#[tactic(auto, unfolding(crate::specs::RandomWorkflow::with_task))]
 fn put_task(builder: &mut TermBuilder, dice: &mut Pcg32) -> Result<(), NoMemory>
     requires room { HasRoom builder.old 1 1 1000 }
     requires two { 2 ≤ height_of builder.old }
@@ -62,6 +65,7 @@ fn put_task(builder: &mut TermBuilder, dice: &mut Pcg32) -> Result<(), NoMemory>
 }
 
 // The last two terms side by side, where two stand and the word is a multiple of 3.
+#[tactic(auto, unfolding(crate::specs::RandomWorkflow::with_par))]
 fn put_par(builder: &mut TermBuilder, dice: &mut Pcg32) -> Result<(), NoMemory>
     requires { HasRoom builder.old 1 0 0 }
     ensures { OnOk result ((builder.new, dice.new) ≡ with_par builder.old dice.old) }
@@ -74,6 +78,7 @@ fn put_par(builder: &mut TermBuilder, dice: &mut Pcg32) -> Result<(), NoMemory>
 }
 
 // The positions of one task more.
+#[tactic(auto, unfolding(crate::specs::RandomWorkflow::with_one))]
 fn put_one(builder: &mut TermBuilder, dice: &mut Pcg32) -> Result<(), NoMemory>
     requires { HasRoom builder.old 4 1 3000 }
     ensures { OnOk result ((builder.new, dice.new) ≡ with_one builder.old dice.old) }
@@ -84,6 +89,7 @@ fn put_one(builder: &mut TermBuilder, dice: &mut Pcg32) -> Result<(), NoMemory>
 }
 
 // All terms that stand, side by side.
+#[tactic(auto, unfolding(crate::specs::RandomWorkflow::closed))]
 fn close(builder: &mut TermBuilder) -> Result<(), NoMemory>
     requires { HasRoom builder.old 1 0 0 }
     ensures { OnOk result (builder.new ≡ closed builder.old) }
