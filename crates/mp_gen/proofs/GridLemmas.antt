@@ -104,3 +104,9 @@ unfolding grid_pairs
 grid-within rows cols =
     flat-all (IsPairWithin (rows * cols)) (joins_in_row rows cols) (range_with_len 0 rows)
     (ranged (λ row. All (IsPairWithin (rows * cols)) (joins_in_row rows cols row)) rows (λ row r. row-within rows cols row r))
+
+pub all-joins : (rows cols row : ℕ) (pairs : List (ℕ × ℕ)) → rows ≤ row → row ≤ rows → pairs ≡ flat_map (joins_in_row rows cols) (range_with_len 0 row) → pairs ≡ grid_pairs rows cols
+unfolding grid_pairs
+all-joins rows cols row pairs low high e =
+    let end : row ≡ rows = omega arith in
+    e ∙ ap (λ (k : ℕ). flat_map (joins_in_row rows cols) (range_with_len 0 k)) end

@@ -14,9 +14,9 @@ use Rattle.sp_terms.specs.declared.builder.PushRefusal.TheVariants.{Short}
 use Rattle.sp_terms.specs.Term.{Term, hold, series, par, Parts, no_parts, part, final_of, initial_of}
 use Rattle.sp_terms.specs.Postfix.{gather, push, push_all}
 use Rattle.sp_terms.specs.Values.{stack_of, stack_from, added_tasks, added_size}
-use Rattle.sp_terms.specs.Builder.{is_short, passed_limit, limit_of, is_overshared, share_refusal, limit_or, refusal_of, IsOneTerm}
-use Rattle.mp_gen.specs.Dice.{draw}
-use Rattle.mp_gen.specs.RandomWorkflow.{height_of, with_hold, with_data, with_task, with_par, with_one, with_tasks, closed}
+use Rattle.sp_terms.specs.Builder.{IsOneTerm}
+use Rattle.mp_gen.specs.Dice.{dice_of, draw}
+use Rattle.mp_gen.specs.RandomWorkflow.{height_of, with_hold, with_data, with_task, with_par, with_one, with_tasks, closed, workflow_of}
 use Rattle.mp_gen.specs.Room.{HasRoom}
 use Rattle.mp_gen.proofs.DrawLemmas.{draw-below}
 
@@ -77,14 +77,14 @@ one-more ps p a t s a' t' s' height room (out, e, len) less_a less_t less_s =
 
 -- ---- the steps of a random workflow
 
-hold-room : (ps : List Position) (dice : Lcg) (a t s : ℕ) → HasRoom ps (suc a) t (s + 1000) → Stands (with_hold ps dice).0 a t s (height_of ps + 1)
+pub hold-room : (ps : List Position) (dice : Lcg) (a t s : ℕ) → HasRoom ps (suc a) t (s + 1000) → Stands (with_hold ps dice).0 a t s (height_of ps + 1)
 unfolding with_hold
 hold-room ps dice a t s room =
     let size = (draw 1000 dice).0 in
     let small = draw-below 1000 dice (lit< tt) in
     one-more ps (Hold (1 + size)) _ _ _ a t s (height_of ps + 1) room (hold (1 + size) ∷ room.stack, refl, omega (arith, height-is ps _ _ _ room)) (omega arith) (omega arith) (omega (arith, small))
 
-less : (ps : List Position) (a t s a' t' s' : ℕ) → HasRoom ps a t s → a' ≤ a → t' ≤ t → s' ≤ s → HasRoom ps a' t' s'
+pub less : (ps : List Position) (a t s a' t' s' : ℕ) → HasRoom ps a t s → a' ≤ a → t' ≤ t → s' ≤ s → HasRoom ps a' t' s'
 less ps a t s a' t' s' room la lt ls = record {
   stack = room.stack;
   leaves = room.leaves;
@@ -127,7 +127,7 @@ task-room ps dice a t s room two =
     let time = draw 16 extra.1 in
     let small = draw-below 1000 dice (lit< tt) in
     let after = one-more ps (at.Task extra.0 0 (1 + time.0)) _ _ _ a t s _ room
-      (takes-task extra.0 (1 + time.0) room.stack (length room.stack - 1) (omega arith) (omega arith)) (omega arith) (omega arith) (omega (arith, small)) in
+    (takes-task extra.0 (1 + time.0) room.stack (length room.stack - 1) (omega arith) (omega arith)) (omega arith) (omega arith) (omega (arith, small)) in
     record { room = after.room; some = omega (arith, after.height_is) }
 
 pub par-room : (ps : List Position) (dice : Lcg) (a t s : ℕ) → HasRoom ps (suc a) t s → 1 ≤ height_of ps → StandsWith (with_par ps dice).0 a t s 1
@@ -177,27 +177,19 @@ closed-one ps stands = go (nat_le 2 (height_of ps)) refl
         (one-more ps (Par (height_of ps)) _ _ _ 0 0 0 1 stands.room (takes-par (height_of ps) stands.room.stack 1 (omega arith) (omega arith)) (omega arith) (omega arith) (omega arith)).height_is
     go false e = omega (arith, leb-false 2 (height_of ps) e, stands.some)
 
--- ---- refusals
+-- ---- the loop over the tasks
 
-unshared : (extra time : ℕ) (stack : List Term) → is_overshared (at.Task extra 0 time) stack ≡ false
-unshared extra time [] = refl
-unshared extra time (b ∷ []) = refl
-unshared extra time (b ∷ (a ∷ stack)) = grind (arith, nat_tests)
+pub first : (P : List Position → Type 0) (ps : List Position) (dice : Lcg) (p : List Position × Lcg) → (ps, dice) ≡ p → P p.0 → P ps
+first P ps dice p e = subst P (sym (ap (λ (q : List Position × Lcg). q.0) e))
 
-pub hold-fits : (ps : List Position) (size : ℕ) → HasRoom ps 1 0 1000 → size ≤ 1000 → refusal_of ps (Hold size) ≡ None
-hold-fits ps size room small =
-    let limit : limit_of ps (Hold size) ≡ None = grind (arith, nat_tests, room.positions_fit, room.size_fits) in
-    rw limit refl
+pub tasks-more : (i : ℕ) (dice : Lcg) → with_tasks (i + 1) dice ≡ with_one (with_tasks i dice).0 (with_tasks i dice).1
+unfolding with_tasks
+tasks-more i dice = let next : i + 1 ≡ suc i = omega arith in ap (λ (k : ℕ). with_tasks k dice) next
 
-pub task-fits : (ps : List Position) (extra time : ℕ) → HasRoom ps 1 1 1000 → 2 ≤ height_of ps → extra ≤ 1000 → time ≤ 16 → refusal_of ps (at.Task extra 0 time) ≡ None
-task-fits ps extra time room two small short =
-    let limit : limit_of ps (at.Task extra 0 time) ≡ None = grind (arith, nat_tests, room.positions_fit, room.tasks_fit, room.size_fits) in
-    let enough : is_short (height_of ps) (at.Task extra 0 time) ≡ false = le-ltb (height_of ps) 2 two in
-    let share = unshared extra time (stack_of ps) in
-    rw (enough, limit, share) refl
+pub all-tasks : (seed n i : ℕ) (ps all : List Position) → n ≤ i → i ≤ n → ps ≡ (with_tasks i (dice_of seed)).0 → all ≡ closed ps → all ≡ workflow_of seed n
+unfolding workflow_of
+all-tasks seed n i ps all low high at e = let end : i ≡ n = omega arith in e ∙ ap closed at ∙ ap (λ (k : ℕ). closed (with_tasks k (dice_of seed)).0) end
 
-pub par-fits : (ps : List Position) (k : ℕ) → HasRoom ps 1 0 0 → k ≤ height_of ps → refusal_of ps (Par k) ≡ None
-par-fits ps k room high =
-    let limit : limit_of ps (Par k) ≡ None = grind (arith, nat_tests, room.positions_fit) in
-    let enough : is_short (height_of ps) (Par k) ≡ false = le-ltb (height_of ps) k high in
-    rw (enough, limit) refl
+pub workflow_of-one : (seed n : ℕ) → 1 ≤ n → n ≤ most_tasks → IsOneTerm (workflow_of seed n)
+unfolding workflow_of
+workflow_of-one seed n some few = closed-one _ (tasks-stand n (dice_of seed) some few)

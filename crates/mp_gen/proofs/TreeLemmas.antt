@@ -117,3 +117,18 @@ module _ (n : ℕ) (nodes : List Node) (h : AreDrawn n n nodes) where
 pub tree_of-tree : (seed n : ℕ) → 1 ≤ n → n ≤ most_tasks → IsTree (tree_of seed n)
 unfolding tree_of
 tree_of-tree seed n some few = drawn-tree n _ (nodes-drawn n n (dice_of seed)) some few
+
+-- ---- the loop over the nodes
+
+pub nodes-more : (n i : ℕ) (start : Lcg) (nodes : List Node) (dice : Lcg) (node : Node) (left : Lcg)
+    → nodes ≡ (draw_nodes n i start).0 → dice ≡ (draw_nodes n i start).1 → (node, left) ≡ draw_node n (i + 1) dice → (nodes ++ node ∷ [], left) ≡ draw_nodes n (i + 1) start
+unfolding draw_nodes
+nodes-more n i start nodes dice node left a b e =
+    let next : i + 1 ≡ suc i = omega arith in
+    let own : (node, left) ≡ draw_node n (suc i) (draw_nodes n i start).1 = e ∙ (λ k. draw_node n (next k) (b k)) in
+    let both : List Node → Node × Lcg → List Node × Lcg = λ xs p. (xs ++ p.0 ∷ [], p.1) in
+    (λ k. both (a k) (own k)) ∙ ap (λ (k : ℕ). draw_nodes n k start) (sym next)
+
+pub all-nodes : (seed n i : ℕ) (nodes : List Node) → n ≤ i → i ≤ n → nodes ≡ (draw_nodes n i (dice_of seed)).0 → nodes ≡ tree_of seed n
+unfolding tree_of
+all-nodes seed n i nodes low high e = let end : i ≡ n = omega arith in e ∙ ap (λ (k : ℕ). (draw_nodes n k (dice_of seed)).0) end

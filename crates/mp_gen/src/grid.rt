@@ -41,12 +41,7 @@ fn join(
     Ok(())
 }
 
-fn join_row(
-    pairs: &mut Vec<(u32, u32)>,
-    rows: u32,
-    cols: u32,
-    row: u32,
-) -> Result<(), NoMemory>
+fn join_row(pairs: &mut Vec<(u32, u32)>, rows: u32, cols: u32, row: u32) -> Result<(), NoMemory>
     requires few { rows * cols ≤ most_mindeg }
     requires row { row < rows }
     ensures { OnOk result (pairs.new.items ≡ pairs.old.items ++ joins_in_row rows cols row) }

@@ -35,7 +35,11 @@ fn check_text(rt: &impl Abort, report: &Report, wanted: &str) {
 #[test]
 fn a_seed_has_its_tree(rt: HostRuntime) -> Result<(), Fail> {
     let alloc = rt.alloc();
-    check_text(&rt, &tree_text(alloc, 1, 1)?, "tree 1\nnodes 1\n0 850 764 8\nend\n");
+    check_text(
+        &rt,
+        &tree_text(alloc, 1, 1)?,
+        "tree 1\nnodes 1\n0 850 764 8\nend\n",
+    );
     let three = "tree 1\nnodes 3\n3 765 655 4\n3 698 406 4\n0 875 43 10\nend\n";
     check_text(&rt, &tree_text(alloc, 1, 3)?, three);
     check_text(&rt, &tree_text(alloc, 1, 3)?, three);
@@ -59,12 +63,14 @@ fn a_seed_has_its_workflow(rt: HostRuntime) -> Result<(), Fail> {
     let alloc = rt.alloc();
     assert_eq!(rt; gen_workflow(alloc, 1, 1)?.len(), 3);
     // the last task takes two terms that stand, as its word is even
-    let four = "workflow 1\ntasks 4\ndata 765\ndata 656\ntask 427 7\ndata 900\ndata 875\ntask 43 10\ndata 866\ndata 997\ntask 720 13\n\
+    let four =
+        "workflow 1\ntasks 4\ndata 765\ndata 656\ntask 427 7\ndata 900\ndata 875\ntask 43 10\ndata 866\ndata 997\ntask 720 13\n\
         task 964 8\npar 2\nend\n";
     check_text(&rt, &workflow_text(alloc, 1, 4)?, four);
     check_text(&rt, &workflow_text(alloc, 1, 4)?, four);
     // some terms are set side by side on the way, and three at the end
-    let other = "workflow 1\ntasks 4\ndata 22\ndata 939\ntask 380 5\ndata 453\ndata 753\ntask 820 5\npar 2\ndata 197\ndata 241\n\
+    let other =
+        "workflow 1\ntasks 4\ndata 22\ndata 939\ntask 380 5\ndata 453\ndata 753\ntask 820 5\npar 2\ndata 197\ndata 241\n\
         task 514 6\ndata 896\ndata 213\ntask 839 13\npar 3\nend\n";
     check_text(&rt, &workflow_text(alloc, 10, 4)?, other);
     Ok(())
@@ -81,7 +87,11 @@ fn check_rows(rt: &impl Abort, pattern: &Pattern, rows: &[&[u32]]) {
 fn grids_join_neighbours(rt: HostRuntime) -> Result<(), Fail> {
     let alloc = rt.alloc();
     check_rows(&rt, &gen_grid(alloc, 1, 1)?, &[&[]]);
-    check_rows(&rt, &gen_grid(alloc, 2, 2)?, &[&[2, 3], &[1, 4], &[1, 4], &[2, 3]]);
+    check_rows(
+        &rt,
+        &gen_grid(alloc, 2, 2)?,
+        &[&[2, 3], &[1, 4], &[1, 4], &[2, 3]],
+    );
     let wide: [&[u32]; 6] = [&[2, 4], &[1, 3, 5], &[2, 6], &[1, 5], &[2, 4, 6], &[3, 5]];
     check_rows(&rt, &gen_grid(alloc, 2, 3)?, &wide);
     Ok(())
