@@ -118,7 +118,7 @@ unfolding dir_named
 dir-reads F = refl
 dir-reads R = refl
 
-bound-fits : (z : ℤ) → unsigned_abs z ≤ most_total → FitsSigned w64 z
+pub bound-fits : (z : ℤ) → unsigned_abs z ≤ most_total → FitsSigned w64 z
 bound-fits z le = fits_signed_from_abs w64 z (omega arith)
 
 claims-lead : AreLaws → (s : Stated) (count : ℕ) (before cs : List Claim) (rest : List (List (List ℕ))) (t : Stated)

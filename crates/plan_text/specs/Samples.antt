@@ -14,6 +14,7 @@ use Rattle.sp_terms.specs.Term.{backward}
 use Rattle.plan_text.specs.Plan.{PlanText, claim_at}
 use Rattle.plan_text.specs.PlanFile.{dir_named, stated, plan_of, plan_format}
 use Rattle.plan_text.specs.Printed.{text_of, text2_of}
+use Rattle.plan_text.specs.Json.{json_of}
 use Rattle.plan_text.specs.declared.claim.Claim.{Claim}
 use Rattle.plan_text.specs.declared.claim.Dir.{Dir}
 use Rattle.plan_text.specs.declared.claim.Dir.TheVariants.{F, R}
@@ -44,6 +45,13 @@ pub printed : text_of five ∷ text2_of five ∷ text_of ranked ∷ []
     ∷ []
 unfolding digits
 printed = refl
+
+pub as_json : json_of five ∷ json_of ranked ∷ []
+    ≡ codes "{\"claims\":[[5,\"R\",5,5],[10,\"R\",5,5],[11,\"R\",10,10],[13,\"R\",10,0]],\"order\":[1,3,2,4,5],\"peak\":11}"
+    ∷ codes "{\"claims\":[[1,\"F\",-1,0]],\"order\":[1,2],\"peak\":6}"
+    ∷ []
+unfolding digits
+as_json = refl
 
 -- ---- reading
 

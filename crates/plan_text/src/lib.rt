@@ -1,7 +1,8 @@
-//! Plans that certify themselves: plan files of versions 1 and 2, their reader and their printers.
+//! Plans that certify themselves: plan files of versions 1 and 2, their reader and their printers, and plans as JSON.
 #![tactic(auto)]
 
 mod claim;
+mod json_text;
 pub mod laws;
 mod lines;
 mod parts;
@@ -14,6 +15,7 @@ mod stage;
 mod tests;
 
 pub use claim::{Claim, Dir, PlanKind};
+pub use json_text::plan_json;
 pub use parts::is_plan;
 pub use plan::{PlanFile, read_plan};
 pub use printing::{print_plan, print_plan_2};

@@ -41,6 +41,13 @@ impl PlanFile {
         }
     }
 
+    /// What every plan keeps; a proof that needs it calls it. It does nothing.
+    pub fn keeps(&self)
+        ensures { IsPlan self.now }
+    {
+        let _ = &self.order;
+    }
+
     /// The tasks in the order in which they run, each at most 4,294,967,295.
     pub fn order(&self) -> &[u32]
         ensures value { result.now ≡ self.now.order }

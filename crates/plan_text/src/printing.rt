@@ -10,7 +10,8 @@ use crate::plan::PlanFile;
 use mp_text::laws::printed_lines;
 use mp_text::{Report, Token, Version};
 
-fn dir_word(dir: Dir) -> &'static str
+/// The word for a direction.
+pub fn dir_word(dir: Dir) -> &'static str
     ensures { result.now ≡ dir_word dir }
 {
     match dir {

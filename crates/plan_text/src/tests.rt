@@ -1,4 +1,6 @@
-use crate::{Claim, Dir, PlanFile, PlanKind, is_plan, laws, print_plan, print_plan_2, read_plan};
+use crate::{
+    Claim, Dir, PlanFile, PlanKind, is_plan, laws, plan_json, print_plan, print_plan_2, read_plan,
+};
 use mp_text::{Report, fault};
 use std::test::Fail;
 
@@ -52,6 +54,37 @@ fn reads_and_prints(rt: HostRuntime) -> Result<(), Fail> {
         let mut report = Report::new(alloc);
         print_plan_2(&plan, &mut report)?;
         assert_eq!(rt; report.bytes(), printed_2);
+    }
+    Ok(())
+}
+
+// Plan files, and their plans as JSON. The third and the fourth differ in the priority alone.
+const JSON: [(&str, &str); 4] = [
+    (
+        "plan 1\norder 1\n1\npeak 9\nclaims 1\n3 R 8 7\nend\n",
+        r#"{"claims":[[3,"R",8,7]],"order":[1],"peak":9}"#,
+    ),
+    (
+        "plan 1\norder 0\npeak 20\nclaims 2\n1 F -1 0\n3 F 19 20\nend\n",
+        r#"{"claims":[[1,"F",-1,0],[3,"F",19,20]],"order":[],"peak":20}"#,
+    ),
+    (
+        "plan 1\norder 2\n1\n2\npeak 6\nclaims 0\nend\n",
+        r#"{"claims":[],"order":[1,2],"peak":6}"#,
+    ),
+    (
+        "plan 2\norder 2\n1\n2\npriority 2\n2\n1\npeak 6\nclaims 0\nend\n",
+        r#"{"claims":[],"order":[1,2],"peak":6}"#,
+    ),
+];
+
+#[test]
+fn writes_json(rt: HostRuntime) -> Result<(), Fail> {
+    let alloc = rt.alloc();
+    for (text, json) in JSON {
+        let plan = read_plan(alloc, text.as_bytes())?;
+        plan.keeps();
+        assert_eq!(rt; plan_json(alloc, &plan)?.as_str(), json);
     }
     Ok(())
 }
