@@ -1,6 +1,6 @@
 //! Sides, by hand and against plain ones.
 
-use crate::tests::plain::{self, PlainSide};
+use crate::tests::plain::{self, PlainSeg, PlainSide};
 use crate::tests::roped::RopedSide;
 use rand_core::utils::NextWord;
 use rand_pcg::Pcg32;
@@ -8,20 +8,15 @@ use std::alloc::Global;
 use std::process::Abort;
 use std::test::Fail;
 
-// The segments, which are taken out, have these numbers and tasks.
-fn assert_segments(
-    rt: &impl Abort,
-    alloc: Global,
-    mut side: RopedSide,
-    segments: &[(u64, u64, &[u32])],
-) -> Result<(), Fail> {
-    for &(up, net, tasks) in segments {
-        let seg = side.take_first(alloc)?.expect(rt, "a segment");
-        assert_eq!(rt; (seg.up, seg.net), (up, net));
-        assert_eq!(rt; seg.tasks.as_slice(), tasks);
+// The first five segments, which are taken out: `up`, `net` and the tasks of each.
+fn segments_of(alloc: Global, mut side: RopedSide) -> Result<String, Fail> {
+    let mut text = String::new(alloc);
+    for _ in 0..5 {
+        if let Some(PlainSeg { up, net, tasks }) = side.take_first(alloc)? {
+            text.push_str(format!(in alloc; "{up} {net} {tasks:?} ")?.as_str())?;
+        }
     }
-    assert!(rt; side.take_first(alloc)?.is_none());
-    Ok(())
+    Ok(text)
 }
 
 #[test]
@@ -45,7 +40,11 @@ fn a_side_is_appended_to(rt: HostRuntime) -> Result<(), Fail> {
         assert_eq!(rt; side.lowest(3, bound), level);
     }
     assert_eq!(rt; side.tasks(alloc)?.as_slice(), [1, 2, 3, 4].as_slice());
-    assert_segments(&rt, alloc, side, &[(5, 3, &[1, 2, 3]), (9, 4, &[4])])
+    assert_eq!(rt;
+        segments_of(alloc, side)?.as_str(),
+        "5 3 [1, 2, 3] 9 4 [4] "
+    );
+    Ok(())
 }
 
 #[test]
@@ -63,12 +62,9 @@ fn segments_are_put_in_at_their_places(rt: HostRuntime) -> Result<(), Fail> {
     assert_eq!(rt; side.lowest(2, 15), 2);
     side.insert(7, 1, 6, true)?;
     side.insert(7, 2, 8, false)?;
-    assert_segments(
-        &rt,
-        alloc,
-        side,
-        &[(5, 3, &[1]), (7, 4, &[6, 5, 8]), (9, 4, &[4])],
-    )
+    let segments = segments_of(alloc, side)?;
+    assert_eq!(rt; segments.as_str(), "5 3 [1] 7 4 [6, 5, 8] 9 4 [4] ");
+    Ok(())
 }
 
 // A number below `below`.
