@@ -1,5 +1,5 @@
 -- What a plan sends to a writer of JSON, and that its text is the plan's JSON, which is one token.
-use Rattle.std.proofs.Common.{◌≡◌, ℕ, suc, ◌^◌, ◌<◌, ◌≤◌, Bool, true, false, List, [], ◌∷◌, ◌++◌, length, map, refl, sym, ap, ap₂, subst, ◌∙◌, arith, ℤ, unsigned_abs, Some, append_assoc}
+use Rattle.std.proofs.Common.{◌≡◌, ℕ, suc, ◌^◌, ◌<◌, ◌≤◌, true, false, List, [], ◌∷◌, ◌++◌, length, map, refl, sym, ap, ap₂, subst, ◌∙◌, arith, ℤ, Some, append_assoc}
 use Rattle.std.specs.Bool.{IsTrue}
 use Rattle.std.specs.Fmt.{decimal, signed_decimal}
 use Rattle.std.specs.Int.{w64}
@@ -10,14 +10,13 @@ use Rattle.std.proofs.lemmas.List.Elements.{All-head, All-tail}
 use Rattle.std.proofs.lemmas.List.Folds.{list_all-append}
 use Rattle.serde.specs.Event as event
 use Rattle.serde.specs.Event.{Log, Logs, Sends, WritesEach, WritesSeq, seq_begins, seq_ends}
-use Rattle.serde_json.specs.Data.{Data, array, object, number, unsigned, negative, string, Items, member, no_members}
+use Rattle.serde_json.specs.Data.{Data, array, object, number, unsigned, negative, string, member, no_members}
 use Rattle.serde_json.specs.Events.{items_len, SendsValue, SendsItems}
 use Rattle.serde_json.specs.View.{items_of}
 use Rattle.serde_json.specs.Sent.{IsTextOf}
 use Rattle.serde_json.specs.Written.{compact_text, items_text, has_float, items_have_float}
 use Rattle.serde_json.proofs.FreeTexts.{text_of_value}
 use Rattle.serde_json.proofs.OnLiterals.{serde_json_on_literals}
-use Rattle.limits.specs.Limits.{most_total}
 use Rattle.mp_text.specs.Report.{is_plain, is_token}
 use Rattle.plan_text.specs.Plan.{PlanText, most_number, IsClaimWithin, IsPlan}
 use Rattle.plan_text.specs.Printed.{dir_word}
@@ -30,8 +29,10 @@ use Rattle.plan_text.specs.declared.claim.Dir.TheVariants.{F, R}
 
 -- ---- what is sent
 
-module _ {X : Type 0} (writes : X → Log → Log → Type 0) (value : X → Data) (sends : (x : X) (old new : Log) → writes x old new → SendsValue (value x) old new) where
-  items-sent : (xs : List X) (old mid new : Log) → WritesEach writes xs old mid → Logs mid new seq_ends → SendsItems (items_of (map value xs)) old new
+module _ {X : Type 0} (writes : X → Log → Log → Type 0) (value : X → Data)
+    (sends : (x : X) (old new : Log) → writes x old new → SendsValue (value x) old new) where
+  items-sent : (xs : List X) (old mid new : Log) → WritesEach writes xs old mid → Logs mid new seq_ends
+      → SendsItems (items_of (map value xs)) old new
   items-sent [] old mid new same ended = subst (λ (log : Log). Logs log new seq_ends) same ended
   items-sent (x ∷ xs) old mid new each ended = (each.0, sends x old each.0 each.1, items-sent xs each.0 mid new each.2 ended)
 
@@ -40,20 +41,23 @@ module _ {X : Type 0} (writes : X → Log → Log → Type 0) (value : X → Dat
   items-len (x ∷ xs) = ap suc (items-len xs)
 
   -- a list is sent as an array
-  pub list-sent : (xs : List X) (old new : Log) → WritesSeq writes xs old new → SendsValue (array (items_of (map value xs))) old new
+  list-sent : (xs : List X) (old new : Log) → WritesSeq writes xs old new → SendsValue (array (items_of (map value xs))) old new
   list-sent xs old new seq =
       (seq.0, subst (λ (n : ℕ). Logs old seq.0 (seq_begins (Some n))) (items-len xs) seq.2, items-sent xs seq.0 seq.1 new seq.3 seq.4)
 
-pub claims-sent : (claims : List Claim) (old new : Log) → WritesSeq (λ claim. SendsValue (claim_value claim)) claims old new → SendsValue (array (items_of (map claim_value claims))) old new
+pub claims-sent : (claims : List Claim) (old new : Log) → WritesSeq (λ claim. SendsValue (claim_value claim)) claims old new
+    → SendsValue (array (items_of (map claim_value claims))) old new
 claims-sent = list-sent (λ claim. SendsValue (claim_value claim)) claim_value (λ claim old new sent. sent)
 
-pub order-sent : (order : List ℕ) (old new : Log) → WritesSeq (λ task. Sends (event.unsigned task)) order old new → SendsValue (array (items_of (map task_value order))) old new
+pub order-sent : (order : List ℕ) (old new : Log) → WritesSeq (λ task. Sends (event.unsigned task)) order old new
+    → SendsValue (array (items_of (map task_value order))) old new
 order-sent = list-sent (λ task. Sends (event.unsigned task)) task_value (λ task old new sent. sent)
 
 -- ---- the text
 
 module _ {X : Type 0} (value : X → Data) (text : X → List ℕ) (same : (x : X) → compact_text (value x) ≡ text x) where
-  items-text : (x : X) (xs : List X) → items_text false (items_of (map value (x ∷ xs))) ≡ join_with_byte 44 (map text (x ∷ xs)) ++ 93 ∷ []
+  items-text : (x : X) (xs : List X)
+      → items_text false (items_of (map value (x ∷ xs))) ≡ join_with_byte 44 (map text (x ∷ xs)) ++ 93 ∷ []
   items-text x [] = ap (λ (bytes : List ℕ). bytes ++ 93 ∷ []) (same x)
   items-text x (y ∷ ys) =
       ap₂ (λ (one two : List ℕ). one ++ 44 ∷ two) (same x) (items-text y ys)
@@ -83,11 +87,11 @@ members-text claims order peak a b c is_a is_b is_c = rw (is_a, is_b, is_c) (sim
 
 plan-text : (plan : PlanText) → compact_text (plan_value plan) ≡ json_of plan
 plan-text plan =
-    members-text (array (items_of (map claim_value plan.claims))) (array (items_of (map task_value plan.order))) (number (unsigned plan.peak))
-    (array_json (map claim_json plan.claims)) (array_json (map decimal plan.order)) (decimal plan.peak)
+    members-text (array (items_of (map claim_value plan.claims))) (array (items_of (map task_value plan.order)))
+    (number (unsigned plan.peak)) (array_json (map claim_json plan.claims)) (array_json (map decimal plan.order)) (decimal plan.peak)
     (array-text claim_value claim_json claim-text plan.claims) (array-text task_value decimal (λ task. refl) plan.order) refl
 
--- no part is a float
+-- no part of it is a float
 
 claims-whole : (claims : List Claim) → items_have_float (items_of (map claim_value claims)) ≡ false
 claims-whole [] = refl
@@ -114,7 +118,8 @@ ArePlain bytes = list_all is_plain bytes ≡ true
 plain-append : (xs ys : List ℕ) → ArePlain xs → ArePlain ys → ArePlain (xs ++ ys)
 plain-append xs ys one two = list_all-append is_plain xs ys ∙ and_from _ _ one two
 
-plain-joined : {X : Type 0} (P : X → Type 0) (text : X → List ℕ) → ((x : X) → P x → ArePlain (text x)) → (xs : List X) → All P xs → ArePlain (join_with_byte 44 (map text xs))
+plain-joined : {X : Type 0} (P : X → Type 0) (text : X → List ℕ) → ((x : X) → P x → ArePlain (text x)) → (xs : List X) → All P xs
+    → ArePlain (join_with_byte 44 (map text xs))
 plain-joined P text plain [] all = refl
 plain-joined P text plain (x ∷ []) all = plain x (All-head P x [] all)
 plain-joined P text plain (x ∷ y ∷ ys) all =
@@ -131,13 +136,15 @@ plain-word R = refl
 plain-four : (a b c d : List ℕ) → ArePlain a → ArePlain b → ArePlain c → ArePlain d → ArePlain (array_json (a ∷ b ∷ c ∷ d ∷ []))
 plain-four a b c d plain_a plain_b plain_c plain_d =
     plain-array (a ∷ b ∷ c ∷ d ∷ [])
-    (plain-append a (44 ∷ (b ++ 44 ∷ (c ++ 44 ∷ d))) plain_a (plain-append b (44 ∷ (c ++ 44 ∷ d)) plain_b (plain-append c (44 ∷ d) plain_c plain_d)))
+    (plain-append a (44 ∷ (b ++ 44 ∷ (c ++ 44 ∷ d))) plain_a
+    (plain-append b (44 ∷ (c ++ 44 ∷ d)) plain_b (plain-append c (44 ∷ d) plain_c plain_d)))
 
 plain-members : (a b c : List ℕ) → ArePlain a → ArePlain b → ArePlain c
     → ArePlain (codes "{\"claims\":" ++ a ++ codes ",\"order\":" ++ b ++ codes ",\"peak\":" ++ c ++ codes "}")
 plain-members a b c plain_a plain_b plain_c = simp (list_all-append, plain_a, plain_b, plain_c)
 
-module _ (number_token : (n : ℕ) → n < 2 ^ 64 → IsTrue (is_token (decimal n))) (signed_token : (z : ℤ) → FitsSigned w64 z → IsTrue (is_token (signed_decimal z))) where
+module _ (number_token : (n : ℕ) → n < 2 ^ 64 → IsTrue (is_token (decimal n)))
+    (signed_token : (z : ℤ) → FitsSigned w64 z → IsTrue (is_token (signed_decimal z))) where
   plain-number : (n : ℕ) → n < 2 ^ 64 → ArePlain (decimal n)
   plain-number n fits = (and_parts _ _ (number_token n fits)).1
 
@@ -145,7 +152,7 @@ module _ (number_token : (n : ℕ) → n < 2 ^ 64 → IsTrue (is_token (decimal 
   plain-claim c within =
       let position = within.position in
       let rest = within.rest in
-      let bound = (and_parts _ _ (signed_token c.bound (bound-fits c.bound within.bound))).1 in
+      let bound : ArePlain (signed_decimal c.bound) = (and_parts _ _ (signed_token c.bound (bound-fits c.bound within.bound))).1 in
       plain-four (decimal c.position) (word_json (dir_word c.dir)) (signed_decimal c.bound) (decimal c.rest)
       (plain-number c.position (omega arith)) (plain-word c.dir) bound (plain-number c.rest (omega arith))
 

@@ -1,5 +1,5 @@
 -- A claim and a plan as values of JSON: what each sends to a writer of `serde`, of whatever format.
-use Rattle.std.specs.Prelude.{ℕ, List, [], ◌∷◌, map, codes}
+use Rattle.std.specs.Prelude.{ℕ, [], ◌∷◌, map, codes}
 use Rattle.serde_json.specs.Data.{Data, array, object, number, unsigned, negative, string, member, no_members}
 use Rattle.serde_json.specs.View.{items_of}
 use Rattle.plan_text.specs.Plan.{PlanText}

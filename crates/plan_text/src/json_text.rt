@@ -41,14 +41,14 @@ impl Serialize for PlanFile {
     }
 }
 
-/// A plan as JSON without blanks: an object of its claims, each as `[position,"F" or "R",bound,rest]`, its order and its peak. A priority
-/// is no member. Linear in the tasks and the claims.
+/// A plan as JSON without blanks: an object of its claims, each as `[position,"F" or "R",bound,rest]`, its order and its peak, as in
+/// `{"claims":[[3,"R",8,7]],"order":[1],"peak":9}`. A priority is no member. Linear in the tasks and the claims.
 pub fn plan_json(alloc: Global, plan: &PlanFile) -> Result<String, NoMemory>
     ensures text { IfOk result (λ text. string_bytes text ≡ json_of plan.now) }
     ensures token { IfOk result (λ text. IsTrue (is_token (string_bytes text))) }
 {
     printed_number();
     plan.keeps();
-    // numbers, words and lists are always written, where there is memory
+    // each part of a plan can be written, so only memory can be wanting
     serde_json::to_string(alloc, plan).map_err(|_| AllocError)
 }

@@ -1,9 +1,4 @@
-use Rattle.std.proofs.Common.{List, map, subst}
 use Rattle.std.proofs.lemmas.Result.{on_ok_weaker}
-use Rattle.serde_json.specs.Data.{array}
-use Rattle.serde_json.specs.Events.{SendsValue}
-use Rattle.serde_json.specs.View.{items_of}
-use Rattle.plan_text.specs.JsonValues.{claim_value, task_value}
 use Rattle.plan_text.proofs.JsonLemmas.{claims-sent, order-sent}
 use Rattle.plan_text.proofs.json_text.PlanFileSerialize.serialize.Goals as goal
 
