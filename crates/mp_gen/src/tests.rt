@@ -43,7 +43,7 @@ fn a_seed_has_its_tree(rt: HostRuntime) -> Result<(), Fail> {
     let three = "tree 1\nnodes 3\n3 765 655 4\n3 698 406 4\n0 875 43 10\nend\n";
     check_text(&rt, &tree_text(alloc, 1, 3)?, three);
     check_text(&rt, &tree_text(alloc, 1, 3)?, three);
-    let other = "tree 1\nnodes 3\n3 865 610 11\n3 720 695 3\n0 23 71 16\nend\n";
+    let other = "tree 1\nnodes 3\n2 865 610 11\n3 720 695 3\n0 23 71 16\nend\n";
     check_text(&rt, &tree_text(alloc, 2, 3)?, other);
     Ok(())
 }
