@@ -1,8 +1,8 @@
 -- Which numbers the pairs of a grid name, and how many pairs there are.
 use Rattle.std.proofs.Common.{◌≡◌, ℕ, zero, suc, ◌+◌, ◌*◌, ◌<◌, ◌≤◌, Bool, true, false, cond, List, [], ◌∷◌, ◌++◌, length, get_or, refl, sym, ap, subst, ◌∙◌, arith, length-append}
 use Rattle.std.specs.Prelude.{All, nat_lt}
-use Rattle.std.specs.List.{flat_map, range_with_len, sum_by}
-use Rattle.std.proofs.Math.Nat.{mul-le-mul_left, mul-le-mul_right}
+use Rattle.std.specs.List.{flat_map, range_with_len}
+use Rattle.std.proofs.Math.Nat.{mul-le-mul_right}
 use Rattle.std.proofs.lemmas.Bool.{ltb-true}
 use Rattle.std.proofs.lemmas.Grind.{flat_map-append}
 use Rattle.std.proofs.lemmas.List.{append-nil}
@@ -31,7 +31,9 @@ flat-all P f (x ∷ xs) each =
 
 range-more : (a n : ℕ) → range_with_len a (suc n) ≡ range_with_len a n ++ (a + n) ∷ []
 range-more a zero = let e : a ≡ a + 0 = omega arith in ap (λ (k : ℕ). k ∷ []) e
-range-more a (suc n) = let e : (a + 1) + n ≡ a + suc n = omega arith in ap (λ (xs : List ℕ). a ∷ xs) (range-more (a + 1) n ∙ ap (λ (k : ℕ). range_with_len (a + 1) n ++ k ∷ []) e)
+range-more a (suc n) =
+    let e : (a + 1) + n ≡ a + suc n = omega arith in
+    ap (λ (xs : List ℕ). a ∷ xs) (range-more (a + 1) n ∙ ap (λ (k : ℕ). range_with_len (a + 1) n ++ k ∷ []) e)
 
 -- a loop over a range, one number further
 pub flat-more : {A : Type 0} (f : ℕ → List A) (n : ℕ) → flat_map f (range_with_len 0 (n + 1)) ≡ flat_map f (range_with_len 0 n) ++ f n
@@ -67,9 +69,13 @@ joins-within : (rows cols row col : ℕ) → row < rows → col < cols → All (
 unfolding joins_at
 joins-within rows cols row col r c =
     let here = vertex-le rows cols row col r c in
+    let right : nat_lt (col + 1) cols ≡ true → vertex_at cols row (col + 1) ≤ rows * cols
+    = λ e. vertex-le rows cols row (col + 1) r (ltb-true _ _ e) in
+    let lower : nat_lt (row + 1) rows ≡ true → vertex_at cols (row + 1) col ≤ rows * cols
+    = λ e. vertex-le rows cols (row + 1) col (ltb-true _ _ e) c in
     All-append (IsPairWithin (rows * cols)) _ _
-    (maybe-all (IsPairWithin (rows * cols)) _ _ (λ e. let right = vertex-le rows cols row (col + 1) r (ltb-true _ _ e) in ((omega arith, omega arith), (omega arith, omega arith))))
-    (maybe-all (IsPairWithin (rows * cols)) _ _ (λ e. let lower = vertex-le rows cols (row + 1) col (ltb-true _ _ e) c in ((omega arith, omega arith), (omega arith, omega arith))))
+    (maybe-all (IsPairWithin (rows * cols)) _ _ (λ e. ((omega arith, here), (omega arith, right e))))
+    (maybe-all (IsPairWithin (rows * cols)) _ _ (λ e. ((omega arith, here), (omega arith, lower e))))
 
 joins-few : (rows cols row col : ℕ) → length (joins_at rows cols row col) ≤ 2
 unfolding joins_at
@@ -105,7 +111,9 @@ grid-within rows cols =
     flat-all (IsPairWithin (rows * cols)) (joins_in_row rows cols) (range_with_len 0 rows)
     (ranged (λ row. All (IsPairWithin (rows * cols)) (joins_in_row rows cols row)) rows (λ row r. row-within rows cols row r))
 
-pub all-joins : (rows cols row : ℕ) (pairs : List (ℕ × ℕ)) → rows ≤ row → row ≤ rows → pairs ≡ flat_map (joins_in_row rows cols) (range_with_len 0 row) → pairs ≡ grid_pairs rows cols
+-- after all rows
+pub all-joins : (rows cols row : ℕ) (pairs : List (ℕ × ℕ)) → rows ≤ row → row ≤ rows
+    → pairs ≡ flat_map (joins_in_row rows cols) (range_with_len 0 row) → pairs ≡ grid_pairs rows cols
 unfolding grid_pairs
 all-joins rows cols row pairs low high e =
     let end : row ≡ rows = omega arith in

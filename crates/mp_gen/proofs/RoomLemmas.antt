@@ -1,19 +1,16 @@
 -- What a builder has room for, one position further: so none of a random workflow is refused, and one term is left at the end.
-use Rattle.std.proofs.Common.{◌≡◌, ℕ, zero, suc, ◌+◌, ◌-◌, ◌*◌, ◌<◌, ◌≤◌, Bool, true, false, cond, Option, Some, None, lit<, List, [], ◌∷◌, ◌++◌, length, refl, sym, ap, subst, ◌∙◌, arith, length-append, append_assoc}
-use Rattle.std.specs.Prelude.{◌==◌, ◌&&◌, nat_le, nat_lt, option_and_then, if◌then◌else◌}
-use Rattle.std.specs.List.{sum_by}
-use Rattle.std.proofs.lemmas.Bool.{leb-true, leb-false, le-ltb}
-use Rattle.std.proofs.lemmas.Bool.Decides.{nat_tests}
+use Rattle.std.proofs.Common.{◌≡◌, ℕ, zero, suc, ◌+◌, ◌-◌, ◌*◌, ◌<◌, ◌≤◌, Bool, true, false, cond, Option, Some, None, lit<, List, [], ◌∷◌, ◌++◌, length, refl, sym, ap, subst, ◌∙◌, arith, length-append}
+use Rattle.std.specs.Prelude.{◌==◌, ◌&&◌, nat_le, option_and_then}
+use Rattle.std.proofs.lemmas.Bool.{leb-true, leb-false}
 use Rattle.std.proofs.lemmas.List.Sums.{sum_by_push}
-use Rattle.limits.specs.Limits.{most_tasks, most_positions, most_size, most_time, most_total}
+use Rattle.limits.specs.Limits.{most_tasks, most_positions, most_total}
 use Rattle.rand_pcg.specs.Lcg.{Lcg}
 use Rattle.sp_terms.specs.declared.position.Position.{Position}
 use Rattle.sp_terms.specs.declared.position.Position.TheVariants.{Hold, Par}
 use Rattle.sp_terms.specs.declared.position.Position.TheVariants as at
-use Rattle.sp_terms.specs.declared.builder.PushRefusal.TheVariants.{Short}
-use Rattle.sp_terms.specs.Term.{Term, hold, series, par, Parts, no_parts, part, final_of, initial_of}
+use Rattle.sp_terms.specs.Term.{Term, hold, series, par, Parts, no_parts, part}
 use Rattle.sp_terms.specs.Postfix.{gather, push, push_all}
-use Rattle.sp_terms.specs.Values.{stack_of, stack_from, added_tasks, added_size}
+use Rattle.sp_terms.specs.Values.{stack_from, added_tasks, added_size}
 use Rattle.sp_terms.specs.Builder.{IsOneTerm}
 use Rattle.mp_gen.specs.Dice.{dice_of, draw}
 use Rattle.mp_gen.specs.RandomWorkflow.{height_of, with_hold, with_data, with_task, with_par, with_one, with_tasks, closed, workflow_of}
@@ -22,7 +19,8 @@ use Rattle.mp_gen.proofs.DrawLemmas.{draw-below}
 
 -- ---- the stack after a position
 
-pushed : (ps : List Position) (p : Position) (start stack out : List Term) → push_all ps start ≡ Some stack → push p stack ≡ Some out → push_all (ps ++ p ∷ []) start ≡ Some out
+pushed : (ps : List Position) (p : Position) (start stack out : List Term)
+    → push_all ps start ≡ Some stack → push p stack ≡ Some out → push_all (ps ++ p ∷ []) start ≡ Some out
 pushed [] p start stack out e f =
     let same : start ≡ stack = cc in
     ap (λ (s : List Term). option_and_then (push_all []) (push p s)) same ∙ ap (option_and_then (push_all [])) f
@@ -34,7 +32,8 @@ pushed (q ∷ ps) p start stack out e f = go (push q start) e (λ mid g. pushed 
     go None e rest = cc
     go (Some mid) e rest = rest mid e
 
-gather-some : (k : ℕ) (stack : List Term) (ts : Parts) → k ≤ length stack → (r : Parts × List Term) × (gather k stack ts ≡ Some r) × (length r.1 + k ≡ length stack)
+gather-some : (k : ℕ) (stack : List Term) (ts : Parts) → k ≤ length stack
+    → (r : Parts × List Term) × (gather k stack ts ≡ Some r) × (length r.1 + k ≡ length stack)
 gather-some zero stack ts le = ((ts, stack), refl, omega arith)
 gather-some (suc k) [] ts le = absurd (omega arith)
 gather-some (suc k) (t ∷ stack) ts le = let r = gather-some k stack (part t ts) (omega arith) in (r.0, r.1, omega (arith, r.2))
@@ -43,55 +42,77 @@ gather-some (suc k) (t ∷ stack) ts le = let r = gather-some k stack (part t ts
 abbrev Takes : Position → List Term → ℕ → Type 0
 Takes p stack height = (out : List Term) × (push p stack ≡ Some out) × (length out ≡ height)
 
-takes-task : (extra time : ℕ) (stack : List Term) (height : ℕ) → suc height ≡ length stack → 1 ≤ height → Takes (at.Task extra 0 time) stack height
-takes-task extra time [] height e some = absurd (omega arith)
-takes-task extra time (b ∷ []) height e some = absurd (omega arith)
-takes-task extra time (b ∷ (a ∷ stack)) height e some = (series a (record { extra = extra; share = 0; time = time }) b ∷ stack, refl, omega arith)
+takes-task : (extra time : ℕ) (stack : List Term) → 2 ≤ length stack → Takes (at.Task extra 0 time) stack (length stack - 1)
+takes-task extra time [] two = absurd (omega arith)
+takes-task extra time (b ∷ []) two = absurd (omega arith)
+takes-task extra time (b ∷ (a ∷ stack)) two =
+    (series a (record { extra = extra; share = 0; time = time }) b ∷ stack, refl, omega arith)
 
-takes-par : (k : ℕ) (stack : List Term) (height : ℕ) → k ≤ length stack → height + k ≡ suc (length stack) → Takes (Par k) stack height
-takes-par k stack height le e =
+takes-par : (k : ℕ) (stack : List Term) → k ≤ length stack → Takes (Par k) stack (suc (length stack) - k)
+takes-par k stack le =
     let (r, g, len) = gather-some k stack no_parts le in
     (par r.0 ∷ r.1, ap (option_and_then (λ (p : Parts × List Term). Some (par p.0 ∷ p.1))) g, omega (arith, len))
 
 -- ---- room
 
-pub height-is : (ps : List Position) (a t s : ℕ) (room : HasRoom ps a t s) → height_of ps ≡ length room.stack
+height-is : (ps : List Position) (a t s : ℕ) (room : HasRoom ps a t s) → height_of ps ≡ length room.stack
 height-is ps a t s room = ap (λ (o : Option (List Term)). length (stack_from o)) room.leaves
 
--- room, and how many terms stand
-pub record Stands (ps : List Position) (a t s height : ℕ) : Type 0 where
-  pub room : HasRoom ps a t s
-  pub height_is : height_of ps ≡ height
-
-one-more : (ps : List Position) (p : Position) (a t s a' t' s' height : ℕ) (room : HasRoom ps a t s) → Takes p room.stack height
-    → suc a' ≤ a → t' + added_tasks p ≤ t → s' + added_size p ≤ s → Stands (ps ++ p ∷ []) a' t' s' height
-one-more ps p a t s a' t' s' height room (out, e, len) less_a less_t less_s =
-    let after : HasRoom (ps ++ p ∷ []) a' t' s' = record {
-      stack = out;
-      leaves = pushed ps p [] room.stack out room.leaves e;
-      positions_fit = omega (arith, length-append ps (p ∷ []), room.positions_fit);
-      tasks_fit = omega (arith, sum_by_push added_tasks ps p, room.tasks_fit);
-      size_fits = omega (arith, sum_by_push added_size ps p, room.size_fits);
-    } in
-    record { room = after; height_is = height-is (ps ++ p ∷ []) a' t' s' after ∙ len }
-
--- ---- the steps of a random workflow
-
-pub hold-room : (ps : List Position) (dice : Lcg) (a t s : ℕ) → HasRoom ps (suc a) t (s + 1000) → Stands (with_hold ps dice).0 a t s (height_of ps + 1)
-unfolding with_hold
-hold-room ps dice a t s room =
-    let size = (draw 1000 dice).0 in
-    let small = draw-below 1000 dice (lit< tt) in
-    one-more ps (Hold (1 + size)) _ _ _ a t s (height_of ps + 1) room (hold (1 + size) ∷ room.stack, refl, omega (arith, height-is ps _ _ _ room)) (omega arith) (omega arith) (omega (arith, small))
-
 pub less : (ps : List Position) (a t s a' t' s' : ℕ) → HasRoom ps a t s → a' ≤ a → t' ≤ t → s' ≤ s → HasRoom ps a' t' s'
-less ps a t s a' t' s' room la lt ls = record {
+less ps a t s a' t' s' room less_a less_t less_s = record {
   stack = room.stack;
   leaves = room.leaves;
   positions_fit = omega (arith, room.positions_fit);
   tasks_fit = omega (arith, room.tasks_fit);
   size_fits = omega (arith, room.size_fits);
 }
+
+-- room, and how many terms stand
+pub record Stands (ps : List Position) (a t s height : ℕ) : Type 0 where
+  pub room : HasRoom ps a t s
+  pub height_is : height_of ps ≡ height
+
+-- one position more
+more : (ps : List Position) (p : Position) (a t s height : ℕ) (room : HasRoom ps (suc a) (t + added_tasks p) (s + added_size p))
+    → Takes p room.stack height → Stands (ps ++ p ∷ []) a t s height
+more ps p a t s height room (out, e, len) =
+    let after : HasRoom (ps ++ p ∷ []) a t s = record {
+      stack = out;
+      leaves = pushed ps p [] room.stack out room.leaves e;
+      positions_fit = omega (arith, length-append ps (p ∷ []), room.positions_fit);
+      tasks_fit = omega (arith, sum_by_push added_tasks ps p, room.tasks_fit);
+      size_fits = omega (arith, sum_by_push added_size ps p, room.size_fits);
+    } in
+    record { room = after; height_is = height-is (ps ++ p ∷ []) a t s after ∙ len }
+
+hold-more : (ps : List Position) (size a t s : ℕ) → HasRoom ps (suc a) t (s + 1000) → size ≤ 1000
+    → Stands (ps ++ Hold size ∷ []) a t s (height_of ps + 1)
+hold-more ps size a t s room small =
+    let enough = less ps _ _ _ (suc a) (t + 0) (s + size) room (omega arith) (omega arith) (omega arith) in
+    more ps (Hold size) a t s _ enough (hold size ∷ enough.stack, refl, omega (arith, height-is ps _ _ _ enough))
+
+task-more : (ps : List Position) (extra time a t s : ℕ) → HasRoom ps (suc a) (suc t) (s + 1000) → extra ≤ 1000 → 2 ≤ height_of ps
+    → Stands (ps ++ at.Task extra 0 time ∷ []) a t s (height_of ps - 1)
+task-more ps extra time a t s room small two =
+    let enough = less ps _ _ _ (suc a) (t + 1) (s + extra) room (omega arith) (omega arith) (omega arith) in
+    let height = height-is ps _ _ _ enough in
+    let taken = takes-task extra time enough.stack (omega arith) in
+    more ps (at.Task extra 0 time) a t s _ enough (taken.0, taken.1, omega (arith, taken.2))
+
+par-more : (ps : List Position) (k a t s : ℕ) → HasRoom ps (suc a) t s → k ≤ height_of ps
+    → Stands (ps ++ Par k ∷ []) a t s (suc (height_of ps) - k)
+par-more ps k a t s room high =
+    let enough = less ps _ _ _ (suc a) (t + 0) (s + 0) room (omega arith) (omega arith) (omega arith) in
+    let height = height-is ps _ _ _ enough in
+    let taken = takes-par k enough.stack (omega arith) in
+    more ps (Par k) a t s _ enough (taken.0, taken.1, omega (arith, taken.2))
+
+-- ---- the steps of a random workflow
+
+pub hold-room : (ps : List Position) (dice : Lcg) (a t s : ℕ) → HasRoom ps (suc a) t (s + 1000)
+    → Stands (with_hold ps dice).0 a t s (height_of ps + 1)
+unfolding with_hold
+hold-room ps dice a t s room = hold-more ps _ a t s room (omega (arith, draw-below 1000 dice (lit< tt)))
 
 -- room, and so many terms stand at least
 pub record StandsWith (ps : List Position) (a t s least : ℕ) : Type 0 where
@@ -102,46 +123,40 @@ pub data-room : (ps : List Position) (dice : Lcg) (a t s : ℕ) → HasRoom ps (
 unfolding with_data
 data-room ps dice a t s room = go (nat_le 2 (height_of ps)) ((draw 2 dice).0 == 0) refl
   where
-    left : Lcg
-    left = (draw 2 dice).1
-
-    one : Stands (with_hold ps left).0 (suc a) t (s + 1000) (height_of ps + 1)
-    one = hold-room ps left (suc a) t (s + 1000) (less ps _ _ _ _ _ _ room (omega arith) (omega arith) (omega arith))
-
-    both : StandsWith (with_hold (with_hold ps left).0 (with_hold ps left).1).0 a t s 2
-    both =
-        let two = hold-room (with_hold ps left).0 (with_hold ps left).1 a t s one.room in
+    both : (next : Lcg) → StandsWith (with_hold (with_hold ps next).0 (with_hold ps next).1).0 a t s 2
+    both next =
+        let enough = less ps _ _ _ (suc (suc a)) t (s + 1000 + 1000) room (omega arith) (omega arith) (omega arith) in
+        let one = hold-room ps next (suc a) t (s + 1000) enough in
+        let two = hold-room (with_hold ps next).0 (with_hold ps next).1 a t s one.room in
         record { room = two.room; some = omega (arith, two.height_is, one.height_is) }
 
     go : (high even : Bool) → nat_le 2 (height_of ps) ≡ high
-        → let next : List Position × Lcg = cond (high && even) (ps, left) (with_hold (with_hold ps left).0 (with_hold ps left).1) in StandsWith next.0 a t s 2
-    go true true e = record { room = less ps _ _ _ _ _ _ room (omega arith) (omega arith) (omega arith); some = leb-true _ _ e }
-    go true false e = both
-    go false even e = both
+        → let after : Lcg = (draw 2 dice).1 in
+        let next : List Position × Lcg = cond (high && even) (ps, after) (with_hold (with_hold ps after).0 (with_hold ps after).1) in
+        StandsWith next.0 a t s 2
+    go true true e = record { room = less ps _ _ _ a t s room (omega arith) (omega arith) (omega arith); some = leb-true _ _ e }
+    go true false e = both (draw 2 dice).1
+    go false even e = both (draw 2 dice).1
 
-pub task-room : (ps : List Position) (dice : Lcg) (a t s : ℕ) → HasRoom ps (suc a) (suc t) (s + 1000) → 2 ≤ height_of ps → StandsWith (with_task ps dice).0 a t s 1
+pub task-room : (ps : List Position) (dice : Lcg) (a t s : ℕ) → HasRoom ps (suc a) (suc t) (s + 1000) → 2 ≤ height_of ps
+    → StandsWith (with_task ps dice).0 a t s 1
 unfolding with_task
 task-room ps dice a t s room two =
-    let height = height-is ps _ _ _ room in
-    let extra = draw 1000 dice in
-    let time = draw 16 extra.1 in
-    let small = draw-below 1000 dice (lit< tt) in
-    let after = one-more ps (at.Task extra.0 0 (1 + time.0)) _ _ _ a t s _ room
-    (takes-task extra.0 (1 + time.0) room.stack (length room.stack - 1) (omega arith) (omega arith)) (omega arith) (omega arith) (omega (arith, small)) in
+    let after = task-more ps (draw 1000 dice).0 _ a t s room (omega (arith, draw-below 1000 dice (lit< tt))) two in
     record { room = after.room; some = omega (arith, after.height_is) }
 
-pub par-room : (ps : List Position) (dice : Lcg) (a t s : ℕ) → HasRoom ps (suc a) t s → 1 ≤ height_of ps → StandsWith (with_par ps dice).0 a t s 1
+par-room : (ps : List Position) (dice : Lcg) (a t s : ℕ) → HasRoom ps (suc a) t s → 1 ≤ height_of ps
+    → StandsWith (with_par ps dice).0 a t s 1
 unfolding with_par
 par-room ps dice a t s room one = go (nat_le 2 (height_of ps)) ((draw 3 dice).0 == 0) refl
   where
     same : StandsWith ps a t s 1
-    same = record { room = less ps _ _ _ _ _ _ room (omega arith) (omega arith) (omega arith); some = one }
+    same = record { room = less ps _ _ _ a t s room (omega arith) (omega arith) (omega arith); some = one }
 
     go : (high third : Bool) → nat_le 2 (height_of ps) ≡ high → StandsWith (cond (high && third) (ps ++ Par 2 ∷ []) ps) a t s 1
     go true true e =
-        let height = height-is ps _ _ _ room in
         let two = leb-true 2 (height_of ps) e in
-        let after = one-more ps (Par 2) _ _ _ a t s _ room (takes-par 2 room.stack (length room.stack - 1) (omega arith) (omega arith)) (omega arith) (omega arith) (omega arith) in
+        let after = par-more ps 2 a t s room two in
         record { room = after.room; some = omega (arith, after.height_is) }
     go true false e = same
     go false third e = same
@@ -149,36 +164,49 @@ par-room ps dice a t s room one = go (nat_le 2 (height_of ps)) ((draw 3 dice).0 
 one-room : (ps : List Position) (dice : Lcg) (a t s : ℕ) → HasRoom ps (4 + a) (suc t) (s + 3000) → StandsWith (with_one ps dice).0 a t s 1
 unfolding with_one
 one-room ps dice a t s room =
-    let ready = data-room ps dice (2 + a) (suc t) (s + 1000) (less ps _ _ _ _ _ _ room (omega arith) (omega arith) (omega arith)) in
-    let run = task-room (with_data ps dice).0 (with_data ps dice).1 (suc a) t s (less _ _ _ _ _ _ _ ready.room (omega arith) (omega arith) (omega arith)) ready.some in
-    par-room _ (with_task (with_data ps dice).0 (with_data ps dice).1).1 a t s run.room run.some
+    let (ready, after_data) = with_data ps dice in
+    let (run, after_task) = with_task ready after_data in
+    let enough = less ps _ _ _ (2 + (2 + a)) (suc t) (s + 1000 + 2000) room (omega arith) (omega arith) (omega arith) in
+    let one = data-room ps dice (2 + a) (suc t) (s + 1000) enough in
+    let two = task-room ready after_data (suc a) t s (less ready _ _ _ _ _ _ one.room (omega arith) (omega arith) (omega arith)) one.some in
+    par-room run after_task a t s two.room two.some
 
--- after so many tasks there is room for as many more as the limits say
-pub tasks-room : (i : ℕ) (dice : Lcg) (a t s : ℕ) → 4 * i + a ≤ most_positions → i + t ≤ most_tasks → 3000 * i + s ≤ most_total → HasRoom (with_tasks i dice).0 a t s
+-- ---- all steps
+
+-- after i tasks there is room for as many more as the limits say
+pub tasks-room : (i : ℕ) (dice : Lcg) (a t s : ℕ) → 4 * i + a ≤ most_positions → i + t ≤ most_tasks → 3000 * i + s ≤ most_total
+    → HasRoom (with_tasks i dice).0 a t s
 unfolding with_tasks
-tasks-room zero dice a t s fit_a fit_t fit_s = record { stack = []; leaves = refl; positions_fit = omega arith; tasks_fit = omega arith; size_fits = omega arith }
+tasks-room zero dice a t s fit_a fit_t fit_s =
+    record { stack = []; leaves = refl; positions_fit = omega arith; tasks_fit = omega arith; size_fits = omega arith }
 tasks-room (suc i) dice a t s fit_a fit_t fit_s =
-    (one-room (with_tasks i dice).0 (with_tasks i dice).1 a t s (tasks-room i dice (4 + a) (suc t) (s + 3000) (omega arith) (omega arith) (omega arith))).room
+    let (ps, left) = with_tasks i dice in
+    let before = tasks-room i dice (4 + a) (suc t) (s + 3000) (omega arith) (omega arith) (omega arith) in
+    (one-room ps left a t s before).room
 
 -- and at least one term stands
-pub tasks-stand : (n : ℕ) (dice : Lcg) → 1 ≤ n → n ≤ most_tasks → StandsWith (with_tasks n dice).0 1 0 0 1
+tasks-stand : (n : ℕ) (dice : Lcg) → 1 ≤ n → n ≤ most_tasks → StandsWith (with_tasks n dice).0 1 0 0 1
 unfolding with_tasks
 tasks-stand zero dice some few = absurd (omega arith)
 tasks-stand (suc i) dice some few =
-    one-room (with_tasks i dice).0 (with_tasks i dice).1 1 0 0 (tasks-room i dice 5 1 3000 (omega arith) (omega arith) (omega arith))
+    let (ps, left) = with_tasks i dice in
+    one-room ps left 1 0 0 (tasks-room i dice 5 1 3000 (omega arith) (omega arith) (omega arith))
 
-pub closed-one : (ps : List Position) → StandsWith ps 1 0 0 1 → IsOneTerm (closed ps)
+closed-one : (ps : List Position) → StandsWith ps 1 0 0 1 → IsOneTerm (closed ps)
 unfolding closed
 closed-one ps stands = go (nat_le 2 (height_of ps)) refl
   where
     go : (high : Bool) → nat_le 2 (height_of ps) ≡ high → IsOneTerm (cond high (ps ++ Par (height_of ps) ∷ []) ps)
-    go true e =
-        let height = height-is ps _ _ _ stands.room in
-        (one-more ps (Par (height_of ps)) _ _ _ 0 0 0 1 stands.room (takes-par (height_of ps) stands.room.stack 1 (omega arith) (omega arith)) (omega arith) (omega arith) (omega arith)).height_is
+    go true e = (par-more ps (height_of ps) 0 0 0 stands.room (omega arith)).height_is ∙ omega arith
     go false e = omega (arith, leb-false 2 (height_of ps) e, stands.some)
 
--- ---- the loop over the tasks
+pub workflow_of-one : (seed n : ℕ) → 1 ≤ n → n ≤ most_tasks → IsOneTerm (workflow_of seed n)
+unfolding workflow_of
+workflow_of-one seed n some few = closed-one _ (tasks-stand n (dice_of seed) some few)
 
+-- ---- what the code makes
+
+-- the positions of a step
 pub first : (P : List Position → Type 0) (ps : List Position) (dice : Lcg) (p : List Position × Lcg) → (ps, dice) ≡ p → P p.0 → P ps
 first P ps dice p e = subst P (sym (ap (λ (q : List Position × Lcg). q.0) e))
 
@@ -186,10 +214,10 @@ pub tasks-more : (i : ℕ) (dice : Lcg) → with_tasks (i + 1) dice ≡ with_one
 unfolding with_tasks
 tasks-more i dice = let next : i + 1 ≡ suc i = omega arith in ap (λ (k : ℕ). with_tasks k dice) next
 
-pub all-tasks : (seed n i : ℕ) (ps all : List Position) → n ≤ i → i ≤ n → ps ≡ (with_tasks i (dice_of seed)).0 → all ≡ closed ps → all ≡ workflow_of seed n
+-- after the last task
+pub all-tasks : (seed n i : ℕ) (ps all : List Position) → n ≤ i → i ≤ n → ps ≡ (with_tasks i (dice_of seed)).0 → all ≡ closed ps
+    → all ≡ workflow_of seed n
 unfolding workflow_of
-all-tasks seed n i ps all low high at e = let end : i ≡ n = omega arith in e ∙ ap closed at ∙ ap (λ (k : ℕ). closed (with_tasks k (dice_of seed)).0) end
-
-pub workflow_of-one : (seed n : ℕ) → 1 ≤ n → n ≤ most_tasks → IsOneTerm (workflow_of seed n)
-unfolding workflow_of
-workflow_of-one seed n some few = closed-one _ (tasks-stand n (dice_of seed) some few)
+all-tasks seed n i ps all low high at e =
+    let end : i ≡ n = omega arith in
+    e ∙ ap closed at ∙ ap (λ (k : ℕ). closed (with_tasks k (dice_of seed)).0) end

@@ -1,6 +1,6 @@
 -- What is drawn as a tree is one: each parent comes after its node.
 use Rattle.std.proofs.Common.{◌≡◌, ℕ, zero, suc, ◌+◌, ◌-◌, ◌<◌, ◌≤◌, ◌⊎◌, inl, inr, Bool, true, false, cond, lit<, List, [], ◌∷◌, ◌++◌, length, get_or, refl, sym, ap, subst, ◌∙◌, arith, length-append}
-use Rattle.std.specs.Prelude.{min, nat_lt, All}
+use Rattle.std.specs.Prelude.{min, nat_lt}
 use Rattle.std.proofs.Math.ListN.{get_or-append}
 use Rattle.std.proofs.Math.Seq.{get_or-append_seam}
 use Rattle.std.proofs.lemmas.Bool.{cases_eq, ltb-true}
@@ -8,7 +8,7 @@ use Rattle.std.proofs.lemmas.List.Sums.{sum_by-le}
 use Rattle.limits.specs.Limits.{most_tasks}
 use Rattle.rand_pcg.specs.Lcg.{Lcg}
 use Rattle.tree_input.specs.declared.node.Node.{Node}
-use Rattle.tree_input.specs.Tree.{IsTree, ancestor, parent_of, node_at, node_size}
+use Rattle.tree_input.specs.Tree.{IsTree, ancestor, parent_of, node_size}
 use Rattle.mp_gen.specs.Dice.{dice_of, draw}
 use Rattle.mp_gen.specs.RandomTree.{draw_parent, draw_node, draw_nodes, tree_of}
 use Rattle.mp_gen.proofs.DrawLemmas.{draw-below}
@@ -29,11 +29,14 @@ parent-drawn : (n i : ℕ) (dice : Lcg) → IsLater n i (draw_parent n i dice).0
 unfolding draw_parent
 parent-drawn n i dice = go (nat_lt i n) refl
   where
-    steps : ℕ × Lcg
-    steps = draw (min (n - i) 8) dice
-
-    go : (b : Bool) → nat_lt i n ≡ b → let p : ℕ × Lcg = cond b (i + 1 + (draw (min (n - i) 8) dice).0, (draw (min (n - i) 8) dice).1) (0, dice) in IsLater n i p.0
-    go true e = let lt = ltb-true i n e in let below = draw-below (min (n - i) 8) dice (omega arith) in inr (omega arith, omega arith)
+    go : (b : Bool) → nat_lt i n ≡ b
+        → let steps : ℕ × Lcg = draw (min (n - i) 8) dice in
+        let p : ℕ × Lcg = cond b (i + 1 + steps.0, steps.1) (0, dice) in
+        IsLater n i p.0
+    go true e =
+        let lt = ltb-true i n e in
+        let below = draw-below (min (n - i) 8) dice (omega arith) in
+        inr (omega arith, omega arith)
     go false e = inl refl
 
 node-drawn : (n i : ℕ) (dice : Lcg) → IsDrawn n i (draw_node n i dice).0
@@ -55,13 +58,15 @@ pub record AreDrawn (n i : ℕ) (nodes : List Node) : Type 0 where
   pub len : length nodes ≡ i
   pub each : (k : ℕ) (d : Node) → k < length nodes → IsDrawn n (k + 1) (get_or nodes k d)
 
-one-more : (n i : ℕ) (nodes : List Node) (node : Node) → AreDrawn n i nodes → IsDrawn n (suc i) node → AreDrawn n (suc i) (nodes ++ node ∷ [])
+one-more : (n i : ℕ) (nodes : List Node) (node : Node) → AreDrawn n i nodes → IsDrawn n (suc i) node
+    → AreDrawn n (suc i) (nodes ++ node ∷ [])
 one-more n i nodes node before own = record {
   len = length-append nodes (node ∷ []) ∙ omega (arith, before.len);
   each = λ k d lt. elim (cases_eq k (length nodes)) [
     | inl same ↦ (
         let at : suc i ≡ k + 1 = omega (arith, before.len, same) in
-        let read : get_or (nodes ++ node ∷ []) k d ≡ node = ap (λ (m : ℕ). get_or (nodes ++ node ∷ []) m d) same ∙ get_or-append_seam nodes node [] d in
+        let read : get_or (nodes ++ node ∷ []) k d ≡ node
+        = ap (λ (m : ℕ). get_or (nodes ++ node ∷ []) m d) same ∙ get_or-append_seam nodes node [] d in
         subst (IsDrawn n (k + 1)) (sym read) (subst (λ (m : ℕ). IsDrawn n m node) at own)
         )
     | inr other ↦ (
@@ -120,15 +125,19 @@ tree_of-tree seed n some few = drawn-tree n _ (nodes-drawn n n (dice_of seed)) s
 
 -- ---- the loop over the nodes
 
-pub nodes-more : (n i : ℕ) (start : Lcg) (nodes : List Node) (dice : Lcg) (node : Node) (left : Lcg)
-    → nodes ≡ (draw_nodes n i start).0 → dice ≡ (draw_nodes n i start).1 → (node, left) ≡ draw_node n (i + 1) dice → (nodes ++ node ∷ [], left) ≡ draw_nodes n (i + 1) start
+-- one node further
+pub nodes-more : (n i : ℕ) (start : Lcg) (nodes : List Node) (dice : Lcg) (node : Node) (left : Lcg) (all : List Node)
+    → nodes ≡ (draw_nodes n i start).0 → dice ≡ (draw_nodes n i start).1
+    → (node, left) ≡ draw_node n (i + 1) dice → all ≡ nodes ++ node ∷ []
+    → (all ≡ (draw_nodes n (i + 1) start).0) × (left ≡ (draw_nodes n (i + 1) start).1)
 unfolding draw_nodes
-nodes-more n i start nodes dice node left a b e =
+nodes-more n i start nodes dice node left all before after own more =
     let next : i + 1 ≡ suc i = omega arith in
-    let own : (node, left) ≡ draw_node n (suc i) (draw_nodes n i start).1 = e ∙ (λ k. draw_node n (next k) (b k)) in
-    let both : List Node → Node × Lcg → List Node × Lcg = λ xs p. (xs ++ p.0 ∷ [], p.1) in
-    (λ k. both (a k) (own k)) ∙ ap (λ (k : ℕ). draw_nodes n k start) (sym next)
+    let drawn : (node, left) ≡ draw_node n (suc i) (draw_nodes n i start).1 = own ∙ (λ k. draw_node n (next k) (after k)) in
+    let here = ap (λ (k : ℕ). draw_nodes n k start) (sym next) in
+    (more ∙ (λ k. before k ++ (drawn k).0 ∷ []) ∙ (λ k. (here k).0), (λ k. (drawn k).1) ∙ (λ k. (here k).1))
 
+-- after the last node
 pub all-nodes : (seed n i : ℕ) (nodes : List Node) → n ≤ i → i ≤ n → nodes ≡ (draw_nodes n i (dice_of seed)).0 → nodes ≡ tree_of seed n
 unfolding tree_of
 all-nodes seed n i nodes low high e = let end : i ≡ n = omega arith in e ∙ ap (λ (k : ℕ). (draw_nodes n k (dice_of seed)).0) end

@@ -15,7 +15,7 @@ height_of ps = length (stack_of ps)
 unfoldable pub with_hold : List Position → Lcg → List Position × Lcg
 with_hold ps dice = let (size, left) = draw 1000 dice in (ps ++ Hold (1 + size) ∷ [], left)
 
--- two data items; none, where two terms stand and the word is even
+-- two data items; none, where at least two terms stand and the word is even
 unfoldable pub with_data : List Position → Lcg → List Position × Lcg
 with_data ps dice =
     let (odd, left) = draw 2 dice in
@@ -30,7 +30,7 @@ with_task ps dice =
     let (time, left) = draw 16 after_extra in
     (ps ++ at.Task extra 0 (1 + time) ∷ [], left)
 
--- the last two terms side by side, where two stand and the word is a multiple of 3
+-- the last two terms side by side, where at least two stand and the word is a multiple of 3
 unfoldable pub with_par : List Position → Lcg → List Position × Lcg
 with_par ps dice =
     let (rest, left) = draw 3 dice in
@@ -48,7 +48,7 @@ unfoldable pub with_tasks : ℕ → Lcg → List Position × Lcg
 with_tasks zero dice = ([], dice)
 with_tasks (suc i) dice = let (ps, left) = with_tasks i dice in with_one ps left
 
--- all terms that stand, side by side
+-- all terms that stand side by side, where there are at least two
 unfoldable pub closed : List Position → List Position
 closed ps = if nat_le 2 (height_of ps) then ps ++ Par (height_of ps) ∷ [] else ps
 

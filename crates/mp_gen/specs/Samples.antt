@@ -2,8 +2,7 @@
 use Rattle.std.specs.Prelude.{◌≡◌, ℕ, zero, suc, List, [], ◌∷◌, refl}
 use Rattle.rand_pcg.specs.Lcg.{Lcg, started, increment_of}
 use Rattle.rand_pcg.specs.Pcg.{multiplier_64, pcg32}
-use Rattle.sp_terms.specs.declared.position.Position.{Position}
-use Rattle.sp_terms.specs.declared.position.Position.TheVariants.{Hold, Par}
+use Rattle.sp_terms.specs.declared.position.Position.TheVariants.{Hold}
 use Rattle.sp_terms.specs.declared.position.Position.TheVariants as at
 use Rattle.tree_input.specs.declared.node.Node.{Node}
 use Rattle.mp_gen.specs.Dice.{dice_of, draw}
@@ -28,10 +27,10 @@ words_of_1 = refl
 
 -- ---- trees
 
--- a root: the first three words of the seed are its out, its extra and its time
 abbrev pub node : ℕ → ℕ → ℕ → ℕ → Node
 node parent out extra time = record { parent = parent; out = out; extra = extra; share = 0; time = time }
 
+-- a root alone takes the first three words, for its out, its extra and its time
 pub root : tree_of 1 1 ≡ node 0 850 764 8 ∷ []
 unfolding dice_of draw draw_parent draw_node draw_nodes tree_of
 root = refl

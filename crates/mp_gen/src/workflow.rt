@@ -34,7 +34,7 @@ fn put_hold(builder: &mut TermBuilder, dice: &mut Pcg32) -> Result<(), NoMemory>
     put(builder, Position::Hold(size))
 }
 
-// Two data items; none, where two terms stand and the word is even.
+// Two data items; none, where at least two terms stand and the word is even.
 #[tactic(auto, unfolding(crate::specs::RandomWorkflow::with_data))]
 fn put_data(builder: &mut TermBuilder, dice: &mut Pcg32) -> Result<(), NoMemory>
     requires { HasRoom builder.old 2 0 2000 }
@@ -64,7 +64,7 @@ fn put_task(builder: &mut TermBuilder, dice: &mut Pcg32) -> Result<(), NoMemory>
     put(builder, task)
 }
 
-// The last two terms side by side, where two stand and the word is a multiple of 3.
+// The last two terms side by side, where at least two stand and the word is a multiple of 3.
 #[tactic(auto, unfolding(crate::specs::RandomWorkflow::with_par))]
 fn put_par(builder: &mut TermBuilder, dice: &mut Pcg32) -> Result<(), NoMemory>
     requires { HasRoom builder.old 1 0 0 }
@@ -88,7 +88,7 @@ fn put_one(builder: &mut TermBuilder, dice: &mut Pcg32) -> Result<(), NoMemory>
     put_par(builder, dice)
 }
 
-// All terms that stand, side by side.
+// All terms that stand side by side, where there are at least two.
 #[tactic(auto, unfolding(crate::specs::RandomWorkflow::closed))]
 fn close(builder: &mut TermBuilder) -> Result<(), NoMemory>
     requires { HasRoom builder.old 1 0 0 }

@@ -1,4 +1,4 @@
-use Rattle.std.proofs.Common.{◌≡◌, ℕ, ◌*◌, ◌≤◌, List, ◌++◌, length, ap, sym, subst, ◌∙◌, arith}
+use Rattle.std.proofs.Common.{ℕ, ◌*◌, List, ◌++◌, length, ap, sym, subst, ◌∙◌, arith}
 use Rattle.std.specs.Prelude.{All, IfOk}
 use Rattle.matrix_market.specs.Pattern.{IsPairWithin, IsPatternOf}
 use Rattle.mp_gen.specs.Grid.{joins_in_row}
@@ -23,4 +23,5 @@ from_pairs-requires-clause-within c =
 pub returns : goal.returns
 returns c =
     let all = all-joins c.args.rows c.args.cols c.loop-row.row _ (omega arith) (omega arith) c.loop-row.invariant in
-    subst (λ (pairs : List (ℕ × ℕ)). IfOk c.from_pairs.result (λ pattern. IsPatternOf (c.args.rows * c.args.cols) pairs pattern)) all c.from_pairs.ensures
+    let order = c.args.rows * c.args.cols in
+    subst (λ (pairs : List (ℕ × ℕ)). IfOk c.from_pairs.result (λ pattern. IsPatternOf order pairs pattern)) all c.from_pairs.ensures

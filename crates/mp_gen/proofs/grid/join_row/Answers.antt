@@ -14,5 +14,6 @@ loop-col-preserved c =
 pub returns : goal.returns
 unfolding joins_in_row
 returns c =
+    let at = joins_at c.args.rows c.args.cols c.args.row in
     let end : c.loop-col.col ≡ c.args.cols = omega arith in
-    c.loop-col.invariant ∙ ap (λ (k : ℕ). c.args.pairs.now.items ++ flat_map (joins_at c.args.rows c.args.cols c.args.row) (range_with_len 0 k)) end
+    c.loop-col.invariant ∙ ap (λ (k : ℕ). c.args.pairs.now.items ++ flat_map at (range_with_len 0 k)) end

@@ -1,6 +1,4 @@
-use Rattle.std.proofs.Common.{List, ap, sym, subst, ◌∙◌, arith}
-use Rattle.rand_pcg.specs.Lcg.{Lcg}
-use Rattle.tree_input.specs.declared.node.Node.{Node}
+use Rattle.std.proofs.Common.{sym, subst, ◌∙◌, arith}
 use Rattle.tree_input.specs.Tree.{IsTree}
 use Rattle.mp_gen.specs.Dice.{dice_of}
 use Rattle.mp_gen.specs.RandomTree.{draw_nodes}
@@ -14,11 +12,9 @@ loop-i-init c = record { nodes = c.new-nodes.ensures.items; dice = c.dice_of-dic
 pub loop-i-preserved : goal.loop-i-preserved
 loop-i-preserved c =
     let at = c.loop-i.invariant in
-    let more = nodes-more c.args.n c.loop-i.i (dice_of c.args.seed) _ _ _ _ at.nodes at.dice c.draw_node.ensures in
-    record {
-      nodes = c.in_ok-push.ensures.items ∙ ap (λ (p : List Node × Lcg). p.0) more;
-      dice = ap (λ (p : List Node × Lcg). p.1) more;
-    }
+    let start = dice_of c.args.seed in
+    let more = nodes-more c.args.n c.loop-i.i start _ _ _ _ _ at.nodes at.dice c.draw_node.ensures c.in_ok-push.ensures.items in
+    record { nodes = more.0; dice = more.1 }
 
 pub new-requires : goal.new-requires
 new-requires c =
