@@ -8,10 +8,10 @@ use std::alloc::Global;
 use std::process::Abort;
 use std::test::Fail;
 
-// The first five segments, which are taken out: `up`, `net` and the tasks of each.
+// The first six segments, which are taken out: `up`, `net` and the tasks of each.
 fn segments_of(alloc: Global, mut side: RopedSide) -> Result<String, Fail> {
     let mut text = String::new(alloc);
-    for _ in 0..5 {
+    for _ in 0..6 {
         if let Some(PlainSeg { up, net, tasks }) = side.take_first(alloc)? {
             text.push_str(format!(in alloc; "{up} {net} {tasks:?} ")?.as_str())?;
         }
@@ -47,19 +47,32 @@ fn a_side_is_appended_to(rt: HostRuntime) -> Result<(), Fail> {
     Ok(())
 }
 
-#[test]
-fn segments_are_put_in_at_their_places(rt: HostRuntime) -> Result<(), Fail> {
-    let alloc = rt.alloc();
+// Three segments, put in out of order.
+fn three_segments(alloc: Global) -> Result<RopedSide, Fail> {
     let mut side = RopedSide::new(alloc);
     side.insert(9, 4, 4, true)?;
     side.insert(5, 3, 1, true)?;
     side.insert(7, 1, 5, false)?;
+    Ok(side)
+}
+
+#[test]
+fn a_side_of_three_segments(rt: HostRuntime) -> Result<(), Fail> {
+    let alloc = rt.alloc();
+    let side = three_segments(alloc)?;
     assert_eq!(rt; side.len(), 3);
     // from level 10 over 15 down to 7, over 14 down to 6, and over 15 down to 2
     assert_eq!(rt; side.top(2), 15);
     assert_eq!(rt; side.steps(alloc, 2)?.as_slice(), [(15, 2)].as_slice());
     assert_eq!(rt; side.lowest(2, 14), 10);
     assert_eq!(rt; side.lowest(2, 15), 2);
+    Ok(())
+}
+
+#[test]
+fn segments_are_put_in_at_their_places(rt: HostRuntime) -> Result<(), Fail> {
+    let alloc = rt.alloc();
+    let mut side = three_segments(alloc)?;
     side.insert(7, 1, 6, true)?;
     side.insert(7, 2, 8, false)?;
     let segments = segments_of(alloc, side)?;
