@@ -24,7 +24,7 @@ use Rattle.memplan.specs.Check.{IsCheckOf, verdict_answer}
 use Rattle.memplan.specs.Files.{Answer, AreAccepted, HasValue, IsRefused, IsFirstRefusal, IsOrderFrom, IsTreeOf, IsSystemOf, IsSystemWithTerm, order_refused}
 use Rattle.memplan.specs.Post.{IsPost, post_answer}
 use Rattle.memplan.specs.Replay.{IsReplayAnswer, IsReplayOf}
-use Rattle.memplan.specs.Request.{Request, replay, tree, post, check, planning, simulate, HasWorkers, TreeInput, matrix_named, Input, OrderSource, order_named, plan_named, Simulation, FileRole, NamedFile, tree_input_files, input_files, source_file, priority_files, files_of}
+use Rattle.memplan.specs.Request.{Request, replay, tree, post, check, planning, simulate, HasWorkers, TreeInput, matrix_named, Input, OrderSource, order_named, plan_named, PlanFormat, Simulation, FileRole, NamedFile, tree_input_files, input_files, source_file, priority_files, files_of}
 use Rattle.memplan.specs.Simulate.{IsOwnPriority, IsPriorityFrom, IsSimulation, IsSimulationOf, priority_or, setting_of, simulation_answer}
 use Rattle.memplan.specs.Tree.{tree_answer}
 use Rattle.memplan.proofs.InputLemmas.{matrix_accepted, tree_accepted, input_accepted, source_accepted, work_has_system}
@@ -139,7 +139,7 @@ module _ (r : Reports) where
       one_simulation (setting_of system order s) priority a b (r.systems input mine system system is_system is_system).1 workers one.1 is
       (coe 1 0 (i. IsSimulation (setting_of (same.3 i) (orders i) s) (one.0 i) b) is')
 
-  pub one_report : (request : Request) (texts : List (List ℕ)) (a b : Answer) → HasWorkers request → ((input : Input) → ¬ (request ≡ planning input))
+  pub one_report : (request : Request) (texts : List (List ℕ)) (a b : Answer) → HasWorkers request → ((input : Input) (format : PlanFormat) → ¬ (request ≡ planning input format))
       → IsReport request texts a → IsReport request texts b → a ≡ b
   one_report (replay input source) texts a b workers other is is' = replayed_once input source texts a b is is'
   one_report (tree m) texts a b workers other (nodes, is, e) (nodes', is', e') = e ∙ ap tree_answer (r.trees (matrix_named m) texts nodes nodes' is is').0 ∙ sym e'
@@ -147,7 +147,7 @@ module _ (r : Reports) where
       let one = r.trees input texts nodes nodes' is is' in
       posted_once nodes a b one.1 best (subst (λ (ns : List Node). IsPost ns b) (sym one.0) best')
   one_report (check input plan workers) texts a b has other is is' = checked_once input texts a b is is'
-  one_report (planning input) texts a b workers other is is' = absurd (other input refl)
+  one_report (planning input format) texts a b workers other is is' = absurd (other input format refl)
   one_report (simulate input source s) texts a b workers other is is' = simulated_once input source s texts a b workers.0 is is'
 
   -- ---- files that have values
@@ -180,7 +180,7 @@ module _ (r : Reports) where
   report_accepted (post input) texts a (nodes, is, best) = tree_accepted input texts nodes is
   report_accepted (check input name workers) texts a (mine, text, s, ps, plan, split, with_term, is_plan, is) =
       with_input input (source_file (plan_named name) ∷ []) texts mine (text ∷ []) s split (work_has_system input mine s ps with_term) ((plan, is_plan), tt)
-  report_accepted (planning input) texts a is = input_accepted input texts is.system (work_has_system input texts is.system is.positions is.with_term)
+  report_accepted (planning input format) texts a is = input_accepted input texts is.system (work_has_system input texts is.system is.positions is.with_term)
   report_accepted (simulate input source s) texts a (mine, text, rest, system, order, priority, split, is_system, is_order, is_priority, is) =
       with_input input (source_file source ∷ priority_files input s.priority) texts mine (text ∷ rest) system split is_system
       (source_accepted source mine text order is_order, priority_accepted input source s.priority mine text rest system order priority is_system is_priority)

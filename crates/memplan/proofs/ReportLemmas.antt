@@ -12,7 +12,7 @@ use Rattle.memplan.specs.Check.{verdict_answer}
 use Rattle.memplan.specs.Files.{Answer, IsPlanFile}
 use Rattle.memplan.specs.Plan.{plan_answer}
 use Rattle.memplan.specs.Judged.{IsProblemOf}
-use Rattle.memplan.specs.Request.{Input, check, planning}
+use Rattle.memplan.specs.Request.{Input, PlanFormat, check, planning}
 use Rattle.memplan.proofs.InputLemmas.{problem_has_term}
 
 -- ---- a check
@@ -26,10 +26,10 @@ checked input mine text origin plan name workers is_problem is_plan positions ve
 
 -- ---- a plan
 
-pub planned : (input : Input) (texts : List (List ℕ)) (origin : Origin) (positions : List Position) (plan : PlanText) (answer : Answer)
+pub planned : (input : Input) (format : PlanFormat) (texts : List (List ℕ)) (origin : Origin) (positions : List Position) (plan : PlanText) (answer : Answer)
     → IsProblemOf input texts origin → IsTermOf origin positions → IsPlan plan → IsAccepted (system_of origin) positions plan → plan.priority ≡ []
-    → answer ≡ plan_answer plan → IsReport (planning input) texts answer
-planned input texts origin positions plan answer is_problem term within accepted no_priority is = record {
+    → answer ≡ plan_answer format plan → IsReport (planning input format) texts answer
+planned input format texts origin positions plan answer is_problem term within accepted no_priority is = record {
   system = system_of origin;
   positions = positions;
   with_term = problem_has_term input texts origin positions is_problem term;

@@ -24,8 +24,8 @@ use Rattle.tree_input.specs.Tree.{IsTree, system_of_nodes}
 use Rattle.tree_input.specs.TreeTerm.{forest_positions}
 use Rattle.memplan.specs.Check.{IsCheckOf, IsCertified, yes_line}
 use Rattle.memplan.specs.Files.{Answer, IsPlanFile, IsTreeOf, IsSystemWithTerm}
-use Rattle.memplan.specs.Plan.{IsPlanOf, IsBestPlan}
-use Rattle.memplan.specs.Request.{TreeInput, Input, tree_input, workflow_named, OrderSource, Simulation}
+use Rattle.memplan.specs.Plan.{IsPlanOf, IsBestPlan, IsPrintedAs, plan_text}
+use Rattle.memplan.specs.Request.{TreeInput, Input, tree_input, workflow_named, OrderSource, PlanFormat, as_file, as_json, Simulation}
 use Rattle.memplan.specs.Simulate.{IsSimulation, IsSimulationOf, IsSimulated, IsPrintedRun}
 use Rattle.memplan.specs.declared.status.Status.TheVariants.{Done}
 use Rattle.memplan.proofs.InputLemmas.{work_has_system}
@@ -70,15 +70,21 @@ module _
     printed_is = ap (λ (a : Answer). a.text) e ∙ ap yes_line (sym is_peak);
   }
 
+  printed_as : (format : PlanFormat) (plan : PlanText) → IsPrintedAs format plan (text_of plan) (plan_text format plan)
+  printed_as as_file plan = refl
+  printed_as as_json plan = refl
+
   pub best : ((plan : PlanText) → IsPlan plan → ReadsPlan (text_of plan) plan) → ((plan : PlanText) → IsPlan plan → length (text_of plan) ≤ most_bytes)
-      → (input : Input) (texts : List (List ℕ)) (answer : Answer) → IsPlanOf input texts answer → IsBestPlan input texts answer.text
-  best reads short input texts answer is =
+      → (input : Input) (format : PlanFormat) (texts : List (List ℕ)) (answer : Answer) → IsPlanOf input format texts answer → IsBestPlan input format texts answer.text
+  best reads short input format texts answer is =
       let is_plan : IsPlanFile (text_of is.plan) is.plan = (short is.plan is.within, reads is.plan is.within) in
-      subst (λ (a : Answer). IsBestPlan input texts a.text) (sym is.answer_is) (record {
+      subst (λ (a : Answer). IsBestPlan input format texts a.text) (sym is.answer_is) (record {
         system = is.system;
         is_system = work_has_system input texts is.system is.positions is.with_term;
         plan = is.plan;
+        file = text_of is.plan;
         is_plan = is_plan;
+        printed_is = printed_as format is.plan;
         traversal = is.accepted.traversal;
         peak = is.accepted.peak;
         least = is_least input texts is.system is.positions is.plan is.with_term is.accepted;

@@ -9,7 +9,7 @@ use Rattle.plan_text.specs.Plan.{PlanText}
 use Rattle.claim_check.specs.declared.objection.Objection.{Objection}
 use Rattle.claim_check.specs.declared.verdict.Verdict.{Verdict}
 use Rattle.claim_check.specs.Verdicts.{IsVerdict}
-use Rattle.memplan.specs.Words.{Given, value_of}
+use Rattle.command_line.specs.Words.{Given, value_of}
 use Rattle.memplan.specs.Request.{Request, check, Input, input_of, workers_or_one}
 use Rattle.mp_system.specs.Refusal.{word_of as order_word}
 use Rattle.claim_check.specs.Shapes.{word_of as shape_word}
@@ -24,9 +24,9 @@ abbrev pub check_of : List Given → Option Request
 check_of options =
     option_and_then (λ input.
     option_and_then (λ plan.
-    option_map (check input plan) (workers_or_one (value_of (codes "--workers") options)))
-    (value_of (codes "--plan") options))
-    (input_of (codes "--plan" ∷ codes "--workers" ∷ []) options)
+    option_map (check input plan) (workers_or_one (value_of (codes "workers") options)))
+    (value_of (codes "plan") options))
+    (input_of options)
 
 -- `yes PEAK`
 abbrev pub yes_line : ℕ → List ℕ

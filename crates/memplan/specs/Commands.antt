@@ -11,23 +11,22 @@ use Rattle.memplan.specs.Simulate.{simulate_of, IsSimulationOf}
 use Rattle.memplan.specs.Plan.{plan_of, IsPlanOf}
 use Rattle.memplan.specs.Tree.{tree_request_of, tree_answer}
 use Rattle.memplan.specs.Post.{post_of, IsPost}
-use Rattle.memplan.specs.Words.{Given, options_of, are_distinct}
+use Rattle.command_line.specs.Words.{Line, line_of}
+use Rattle.memplan.specs.Table.{commands}
 
-abbrev pub command_of : List ℕ → List Given → Option Request
-command_of command options =
-    if bytes_eq command (codes "replay") then replay_of options
-    else if bytes_eq command (codes "tree") then tree_request_of options
-    else if bytes_eq command (codes "post") then post_of options
-    else if bytes_eq command (codes "check") then check_of options
-    else if bytes_eq command (codes "plan") then plan_of options
-    else if bytes_eq command (codes "simulate") then simulate_of options
+abbrev pub command_of : Line → Option Request
+command_of line =
+    if bytes_eq line.command (codes "replay") then replay_of line.options
+    else if bytes_eq line.command (codes "tree") then tree_request_of line.options
+    else if bytes_eq line.command (codes "post") then post_of line.options
+    else if bytes_eq line.command (codes "check") then check_of line.options
+    else if bytes_eq line.command (codes "plan") then plan_of line.options
+    else if bytes_eq line.command (codes "simulate") then simulate_of line.options
     else None
 
--- the request of the words after the program's name: a command, and options of it, each at most once
+-- the request of the words after the program's name: a command of the table, and options of it, each at most once
 abbrev pub request_of : List (List ℕ) → Option Request
-request_of [] = None
-request_of (command ∷ words) =
-    option_and_then (λ options. if are_distinct options then command_of command options else None) (options_of words)
+request_of words = option_and_then command_of (line_of commands words)
 
 -- what is answered where all files have values
 abbrev pub IsReport : Request → List (List ℕ) → Answer → Type 0
@@ -35,7 +34,7 @@ IsReport (replay input source) texts answer = IsReplayOf input source texts answ
 IsReport (tree m) texts answer = (nodes : List Node) × IsMatrixTree m texts nodes × (answer ≡ tree_answer nodes)
 IsReport (post input) texts answer = (nodes : List Node) × IsTreeOf input texts nodes × IsPost nodes answer
 IsReport (check input plan workers) texts answer = IsCheckOf input texts answer
-IsReport (planning input) texts answer = IsPlanOf input texts answer
+IsReport (planning input format) texts answer = IsPlanOf input format texts answer
 IsReport (simulate input source s) texts answer = IsSimulationOf input source s texts answer
 
 -- the answer to a request over the texts of its files

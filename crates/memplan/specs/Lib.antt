@@ -1,6 +1,5 @@
-pub mod Words
 pub mod Statuses
-pub mod GivenViews
+pub mod Table
 pub mod Request
 pub mod RequestViews
 pub mod Files

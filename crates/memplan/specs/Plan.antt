@@ -1,12 +1,14 @@
 -- `plan`: a traversal of least peak, and a certificate of that, which `check` accepts.
-use Rattle.std.specs.Prelude.{◌≡◌, ℕ, List, [], ◌∷◌, ◌++◌, Option, option_map}
+use Rattle.std.specs.Prelude.{◌≡◌, ℕ, List, [], ◌∷◌, ◌++◌, Option, option_map, option_and_then, codes}
+use Rattle.mp_text.specs.Report.{line_text}
 use Rattle.mp_system.specs.System.{TaskSystem}
 use Rattle.mp_system.specs.Memory.{peak_of}
 use Rattle.mp_system.specs.Traversal.{IsTraversal, IsLeast}
 use Rattle.sp_terms.specs.declared.position.Position.{Position}
 use Rattle.plan_text.specs.Plan.{PlanText, IsPlan}
-use Rattle.memplan.specs.Words.{Given}
-use Rattle.memplan.specs.Request.{Request, planning, Input, input_of}
+use Rattle.command_line.specs.Words.{Given, value_of}
+use Rattle.plan_text.specs.Json.{json_of}
+use Rattle.memplan.specs.Request.{Request, planning, Input, input_of, PlanFormat, as_file, as_json, is_second, format_of}
 use Rattle.plan_text.specs.Printed as plans
 use Rattle.claim_check.specs.Accepted as judged
 use Rattle.memplan.specs.declared.status.Status.TheVariants as status
@@ -14,16 +16,23 @@ use Rattle.claim_check.specs.declared.verdict.Verdict.TheVariants.{Yes}
 use Rattle.memplan.specs.Files.{IsSystemOf, IsPlanFile, Answer, IsSystemWithTerm}
 use Rattle.memplan.specs.Check.{IsCheckOf, verdict_answer}
 
--- `plan` and one input
+-- `plan`, one input, and `--print text` or `--print json` if it is given
 abbrev pub plan_of : List Given → Option Request
-plan_of options = option_map planning (input_of [] options)
+plan_of options =
+    option_and_then (λ input.
+    option_map (λ json. planning input (format_of json)) (is_second (codes "text") (codes "json") (value_of (codes "print") options)))
+    (input_of options)
 
--- the plan file of a plan
-abbrev pub plan_answer : PlanText → Answer
-plan_answer plan = record { status = status.Done; text = plans.text_of plan }
+-- the plan file of a plan, or its JSON on a line
+abbrev pub plan_text : PlanFormat → PlanText → List ℕ
+plan_text as_file plan = plans.text_of plan
+plan_text as_json plan = line_text (json_of plan ∷ [])
+
+abbrev pub plan_answer : PlanFormat → PlanText → Answer
+plan_answer format plan = record { status = status.Done; text = plan_text format plan }
 
 -- a plan of the input's system and term that is accepted and has no priority, whichever it is; the texts are those of the input's files
-pub record IsPlanOf (input : Input) (texts : List (List ℕ)) (answer : Answer) : Type 0 where
+pub record IsPlanOf (input : Input) (format : PlanFormat) (texts : List (List ℕ)) (answer : Answer) : Type 0 where
   pub system : TaskSystem
   pub positions : List Position
   pub with_term : IsSystemWithTerm input texts system positions
@@ -31,17 +40,24 @@ pub record IsPlanOf (input : Input) (texts : List (List ℕ)) (answer : Answer) 
   pub within : IsPlan plan
   pub accepted : judged.IsAccepted system positions plan
   pub no_priority : plan.priority ≡ []
-  pub answer_is : answer ≡ plan_answer plan
+  pub answer_is : answer ≡ plan_answer format plan
 
--- the printed text is a plan file; its order is a traversal of the input's system, whose peak is the one that the plan states, and no
--- traversal has a lower one; and `check` of this file over the same input answers yes with that peak.
+-- a plan file is printed as it is, or its plan as JSON
+abbrev pub IsPrintedAs : PlanFormat → PlanText → List ℕ → List ℕ → Type 0
+IsPrintedAs as_file plan file printed = printed ≡ file
+IsPrintedAs as_json plan file printed = printed ≡ plan_text as_json plan
+
+-- a plan file is printed, or the JSON of its plan; its order is a traversal of the input's system, whose peak is the one that the plan
+-- states, and no traversal has a lower one; and `check` of this file over the same input answers yes with that peak.
 -- The texts are those of the input's files
-pub record IsBestPlan (input : Input) (texts : List (List ℕ)) (printed : List ℕ) : Type 0 where
+pub record IsBestPlan (input : Input) (format : PlanFormat) (texts : List (List ℕ)) (printed : List ℕ) : Type 0 where
   pub system : TaskSystem
   pub is_system : IsSystemOf input texts system
   pub plan : PlanText
-  pub is_plan : IsPlanFile printed plan
+  pub file : List ℕ
+  pub is_plan : IsPlanFile file plan
+  pub printed_is : IsPrintedAs format plan file printed
   pub traversal : IsTraversal system plan.order
   pub peak : peak_of system plan.order ≡ plan.peak
   pub least : IsLeast system plan.peak
-  pub checked : IsCheckOf input (texts ++ printed ∷ []) (verdict_answer (Yes plan.peak))
+  pub checked : IsCheckOf input (texts ++ file ∷ []) (verdict_answer (Yes plan.peak))

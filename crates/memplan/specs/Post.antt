@@ -5,14 +5,14 @@ use Rattle.mp_system.specs.Memory.{peak_of}
 use Rattle.tree_input.specs.declared.node.Node.{Node}
 use Rattle.tree_input.specs.Tree.{system_of_nodes}
 use Rattle.postorder_best.specs.BestPostorder.{IsBestPostorder}
-use Rattle.memplan.specs.Words.{Given}
+use Rattle.command_line.specs.Words.{Given}
 use Rattle.memplan.specs.Request.{Request, post, tree_input_of}
 use Rattle.memplan.specs.declared.status.Status.TheVariants as status
 use Rattle.memplan.specs.Files.{Answer}
 
 -- `post` and a tree or a matrix
 abbrev pub post_of : List Given → Option Request
-post_of options = option_map post (tree_input_of [] options)
+post_of options = option_map post (tree_input_of options)
 
 -- `peak PEAK`, `order N`, the nodes, `end`
 abbrev pub post_lines : ℕ → List ℕ → List (List (List ℕ))

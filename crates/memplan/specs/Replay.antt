@@ -5,7 +5,7 @@ use Rattle.mp_system.specs.declared.system.OrderKind.{OrderKind}
 use Rattle.mp_system.specs.System.{TaskSystem}
 use Rattle.mp_system.specs.Memory.{peak_of}
 use Rattle.mp_system.specs.Traversal.{IsTraversal, first_fault}
-use Rattle.memplan.specs.Words.{Given, value_of}
+use Rattle.command_line.specs.Words.{Given, value_of}
 use Rattle.memplan.specs.Request.{Request, replay, Input, OrderSource, input_of, source_of}
 use Rattle.memplan.specs.declared.status.Status.TheVariants as status
 use Rattle.memplan.specs.Files.{IsSystemOf, order_refused, IsOrderFrom, Answer}
@@ -14,8 +14,8 @@ use Rattle.memplan.specs.Files.{IsSystemOf, order_refused, IsOrderFrom, Answer}
 abbrev pub replay_of : List Given → Option Request
 replay_of options =
     option_and_then (λ input.
-    option_map (replay input) (source_of (value_of (codes "--order") options) (value_of (codes "--plan") options)))
-    (input_of (codes "--order" ∷ codes "--plan" ∷ []) options)
+    option_map (replay input) (source_of (value_of (codes "order") options) (value_of (codes "plan") options)))
+    (input_of options)
 
 -- the peak of a traversal, or the first fault of an order that is none
 abbrev pub peak_answer : ℕ → Answer

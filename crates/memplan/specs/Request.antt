@@ -1,13 +1,14 @@
 -- Requests: what can be asked for, what the commands share of the words for it, and the files that a request names.
-use Rattle.std.specs.Prelude.{ℕ, ◌^◌, ◌≤◌, Bool, true, false, ◌&&◌, nat_le, List, [], ◌∷◌, ◌++◌, Option, Some, None, option_map, option_and_then, codes, if◌then◌else◌}
-use Rattle.std.specs.Option.{option_or}
+use Rattle.std.specs.Prelude.{ℕ, ◌^◌, ◌≤◌, Bool, true, false, ◌&&◌, nat_le, List, [], ◌∷◌, ◌++◌, Option, Some, None, is_some, option_map, option_and_then, codes, if◌then◌else◌}
+use Rattle.std.specs.List.{list_any}
 use Rattle.std.specs.Str.{bytes_eq}
 use Rattle.limits.specs.Limits.{most_workers}
 use Rattle.mp_text.specs.Text.{number_of}
 use Rattle.assembly_tree.specs.declared.front.Shape.{Shape}
 use Rattle.assembly_tree.specs.declared.front.Shape.TheVariants as shapes
 use Rattle.symbolic.specs.declared.options.FrontOptions.{FrontOptions}
-use Rattle.memplan.specs.Words.{Given, value_of, are_among}
+use Rattle.command_line.specs.Words.{Given, value_of}
+use Rattle.memplan.specs.Table.{matrix_options, tree_names}
 
 -- a matrix, by the name of its file, and how it becomes a tree of fronts
 pub record Matrix : Type 0 where
@@ -39,6 +40,11 @@ pub record Simulation : Type 0 where
   -- the name of a priority file; with none, the priority is that of the plan, or the order
   pub priority : Option (List ℕ)
 
+-- how a plan is printed: as a plan file, or as JSON
+pub data PlanFormat : Type 0 where
+  as_file : PlanFormat
+  as_json : PlanFormat
+
 pub data Request : Type 0 where
   -- the peak of the input's system in an order
   replay : Input → OrderSource → Request
@@ -49,7 +55,7 @@ pub data Request : Type 0 where
   -- whether a plan, by the name of its file, is accepted for an input; by so many workers
   check : Input → List ℕ → ℕ → Request
   -- a traversal of least peak, with its certificate
-  planning : Input → Request
+  planning : Input → PlanFormat → Request
   -- the run of the input's system on several workers within a bound, its tasks activated in an order
   simulate : Input → OrderSource → Simulation → Request
 
@@ -78,49 +84,47 @@ abbrev pub shape_of : Bool → Shape
 shape_of false = shapes.Triangle
 shape_of true = shapes.Square
 
-abbrev pub matrix_names : List (List ℕ)
-matrix_names = codes "--matrix" ∷ codes "--perm" ∷ codes "--ordering" ∷ codes "--shape" ∷ codes "--amalgamate" ∷ codes "--inplace" ∷ []
-
--- `--matrix NAME`, and what is given of `--perm NAME` or `--ordering natural`, `--shape triangle|square`, `--amalgamate ZEROS` and
--- `--inplace no|yes`
-abbrev pub matrix_of : List Given → Option Matrix
-matrix_of options =
-    option_and_then (λ name.
+-- the matrix of this name, and what is given of `--perm NAME` or `--ordering natural`, `--shape triangle|square`,
+-- `--amalgamate ZEROS` and `--inplace no|yes`
+abbrev pub matrix_of : List ℕ → List Given → Option Matrix
+matrix_of name options =
     option_and_then (λ square.
     option_and_then (λ zeros.
     option_and_then (λ inplace.
-    if chooses_order (value_of (codes "--perm") options) (value_of (codes "--ordering") options)
+    if chooses_order (value_of (codes "perm") options) (value_of (codes "ordering") options)
     then Some (record {
       name = name;
-      perm = value_of (codes "--perm") options;
+      perm = value_of (codes "perm") options;
       fronts = record { shape = shape_of square; zeros = zeros; inplace = inplace };
     })
     else None)
-    (is_second (codes "no") (codes "yes") (value_of (codes "--inplace") options)))
-    (zeros_of (value_of (codes "--amalgamate") options)))
-    (is_second (codes "triangle") (codes "square") (value_of (codes "--shape") options)))
-    (value_of (codes "--matrix") options)
+    (is_second (codes "no") (codes "yes") (value_of (codes "inplace") options)))
+    (zeros_of (value_of (codes "amalgamate") options)))
+    (is_second (codes "triangle") (codes "square") (value_of (codes "shape") options))
 
--- ---- inputs; each of them with these other options besides its own, so at most one of them is there
+-- ---- inputs
 
-abbrev pub tree_of : List (List ℕ) → List Given → Option TreeInput
-tree_of others options =
-    if are_among (codes "--tree" ∷ others) options then option_map tree_named (value_of (codes "--tree") options) else None
+-- an option of one of these names is given
+abbrev pub gives_any : List (List ℕ) → List Given → Bool
+gives_any names options = list_any (λ name. is_some (value_of name options)) names
 
-abbrev pub workflow_of : List (List ℕ) → List Given → Option Input
-workflow_of others options =
-    if are_among (codes "--workflow" ∷ others) options then option_map workflow_named (value_of (codes "--workflow") options) else None
+-- a tree, without the options of a matrix, or a matrix, not both; by the names that are given for them
+abbrev pub tree_input_named : Option (List ℕ) → Option (List ℕ) → List Given → Option TreeInput
+tree_input_named None None options = None
+tree_input_named None (Some name) options = option_map matrix_named (matrix_of name options)
+tree_input_named (Some name) None options = if gives_any matrix_options options then None else Some (tree_named name)
+tree_input_named (Some name) (Some matrix) options = None
 
-abbrev pub matrix_among : List (List ℕ) → List Given → Option Matrix
-matrix_among others options = if are_among (matrix_names ++ others) options then matrix_of options else None
+abbrev pub tree_input_of : List Given → Option TreeInput
+tree_input_of options = tree_input_named (value_of (codes "tree") options) (value_of (codes "matrix") options) options
 
--- a tree or a matrix
-abbrev pub tree_input_of : List (List ℕ) → List Given → Option TreeInput
-tree_input_of others options = option_or (tree_of others options) (option_map matrix_named (matrix_among others options))
+-- a tree or a matrix; or a workflow, without any option of these
+abbrev pub input_named : Option (List ℕ) → List Given → Option Input
+input_named None options = option_map tree_input (tree_input_of options)
+input_named (Some name) options = if gives_any tree_names options then None else Some (workflow_named name)
 
--- a tree, a matrix or a workflow
-abbrev pub input_of : List (List ℕ) → List Given → Option Input
-input_of others options = option_or (option_map tree_input (tree_input_of others options)) (workflow_of others options)
+abbrev pub input_of : List Given → Option Input
+input_of options = input_named (value_of (codes "workflow") options) options
 
 -- ---- what several commands ask for
 
@@ -148,6 +152,10 @@ abbrev pub HasWorkers : Request → Type 0
 HasWorkers (check input plan workers) = AreWorkers workers
 HasWorkers (simulate input source s) = AreWorkers s.workers
 HasWorkers request = Unit {0}
+
+abbrev pub format_of : Bool → PlanFormat
+format_of false = as_file
+format_of true = as_json
 
 -- a number that is given
 abbrev pub number_given : Option (List ℕ) → Option ℕ
@@ -199,5 +207,5 @@ files_of (replay input source) = input_files input ++ source_file source ∷ []
 files_of (tree m) = matrix_files m
 files_of (post input) = tree_input_files input
 files_of (check input plan workers) = input_files input ++ source_file (plan_named plan) ∷ []
-files_of (planning input) = input_files input
+files_of (planning input format) = input_files input
 files_of (simulate input source s) = input_files input ++ source_file source ∷ priority_files input s.priority

@@ -6,6 +6,8 @@ use Rattle.memplan.specs.declared.request.Input.TheVariants as inputs
 use Rattle.memplan.specs.declared.request.Matrix.{Matrix}
 use Rattle.memplan.specs.declared.request.OrderSource.{OrderSource}
 use Rattle.memplan.specs.declared.request.OrderSource.TheVariants as sources
+use Rattle.memplan.specs.declared.request.PlanFormat.{PlanFormat}
+use Rattle.memplan.specs.declared.request.PlanFormat.TheVariants as formats
 use Rattle.memplan.specs.declared.request.Request.{Request}
 use Rattle.memplan.specs.declared.request.Request.TheVariants as commands
 use Rattle.memplan.specs.declared.commands.simulate.Simulation.{Simulation}
@@ -30,10 +32,14 @@ source_view (sources.Plan name) = requests.plan_named name.now
 abbrev pub simulation_view : Simulation → requests.Simulation
 simulation_view names = record { bound = names.bound; workers = names.workers; priority = option_map (λ name. name.now) names.priority }
 
+abbrev pub format_view : PlanFormat → requests.PlanFormat
+format_view formats.File = requests.as_file
+format_view formats.Json = requests.as_json
+
 abbrev pub request_view : Request → requests.Request
 request_view (commands.Replay r) = requests.replay (input_view r.input) (source_view r.source)
 request_view (commands.Tree m) = requests.tree (matrix_view m)
 request_view (commands.Post input) = requests.post (tree_input_view input)
 request_view (commands.Check c) = requests.check (input_view c.input) c.plan.now c.workers
-request_view (commands.Plan input) = requests.planning (input_view input)
+request_view (commands.Plan input format) = requests.planning (input_view input) (format_view format)
 request_view (commands.Simulate names) = requests.simulate (input_view names.input) (source_view names.source) (simulation_view names)

@@ -9,7 +9,6 @@ pub mod tree;
 
 ghost use Rattle.std.specs.Prelude.{◌≡◌, ◌≤◌, ℕ, List, IfOk, IfSome, map, string_bytes, option_map};
 ghost use Rattle.memplan.specs.Commands.{command_of, request_of};
-ghost use Rattle.memplan.specs.GivenViews.{given_views};
 ghost use Rattle.memplan.specs.Judged.{IsReported};
 ghost use Rattle.memplan.specs.Request.{HasWorkers};
 ghost use Rattle.memplan.specs.RequestViews.{request_view};
@@ -17,22 +16,54 @@ ghost use Rattle.memplan.specs.RequestViews.{request_view};
 use crate::page::Page;
 use crate::request::Request;
 use crate::stop::Stop;
-use crate::words::{Given, are_distinct, options_of};
+use command_line::{Line, Shape, read_words};
 use mp_outside::{Files, Gate};
 use std::alloc::{AllocError, Global};
 use std::thread::Threads;
 
-fn command_of<'a>(command: &str, options: &[Given<'a>]) -> Option<Request<'a>>
-    ensures value { option_map request_view result ≡ command_of command.now (given_views options.now) }
+// Each command, with the names of its options.
+#[rattlefmt::skip]
+static COMMANDS: [Shape; 6] = [
+    Shape {
+        name: "replay",
+        options: &["order", "plan", "workflow", "tree", "matrix", "perm", "ordering", "shape", "amalgamate", "inplace"],
+    },
+    Shape {
+        name: "tree",
+        options: &["matrix", "perm", "ordering", "shape", "amalgamate", "inplace"],
+    },
+    Shape {
+        name: "post",
+        options: &["tree", "matrix", "perm", "ordering", "shape", "amalgamate", "inplace"],
+    },
+    Shape {
+        name: "check",
+        options: &["plan", "workers", "workflow", "tree", "matrix", "perm", "ordering", "shape", "amalgamate", "inplace"],
+    },
+    Shape {
+        name: "plan",
+        options: &["print", "workflow", "tree", "matrix", "perm", "ordering", "shape", "amalgamate", "inplace"],
+    },
+    Shape {
+        name: "simulate",
+        options: &[
+            "order", "plan", "bound", "workers", "priority", "workflow", "tree", "matrix", "perm", "ordering", "shape", "amalgamate",
+            "inplace",
+        ],
+    },
+];
+
+fn command_of<'a>(line: &Line<'a>) -> Option<Request<'a>>
+    ensures value { option_map request_view result ≡ command_of line.now }
     ensures workers { IfSome result (λ request. HasWorkers (request_view request)) }
 {
-    match command {
-        "replay" => replay::replay_of(options),
-        "tree" => tree::tree_request_of(options),
-        "post" => post::post_of(options),
-        "check" => check::check_of(options),
-        "plan" => plan::plan_of(options),
-        "simulate" => simulate::simulate_of(options),
+    match line.command() {
+        "replay" => replay::replay_of(line),
+        "tree" => tree::tree_request_of(line),
+        "post" => post::post_of(line),
+        "check" => check::check_of(line),
+        "plan" => plan::plan_of(line),
+        "simulate" => simulate::simulate_of(line),
         _ => None,
     }
 }
@@ -42,17 +73,10 @@ pub fn request_of(alloc: Global, words: &[String]) -> Result<Option<Request<'_>>
     ensures value { IfOk result (λ request. option_map request_view request ≡ request_of (map (λ w. string_bytes w) words.now)) }
     ensures workers { IfOk result (λ request. IfSome request (λ r. HasWorkers (request_view r))) }
 {
-    let [command, words @ ..] = words else {
+    let Some(line) = read_words(alloc, &COMMANDS, words)? else {
         return Ok(None);
     };
-    let Some(options) = options_of(alloc, words)? else {
-        return Ok(None);
-    };
-    if are_distinct(&options) {
-        Ok(command_of(command.as_str(), &options))
-    } else {
-        Ok(None)
-    }
+    Ok(command_of(&line))
 }
 
 /// The page of the report that a request asks for. `rt` and `gate` are for the threads of the checker.
@@ -73,7 +97,7 @@ pub fn report<R: Threads + Sync, F: Files, G: Gate>(
         Request::Tree(matrix) => tree::report_tree(alloc, files, matrix),
         Request::Post(input) => post::report_post(alloc, files, input),
         Request::Check(asked) => check::report_check(rt, alloc, files, asked, gate),
-        Request::Plan(input) => plan::report_plan(alloc, files, input),
+        Request::Plan(input, format) => plan::report_plan(alloc, files, input, format),
         Request::Simulate(asked) => simulate::report_simulate(alloc, files, asked),
     }
 }

@@ -9,7 +9,7 @@ ghost use Rattle.memplan.specs.Commands.{IsAnswer};
 ghost use Rattle.memplan.specs.Check.{IsCertified};
 ghost use Rattle.memplan.specs.Files.{Answer, HasValue, IsRefused, IsSystemOf, IsSystemWithTerm, IsTreeOf};
 ghost use Rattle.memplan.specs.Plan.{IsBestPlan};
-ghost use Rattle.memplan.specs.Request.{FileRole, HasWorkers, Input, OrderSource, Request, Simulation, TreeInput, check, input_files, planning, simulate, tree_input_files};
+ghost use Rattle.memplan.specs.Request.{FileRole, HasWorkers, Input, OrderSource, PlanFormat, Request, Simulation, TreeInput, check, input_files, planning, simulate, tree_input_files};
 ghost use Rattle.memplan.specs.Simulate.{IsSimulated};
 ghost use Rattle.memplan.specs.declared.status.Status.TheVariants.{Done};
 
@@ -67,7 +67,8 @@ fn one_file()
 /// least peak with a certificate.
 pub fn one_answer()
     ensures { (request : Request) (texts : List (List ℕ)) (one two : Answer) → HasWorkers request →
-        ((input : Input) → ¬ (request ≡ planning input)) → IsAnswer request texts one → IsAnswer request texts two → one ≡ two }
+        ((input : Input) (format : PlanFormat) → ¬ (request ≡ planning input format)) →
+        IsAnswer request texts one → IsAnswer request texts two → one ≡ two }
 {
     one_input();
     one_file();
@@ -86,8 +87,8 @@ pub fn one_answer()
 pub fn what_answers_say()
     ensures certified { (input : Input) (plan : List ℕ) (workers : ℕ) (texts : List (List ℕ)) (answer : Answer) →
         IsAnswer (check input plan workers) texts answer → answer.status ≡ Done → IsCertified input texts answer.text }
-    ensures planned { (input : Input) (texts : List (List ℕ)) (answer : Answer) →
-        IsAnswer (planning input) texts answer → answer.status ≡ Done → IsBestPlan input texts answer.text }
+    ensures planned { (input : Input) (format : PlanFormat) (texts : List (List ℕ)) (answer : Answer) →
+        IsAnswer (planning input format) texts answer → answer.status ≡ Done → IsBestPlan input format texts answer.text }
     ensures simulated { (input : Input) (source : OrderSource) (s : Simulation) (texts : List (List ℕ)) (answer : Answer) → 1 ≤ s.workers →
         IsAnswer (simulate input source s) texts answer → answer.status ≡ Done → IsSimulated input source s texts answer.text }
 {

@@ -12,7 +12,6 @@ mod status;
 mod stop;
 #[cfg(test)]
 mod tests;
-mod words;
 
 use mp_outside::{NoGate, RealFiles, RealSink};
 pub use run::run_words;

@@ -1,13 +1,12 @@
 ghost use Rattle.std.specs.Prelude.{◌≡◌, IfSome, map, option_map};
-ghost use Rattle.memplan.specs.Request.{is_second, chooses_order, zeros_of, matrix_of, matrix_among, tree_input_of, input_of, source_of, workers_within, workers_or_one, number_given, AreWorkers};
+ghost use Rattle.memplan.specs.Request.{is_second, chooses_order, zeros_of, matrix_of, gives_any, tree_input_of, input_of, source_of, workers_within, workers_or_one, number_given, AreWorkers};
 ghost use Rattle.memplan.specs.RequestViews.{matrix_view, tree_input_view, input_view, source_view};
-ghost use Rattle.memplan.specs.GivenViews.{given_views};
 
 use crate::commands::check::Check;
 use crate::commands::replay::Replay;
 use crate::commands::simulate::Simulation;
-use crate::words::{Given, are_among, value_of};
 use assembly_tree::Shape;
+use command_line::Line;
 use limits::MOST_WORKERS;
 use mp_text::number;
 use symbolic::FrontOptions;
@@ -43,6 +42,15 @@ pub enum OrderSource<'a> {
     Plan(&'a str),
 }
 
+/// How a plan is printed.
+#[derive(Clone, Copy, Debug, PartialEq, Eq)]
+pub enum PlanFormat {
+    /// As a plan file.
+    File,
+    /// As one line of JSON.
+    Json,
+}
+
 /// What the words ask for.
 #[derive(Clone, Copy, Debug)]
 pub enum Request<'a> {
@@ -55,15 +63,15 @@ pub enum Request<'a> {
     /// Whether the plan is accepted for the input.
     Check(Check<'a>),
     /// A traversal of least peak, with its certificate.
-    Plan(Input<'a>),
+    Plan(Input<'a>, PlanFormat),
     /// The run of the input's system on several workers within a bound, its tasks activated in the order.
     Simulate(Simulation<'a>),
 }
 
 // ---- the options of a matrix
 
-// Whether a value is the second of two words; with no value it is the first.
-fn is_second(given: Option<&str>, first: &str, second: &str) -> Option<bool>
+/// Whether a value is the second of two words; with no value it is the first.
+pub fn is_second(given: Option<&str>, first: &str, second: &str) -> Option<bool>
     ensures { result ≡ is_second first.now second.now (option_map (λ s. s.now) given.entry) }
 {
     match given {
@@ -100,16 +108,15 @@ fn zeros_of(given: Option<&str>) -> Option<Option<u64>>
     }
 }
 
-// The matrix that options state.
-fn matrix_of<'a>(options: &[Given<'a>]) -> Option<Matrix<'a>>
-    ensures { option_map matrix_view result ≡ matrix_of (given_views options.now) }
+/// The matrix of this name, with the options that are given for it.
+pub fn matrix_of<'a>(name: &'a str, line: &Line<'a>) -> Option<Matrix<'a>>
+    ensures { option_map matrix_view result ≡ matrix_of name.entry.now line.now.options }
 {
-    let name = value_of(options, "--matrix")?;
-    let square = is_second(value_of(options, "--shape"), "triangle", "square")?;
-    let zeros = zeros_of(value_of(options, "--amalgamate"))?;
-    let inplace = is_second(value_of(options, "--inplace"), "no", "yes")?;
-    let perm = value_of(options, "--perm");
-    if !chooses_order(perm, value_of(options, "--ordering")) {
+    let square = is_second(line.value("shape"), "triangle", "square")?;
+    let zeros = zeros_of(line.value("amalgamate"))?;
+    let inplace = is_second(line.value("inplace"), "no", "yes")?;
+    let perm = line.value("perm");
+    if !chooses_order(perm, line.value("ordering")) {
         return None;
     }
     let shape = if square {
@@ -125,47 +132,49 @@ fn matrix_of<'a>(options: &[Given<'a>]) -> Option<Matrix<'a>>
     Some(Matrix { name, perm, fronts })
 }
 
+// ---- inputs
+
+const MATRIX_OPTIONS: [&str; 5] = ["perm", "ordering", "shape", "amalgamate", "inplace"];
+
 #[rattlefmt::skip]
-const MATRIX_NAMES: [&str; 6] = ["--matrix", "--perm", "--ordering", "--shape", "--amalgamate", "--inplace"];
+const TREE_NAMES: [&str; 7] = ["tree", "matrix", "perm", "ordering", "shape", "amalgamate", "inplace"];
 
-// ---- inputs; each of them with these other options besides its own
-
-/// A matrix.
-pub fn matrix_among<'a>(options: &[Given<'a>], others: &[&str]) -> Option<Matrix<'a>>
-    ensures { option_map matrix_view result ≡ matrix_among (map (λ s. s.now) others.now) (given_views options.now) }
+// Whether an option of one of these names is given.
+fn gives_any(line: &Line<'_>, names: &[&str]) -> bool
+    ensures { result ≡ gives_any (map (λ s. s.now) names.now) line.now.options }
 {
-    if are_among(options, &MATRIX_NAMES, others) {
-        matrix_of(options)
-    } else {
-        None
-    }
+    names.iter().any(|name| line.value(name).is_some())
 }
 
-/// A tree or a matrix.
-pub fn tree_input_of<'a>(options: &[Given<'a>], others: &[&str]) -> Option<TreeInput<'a>>
-    ensures { option_map tree_input_view result ≡ tree_input_of (map (λ s. s.now) others.now) (given_views options.now) }
+/// A tree, without the options of a matrix, or a matrix.
+pub fn tree_input_of<'a>(line: &Line<'a>) -> Option<TreeInput<'a>>
+    ensures { option_map tree_input_view result ≡ tree_input_of line.now.options }
 {
-    if are_among(options, &["--tree"], others) {
-        if let Some(name) = value_of(options, "--tree") {
-            return Some(TreeInput::Tree(name));
+    match (line.value("tree"), line.value("matrix")) {
+        (None, None) => None,
+        (None, Some(name)) => {
+            let matrix = matrix_of(name, line)?;
+            Some(TreeInput::Matrix(matrix))
         }
+        (Some(_), None) if gives_any(line, &MATRIX_OPTIONS) => None,
+        (Some(name), None) => Some(TreeInput::Tree(name)),
+        (Some(_), Some(_)) => None,
     }
-    let matrix = matrix_among(options, others)?;
-    Some(TreeInput::Matrix(matrix))
 }
 
 /// A tree, a matrix or a workflow.
-pub fn input_of<'a>(options: &[Given<'a>], others: &[&str]) -> Option<Input<'a>>
-    ensures { option_map input_view result ≡ input_of (map (λ s. s.now) others.now) (given_views options.now) }
+pub fn input_of<'a>(line: &Line<'a>) -> Option<Input<'a>>
+    ensures { option_map input_view result ≡ input_of line.now.options }
 {
-    if let Some(input) = tree_input_of(options, others) {
+    let Some(name) = line.value("workflow") else {
+        let input = tree_input_of(line)?;
         return Some(Input::Tree(input));
+    };
+    if gives_any(line, &TREE_NAMES) {
+        None
+    } else {
+        Some(Input::Workflow(name))
     }
-    if are_among(options, &["--workflow"], others) {
-        let name = value_of(options, "--workflow")?;
-        return Some(Input::Workflow(name));
-    }
-    None
 }
 
 // ---- what several commands ask for

@@ -1,6 +1,6 @@
 ghost use Rattle.std.specs.Prelude.{◌≡◌, ◌⊎◌, ◌<◌, ◌≤◌, ℕ, List, length, take};
 ghost use Rattle.mp_outside.specs.Outside.{Rose, Appended};
-ghost use Rattle.memplan.specs.Request.{Input, OrderSource, Request, Simulation, check, planning, simulate, files_of};
+ghost use Rattle.memplan.specs.Request.{Input, OrderSource, PlanFormat, Request, Simulation, check, planning, simulate, files_of};
 ghost use Rattle.memplan.specs.Check.{IsCertified};
 ghost use Rattle.memplan.specs.Plan.{IsBestPlan};
 ghost use Rattle.memplan.specs.Simulate.{IsSimulated};
@@ -40,11 +40,11 @@ pub fn run_words<R: Threads + Sync, F: Files, S: Sink, G: Gate>(
         → (texts : List (List ℕ)) → AreTold (F.bytes_of files.old) (files_of (check input plan workers)) texts
         → (printed : List ℕ) × IsCertified input texts printed × Appended (S.written sink.old) (S.written sink.new) printed }
 
-    // where a plan was made, what was printed is a plan file: its order is a traversal of the input's system, its peak is the one that it
-    // states, no traversal has a lower one, and `check` says yes to it
-    ensures planned { result ≡ Status.Done → (input : Input) → Asks words.now (planning input)
-        → (texts : List (List ℕ)) → AreTold (F.bytes_of files.old) (files_of (planning input)) texts
-        → (printed : List ℕ) × IsBestPlan input texts printed × Appended (S.written sink.old) (S.written sink.new) printed }
+    // where a plan was made, what was printed is a plan file, or the JSON of its plan: the order is a traversal of the input's system, its
+    // peak is the one that the plan states, no traversal has a lower one, and `check` says yes to the file
+    ensures planned { result ≡ Status.Done → (input : Input) (format : PlanFormat) → Asks words.now (planning input format)
+        → (texts : List (List ℕ)) → AreTold (F.bytes_of files.old) (files_of (planning input format)) texts
+        → (printed : List ℕ) × IsBestPlan input format texts printed × Appended (S.written sink.old) (S.written sink.new) printed }
 
     // where a run was simulated to its end, its events are one activation, one start and one finish of each task of the input's system, and
     // memory stayed within the bound, which is at least the peak of the order

@@ -3,7 +3,6 @@
 ghost use Rattle.std.specs.Prelude.{◌≡◌, ◌≤◌, ◌∷◌, [], ◌++◌, ℕ, List, IfOk, IfSome, option_map};
 ghost use Rattle.memplan.specs.Check.{check_of, verdict_answer};
 ghost use Rattle.memplan.specs.Judged.{IsReported};
-ghost use Rattle.memplan.specs.GivenViews.{given_views};
 ghost use Rattle.memplan.specs.Pages.{answer_of};
 ghost use Rattle.memplan.specs.Request.{AreWorkers, HasWorkers, check};
 ghost use Rattle.memplan.specs.RequestViews.{input_view, request_view};
@@ -13,8 +12,8 @@ use crate::inputs::judge_input;
 use crate::page::{Page, PageKind, line_page, order_page};
 use crate::request::{Input, Request, input_of, workers_of};
 use crate::stop::Stop;
-use crate::words::{Given, value_of};
 use claim_check::{Objection, Verdict};
+use command_line::Line;
 use mp_outside::{Files, Gate};
 use mp_text::Token::{Number, Word};
 use std::alloc::{AllocError, Global};
@@ -30,13 +29,13 @@ pub struct Check<'a> {
 }
 
 /// `check`, an input, `--plan NAME`, and `--workers N` if it is given.
-pub fn check_of<'a>(options: &[Given<'a>]) -> Option<Request<'a>>
-    ensures value { option_map request_view result ≡ check_of (given_views options.now) }
+pub fn check_of<'a>(line: &Line<'a>) -> Option<Request<'a>>
+    ensures value { option_map request_view result ≡ check_of line.now.options }
     ensures workers { IfSome result (λ request. HasWorkers (request_view request)) }
 {
-    let input = input_of(options, &["--plan", "--workers"])?;
-    let plan = value_of(options, "--plan")?;
-    let workers = workers_of(value_of(options, "--workers"))?;
+    let input = input_of(line)?;
+    let plan = line.value("plan")?;
+    let workers = workers_of(line.value("workers"))?;
     Some(Request::Check(Check {
         input,
         plan,

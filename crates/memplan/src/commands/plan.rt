@@ -3,48 +3,66 @@
 ghost use Rattle.std.specs.Prelude.{◌≡◌, ◌≤◌, ℕ, List, IfOk, IfSome, option_map};
 ghost use Rattle.memplan.specs.Plan.{plan_of, plan_answer};
 ghost use Rattle.memplan.specs.Judged.{IsReported};
-ghost use Rattle.memplan.specs.GivenViews.{given_views};
 ghost use Rattle.memplan.specs.Pages.{answer_of};
 ghost use Rattle.memplan.specs.Request.{HasWorkers, planning};
-ghost use Rattle.memplan.specs.RequestViews.{input_view, request_view};
+ghost use Rattle.memplan.specs.RequestViews.{input_view, format_view, request_view};
 
 use crate::inputs::judge_input;
-use crate::page::{Page, PageKind};
-use crate::request::{Input, Request, input_of};
+use crate::page::{Page, PageKind, line_page};
+use crate::request::{Input, PlanFormat, Request, input_of, is_second};
 use crate::stop::Stop;
-use crate::words::Given;
+use command_line::Line;
 use mp_outside::Files;
 use mp_text::Report;
-use plan_text::{PlanFile, print_plan};
+use mp_text::Token::Word;
+use plan_text::{PlanFile, plan_json, print_plan};
 use std::alloc::{AllocError, Global};
 
-/// `plan` and an input.
-pub fn plan_of<'a>(options: &[Given<'a>]) -> Option<Request<'a>>
-    ensures value { option_map request_view result ≡ plan_of (given_views options.now) }
+/// `plan`, an input, and `--print text` or `--print json` if it is given.
+pub fn plan_of<'a>(line: &Line<'a>) -> Option<Request<'a>>
+    ensures value { option_map request_view result ≡ plan_of line.now.options }
     ensures workers { IfSome result (λ request. HasWorkers (request_view request)) }
 {
-    let input = input_of(options, &[])?;
-    Some(Request::Plan(input))
+    let input = input_of(line)?;
+    let format = if is_second(line.value("print"), "text", "json")? {
+        PlanFormat::Json
+    } else {
+        PlanFormat::File
+    };
+    Some(Request::Plan(input, format))
 }
 
-// A plan file.
-fn plan_page(alloc: Global, plan: &PlanFile) -> Result<Page, AllocError>
-    ensures { IfOk result (λ page. answer_of page ≡ plan_answer plan.now) }
+// A plan file, or the JSON of the plan.
+fn plan_page(alloc: Global, format: PlanFormat, plan: &PlanFile) -> Result<Page, AllocError>
+    ensures { IfOk result (λ page. answer_of page ≡ plan_answer (format_view format) plan.now) }
 {
-    let mut report = Report::new(alloc);
-    print_plan(plan, &mut report)?;
     let kind = PageKind::Done;
-    Ok(Page { kind, report })
+    match format {
+        PlanFormat::File => {
+            let mut report = Report::new(alloc);
+            print_plan(plan, &mut report)?;
+            Ok(Page { kind, report })
+        }
+        PlanFormat::Json => {
+            let text = plan_json(alloc, plan)?;
+            line_page(alloc, kind, &[Word(text.as_str())])
+        }
+    }
 }
 
-/// The plan of the input, as a file.
-pub fn report_plan<F: Files>(alloc: Global, files: &mut F, input: Input<'_>) -> Result<Page, Stop>
+/// The plan of the input, as a file or as JSON.
+pub fn report_plan<F: Files>(
+    alloc: Global,
+    files: &mut F,
+    input: Input<'_>,
+    format: PlanFormat,
+) -> Result<Page, Stop>
     ensures told { IsReported (F.bytes_of files.old) (F.faults_of files.old) (F.faults_of files.new)
-        (planning (input_view input.entry)) result }
+        (planning (input_view input.entry) (format_view format)) result }
     ensures same { (other : List ℕ) → F.bytes_of files.new other ≡ F.bytes_of files.old other }
     ensures later { (other : List ℕ) → F.faults_of files.old other ≤ F.faults_of files.new other }
 {
     let problem = judge_input(alloc, files, input)?;
     let plan = problem.plan(alloc)?;
-    Ok(plan_page(alloc, &plan)?)
+    Ok(plan_page(alloc, format, &plan)?)
 }

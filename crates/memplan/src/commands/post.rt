@@ -3,7 +3,6 @@
 ghost use Rattle.std.specs.Prelude.{◌≡◌, ◌≤◌, ℕ, List, IfOk, IfSome, option_map};
 ghost use Rattle.memplan.specs.Post.{post_of, IsPost, post_answer};
 ghost use Rattle.memplan.specs.Judged.{IsReported};
-ghost use Rattle.memplan.specs.GivenViews.{given_views};
 ghost use Rattle.memplan.specs.Pages.{answer_of};
 ghost use Rattle.memplan.specs.Request.{HasWorkers, post};
 ghost use Rattle.memplan.specs.RequestViews.{tree_input_view, request_view};
@@ -12,7 +11,7 @@ use crate::inputs::judge_tree;
 use crate::page::{Page, PageKind, print_count, print_end, print_numbers};
 use crate::request::{Request, TreeInput, tree_input_of};
 use crate::stop::Stop;
-use crate::words::Given;
+use command_line::Line;
 use mp_outside::Files;
 use mp_text::Report;
 use mp_text::laws::printed_lines;
@@ -21,11 +20,11 @@ use std::alloc::{AllocError, Global};
 use tree_input::Tree;
 
 /// `post` and a tree or a matrix.
-pub fn post_of<'a>(options: &[Given<'a>]) -> Option<Request<'a>>
-    ensures value { option_map request_view result ≡ post_of (given_views options.now) }
+pub fn post_of<'a>(line: &Line<'a>) -> Option<Request<'a>>
+    ensures value { option_map request_view result ≡ post_of line.now.options }
     ensures workers { IfSome result (λ request. HasWorkers (request_view request)) }
 {
-    let input = tree_input_of(options, &[])?;
+    let input = tree_input_of(line)?;
     Some(Request::Post(input))
 }
 

@@ -3,7 +3,6 @@
 ghost use Rattle.std.specs.Prelude.{◌≡◌, ◌≤◌, ℕ, List, [], IfOk, IfSome, option_map};
 ghost use Rattle.memplan.specs.Replay.{replay_of, IsReplayAnswer};
 ghost use Rattle.memplan.specs.Judged.{IsReported};
-ghost use Rattle.memplan.specs.GivenViews.{given_views};
 ghost use Rattle.memplan.specs.Pages.{answer_of};
 ghost use Rattle.memplan.specs.Request.{HasWorkers, replay};
 ghost use Rattle.memplan.specs.RequestViews.{input_view, source_view, request_view};
@@ -13,7 +12,7 @@ use crate::inputs::judge_ordered;
 use crate::page::{Page, PageKind, line_page, order_page};
 use crate::request::{Input, OrderSource, Request, input_of, source_of};
 use crate::stop::Stop;
-use crate::words::{Given, value_of};
+use command_line::Line;
 use least_peak::Problem;
 use mp_outside::Files;
 use mp_system::ReplayRefusal;
@@ -28,12 +27,12 @@ pub struct Replay<'a> {
 }
 
 /// `replay`, an input, and `--order NAME` or `--plan NAME`.
-pub fn replay_of<'a>(options: &[Given<'a>]) -> Option<Request<'a>>
-    ensures value { option_map request_view result ≡ replay_of (given_views options.now) }
+pub fn replay_of<'a>(line: &Line<'a>) -> Option<Request<'a>>
+    ensures value { option_map request_view result ≡ replay_of line.now.options }
     ensures workers { IfSome result (λ request. HasWorkers (request_view request)) }
 {
-    let input = input_of(options, &["--order", "--plan"])?;
-    let source = source_of(value_of(options, "--order"), value_of(options, "--plan"))?;
+    let input = input_of(line)?;
+    let source = source_of(line.value("order"), line.value("plan"))?;
     Some(Request::Replay(Replay { input, source }))
 }
 

@@ -6,7 +6,6 @@ ghost use Rattle.least_peak.specs.Problem.{system_of};
 ghost use Rattle.mp_system.specs.Traversal.{IsTraversal};
 ghost use Rattle.mp_text.specs.Report.{is_token, is_line_start, line_text, text_of_lines};
 ghost use Rattle.memplan.specs.Simulate.{simulate_of, IsSimulation, IsPrintedRun, event_word as event_text, event_line, report_lines};
-ghost use Rattle.memplan.specs.GivenViews.{given_views};
 ghost use Rattle.memplan.specs.Judged.{AreJudged, IsReported, IsPriorityOf, IsRefusedRanking, IsRanking, priority_beside, numbers_of};
 ghost use Rattle.memplan.specs.Pages.{answer_of};
 ghost use Rattle.memplan.specs.Request.{AreWorkers, HasWorkers, Input as AnyInput, simulate as simulation, priority_files};
@@ -20,8 +19,8 @@ use crate::request::{
     Input, OrderSource, Request, input_of, number_given, source_of, workers_within,
 };
 use crate::stop::Stop;
-use crate::words::{Given, value_of};
 use activation::{CoreRefusal, Event, EventKind, Simulator, Trace};
+use command_line::Line;
 use mp_outside::Files;
 use mp_text::Report;
 use mp_text::Token::{Number, Word};
@@ -44,22 +43,21 @@ pub struct Simulation<'a> {
 }
 
 /// `simulate`, an input, an order of its tasks, and the bound, the workers and the priority of its run.
-pub fn simulate_of<'a>(options: &[Given<'a>]) -> Option<Request<'a>>
-    ensures value { option_map request_view result ≡ simulate_of (given_views options.now) }
+pub fn simulate_of<'a>(line: &Line<'a>) -> Option<Request<'a>>
+    ensures value { option_map request_view result ≡ simulate_of line.now.options }
     ensures workers { IfSome result (λ request. HasWorkers (request_view request)) }
 {
-    let names = ["--order", "--plan", "--bound", "--workers", "--priority"];
-    let input = input_of(options, &names)?;
-    let source = source_of(value_of(options, "--order"), value_of(options, "--plan"))?;
-    let bound = number_given(value_of(options, "--bound"))?;
-    let workers = number_given(value_of(options, "--workers"))?;
+    let input = input_of(line)?;
+    let source = source_of(line.value("order"), line.value("plan"))?;
+    let bound = number_given(line.value("bound"))?;
+    let workers = number_given(line.value("workers"))?;
     let workers = workers_within(workers)?;
     Some(Request::Simulate(Simulation {
         input,
         source,
         bound,
         workers,
-        priority: value_of(options, "--priority"),
+        priority: line.value("priority"),
     }))
 }
 

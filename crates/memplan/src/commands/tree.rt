@@ -3,27 +3,26 @@
 ghost use Rattle.std.specs.Prelude.{◌≡◌, ◌≤◌, ℕ, List, IfOk, IfSome, option_map};
 ghost use Rattle.memplan.specs.Tree.{tree_request_of, tree_answer};
 ghost use Rattle.memplan.specs.Judged.{IsReported};
-ghost use Rattle.memplan.specs.GivenViews.{given_views};
 ghost use Rattle.memplan.specs.Pages.{answer_of};
 ghost use Rattle.memplan.specs.Request.{HasWorkers, tree};
 ghost use Rattle.memplan.specs.RequestViews.{matrix_view, request_view};
 
 use crate::inputs::judge_matrix;
 use crate::page::{Page, PageKind};
-use crate::request::{Matrix, Request, matrix_among};
+use crate::request::{Matrix, Request, matrix_of};
 use crate::stop::Stop;
-use crate::words::Given;
+use command_line::Line;
 use mp_outside::Files;
 use mp_text::Report;
 use std::alloc::{AllocError, Global};
 use tree_input::{Tree, print_tree};
 
 /// `tree` and a matrix.
-pub fn tree_request_of<'a>(options: &[Given<'a>]) -> Option<Request<'a>>
-    ensures value { option_map request_view result ≡ tree_request_of (given_views options.now) }
+pub fn tree_request_of<'a>(line: &Line<'a>) -> Option<Request<'a>>
+    ensures value { option_map request_view result ≡ tree_request_of line.now.options }
     ensures workers { IfSome result (λ request. HasWorkers (request_view request)) }
 {
-    let matrix = matrix_among(options, &[])?;
+    let matrix = matrix_of(line.value("matrix")?, line)?;
     Some(Request::Tree(matrix))
 }
 

@@ -12,10 +12,10 @@ returns-clause-certified c = λ input plan workers texts answer is done. elim is
 ]
 
 pub returns-clause-planned : goal.returns-clause-planned
-returns-clause-planned c = λ input texts answer is done. elim is [
-  | inl refused ↦ absurd (first_refusal (files_of (planning input)) [] texts answer refused done)
+returns-clause-planned c = λ input format texts answer is done. elim is [
+  | inl refused ↦ absurd (first_refusal (files_of (planning input format)) [] texts answer refused done)
   | inr report ↦ best (λ i ts nodes of_tree. (c.one_input.ensures.tree i ts nodes nodes of_tree of_tree).1) c.tree_term.ensures.terms c.tree_term.ensures.system c.read_law.ensures c.terms_law.ensures.denotes
-      c.accepted_law.ensures.own c.accepted_law.ensures.renamed c.printed_plan.ensures.text c.printed_length.ensures.text input texts answer report
+      c.accepted_law.ensures.own c.accepted_law.ensures.renamed c.printed_plan.ensures.text c.printed_length.ensures.text input format texts answer report
 ]
 
 pub returns-clause-simulated : goal.returns-clause-simulated

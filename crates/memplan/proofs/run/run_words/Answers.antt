@@ -50,7 +50,7 @@ returns-in-Ok-clause-certified g c = λ done input plan workers has texts are.
     (answer.text, c.what_answers_say.ensures.certified input plan workers texts answer (says told mine answer answering (check input plan workers) (cc (sym has_mine ∙ has)) texts are) (sym whole.0 ∙ done), whole.1)
 
 pub returns-in-Ok-clause-planned : goal.returns-in-Ok-clause-planned
-returns-in-Ok-clause-planned g c = λ done input has texts are.
+returns-in-Ok-clause-planned g c = λ done input format has texts are.
     let told = g.F.Files.bytes_of c.args.files.now in
     let old = g.S.Sink.written c.args.sink.now in
     let mine = request_view c.in-Ok-Some.request in
@@ -58,7 +58,7 @@ returns-in-Ok-clause-planned g c = λ done input has texts are.
     let answer = answer_of c.in-Ok.page in
     let answering = reported told mine answer c.in-Ok.ensures.told in
     let whole = c.written.ensures.whole (rw done tt) in
-    (answer.text, c.what_answers_say.ensures.planned input texts answer (says told mine answer answering (planning input) (cc (sym has_mine ∙ has)) texts are) (sym whole.0 ∙ done), whole.1)
+    (answer.text, c.what_answers_say.ensures.planned input format texts answer (says told mine answer answering (planning input format) (cc (sym has_mine ∙ has)) texts are) (sym whole.0 ∙ done), whole.1)
 
 pub returns-in-Ok-clause-simulated : goal.returns-in-Ok-clause-simulated
 returns-in-Ok-clause-simulated g c = λ done input source s has texts are.
@@ -106,7 +106,7 @@ returns-in-Err-Refused-clause-certified g c = λ done input plan workers has tex
     (answer.text, c.what_answers_say.ensures.certified input plan workers texts answer (says told mine answer answering (check input plan workers) (cc (sym has_mine ∙ has)) texts are) (sym whole.0 ∙ done), whole.1)
 
 pub returns-in-Err-Refused-clause-planned : goal.returns-in-Err-Refused-clause-planned
-returns-in-Err-Refused-clause-planned g c = λ done input has texts are.
+returns-in-Err-Refused-clause-planned g c = λ done input format has texts are.
     let told = g.F.Files.bytes_of c.args.files.now in
     let old = g.S.Sink.written c.args.sink.now in
     let mine = request_view c.in-Ok-Some.request in
@@ -114,7 +114,7 @@ returns-in-Err-Refused-clause-planned g c = λ done input has texts are.
     let answer = answer_of c.in-Err-Refused.page in
     let answering = was_refused told mine answer (rw c.in-Err-Refused.field-0-is at c.in-Err-Refused.ensures.told) in
     let whole = c.written-in-Err-Refused.ensures.whole (rw done tt) in
-    (answer.text, c.what_answers_say.ensures.planned input texts answer (says told mine answer answering (planning input) (cc (sym has_mine ∙ has)) texts are) (sym whole.0 ∙ done), whole.1)
+    (answer.text, c.what_answers_say.ensures.planned input format texts answer (says told mine answer answering (planning input format) (cc (sym has_mine ∙ has)) texts are) (sym whole.0 ∙ done), whole.1)
 
 pub returns-in-Err-Refused-clause-simulated : goal.returns-in-Err-Refused-clause-simulated
 returns-in-Err-Refused-clause-simulated g c = λ done input source s has texts are.

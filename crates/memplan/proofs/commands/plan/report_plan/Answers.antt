@@ -1,4 +1,4 @@
-use Rattle.memplan.specs.RequestViews.{input_view}
+use Rattle.memplan.specs.RequestViews.{input_view, format_view}
 use Rattle.memplan.proofs.StepLemmas.{passed}
 use Rattle.memplan.proofs.ReportLemmas.{planned}
 use Rattle.memplan.specs.Pages.{answer_of}
@@ -11,5 +11,5 @@ pub returns-clause-told : goal.returns-clause-told
 returns-clause-told g c = λ texts are.
     let plan = c.in_ok-plan.plan in
     let by = c.in_ok-plan.ensures.accepted in
-    planned (input_view c.args.input) texts c.in_ok-problem.problem by.0 plan (answer_of c.in_ok-plan_page.field-0)
+    planned (input_view c.args.input) (format_view c.args.format) texts c.in_ok-problem.problem by.0 plan (answer_of c.in_ok-plan_page.field-0)
     (c.in_ok-problem.ensures.judged texts are) by.1 c.in_ok-plan.ensures.within by.2 c.in_ok-plan.ensures.priority c.in_ok-plan_page.ensures
