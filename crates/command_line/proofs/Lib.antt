@@ -1,0 +1,4 @@
+pub mod FormLemmas
+pub mod OptionLemmas
+pub mod TableLemmas
+pub mod WalkLemmas

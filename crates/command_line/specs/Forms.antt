@@ -1,0 +1,44 @@
+-- No public clause names this.
+-- The options of words, one at a time.
+use Rattle.std.specs.Prelude.{Bool, ◌&&◌, nat_eq, List, [], ◌∷◌, Option, Some, None, option_map, option_and_then, if◌then◌else◌}
+use Rattle.std.specs.List.{list_any, flat_map, before_first, after_first}
+use Rattle.command_line.specs.Words.{Text, Given, is_value, is_equals, cut, options_of}
+
+-- the options that words give in either form
+abbrev pub options_in : List Text → Option (List Given)
+options_in words = options_of (flat_map cut words)
+
+abbrev pub after_hyphens : Text → Option Text
+after_hyphens (a ∷ b ∷ text) = if nat_eq a 45 && nat_eq b 45 then Some text else None
+after_hyphens _ = None
+
+-- what stands before the first `=`, and what after it, if there is one
+abbrev pub cut_at_equals : Text → Text × Option Text
+cut_at_equals text = (before_first is_equals text, if list_any is_equals text then Some (after_first is_equals text) else None)
+
+-- a name is not empty
+abbrev pub if_name : Text → Option Text → Option (Text × Option Text)
+if_name [] value = None
+if_name (b ∷ bs) value = Some (b ∷ bs, value)
+
+-- the name of the option in a word, and its value, if that stands in the word too
+abbrev pub option_in : Text → Option (Text × Option Text)
+option_in word = option_and_then (λ text. if_name (cut_at_equals text).0 (cut_at_equals text).1) (after_hyphens word)
+
+abbrev pub with_words : Text → Text → List Text → Option (Given × List Text)
+with_words name value words = if is_value value then Some (record { name = name; value = value }, words) else None
+
+-- the option of this name, with its value, or with the next word as its value
+abbrev pub with_value : Text → Option Text → List Text → Option (Given × List Text)
+with_value name (Some value) words = with_words name value words
+with_value name None [] = None
+with_value name None (value ∷ words) = with_words name value words
+
+-- the option that the words begin with, and the words after it
+abbrev pub first_option : List Text → Option (Given × List Text)
+first_option [] = None
+first_option (word ∷ words) = option_and_then (λ found. with_value found.0 found.1 words) (option_in word)
+
+abbrev pub with_rest : Option (Given × List Text) → Option (List Given)
+with_rest None = None
+with_rest (Some found) = option_map (λ options. found.0 ∷ options) (options_in found.1)

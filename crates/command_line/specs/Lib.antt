@@ -1,0 +1,5 @@
+pub mod Words
+pub mod Views
+pub mod Forms
+pub mod Table
+pub mod Samples

@@ -1,0 +1,101 @@
+//! Whether words have the form of a line, tested before clap reads them.
+
+ghost use Rattle.std.specs.Prelude.{◌≡◌, ◌<◌, List, ℕ, MatchOption, IfOk, IfSome, Some, None, map, length, is_some, option_map, string_bytes};
+ghost use Rattle.std.specs.List.{list_any};
+ghost use Rattle.std.specs.Str.{bytes_eq};
+ghost use Rattle.command_line.specs.Words.{Text, is_value, options_among, line_of};
+ghost use Rattle.command_line.specs.Forms.{cut_at_equals, option_in, first_option};
+ghost use Rattle.command_line.specs.Views.{texts, shapes_view};
+
+use crate::NoMemory;
+use crate::shape::{Shape, shape_of};
+use std::alloc::Global;
+
+fn is_value(word: &str) -> bool
+    ensures { result ≡ is_value word.now }
+{
+    match word.as_bytes() {
+        [] => false,
+        [first, ..] => *first != b'-',
+    }
+}
+
+fn cut_at_equals(text: &str) -> (&str, Option<&str>)
+    ensures { (result.0.now, option_map (λ s. s.now) result.1) ≡ cut_at_equals text.now }
+{
+    match text.split_once('=') {
+        Some((name, value)) => (name, Some(value)),
+        None => (text, None),
+    }
+}
+
+// The name of the option in a word, and its value, if that stands in the word too.
+fn option_in(word: &str) -> Option<(&str, Option<&str>)>
+    ensures { option_map (λ found. (found.0.now, option_map (λ s. s.now) found.1)) result ≡ option_in word.now }
+{
+    let text = word.strip_prefix("--")?;
+    let (name, value) = cut_at_equals(text);
+    if name.is_empty() {
+        None
+    } else {
+        Some((name, value))
+    }
+}
+
+// The name of the option that words begin with, and the words after it.
+fn first_option(words: &[String]) -> Option<(&str, &[String])>
+    ensures value { option_map {U = Text × List Text} (λ found. (found.0.now, map (λ w. string_bytes w) found.1.now)) result
+        ≡ option_map (λ found. (found.0.name, found.1)) (first_option (map (λ w. string_bytes w) words.now)) }
+    ensures shorter { IfSome result (λ found. length found.1.now < length words.now) }
+{
+    let (word, rest) = words.split_first()?;
+    let (name, value) = option_in(word.as_str())?;
+    let (value, rest) = match value {
+        Some(value) => (value, rest),
+        None => {
+            let (value, rest) = rest.split_first()?;
+            (value.as_str(), rest)
+        }
+    };
+    if is_value(value) {
+        Some((name, rest))
+    } else {
+        None
+    }
+}
+
+fn is_among(name: &str, names: &[&str]) -> bool
+    ensures { result ≡ list_any (λ listed. bytes_eq name.now listed.now) names.now }
+{
+    names.iter().any(|listed| name == *listed)
+}
+
+// Whether words are options of these names, each at most once. A name is looked up as soon as it is read, so that no more
+// names are held than there are.
+fn are_options(alloc: Global, names: &[&str], words: &[String]) -> Result<bool, NoMemory>
+    ensures { IfOk result (λ all. all ≡ is_some (options_among (texts names.now) (map (λ w. string_bytes w) words.now))) }
+{
+    let mut given = Vec::new(alloc);
+    let mut rest = words;
+    while let Some((name, after)) = first_option(rest) {
+        if !is_among(name, names) || is_among(name, &given) {
+            return Ok(false);
+        }
+        given.push(name)?;
+        rest = after;
+    }
+    Ok(rest.is_empty())
+}
+
+/// Whether words are a line over the table.
+pub(crate) fn are_line(alloc: Global, shapes: &[Shape], words: &[String]) -> Result<bool, NoMemory>
+    ensures { IfOk result (λ are. are ≡ is_some (line_of (shapes_view shapes.now) (map (λ w. string_bytes w) words.now))) }
+{
+    let [command, rest @ ..] = words else {
+        return Ok(false);
+    };
+    match shape_of(shapes, command.as_str()) {
+        None => Ok(false),
+        Some(shape) => are_options(alloc, shape.options, rest),
+    }
+}
