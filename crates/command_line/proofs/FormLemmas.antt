@@ -104,7 +104,7 @@ rest_of_words name value words = go (is_value value)
 -- a word that begins with hyphens is no value, cut or not
 value_after : (word value : Text) (words : List Text) → is_option word ≡ true
     → options_of (word ∷ flat_map cut (value ∷ words))
-        ≡ (if is_value value then given_before (record { name = drop 2 word; value = value }) (flat_map cut words) else None)
+    ≡ (if is_value value then given_before (record { name = drop 2 word; value = value }) (flat_map cut words) else None)
 value_after word value words e = elim (cases_Bool (is_option value)) [
   | inr n ↦ rw (n, e) refl
   | inl y ↦ (let found = hyphens_of value y in subst Reads (sym found.1) (none found.0))

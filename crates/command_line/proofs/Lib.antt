@@ -2,3 +2,4 @@ pub mod FormLemmas
 pub mod OptionLemmas
 pub mod TableLemmas
 pub mod WalkLemmas
+pub mod LineLemmas

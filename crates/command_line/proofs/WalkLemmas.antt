@@ -13,10 +13,9 @@ use Rattle.clap.specs.Takes.{walk_passes, turn_passes, settle_passes, use_passes
 use Rattle.clap.specs.Simple as clap
 use Rattle.clap.specs.declared.parser.matches.ValueSource.TheVariants.{CommandLine}
 use Rattle.command_line.specs.Words.{Text, Given, Shape, Line, is_value, is_equals, options_of, are_among, are_distinct, gives, if_allowed, options_among, line_of, value_of}
-use Rattle.command_line.specs.Forms.{options_in, if_name, option_in, with_words, with_value, first_option, with_rest}
+use Rattle.command_line.specs.Forms.{options_in, if_name, option_in, with_words, with_value, first_option, with_rest, is_among}
 use Rattle.command_line.specs.Table.{rule_for, leaf_for, app_for, row_for}
 use Rattle.command_line.proofs.FormLemmas.{options_first, hyphens_of}
-use Rattle.command_line.proofs.OptionLemmas.{is_in}
 use Rattle.command_line.proofs.TableLemmas.{built_rule, built_leaf, built_top, built_app, app_built, app_simple}
 
 -- ---- names
@@ -30,18 +29,18 @@ same_bytes a b e = (bytes_eq-Decides a b).0 e
 bytes_eq_sym : (a b : Text) → bytes_eq a b ≡ bytes_eq b a
 bytes_eq_sym a b = same_from_decides (bytes_eq a b) (bytes_eq b a) (bytes_eq-Decides a b) (λ e. sym (same_bytes b a e), λ e. (bytes_eq-Decides b a).1 (sym e))
 
-by_long : (names : List Text) (name : Text) → is_in names name ≡ true → arg_by_long (map built_rule names) name ≡ Some (built_rule name)
+by_long : (names : List Text) (name : Text) → is_among names name ≡ true → arg_by_long (map built_rule names) name ≡ Some (built_rule name)
 by_long [] name e = absurd cc
 by_long (first ∷ names) name e = elim (cases_Bool (bytes_eq first name)) [
   | inl same ↦ rw same (ap (λ v. Some (built_rule v)) (same_bytes first name same))
-  | inr other ↦ (let e' : is_in names name ≡ true = rw (bytes_eq_sym name first, other) at e in rw other (by_long names name e'))
+  | inr other ↦ (let e' : is_among names name ≡ true = rw (bytes_eq_sym name first, other) at e in rw other (by_long names name e'))
 ]
 
-by_id : (names : List Text) (name : Text) → is_in names name ≡ true → arg_by_id (map built_rule names) name ≡ Some (built_rule name)
+by_id : (names : List Text) (name : Text) → is_among names name ≡ true → arg_by_id (map built_rule names) name ≡ Some (built_rule name)
 by_id [] name e = absurd cc
 by_id (first ∷ names) name e = elim (cases_Bool (bytes_eq first name)) [
   | inl same ↦ rw same (ap (λ v. Some (built_rule v)) (same_bytes first name same))
-  | inr other ↦ (let e' : is_in names name ≡ true = rw (bytes_eq_sym name first, other) at e in rw other (by_id names name e'))
+  | inr other ↦ (let e' : is_among names name ≡ true = rw (bytes_eq_sym name first, other) at e in rw other (by_id names name e'))
 ]
 
 -- ---- rows of the options that are given
@@ -195,7 +194,7 @@ given_parts name value words all e = elim (cases_Bool (is_value value)) [
 
 -- the first of the options that are left
 record First (s : Shape) (gs all : List Given) (g : Given) (rest : List Given) : Type 0 where
-  listed : is_in s.options g.name ≡ true
+  listed : is_among s.options g.name ≡ true
   new : gives g.name gs ≡ false
   among : are_among s.options rest ≡ true
   all_is : (gs ++ g ∷ []) ++ rest ≡ gs ++ all
@@ -203,7 +202,7 @@ record First (s : Shape) (gs all : List Given) (g : Given) (rest : List Given) :
 
 first : (s : Shape) (gs all : List Given) (g : Given) (rest : List Given) → all ≡ g ∷ rest → are_among s.options all ≡ true → are_distinct (gs ++ all) ≡ true → First s gs all g rest
 first s gs all g rest is among distinct =
-    let both = and_parts (is_in s.options g.name) (are_among s.options rest) (subst (λ x. are_among s.options x ≡ true) is among) in
+    let both = and_parts (is_among s.options g.name) (are_among s.options rest) (subst (λ x. are_among s.options x ≡ true) is among) in
     let whole : (gs ++ g ∷ []) ++ rest ≡ gs ++ all = append_assoc gs (g ∷ []) rest ∙ ap (λ x. gs ++ x) (sym is) in
     record {
       listed = both.0;

@@ -1,7 +1,8 @@
 -- No public clause names this.
 -- The options of words, one at a time.
-use Rattle.std.specs.Prelude.{Bool, ◌&&◌, nat_eq, List, [], ◌∷◌, Option, Some, None, option_map, option_and_then, if◌then◌else◌}
+use Rattle.std.specs.Prelude.{Bool, ◌&&◌, not, nat_eq, List, [], ◌∷◌, Option, Some, None, option_map, option_and_then, if◌then◌else◌}
 use Rattle.std.specs.List.{list_any, flat_map, before_first, after_first}
+use Rattle.std.specs.Str.{bytes_eq}
 use Rattle.command_line.specs.Words.{Text, Given, is_value, is_equals, cut, options_of}
 
 -- the options that words give in either form
@@ -42,3 +43,10 @@ first_option (word ∷ words) = option_and_then (λ found. with_value found.0 fo
 abbrev pub with_rest : Option (Given × List Text) → Option (List Given)
 with_rest None = None
 with_rest (Some found) = option_map (λ options. found.0 ∷ options) (options_in found.1)
+
+abbrev pub is_among : List Text → Text → Bool
+is_among names name = list_any (λ listed. bytes_eq name listed) names
+
+-- a name is listed and not given yet
+abbrev pub is_new : List Text → List Text → Text → Bool
+is_new names given name = is_among names name && not (is_among given name)

@@ -4,7 +4,7 @@ ghost use Rattle.std.specs.Prelude.{◌≡◌, ◌<◌, List, ℕ, MatchOption, 
 ghost use Rattle.std.specs.List.{list_any};
 ghost use Rattle.std.specs.Str.{bytes_eq};
 ghost use Rattle.command_line.specs.Words.{Text, is_value, options_among, line_of};
-ghost use Rattle.command_line.specs.Forms.{cut_at_equals, option_in, first_option};
+ghost use Rattle.command_line.specs.Forms.{cut_at_equals, option_in, first_option, is_new};
 ghost use Rattle.command_line.specs.Views.{texts, shapes_view};
 
 use crate::NoMemory;
@@ -64,21 +64,28 @@ fn first_option(words: &[String]) -> Option<(&str, &[String])>
     }
 }
 
-fn is_among(name: &str, names: &[&str]) -> bool
+fn is_among(names: &[&str], name: &str) -> bool
     ensures { result ≡ list_any (λ listed. bytes_eq name.now listed.now) names.now }
 {
     names.iter().any(|listed| name == *listed)
 }
 
-// Whether words are options of these names, each at most once. A name is looked up as soon as it is read, so that no more
-// names are held than there are.
+// Whether a name is listed and not given yet.
+fn is_new(names: &[&str], given: &[&str], name: &str) -> bool
+    ensures { result ≡ is_new (texts names.now) (texts given.now) name.now }
+{
+    is_among(names, name) && !is_among(given, name)
+}
+
+// Whether words are options of these names, each at most once. A name is looked up as soon as it is read, so no more names
+// are held than are listed.
 fn are_options(alloc: Global, names: &[&str], words: &[String]) -> Result<bool, NoMemory>
-    ensures { IfOk result (λ all. all ≡ is_some (options_among (texts names.now) (map (λ w. string_bytes w) words.now))) }
+    ensures { IfOk result (λ are. are ≡ is_some (options_among (texts names.now) (map (λ w. string_bytes w) words.now))) }
 {
     let mut given = Vec::new(alloc);
     let mut rest = words;
     while let Some((name, after)) = first_option(rest) {
-        if !is_among(name, names) || is_among(name, &given) {
+        if !is_new(names, &given, name) {
             return Ok(false);
         }
         given.push(name)?;
@@ -91,7 +98,7 @@ fn are_options(alloc: Global, names: &[&str], words: &[String]) -> Result<bool, 
 pub(crate) fn are_line(alloc: Global, shapes: &[Shape], words: &[String]) -> Result<bool, NoMemory>
     ensures { IfOk result (λ are. are ≡ is_some (line_of (shapes_view shapes.now) (map (λ w. string_bytes w) words.now))) }
 {
-    let [command, rest @ ..] = words else {
+    let Some((command, rest)) = words.split_first() else {
         return Ok(false);
     };
     match shape_of(shapes, command.as_str()) {
