@@ -1,13 +1,12 @@
 -- The forms of words: what the readers of a word give, and that words give the options that they begin with, one by one.
-use Rattle.std.proofs.Common.{◌≡◌, ◌≢◌, ◌∙◌, ℕ, ◌+◌, ◌<◌, Bool, true, false, not, ◌&&◌, ◌||◌, ◌⊎◌, inl, inr, List, [], ◌∷◌, ◌++◌, length, Option, Some, None, option_map, option_and_then, refl, sym, ap, ap₂, arith, MatchOption, take, take_all, drop, eqb-true, subst, suc, if◌then◌else◌}
+use Rattle.std.proofs.Common.{◌≡◌, ◌∙◌, ℕ, ◌+◌, ◌<◌, Bool, true, false, ◌&&◌, inl, inr, List, [], ◌∷◌, length, Option, Some, None, option_map, option_and_then, refl, sym, ap, ap₂, arith, MatchOption, take_all, drop, eqb-true, subst, suc, if◌then◌else◌}
 use Rattle.std.proofs.lemmas.Bool.{cases_Bool, and_parts, or_parts}
 use Rattle.std.proofs.lemmas.Str.Pattern.{split_once_first, IsSplitOnceResult}
 use Rattle.std.specs.Prelude.{nat_eq}
 use Rattle.std.specs.Borrow.{Bor}
-use Rattle.std.specs.Str.Pattern.{FindsTextPrefix, StripsPrefix}
 use Rattle.std.specs.List.{list_any, flat_map, before_first, after_first, position_or_len}
 use Rattle.command_line.specs.Words.{Text, Given, is_option, is_value, is_equals, cut, options_of}
-use Rattle.command_line.specs.Forms.{options_in, if_name, cut_at_equals, after_hyphens, option_in, with_words, with_value, first_option, with_rest}
+use Rattle.command_line.specs.Forms.{options_in, if_name, cut_at_equals, with_words, with_value, first_option, with_rest}
 
 -- ---- the first `=`
 
@@ -55,22 +54,6 @@ all_before (b ∷ text) e =
     let n = position_or_len is_equals text in
     let at : 1 + n ≡ suc n = omega arith in
     rw (parts.0, at) (ap (λ t. b ∷ t) (all_before text parts.1))
-
--- ---- the readers of a word
-
--- the clause of `strip_prefix("--")`
-pub hyphens_taken : (word : Text) (r : Option (Bor (List ℕ)))
-    → MatchOption r (FindsTextPrefix (45 ∷ 45 ∷ []) word None) (λ x. StripsPrefix (FindsTextPrefix (45 ∷ 45 ∷ [])) word x.now)
-    → option_map (λ s. s.now) r ≡ after_hyphens word
-hyphens_taken word (Some x) h =
-    let whole : word ≡ 45 ∷ 45 ∷ x.now = h.1.1 ∙ ap (λ t. 45 ∷ 45 ∷ t) (sym h.2) in rw whole refl
-hyphens_taken [] None h = refl
-hyphens_taken (a ∷ []) None h = refl
-hyphens_taken (a ∷ b ∷ text) None h = elim (cases_Bool (nat_eq a 45 && nat_eq b 45)) [
-  | inl y ↦ (let both = and_parts (nat_eq a 45) (nat_eq b 45) y in
-      absurd (h text (ap₂ (λ x y. x ∷ y ∷ text) (eqb-true a 45 both.0) (eqb-true b 45 both.1))))
-  | inr n ↦ rw n refl
-]
 
 -- ---- two words, and one that is cut
 

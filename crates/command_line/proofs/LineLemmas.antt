@@ -1,15 +1,15 @@
 -- The line that clap's matches hold.
-use Rattle.std.proofs.Common.{◌≡◌, ◌∙◌, List, Option, Some, None, option_map, map, refl, sym, ap, ap₂, subst}
+use Rattle.std.proofs.Common.{◌≡◌, ◌∙◌, List, Option, Some, None, option_map, map, ap, ap₂}
 use Rattle.std.proofs.Common.{box_value}
-use Rattle.std.proofs.lemmas.Option.{some_pair_parts, same_Some, none-some}
+use Rattle.std.proofs.lemmas.Option.{some_pair_parts, same_Some}
 use Rattle.clap.specs.Walk.{Row, rows_of}
 use Rattle.clap.specs.Simple.{subcommand_rows_of}
 use Rattle.clap.specs.Matches.{subcommand_name_of, found_of}
 use Rattle.clap.specs.declared.parser.matches.ArgMatches.{ArgMatches}
 use Rattle.clap.specs.declared.parser.matches.ArgMatches.TheViews.{out-ArgMatches, out-SubCommand}
 use Rattle.command_line.specs.Words.{Text, Line}
-use Rattle.command_line.specs.Table.{row_for, given_of, AreGiven}
-use Rattle.command_line.proofs.TableLemmas.{rows_given, given_rows}
+use Rattle.command_line.specs.Table.{row_for, given_of}
+use Rattle.command_line.proofs.TableLemmas.{given_rows}
 
 same_name : {B : Type 0} (name : B → Text) (rows : B → List Row) (found : Option B) (command : Text) (all : List Row)
     → ◌≡◌ {A = Option (Text × List Row)} (option_map (λ b. (name b, rows b)) found) (Some (command, all)) → option_map name found ≡ Some command

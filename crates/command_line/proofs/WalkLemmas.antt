@@ -1,7 +1,7 @@
 -- Clap takes the words of a line, and finds in them the options that the line gives.
-use Rattle.std.proofs.Common.{◌≡◌, ◌∙◌, ℕ, Bool, true, false, not, ◌&&◌, ◌||◌, cond, List, [], ◌∷◌, ◌++◌, map, Option, Some, None, option_map, option_and_then, refl, sym, ap, ap₂, subst, fold, append_assoc, append-nil, inl, inr, if◌then◌else◌, is_some}
+use Rattle.std.proofs.Common.{◌≡◌, ◌∙◌, ℕ, Bool, true, false, not, ◌&&◌, ◌||◌, cond, List, [], ◌∷◌, ◌++◌, map, Option, Some, None, option_map, option_and_then, refl, sym, ap, subst, fold, append_assoc, append-nil, inl, inr, if◌then◌else◌}
 use Rattle.std.specs.Prelude.{nat_eq, find, codes}
-use Rattle.std.specs.List.{list_all, list_any, before_first, after_first}
+use Rattle.std.specs.List.{list_all, before_first}
 use Rattle.std.specs.Str.{bytes_eq}
 use Rattle.std.proofs.lemmas.Bool.{cases_Bool, and_parts, or_parts, not-true}
 use Rattle.std.proofs.lemmas.Bool.Decides.{same_from_decides}
@@ -12,9 +12,9 @@ use Rattle.clap.specs.Walk.{Held, Names, Row, Rule, Walk, option, walked, walk_f
 use Rattle.clap.specs.Takes.{walk_passes, turn_passes, settle_passes, use_passes, level_passes, default_passes, is_given, built_takes, takes as clap_takes}
 use Rattle.clap.specs.Simple as clap
 use Rattle.clap.specs.declared.parser.matches.ValueSource.TheVariants.{CommandLine}
-use Rattle.command_line.specs.Words.{Text, Given, Shape, Line, is_value, is_equals, options_of, are_among, are_distinct, gives, if_allowed, options_among, line_of, value_of}
+use Rattle.command_line.specs.Words.{Text, Given, Shape, Line, is_value, is_equals, are_among, are_distinct, gives, if_allowed, options_among, line_of, value_of}
 use Rattle.command_line.specs.Forms.{options_in, if_name, option_in, with_words, with_value, first_option, with_rest, is_among}
-use Rattle.command_line.specs.Table.{rule_for, leaf_for, app_for, row_for}
+use Rattle.command_line.specs.Table.{app_for, row_for}
 use Rattle.command_line.proofs.FormLemmas.{options_first, hyphens_of}
 use Rattle.command_line.proofs.TableLemmas.{built_rule, built_leaf, built_top, built_app, app_built, app_simple}
 

@@ -1,9 +1,9 @@
 -- No public clause names this.
 -- A table as a command of clap, and the words of a line as clap finds them.
-use Rattle.std.specs.Prelude.{◌≡◌, true, false, List, [], ◌∷◌, Option, Some, None, map, slice_get, unwrap_or}
+use Rattle.std.specs.Prelude.{◌≡◌, true, false, List, [], ◌∷◌, Some, None, map, slice_get, unwrap_or}
 use Rattle.clap.specs.Simple.{App, new_app, new_rule, new_shape}
 use Rattle.clap.specs.Simple as clap
-use Rattle.clap.specs.Walk.{Rule, Row, rows_of}
+use Rattle.clap.specs.Walk.{Rule, Row}
 use Rattle.clap.specs.Values.{reading_of}
 use Rattle.clap.specs.declared.builder.value_parser.ValueParser.TheVariants as parser
 use Rattle.clap.specs.declared.parser.matches.ValueSource.TheVariants.{CommandLine}

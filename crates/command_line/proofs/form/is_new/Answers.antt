@@ -1,4 +1,4 @@
-use Rattle.std.proofs.Common.{◌≡◌, ◌∙◌, sym, ap, ◌&&◌, not}
+use Rattle.std.proofs.Common.{◌∙◌, sym, ap, ◌&&◌, not}
 use Rattle.command_line.specs.Forms.{is_among}
 use Rattle.command_line.specs.Views.{texts}
 use Rattle.command_line.proofs.OptionLemmas.{any_text}

@@ -1,7 +1,5 @@
-use Rattle.std.proofs.Common.{◌≡◌, ◌∙◌, sym, ap, subst, map, string_bytes, Some}
+use Rattle.std.proofs.Common.{◌∙◌, sym, ap, subst, Some}
 use Rattle.std.proofs.lemmas.Option.{none-some}
-use Rattle.clap.specs.Matches.{found_of}
-use Rattle.clap.specs.Walk.{rows_of}
 use Rattle.command_line.specs.Table.{AreGiven}
 use Rattle.command_line.proofs.LineLemmas.{rows_held, name_held, line_held, name_of_rows}
 use Rattle.command_line.proofs.OptionLemmas.{line_there}
