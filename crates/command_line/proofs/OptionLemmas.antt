@@ -1,17 +1,17 @@
 -- Names are looked up one by one: how that comes to a test of all options.
 use Rattle.std.proofs.Common.{◌≡◌, ◌∙◌, Bool, true, false, not, ◌&&◌, ◌||◌, List, [], ◌∷◌, ◌++◌, Option, Some, None, is_some, option_map, option_and_then, length, nat_eq, find, arith, refl, sym, ap, ap₂, if◌then◌else◌, bytes_eq}
-use Rattle.std.specs.List.{list_any, list_all}
 use Rattle.std.proofs.lemmas.Bool.{ne_eqb}
-use Rattle.std.proofs.lemmas.Option.{some_pair_parts}
+use Rattle.std.proofs.lemmas.Bool.Decides.{same_from_decides}
 use Rattle.std.proofs.lemmas.List.Folds.{list_any-append}
-use Rattle.std.specs.Borrow.{Bor}
+use Rattle.std.proofs.lemmas.Option.{some_pair_parts}
+use Rattle.std.proofs.lemmas.Slice.Eq.{bytes_eq-Decides}
+use Rattle.std.specs.List.{list_any, list_all}
 use Rattle.command_line.specs.Words.{Text, Given, Shape, Line, line_of, options_among, gives, are_among, are_distinct, if_allowed}
 use Rattle.command_line.specs.Forms.{options_in, first_option, with_rest, is_among, is_new}
-use Rattle.command_line.specs.Views.{texts}
 use Rattle.command_line.proofs.FormLemmas.{options_first}
 
 -- no option has one of the names seen before, nor that of an earlier option
-abbrev pub are_new : List Text → List Given → Bool
+abbrev are_new : List Text → List Given → Bool
 are_new seen [] = true
 are_new seen (option ∷ options) = not (is_among seen option.name) && are_new (seen ++ option.name ∷ []) options
 
@@ -20,22 +20,28 @@ abbrev pub passes : List Text → List Text → Option (List Given) → Bool
 passes names seen None = false
 passes names seen (Some options) = are_among names options && are_new seen options
 
+-- ---- at the beginning no name is seen
+
+pub bytes_eq_sym : (a b : Text) → bytes_eq a b ≡ bytes_eq b a
+bytes_eq_sym a b =
+    let there = bytes_eq-Decides a b in
+    let back = bytes_eq-Decides b a in
+    same_from_decides (bytes_eq a b) (bytes_eq b a) there (λ e. sym (back.0 e), λ e. back.1 (sym e))
+
 abbrev all_new : List Text → List Given → Bool
 all_new seen = list_all (λ option. not (is_among seen option.name))
-
-gathered : (p q r s : Bool) → (p && ((q && r) && s)) ≡ ((p && q) && (r && s))
-gathered true true r s = refl
-gathered true false r s = refl
-gathered false q r s = refl
 
 all_new_none : (options : List Given) → all_new [] options ≡ true
 all_new_none [] = refl
 all_new_none (option ∷ options) = all_new_none options
 
-all_new_more : (seen : List Text) (name : Text) (options : List Given) → all_new (seen ++ name ∷ []) options ≡ (all_new seen options && not (gives name options))
+all_new_more : (seen : List Text) (name : Text) (options : List Given)
+    → all_new (seen ++ name ∷ []) options ≡ (all_new seen options && not (gives name options))
 all_new_more seen name [] = refl
 all_new_more seen name (option ∷ options) =
-    ap₂ (λ a b. not a && b) (list_any-append (λ listed. bytes_eq option.name listed) seen (name ∷ [])) (all_new_more seen name options)
+    ap₂ (λ a b. not a && b) (list_any-append (λ listed. bytes_eq listed option.name) seen (name ∷ [])) (all_new_more seen name options)
+    ∙ ap (λ b. not (is_among seen option.name || (b || false)) && (all_new seen options && not (gives name options)))
+    (bytes_eq_sym name option.name)
     ∙ split (is_among seen option.name) (bytes_eq option.name name) (all_new seen options) (gives name options)
   where
     split : (p q r s : Bool) → (not (p || (q || false)) && (r && not s)) ≡ ((not p && r) && not (q || s))
@@ -48,15 +54,22 @@ all_new_more seen name (option ∷ options) =
 new_is : (seen : List Text) (options : List Given) → are_new seen options ≡ (all_new seen options && are_distinct options)
 new_is seen [] = refl
 new_is seen (option ∷ options) =
-    ap (λ b. not (is_among seen option.name) && b) (new_is (seen ++ option.name ∷ []) options ∙ ap (λ b. b && are_distinct options) (all_new_more seen option.name options))
+    let more = all_new_more seen option.name options in
+    let later = new_is (seen ++ option.name ∷ []) options ∙ ap (λ b. b && are_distinct options) more in
+    ap (λ b. not (is_among seen option.name) && b) later
     ∙ gathered (not (is_among seen option.name)) (all_new seen options) (not (gives option.name options)) (are_distinct options)
+  where
+    gathered : (p q r s : Bool) → (p && ((q && r) && s)) ≡ ((p && q) && (r && s))
+    gathered true true r s = refl
+    gathered true false r s = refl
+    gathered false q r s = refl
 
--- at the beginning no name is seen
-pub allowed_passes : (names : List Text) (options : Option (List Given)) → is_some (option_and_then (if_allowed names) options) ≡ passes names [] options
+pub allowed_passes : (names : List Text) (options : Option (List Given))
+    → is_some (option_and_then (if_allowed names) options) ≡ passes names [] options
 allowed_passes names None = refl
 allowed_passes names (Some options) =
-    is_some_if (are_among names options && are_distinct options)
-    ∙ ap (λ b. are_among names options && b) (sym (new_is [] options ∙ ap (λ b. b && are_distinct options) (all_new_none options)))
+    let all = new_is [] options ∙ ap (λ b. b && are_distinct options) (all_new_none options) in
+    is_some_if (are_among names options && are_distinct options) ∙ ap (λ b. are_among names options && b) (sym all)
   where
     is_some_if : (b : Bool) → is_some (if b then Some options else None) ≡ b
     is_some_if true = refl
@@ -81,14 +94,16 @@ begins : (words : List Text) (name : Text) (after : List Text) → IsFirst (Some
 begins [] name after e = absurd cc
 begins (word ∷ words) name after e = go (first_option (word ∷ words)) refl e
   where
-    go : (o : Option (Given × List Text)) → first_option (word ∷ words) ≡ o → ◌≡◌ {A = Option (Text × List Text)} (Some (name, after)) (option_map name_and_rest o) → Begins (word ∷ words) name after
+    go : (first : Option (Given × List Text)) → first_option (word ∷ words) ≡ first
+        → ◌≡◌ {A = Option (Text × List Text)} (Some (name, after)) (option_map name_and_rest first) → Begins (word ∷ words) name after
     go None is e = absurd cc
     go (Some found) is e =
         let both = some_pair_parts name found.0.name after found.1 e in
         record {
           given = found.0;
           named = sym both.0;
-          gives_it = options_first word words ∙ ap with_rest is ∙ ap (λ rest. option_map (λ options. found.0 ∷ options) (options_in rest)) (sym both.1);
+          gives_it = options_first word words ∙ ap with_rest is
+              ∙ ap (λ rest. option_map (λ options. found.0 ∷ options) (options_in rest)) (sym both.1);
         }
 
 -- the test of words is one of the name of their first option, and then of the words after it
@@ -96,7 +111,8 @@ pub read_one : (names seen words after : List Text) (name : Text) → IsFirst (S
     → passes names seen (options_in words) ≡ (is_new names seen name && passes names (seen ++ name ∷ []) (options_in after))
 read_one names seen words after name e =
     let b = begins words name after e in
-    ap (passes names seen) b.gives_it ∙ go b.given (options_in after) ∙ ap (λ n. is_new names seen n && passes names (seen ++ n ∷ []) (options_in after)) b.named
+    ap (passes names seen) b.gives_it ∙ go b.given (options_in after)
+    ∙ ap (λ n. is_new names seen n && passes names (seen ++ n ∷ []) (options_in after)) b.named
   where
     none : (p : Bool) → false ≡ (p && false)
     none true = refl
@@ -108,32 +124,36 @@ read_one names seen words after name e =
     regrouped true false true s = refl
     regrouped true false false s = refl
 
-    go : (given : Given) (rest : Option (List Given))
-        → passes names seen (option_map (λ options. given ∷ options) rest) ≡ (is_new names seen given.name && passes names (seen ++ given.name ∷ []) rest)
+    go : (given : Given) (rest : Option (List Given)) → passes names seen (option_map (λ options. given ∷ options) rest)
+        ≡ (is_new names seen given.name && passes names (seen ++ given.name ∷ []) rest)
     go given None = none (is_new names seen given.name)
-    go given (Some options) = regrouped (is_among names given.name) (are_among names options) (not (is_among seen given.name)) (are_new (seen ++ given.name ∷ []) options)
+    go given (Some options) =
+        regrouped (is_among names given.name) (are_among names options)
+        (not (is_among seen given.name)) (are_new (seen ++ given.name ∷ []) options)
 
 -- words that begin with no option give none, but for no words
 pub read_out : (names seen words : List Text) → IsFirst None words → passes names seen (options_in words) ≡ nat_eq (length words) 0
 read_out names seen [] e = refl
-read_out names seen (word ∷ words) e = ap (passes names seen) (options_first word words) ∙ go (first_option (word ∷ words)) e ∙ sym (ne_eqb (length (word ∷ words)) 0 (λ z. absurd (omega arith)))
+read_out names seen (word ∷ words) e =
+    let some_words = ne_eqb (length (word ∷ words)) 0 (λ z. absurd (omega arith)) in
+    ap (passes names seen) (options_first word words) ∙ go (first_option (word ∷ words)) e ∙ sym some_words
   where
-    go : (o : Option (Given × List Text)) → None ≡ option_map name_and_rest o → passes names seen (with_rest o) ≡ false
+    go : (first : Option (Given × List Text)) → None ≡ option_map name_and_rest first → passes names seen (with_rest first) ≡ false
     go None e = refl
     go (Some found) e = absurd cc
 
-pub any_text : (names : List (Bor Text)) (name : Text) → list_any (λ listed. bytes_eq name listed.now) names ≡ is_among (texts names) name
-any_text [] name = refl
-any_text (listed ∷ names) name = ap (λ b. bytes_eq name listed.now || b) (any_text names name)
+-- ---- the line
 
 is_some-map : {X Y : Type 0} (f : X → Y) (found : Option X) → is_some found ≡ is_some (option_map f found)
 is_some-map f None = refl
 is_some-map f (Some x) = refl
 
 -- words say a line where those after the command are options of its shape
-pub line_found : (shapes : List Shape) (command : Text) (words : List Text) (shape : Shape) → find (λ s. bytes_eq s.name command) shapes ≡ Some shape
+pub line_found : (shapes : List Shape) (command : Text) (words : List Text) (shape : Shape)
+    → find (λ s. bytes_eq s.name command) shapes ≡ Some shape
     → is_some (options_among shape.options words) ≡ is_some (line_of shapes (command ∷ words))
-line_found shapes command words shape is = rw is (is_some-map (λ options. record { command = command; options = options }) (options_among shape.options words))
+line_found shapes command words shape is =
+    rw is (is_some-map (λ options. record { command = command; options = options }) (options_among shape.options words))
 
 pub line_there : (found : Option Line) → is_some found ≡ true → (line : Line) × (found ≡ Some line)
 line_there None e = absurd cc

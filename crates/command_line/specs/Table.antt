@@ -24,7 +24,13 @@ app_for shapes = record {
 
 -- what clap holds of an option that is given
 abbrev pub row_for : Given → Row
-row_for given = record { id = given.name; values = given.value ∷ []; count = None; source = Some CommandLine; reading = reading_of parser.String }
+row_for given = record {
+  id = given.name;
+  values = given.value ∷ [];
+  count = None;
+  source = Some CommandLine;
+  reading = reading_of parser.String;
+}
 
 abbrev pub given_of : Row → Given
 given_of row = record { name = row.id; value = unwrap_or (slice_get row.values 0) [] }

@@ -37,18 +37,20 @@ is_equals b = nat_eq b 61
 
 -- `--name=value` is cut at its first `=`, and so means the same as `--name value`
 abbrev pub cut : Text → List Text
-cut word = if is_option word && list_any is_equals word then before_first is_equals word ∷ after_first is_equals word ∷ [] else word ∷ []
+cut word =
+    if is_option word && list_any is_equals word then before_first is_equals word ∷ after_first is_equals word ∷ [] else word ∷ []
 
 -- the options that words give, two words for each: its name, after two hyphens, and its value
 abbrev pub options_of : List Text → Option (List Given)
 options_of [] = Some []
 options_of (word ∷ []) = None
 options_of (word ∷ value ∷ words) =
-    if is_option word && is_value value then option_map (λ options. record { name = drop 2 word; value = value } ∷ options) (options_of words) else None
+    if is_option word && is_value value
+    then option_map (λ options. record { name = drop 2 word; value = value } ∷ options) (options_of words) else None
 
 -- every option has one of these names
 abbrev pub are_among : List Text → List Given → Bool
-are_among names = list_all (λ option. list_any (λ name. bytes_eq option.name name) names)
+are_among names = list_all (λ option. list_any (λ name. bytes_eq name option.name) names)
 
 abbrev pub gives : Text → List Given → Bool
 gives name = list_any (λ option. bytes_eq option.name name)

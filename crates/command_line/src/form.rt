@@ -1,10 +1,9 @@
 //! Whether words have the form of a line, tested before clap reads them.
 
 ghost use Rattle.std.specs.Prelude.{◌≡◌, ◌<◌, List, ℕ, MatchOption, IfOk, IfSome, Some, None, map, length, is_some, option_map, string_bytes};
-ghost use Rattle.std.specs.List.{list_any};
-ghost use Rattle.std.specs.Str.{bytes_eq};
+ghost use Rattle.clap.specs.Lexer.{name_and_value};
 ghost use Rattle.command_line.specs.Words.{Text, is_value, options_among, line_of};
-ghost use Rattle.command_line.specs.Forms.{cut_at_equals, option_in, first_option, is_new};
+ghost use Rattle.command_line.specs.Forms.{option_in, first_option, is_new};
 ghost use Rattle.command_line.specs.Views.{texts, shapes_view};
 
 use crate::NoMemory;
@@ -20,8 +19,9 @@ fn is_value(word: &str) -> bool
     }
 }
 
+// What stands before the first `=`, and what after it, if there is one.
 fn cut_at_equals(text: &str) -> (&str, Option<&str>)
-    ensures { (result.0.now, option_map (λ s. s.now) result.1) ≡ cut_at_equals text.now }
+    ensures { (result.0.now, option_map (λ s. s.now) result.1) ≡ name_and_value text.now }
 {
     match text.split_once('=') {
         Some((name, value)) => (name, Some(value)),
@@ -64,17 +64,11 @@ fn first_option(words: &[String]) -> Option<(&str, &[String])>
     }
 }
 
-fn is_among(names: &[&str], name: &str) -> bool
-    ensures { result ≡ list_any (λ listed. bytes_eq name.now listed.now) names.now }
-{
-    names.iter().any(|listed| name == *listed)
-}
-
 // Whether a name is listed and not given yet.
 fn is_new(names: &[&str], given: &[&str], name: &str) -> bool
     ensures { result ≡ is_new (texts names.now) (texts given.now) name.now }
 {
-    is_among(names, name) && !is_among(given, name)
+    names.contains(&name) && !given.contains(&name)
 }
 
 // Whether words are options of these names, each at most once. A name is looked up as soon as it is read, so no more names

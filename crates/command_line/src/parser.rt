@@ -46,8 +46,9 @@ pub(crate) fn parse<'a>(
     words: &'a [String],
 ) -> Result<ArgMatches<'a>, Error>
     requires { IsTrue (is_some (line_of (shapes_view shapes.now) (map (λ w. string_bytes w) words.now))) }
-    ensures line { IfOk result (λ matches. (line : Line) → line_of (shapes_view shapes.now) (map (λ w. string_bytes w) words.entry.now) ≡ Some line
-        → subcommand_rows_of matches ≡ Some (line.command, map row_for line.options)) }
+    ensures line { IfOk result (λ matches. (line : Line) →
+        line_of (shapes_view shapes.now) (map (λ w. string_bytes w) words.entry.now) ≡ Some line →
+        subcommand_rows_of matches ≡ Some (line.command, map row_for line.options)) }
     ensures memory { IfErr result (λ error. kind_of error ≡ ErrorKind.OutOfMemory) }
 {
     command_of(alloc, shapes)?.try_get_matches_from(words)

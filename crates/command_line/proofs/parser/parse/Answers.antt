@@ -5,7 +5,7 @@ use Rattle.clap.specs.Takes.{takes}
 use Rattle.command_line.specs.Views.{shapes_view}
 use Rattle.command_line.proofs.OptionLemmas.{line_there}
 use Rattle.command_line.proofs.TableLemmas.{app_simple}
-use Rattle.command_line.proofs.WalkLemmas.{taken}
+use Rattle.command_line.proofs.CommandLemmas.{taken}
 use Rattle.command_line.proofs.parser.parse.Goals as goal
 
 pub returns-clause-line : goal.returns-clause-line

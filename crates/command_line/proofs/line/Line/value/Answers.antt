@@ -4,7 +4,7 @@ use Rattle.clap.specs.Matches.{found_of}
 use Rattle.clap.specs.Walk.{first_of, rows_of}
 use Rattle.command_line.specs.Table.{given_of}
 use Rattle.command_line.specs.Words.{Line, value_of}
-use Rattle.command_line.proofs.WalkLemmas.{value_found}
+use Rattle.command_line.proofs.RowLemmas.{value_found}
 use Rattle.command_line.proofs.line.Line.value.Goals as goal
 
 -- what clap's rows hold is what the line gives
