@@ -35,7 +35,9 @@ subcommand (x ∷ xs) c s e = elim (cases_Bool (bytes_eq x.name c)) [
         found = rw same (ap (λ (y : Shape). Some (built_leaf y)) is);
         named = ap (λ (y : Shape). y.name) (sym is) ∙ same_bytes x.name c same;
       })
-  | inr other ↦ (let r = subcommand xs c s (rw other at e) in record { labelled = rw other r.labelled; found = rw other r.found; named = r.named })
+  | inr other ↦ (
+      let rest = subcommand xs c s (rw other at e) in
+      record { labelled = rw other rest.labelled; found = rw other rest.found; named = rest.named })
 ]
 
 -- ---- the words after it are the subcommand's
@@ -56,11 +58,13 @@ unfolding walk_passes walked
 stopped_pass names name seen [] = refl
 stopped_pass names name seen (w ∷ words) = stopped_pass names name (seen ++ w ∷ []) words
 
-top_step : (names : Names) (c name : Text) → find (answers_to c) names ≡ Some (name, []) → walked [] names (walk_from nothing_held) c ≡ stopped_walk name []
+top_step : (names : Names) (c name : Text) → find (answers_to c) names ≡ Some (name, [])
+    → walked [] names (walk_from nothing_held) c ≡ stopped_walk name []
 unfolding walked
 top_step names c name e = rw e refl
 
-top_pass : (names : Names) (c name : Text) → find (answers_to c) names ≡ Some (name, []) → turn_passes built_top names (walk_from nothing_held) c ≡ true
+top_pass : (names : Names) (c name : Text) → find (answers_to c) names ≡ Some (name, [])
+    → turn_passes built_top names (walk_from nothing_held) c ≡ true
 top_pass names c name e = rw e (go (bytes_eq name (codes "help")))
   where
     go : (b : Bool) → ((not b || true) && true) ≡ true
@@ -75,9 +79,6 @@ pub record Taken (shapes : List Shape) (words : List Text) (line : Line) : Type 
 
 module _ (shapes : List Shape) (c : Text) (words : List Text) (s : Shape) (is : find (is_named c) shapes ≡ Some s) (all : List Given)
     (given : options_in words ≡ Some all) (among : are_among s.options all ≡ true) (distinct : are_distinct all ≡ true) where
-  names : Names
-  names = clap.names_of (built_app shapes)
-
   met : Subcommand shapes c s
   met = subcommand shapes c s is
 
@@ -111,13 +112,16 @@ module _ (shapes : List Shape) (c : Text) (words : List Text) (s : Shape) (is : 
     finds = ap (λ a. clap.entered a (stop_after (a.top).rules (clap.names_of a) (c ∷ words))) (app_built shapes) ∙ finds_built;
   }
 
+abbrev line_from : Text → Option (List Given) → Option Line
+line_from c = option_map (λ options. record { command = c; options = options })
+
 pub taken : (shapes : List Shape) (words : List Text) (line : Line) → line_of shapes words ≡ Some line → Taken shapes words line
 taken shapes [] line e = absurd cc
 taken shapes (c ∷ words) line e = in_table (find (is_named c) shapes) refl e
   where
     allowed : (s : Shape) (all : List Given) → find (is_named c) shapes ≡ Some s → options_in words ≡ Some all
         → (b : Bool) → (are_among s.options all && are_distinct all) ≡ b
-        → option_map (λ options. record { command = c; options = options }) (if b then Some all else None) ≡ Some line → Taken shapes (c ∷ words) line
+        → line_from c (if b then Some all else None) ≡ Some line → Taken shapes (c ∷ words) line
     allowed s all is given false ok e = absurd cc
     allowed s all is given true ok e =
         let both = and_parts (are_among s.options all) (are_distinct all) ok in
@@ -125,13 +129,11 @@ taken shapes (c ∷ words) line e = in_table (find (is_named c) shapes) refl e
         subst (Taken shapes (c ∷ words)) line_is (taken_words shapes c words s is all given both.0 both.1)
 
     with_options : (s : Shape) (found : Option (List Given)) → find (is_named c) shapes ≡ Some s → options_in words ≡ found
-        → option_map (λ options. record { command = c; options = options }) (option_and_then (if_allowed s.options) found) ≡ Some line
-        → Taken shapes (c ∷ words) line
+        → line_from c (option_and_then (if_allowed s.options) found) ≡ Some line → Taken shapes (c ∷ words) line
     with_options s None is given e = absurd cc
     with_options s (Some all) is given e = allowed s all is given (are_among s.options all && are_distinct all) refl e
 
     in_table : (found : Option Shape) → find (is_named c) shapes ≡ found
-        → option_and_then (λ shape. option_map (λ options. record { command = c; options = options }) (options_among shape.options words)) found ≡ Some line
-        → Taken shapes (c ∷ words) line
+        → option_and_then (λ shape. line_from c (options_among shape.options words)) found ≡ Some line → Taken shapes (c ∷ words) line
     in_table None is e = absurd cc
     in_table (Some s) is e = with_options s (options_in words) is refl e

@@ -18,14 +18,16 @@ use Rattle.command_line.proofs.TableLemmas.{built_rule}
 pub same_bytes : (a b : Text) → bytes_eq a b ≡ true → a ≡ b
 same_bytes a b e = (bytes_eq-Decides a b).0 e
 
-pub by_long : (names : List Text) (name : Text) → is_among names name ≡ true → arg_by_long (map built_rule names) name ≡ Some (built_rule name)
+pub by_long : (names : List Text) (name : Text) → is_among names name ≡ true
+    → arg_by_long (map built_rule names) name ≡ Some (built_rule name)
 by_long [] name e = absurd cc
 by_long (first ∷ names) name e = elim (cases_Bool (bytes_eq first name)) [
   | inl same ↦ rw same (ap (λ v. Some (built_rule v)) (same_bytes first name same))
   | inr other ↦ (let e' : is_among names name ≡ true = rw other at e in rw other (by_long names name e'))
 ]
 
-pub by_id : (names : List Text) (name : Text) → is_among names name ≡ true → arg_by_id (map built_rule names) name ≡ Some (built_rule name)
+pub by_id : (names : List Text) (name : Text) → is_among names name ≡ true
+    → arg_by_id (map built_rule names) name ≡ Some (built_rule name)
 by_id [] name e = absurd cc
 by_id (first ∷ names) name e = elim (cases_Bool (bytes_eq first name)) [
   | inl same ↦ rw same (ap (λ v. Some (built_rule v)) (same_bytes first name same))
@@ -47,7 +49,8 @@ used_once name value rows e =
     let same : without name rows ≡ rows = at_absent name (λ _. []) [] rows e ∙ append-nil rows in
     rw same (at_absent name (more_values CommandLine (value ∷ [])) (row_for (given_as name value) ∷ []) rows e)
 
-pub use_once : (name value : Text) (rows : List Row) → has_row name rows ≡ false → use_passes false (built_rule name) (value ∷ []) rows ≡ true
+pub use_once : (name value : Text) (rows : List Row) → has_row name rows ≡ false
+    → use_passes false (built_rule name) (value ∷ []) rows ≡ true
 use_once name value rows e = rw e refl
 
 pub rows_gives : (name : Text) (gs : List Given) → has_row name (map row_for gs) ≡ gives name gs
@@ -68,4 +71,7 @@ not_before (first ∷ gs) g rest e =
 
 pub value_found : (name : Text) (gs : List Given) → first_of name (map row_for gs) ≡ value_of name gs
 value_found name [] = refl
-value_found name (g ∷ gs) = elim (cases_Bool (bytes_eq g.name name)) [ inl same ↦ rw same refl | inr other ↦ rw other (value_found name gs) ]
+value_found name (g ∷ gs) = elim (cases_Bool (bytes_eq g.name name)) [
+  | inl same ↦ rw same refl
+  | inr other ↦ rw other (value_found name gs)
+]

@@ -12,14 +12,18 @@ use Rattle.command_line.specs.Table.{app_for, leaf_for, rule_for, row_for, given
 
 -- ---- one more option, and one more command
 
-pub map_more : {X Y : Type 0} (f : X → Y) (xs : List X) (i : ℕ) (d : X) → i < length xs → map f (take (i + 1) xs) ≡ map f (take i xs) ++ f (get_or xs i d) ∷ []
+pub map_more : {X Y : Type 0} (f : X → Y) (xs : List X) (i : ℕ) (d : X) → i < length xs
+    → map f (take (i + 1) xs) ≡ map f (take i xs) ++ f (get_or xs i d) ∷ []
 map_more f xs i d lt = ap (map f) (take_more xs i d lt) ∙ map-append f (take i xs) (get_or xs i d ∷ [])
 
 abbrev pub leaf_app : Text → List Text → App
 leaf_app name options = record { top = leaf_for (record { name = name; options = options }); subs = [] }
 
-pub one_option : (name : Text) (options : List Text) (option : Text) → with_rule (leaf_app name options) (rule_for option) ≡ leaf_app name (options ++ option ∷ [])
-one_option name options option = ap (λ rules. record { top = record (clap.new_shape name) { rules = rules }; subs = [] }) (sym (map-append rule_for options (option ∷ [])))
+pub one_option : (name : Text) (options : List Text) (option : Text)
+    → with_rule (leaf_app name options) (rule_for option) ≡ leaf_app name (options ++ option ∷ [])
+one_option name options option =
+    let rules = map-append rule_for options (option ∷ []) in
+    ap (λ rules. record { top = record (clap.new_shape name) { rules = rules }; subs = [] }) (sym rules)
 
 abbrev is_empty : List Shape → Bool
 is_empty [] = true
@@ -33,8 +37,11 @@ never_empty : (shapes : List Shape) (shape : Shape) → is_empty (shapes ++ shap
 never_empty [] shape = refl
 never_empty (first ∷ shapes) shape = refl
 
-pub one_command : (shapes : List Shape) (shape : Shape) → with_subcommand (app_so_far shapes) (leaf_for shape) ≡ app_so_far (shapes ++ shape ∷ [])
-one_command shapes shape = ap₂ (λ leaf subs. record { top = record (app_for []).top { is_leaf = leaf }; subs = subs }) (sym (never_empty shapes shape)) (sym (map-append leaf_for shapes (shape ∷ [])))
+pub one_command : (shapes : List Shape) (shape : Shape)
+    → with_subcommand (app_so_far shapes) (leaf_for shape) ≡ app_so_far (shapes ++ shape ∷ [])
+one_command shapes shape =
+    ap₂ (λ leaf subs. record { top = record (app_for []).top { is_leaf = leaf }; subs = subs })
+    (sym (never_empty shapes shape)) (sym (map-append leaf_for shapes (shape ∷ [])))
 
 pub all_commands : (shapes : List Shape) → 0 < length shapes → app_so_far shapes ≡ app_for shapes
 all_commands [] lt = absurd (omega arith)
@@ -43,7 +50,11 @@ all_commands (shape ∷ shapes) lt = refl
 -- ---- what is built
 
 abbrev pub built_rule : Text → Rule
-built_rule name = record (rule_for name) { action = Some Set; parser = Some parser.String; range = Some (record { start_inclusive = 1; end_inclusive = 1 }) }
+built_rule name = record (rule_for name) {
+  action = Some Set;
+  parser = Some parser.String;
+  range = Some (record { start_inclusive = 1; end_inclusive = 1 });
+}
 
 abbrev pub built_leaf : Shape → clap.Shape
 built_leaf shape = record (leaf_for shape) {
@@ -64,7 +75,8 @@ filled_rules : (names : List Text) → clap.filled_from 1 (map rule_for names) �
 filled_rules [] = refl
 filled_rules (name ∷ names) = ap (λ rules. built_rule name ∷ rules) (filled_rules names)
 
-leaf_built : (shape : Shape) → clap.built_leaf (clap.inherited (clap.with_leaf_noted (clap.marked_built (app_for []).top)) (leaf_for shape)) ≡ built_leaf shape
+leaf_built : (shape : Shape)
+    → clap.built_leaf (clap.inherited (clap.with_leaf_noted (clap.marked_built (app_for []).top)) (leaf_for shape)) ≡ built_leaf shape
 leaf_built shape = ap (λ rules. record (built_leaf shape) { rules = rules }) (filled_rules shape.options)
 
 subs_built : (shapes : List Shape) → (clap.built (app_for shapes)).subs ≡ map built_leaf shapes

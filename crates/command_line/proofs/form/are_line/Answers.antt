@@ -11,5 +11,6 @@ returns-in-Some-shape_of c =
     let rest = map (λ w. string_bytes w) c.in-Some.rest.now in
     let shape = shape_view c.in-Some-shape_of.shape in
     let found = subst (λ name. find (λ s. bytes_eq s.name name) shapes ≡ Some shape) c.as_str.ensures.value c.in-Some-shape_of.ensures in
+    let command = string_bytes c.in-Some.command.now in
     let words_are = ap (λ words. is_some (line_of shapes (map (λ w. string_bytes w) words))) c.in-Some.ensures.cases.0 in
-    IfOk-weaker c.are_options.result _ _ (λ are h. h ∙ line_found shapes (string_bytes c.in-Some.command.now) rest shape found ∙ sym words_are) c.are_options.ensures
+    IfOk-weaker c.are_options.result _ _ (λ are h. h ∙ line_found shapes command rest shape found ∙ sym words_are) c.are_options.ensures

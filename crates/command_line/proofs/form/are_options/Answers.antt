@@ -8,7 +8,8 @@ use Rattle.command_line.proofs.form.are_options.Goals as goal
 pub loop-name-init : goal.loop-name-init
 loop-name-init c =
     let given = options_in (map (λ w. string_bytes w) c.args.words.now) in
-    allowed_passes (texts c.args.names.now) given ∙ ap (λ seen. passes (texts c.args.names.now) (texts seen) given) (sym c.new-given.ensures.items)
+    let names = texts c.args.names.now in
+    allowed_passes names given ∙ ap (λ seen. passes names (texts seen) given) (sym c.new-given.ensures.items)
 
 pub loop-name-preserved : goal.loop-name-preserved
 loop-name-preserved c =
@@ -17,7 +18,8 @@ loop-name-preserved c =
     let name = c.in-Some.name in
     let words = map (λ w. string_bytes w) c.loop-name.rest.now in
     let after = map (λ w. string_bytes w) c.in-Some.after.now in
-    let new : is_new names (texts given) name.now ≡ true = ap (λ s. is_new names (texts s) name.now) (sym c.deref.ensures.value) ∙ sym c.is_new.ensures ∙ c.if-not-is_new.false in
+    let lent = ap (λ s. is_new names (texts s) name.now) (sym c.deref.ensures.value) in
+    let new : is_new names (texts given) name.now ≡ true = lent ∙ sym c.is_new.ensures ∙ c.if-not-is_new.false in
     c.loop-name.invariant ∙ read_one names (texts given) words after name.now c.in-Some.ensures.value
     ∙ ap (λ b. b && passes names (texts given ++ name.now ∷ []) (options_in after)) new
     ∙ ap (λ s. passes names s (options_in after)) (sym (ap texts c.in_ok-push.ensures.items ∙ map-append (λ s. s.now) given (name ∷ [])))
@@ -29,7 +31,8 @@ returns-then-not-is_new c =
     let name = c.in-Some.name in
     let words = map (λ w. string_bytes w) c.loop-name.rest.now in
     let after = map (λ w. string_bytes w) c.in-Some.after.now in
-    let old : is_new names (texts given) name.now ≡ false = ap (λ s. is_new names (texts s) name.now) (sym c.deref.ensures.value) ∙ sym c.is_new.ensures ∙ c.if-not-is_new.true in
+    let lent = ap (λ s. is_new names (texts s) name.now) (sym c.deref.ensures.value) in
+    let old : is_new names (texts given) name.now ≡ false = lent ∙ sym c.is_new.ensures ∙ c.if-not-is_new.true in
     sym (c.loop-name.invariant ∙ read_one names (texts given) words after name.now c.in-Some.ensures.value
     ∙ ap (λ b. b && passes names (texts given ++ name.now ∷ []) (options_in after)) old)
 

@@ -14,7 +14,8 @@ returns-clause-line c =
     let words = map (λ w. string_bytes w) c.args.words.now in
     let app_is = c.in_ok-command_of.ensures in
     IfOk-weaker c.try_get_matches_from.result _ _
-    (λ m h line is. (h (ap is_simple app_is ∙ app_simple shapes)).1 ∙ ap (λ app. subcommand_of app words) app_is ∙ (taken shapes words line is).finds)
+    (λ m h line is. (h (ap is_simple app_is ∙ app_simple shapes)).1 ∙ ap (λ app. subcommand_of app words) app_is
+    ∙ (taken shapes words line is).finds)
     c.try_get_matches_from.ensures.matches
 
 -- words that are a line pass all that clap tests

@@ -14,6 +14,7 @@ loop-option-preserved c =
     let rule_is : rule_of c.long.result ≡ rule_for (get_or options i (record { ref_ptr = (0, 0); now = [] })).now = search rules in
     let adds = c.in_ok-command.ensures in
     record {
-      app = adds.shape local ∙ ap₂ with_rule c.loop-option.invariant.app rule_is ∙ one_option name _ _ ∙ ap (leaf_app name) (sym (map_more (λ s. s.now) options i _ c.loop-option-test.true));
+      app = adds.shape local ∙ ap₂ with_rule c.loop-option.invariant.app rule_is ∙ one_option name _ _
+          ∙ ap (leaf_app name) (sym (map_more (λ s. s.now) options i _ c.loop-option-test.true));
       local = adds.globals ∙ search rules;
     }
