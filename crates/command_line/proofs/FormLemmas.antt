@@ -1,6 +1,8 @@
 -- The forms of words: words give the option that they begin with, and then what the words after it give.
-use Rattle.std.proofs.Common.{◌≡◌, ◌∙◌, ℕ, ◌+◌, true, false, ◌&&◌, inl, inr, List, [], ◌∷◌, Option, Some, None, Bool, option_map, option_and_then, refl, sym, ap, ap₂, arith, drop, eqb-true, subst, suc, if◌then◌else◌}
+use Rattle.std.proofs.Common.{◌≡◌, ◌∙◌, ℕ, ◌+◌, true, false, ◌&&◌, ◌||◌, inl, inr, List, [], ◌∷◌, ◌++◌, Option, Some, None, Bool, option_map, option_and_then, refl, sym, ap, ap₂, arith, drop, eqb-true, subst, suc, if◌then◌else◌}
 use Rattle.std.proofs.lemmas.Bool.{cases_Bool, and_parts, or_parts}
+use Rattle.std.proofs.lemmas.List.Folds.{list_any-append}
+use Rattle.std.proofs.lemmas.Grind.{flat_map-append}
 use Rattle.std.specs.Prelude.{nat_eq}
 use Rattle.std.specs.List.{list_any, flat_map, before_first, after_first, position_or_len}
 use Rattle.command_line.specs.Words.{Text, Given, is_option, is_value, is_equals, cut, options_of}
@@ -107,3 +109,73 @@ options_first (a ∷ b ∷ c ∷ text) words = elim (cases_Bool (nat_eq a 45 && 
       (sym (hyphens_of a b (c ∷ text) y)) (with_hyphens c text words)
   | inr n ↦ rw n (no_option (a ∷ b ∷ c ∷ text) (flat_map cut words) n)
 ]
+
+-- ---- one word or two
+
+-- a name without `=`, and a value, on either side of one
+equals_between : (name value : Text) → list_any is_equals name ≡ false
+    → (before_first is_equals (name ++ 61 ∷ value) ≡ name) × (after_first is_equals (name ++ 61 ∷ value) ≡ value)
+equals_between [] value e = (refl, refl)
+equals_between (b ∷ name) value e =
+    let parts = or_parts (is_equals b) (list_any is_equals name) e in
+    let rest = equals_between name value parts.1 in
+    let n = position_or_len is_equals (name ++ 61 ∷ value) in
+    let before : 1 + n ≡ suc n = omega arith in
+    let after : 1 + n + 1 ≡ suc (n + 1) = omega arith in
+    (rw (parts.0, before) (ap (λ t. b ∷ t) rest.0), rw (parts.0, after) rest.1)
+
+cut_between : (name value : Text) → list_any is_equals name ≡ false → cut (45 ∷ 45 ∷ (name ++ 61 ∷ value)) ≡ (45 ∷ 45 ∷ name) ∷ value ∷ []
+cut_between name value e =
+    let sides = equals_between name value e in
+    let text = name ++ 61 ∷ value in
+    rw (an_option name, has_equals, before_hyphens text, after_two_hyphens text, sides.0, sides.1) refl
+  where
+    an_option : (name : Text) → is_option (45 ∷ 45 ∷ (name ++ 61 ∷ value)) ≡ true
+    an_option [] = refl
+    an_option (b ∷ name) = refl
+
+    has_equals : list_any is_equals (name ++ 61 ∷ value) ≡ true
+    has_equals = list_any-append is_equals name (61 ∷ value) ∙ ap (λ b. b || true) e
+
+-- two words in a row that are no values are refused, wherever they stand
+never_both : (before : List Text) (first second : Text) (after : List Text) → is_value first ≡ false → is_value second ≡ false
+    → options_of (before ++ first ∷ second ∷ after) ≡ None
+never_both [] first second after a b = no_value first second after b
+never_both (x ∷ []) first second after a b = no_value x first (second ∷ after) a
+never_both (x ∷ y ∷ before) first second after a b = rw (never_both before first second after a b) (go (is_option x && is_value y))
+  where
+    go : (b : Bool) → (if b then option_map (λ options. given_as (drop 2 x) y ∷ options) None else None) ≡ None
+    go true = refl
+    go false = refl
+
+hyphens_no_value : (word : Text) → is_option word ≡ true → (is_value word ≡ false) × (is_value (before_first is_equals word) ≡ false)
+hyphens_no_value [] e = absurd cc
+hyphens_no_value (a ∷ []) e = absurd cc
+hyphens_no_value (a ∷ b ∷ []) e = absurd cc
+hyphens_no_value (a ∷ b ∷ c ∷ text) e =
+    subst (λ w. (is_value w ≡ false) × (is_value (before_first is_equals w) ≡ false))
+    (sym (hyphens_of a b (c ∷ text) e)) (refl, rw (before_hyphens (c ∷ text)) refl)
+
+cut_name : (name : Text) → list_any is_equals name ≡ false → cut (45 ∷ 45 ∷ name) ≡ (45 ∷ 45 ∷ name) ∷ []
+cut_name [] e = refl
+cut_name (b ∷ name) e = rw e refl
+
+-- in both forms the words give the same
+pub one_or_two : (before after : List Text) (name value : Text) → list_any is_equals name ≡ false
+    → options_in (before ++ (45 ∷ 45 ∷ (name ++ 61 ∷ value)) ∷ after) ≡ options_in (before ++ (45 ∷ 45 ∷ name) ∷ value ∷ after)
+one_or_two before after name value e =
+    ap options_of (flat_map-append cut before ((45 ∷ 45 ∷ (name ++ 61 ∷ value)) ∷ after))
+    ∙ ap (λ cuts. options_of (flat_map cut before ++ (cuts ++ flat_map cut after))) (cut_between name value e)
+    ∙ go (is_option value && list_any is_equals value) refl
+    ∙ ap (λ cuts. options_of (flat_map cut before ++ (cuts ++ (cut value ++ flat_map cut after)))) (sym (cut_name name e))
+    ∙ ap options_of (sym (flat_map-append cut before ((45 ∷ 45 ∷ name) ∷ value ∷ after)))
+  where
+    go : (b : Bool) → (is_option value && list_any is_equals value) ≡ b
+        → options_of (flat_map cut before ++ (45 ∷ 45 ∷ name) ∷ value ∷ flat_map cut after)
+        ≡ options_of (flat_map cut before ++ (45 ∷ 45 ∷ name) ∷ (cut value ++ flat_map cut after))
+    go false n = rw n refl
+    go true y =
+        let hyphens = hyphens_no_value value (and_parts (is_option value) (list_any is_equals value) y).0 in
+        let after_it = after_first is_equals value ∷ flat_map cut after in
+        rw y (never_both (flat_map cut before) (45 ∷ 45 ∷ name) value (flat_map cut after) refl hyphens.0
+        ∙ sym (never_both (flat_map cut before) (45 ∷ 45 ∷ name) (before_first is_equals value) after_it refl hyphens.1))

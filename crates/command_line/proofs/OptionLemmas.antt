@@ -5,7 +5,7 @@ use Rattle.std.proofs.lemmas.Bool.Decides.{same_from_decides}
 use Rattle.std.proofs.lemmas.List.Folds.{list_any-append}
 use Rattle.std.proofs.lemmas.Option.{some_pair_parts}
 use Rattle.std.proofs.lemmas.Slice.Eq.{bytes_eq-Decides}
-use Rattle.std.specs.List.{list_any, list_all}
+use Rattle.std.specs.List.{list_all}
 use Rattle.command_line.specs.Words.{Text, Given, Shape, Line, line_of, options_among, gives, are_among, are_distinct, if_allowed}
 use Rattle.command_line.specs.Forms.{options_in, first_option, with_rest, is_among, is_new}
 use Rattle.command_line.proofs.FormLemmas.{options_first}

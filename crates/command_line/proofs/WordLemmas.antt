@@ -12,7 +12,7 @@ use Rattle.command_line.specs.Words.{Text, Given, Shape, is_value}
 use Rattle.command_line.specs.Forms.{given_as, if_named, option_in}
 use Rattle.command_line.specs.Table.{row_for}
 use Rattle.command_line.proofs.FormLemmas.{hyphens_of}
-use Rattle.command_line.proofs.RowLemmas.{used_once, use_once, rows_gives}
+use Rattle.command_line.proofs.RowLemmas.{used_once, use_once}
 use Rattle.command_line.proofs.TableLemmas.{built_rule, built_leaf}
 
 -- ---- clap reads a word of an option as we do

@@ -40,7 +40,7 @@ abbrev pub cut : Text → List Text
 cut word =
     if is_option word && list_any is_equals word then before_first is_equals word ∷ after_first is_equals word ∷ [] else word ∷ []
 
--- the options that words give, two words for each: its name, after two hyphens, and its value
+-- the options that words give, two words for each: two hyphens and its name, and then its value
 abbrev pub options_of : List Text → Option (List Given)
 options_of [] = Some []
 options_of (word ∷ []) = None
@@ -52,6 +52,7 @@ options_of (word ∷ value ∷ words) =
 abbrev pub are_among : List Text → List Given → Bool
 are_among names = list_all (λ option. list_any (λ name. bytes_eq name option.name) names)
 
+-- an option of this name is given
 abbrev pub gives : Text → List Given → Bool
 gives name = list_any (λ option. bytes_eq option.name name)
 
@@ -60,10 +61,11 @@ abbrev pub are_distinct : List Given → Bool
 are_distinct [] = true
 are_distinct (option ∷ options) = not (gives option.name options) && are_distinct options
 
+-- options, if they have these names and each is given at most once
 abbrev pub if_allowed : List Text → List Given → Option (List Given)
 if_allowed names options = if are_among names options && are_distinct options then Some options else None
 
--- the options that words give, in either form, of these names and each at most once
+-- the options of these names that words give, in one word or two
 abbrev pub options_among : List Text → List Text → Option (List Given)
 options_among names words = option_and_then (if_allowed names) (options_of (flat_map cut words))
 

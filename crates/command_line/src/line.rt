@@ -65,6 +65,7 @@ pub fn read_words<'a>(
             Some((command, options)) => Ok(Some(Line { command, options })),
             None => Ok(None),
         },
+        // The form of the words was tested, so clap can want memory, and nothing else.
         Err(_) => Err(AllocError),
     }
 }

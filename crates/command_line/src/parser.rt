@@ -24,7 +24,7 @@ fn subcommand_of<'a>(alloc: Global, shape: Shape) -> Result<Command<'a>, NoMemor
     Ok(command)
 }
 
-// Help is turned off: words that ask for it are no line.
+// One level of subcommands; help is no word of its own, since no line asks for it.
 fn command_of<'a>(alloc: Global, shapes: &[Shape]) -> Result<Command<'a>, NoMemory>
     requires { 0 < length shapes.now }
     ensures { IfOk result (λ made. app_of made ≡ app_for (shapes_view shapes.now)) }
@@ -39,7 +39,7 @@ fn command_of<'a>(alloc: Global, shapes: &[Shape]) -> Result<Command<'a>, NoMemo
     Ok(command)
 }
 
-/// What clap finds in words that are a line. As their form was tested, it can refuse them only for want of memory.
+/// What clap finds in words whose form was tested, so that it can fail only for want of memory.
 pub(crate) fn parse<'a>(
     alloc: Global,
     shapes: &[Shape],

@@ -66,6 +66,7 @@ fn words_that_are_no_line(rt: HostRuntime) -> Result<(), Fail> {
         "post --tree --matrix=m",
         "post --tree=a b",
         "post --tree=a --tree b",
+        "post --trees a",
         "post --seed 1",
         "post --tree=a --seed=1",
     ] {

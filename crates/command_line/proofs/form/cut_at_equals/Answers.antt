@@ -1,4 +1,4 @@
-use Rattle.std.proofs.Common.{Some, None, arith, ap, sym, ◌∙◌}
+use Rattle.std.proofs.Common.{◌<◌, Some, None, arith, ap, sym, ◌∙◌}
 use Rattle.std.proofs.lemmas.Str.Pattern.{split_parts}
 use Rattle.clap.specs.Lexer.{name_and_value}
 use Rattle.clap.proofs.LexerLemmas.{name_and_value-at, name_and_value-without}
@@ -6,8 +6,8 @@ use Rattle.command_line.proofs.form.cut_at_equals.Goals as goal
 
 pub returns-in-Some : goal.returns-in-Some
 returns-in-Some c =
-    let found = Some (c.in-Some.name, c.in-Some.value) in
-    let parts = split_parts 61 c.args.text.now found c.in-Some.ensures.cases (omega arith) in
+    let ascii : 61 < 128 = omega arith in
+    let parts = split_parts 61 c.args.text.now (Some (c.in-Some.name, c.in-Some.value)) c.in-Some.ensures.cases ascii in
     sym (ap name_and_value parts.0 ∙ name_and_value-at c.in-Some.name.now c.in-Some.value.now parts.1)
 
 pub returns-in-None : goal.returns-in-None

@@ -1,4 +1,4 @@
-use Rattle.std.proofs.Common.{◌≡◌, ◌∙◌, sym, ap, ◌&&◌, not, bytes_eq}
+use Rattle.std.proofs.Common.{◌∙◌, sym, ap, ◌&&◌, not, bytes_eq}
 use Rattle.clap.proofs.WalkLemmas.{list_any-map}
 use Rattle.std.specs.Borrow.{Bor}
 use Rattle.command_line.specs.Words.{Text}
