@@ -1,6 +1,6 @@
 //! Whether words have the form of a line, tested before clap reads them.
 
-ghost use Rattle.std.specs.Prelude.{◌≡◌, ◌<◌, List, ℕ, MatchOption, IfOk, IfSome, Some, None, map, length, is_some, option_map, string_bytes};
+ghost use Rattle.std.specs.Prelude.{◌≡◌, ◌<◌, List, IfOk, IfSome, map, length, is_some, option_map, string_bytes};
 ghost use Rattle.clap.specs.Lexer.{name_and_value};
 ghost use Rattle.command_line.specs.Words.{Text, is_value, options_among, line_of};
 ghost use Rattle.command_line.specs.Forms.{option_in, first_option, is_new};

@@ -2,7 +2,6 @@
 
 ghost use Rattle.std.specs.Prelude.{◌≡◌, MatchOption, find, None, Some};
 ghost use Rattle.std.specs.Str.{bytes_eq};
-ghost use Rattle.command_line.specs.Words as words;
 ghost use Rattle.command_line.specs.Views.{shape_view, shapes_view};
 
 /// A command, and the names of its options, without hyphens.
