@@ -5,7 +5,6 @@ pub mod ReportLemmas
 pub mod SimulationLemmas
 pub mod RunLemmas
 pub mod PageLemmas
-pub mod WordLemmas
 pub mod OneInput
 pub mod OneFile
 pub mod OneReport

@@ -1,5 +1,6 @@
-ghost use Rattle.std.specs.Prelude.{◌≡◌, IfSome, map, option_map};
+ghost use Rattle.std.specs.Prelude.{◌≡◌, IfSome, option_map};
 ghost use Rattle.memplan.specs.Request.{is_second, chooses_order, zeros_of, matrix_of, gives_any, tree_input_of, input_of, source_of, workers_within, workers_or_one, number_given, AreWorkers};
+ghost use Rattle.memplan.specs.Table.{matrix_options, tree_names};
 ghost use Rattle.memplan.specs.RequestViews.{matrix_view, tree_input_view, input_view, source_view};
 
 use crate::commands::check::Check;
@@ -134,16 +135,22 @@ pub fn matrix_of<'a>(name: &'a str, line: &Line<'a>) -> Option<Matrix<'a>>
 
 // ---- inputs
 
-const MATRIX_OPTIONS: [&str; 5] = ["perm", "ordering", "shape", "amalgamate", "inplace"];
-
-#[rattlefmt::skip]
-const TREE_NAMES: [&str; 7] = ["tree", "matrix", "perm", "ordering", "shape", "amalgamate", "inplace"];
-
-// Whether an option of one of these names is given.
-fn gives_any(line: &Line<'_>, names: &[&str]) -> bool
-    ensures { result ≡ gives_any (map (λ s. s.now) names.now) line.now.options }
+// Whether an option of a matrix is given.
+fn has_matrix_option(line: &Line<'_>) -> bool
+    ensures { result ≡ gives_any matrix_options line.now.options }
 {
-    names.iter().any(|name| line.value(name).is_some())
+    line.value("perm").is_some()
+        || line.value("ordering").is_some()
+        || line.value("shape").is_some()
+        || line.value("amalgamate").is_some()
+        || line.value("inplace").is_some()
+}
+
+// Whether a tree, a matrix or an option of a matrix is given.
+fn has_tree_option(line: &Line<'_>) -> bool
+    ensures { result ≡ gives_any tree_names line.now.options }
+{
+    line.value("tree").is_some() || line.value("matrix").is_some() || has_matrix_option(line)
 }
 
 /// A tree, without the options of a matrix, or a matrix.
@@ -156,7 +163,7 @@ pub fn tree_input_of<'a>(line: &Line<'a>) -> Option<TreeInput<'a>>
             let matrix = matrix_of(name, line)?;
             Some(TreeInput::Matrix(matrix))
         }
-        (Some(_), None) if gives_any(line, &MATRIX_OPTIONS) => None,
+        (Some(_), None) if has_matrix_option(line) => None,
         (Some(name), None) => Some(TreeInput::Tree(name)),
         (Some(_), Some(_)) => None,
     }
@@ -170,7 +177,7 @@ pub fn input_of<'a>(line: &Line<'a>) -> Option<Input<'a>>
         let input = tree_input_of(line)?;
         return Some(Input::Tree(input));
     };
-    if gives_any(line, &TREE_NAMES) {
+    if has_tree_option(line) {
         None
     } else {
         Some(Input::Workflow(name))
