@@ -1,8 +1,8 @@
 //! What `plan` prints goes to `check` and to `replay` over the same input.
 
 use super::{
-    ARROW, BRANCHES, EMPTY, FIVE, FOUR, GRID, NO_TASKS, NOTHING, ONE, ROOTS, SHARE, TURNED, Texts,
-    check_run, files_of, run_into,
+    ARROW, BRANCHES, Case, EMPTY, FIVE, FOUR, GRID, NO_TASKS, NOTHING, ONE, ROOTS, SHARE, TURNED,
+    Texts, check_cases, check_run, files_of, run_into,
 };
 use crate::Status::Done;
 use mp_outside::{MemFiles, MemSink};
@@ -75,6 +75,20 @@ fn plans_of_least_peak(rt: HostRuntime) -> Result<(), Fail> {
         check_plan(&rt, rt.alloc(), input, &mut files, Some(peak))?;
     }
     Ok(())
+}
+
+// One task: its plan as a file and as JSON.
+#[rattlefmt::skip]
+const PRINTED: &[Case] = &[
+    (&["plan --tree t", "plan --tree t --print text"], &[("t", ONE)], Done,
+        "plan 1\norder 1\n1\npeak 9\nclaims 1\n3 R 8 7\nend\n"),
+    (&["plan --tree t --print json", "plan --print=json --tree=t"], &[("t", ONE)], Done,
+        "{\"claims\":[[3,\"R\",8,7]],\"order\":[1],\"peak\":9}\n"),
+];
+
+#[test]
+fn plans_as_files_and_as_json(rt: HostRuntime) -> Result<(), Fail> {
+    check_cases(&rt, rt.alloc(), PRINTED)
 }
 
 // ---- random inputs

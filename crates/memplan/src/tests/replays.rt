@@ -19,7 +19,9 @@ const OF_PLAN: &[&str] = &["replay --tree t --plan p"];
 #[rattlefmt::skip]
 const TREES: &[Case] = &[
     (TREE, &[("t", FIVE), ("o", ORDER)], Done, "peak 11\n"),
-    (&["replay --order o --tree t"], &[("t", FIVE), ("o", "1 3 2 4 5")], Done, "peak 11\n"),
+    (&["replay --order o --tree t", "replay --tree=t --order=o", "replay --order o --tree=t"],
+        &[("t", FIVE), ("o", "1 3 2 4 5")], Done, "peak 11\n"),
+    (&["replay --tree=a=b --order =", "replay --tree a=b --order=="], &[("a=b", FIVE), ("=", ORDER)], Done, "peak 11\n"),
     (TREE, &[("t", FIVE), ("o", "1 2 3 4 5\n")], Done, "peak 15\n"),
     (TREE, &[("t", NOTHING), ("o", "1")], Done, "peak 0\n"),
     (TREE, &[("t", FOUR), ("o", "1 2 3 4\n")], Done, "peak 6\n"),
