@@ -3,12 +3,13 @@
 use Rattle.std.specs.Prelude.{◌≡◌, ℕ, List, [], ◌∷◌, Option, None, option_and_then, codes, if◌then◌else◌, ◌⊎◌}
 use Rattle.std.specs.Str.{bytes_eq}
 use Rattle.tree_input.specs.declared.node.Node.{Node}
-use Rattle.memplan.specs.Request.{Request, replay, tree, post, check, planning, simulate, files_of}
+use Rattle.memplan.specs.Request.{Request, replay, tree, post, check, planning, simulate, demo, files_of}
 use Rattle.memplan.specs.Replay.{replay_of, IsReplayOf}
 use Rattle.memplan.specs.Files.{IsTreeOf, IsFirstRefusal, IsMatrixTree, Answer}
 use Rattle.memplan.specs.Check.{check_of, IsCheckOf}
 use Rattle.memplan.specs.Simulate.{simulate_of, IsSimulationOf}
 use Rattle.memplan.specs.Plan.{plan_of, IsPlanOf}
+use Rattle.memplan.specs.Demo.{demo_of, IsDemoOf}
 use Rattle.memplan.specs.Tree.{tree_request_of, tree_answer}
 use Rattle.memplan.specs.Post.{post_of, IsPost}
 use Rattle.memplan.specs.Words.{Given, options_of, are_distinct}
@@ -21,6 +22,7 @@ command_of command options =
     else if bytes_eq command (codes "check") then check_of options
     else if bytes_eq command (codes "plan") then plan_of options
     else if bytes_eq command (codes "simulate") then simulate_of options
+    else if bytes_eq command (codes "demo") then demo_of options
     else None
 
 -- the request of the words after the program's name: a command, and options of it, each at most once
@@ -37,6 +39,7 @@ IsReport (post input) texts answer = (nodes : List Node) × IsTreeOf input texts
 IsReport (check input plan workers) texts answer = IsCheckOf input texts answer
 IsReport (planning input) texts answer = IsPlanOf input texts answer
 IsReport (simulate input source s) texts answer = IsSimulationOf input source s texts answer
+IsReport (demo made) texts answer = IsDemoOf made answer
 
 -- the answer to a request over the texts of its files
 abbrev pub IsAnswer : Request → List (List ℕ) → Answer → Type 0

@@ -1,6 +1,7 @@
 //! The commands, each with what it asks for, what it reads, what it answers and how that is printed.
 
 pub mod check;
+pub mod demo;
 pub mod plan;
 pub mod post;
 pub mod replay;
@@ -33,6 +34,7 @@ fn command_of<'a>(command: &str, options: &[Given<'a>]) -> Option<Request<'a>>
         "check" => check::check_of(options),
         "plan" => plan::plan_of(options),
         "simulate" => simulate::simulate_of(options),
+        "demo" => demo::demo_of(options),
         _ => None,
     }
 }
@@ -75,5 +77,6 @@ pub fn report<R: Threads + Sync, F: Files, G: Gate>(
         Request::Check(asked) => check::report_check(rt, alloc, files, asked, gate),
         Request::Plan(input) => plan::report_plan(alloc, files, input),
         Request::Simulate(asked) => simulate::report_simulate(alloc, files, asked),
+        Request::Demo(made) => Ok(demo::report_demo(rt, alloc, made, gate)?),
     }
 }

@@ -4,6 +4,7 @@ ghost use Rattle.memplan.specs.RequestViews.{matrix_view, tree_input_view, input
 ghost use Rattle.memplan.specs.GivenViews.{given_views};
 
 use crate::commands::check::Check;
+use crate::commands::demo::Demo;
 use crate::commands::replay::Replay;
 use crate::commands::simulate::Simulation;
 use crate::words::{Given, are_among, value_of};
@@ -58,6 +59,8 @@ pub enum Request<'a> {
     Plan(Input<'a>),
     /// The run of the input's system on several workers within a bound, its tasks activated in the order.
     Simulate(Simulation<'a>),
+    /// An input that is made, its plan, and whether the plan is accepted.
+    Demo(Demo),
 }
 
 // ---- the options of a matrix
