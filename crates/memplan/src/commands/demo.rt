@@ -1,16 +1,16 @@
 //! `demo`: an input that is made from a number, its plan, and the verdict of the checker on the plan.
 
-ghost use Rattle.std.specs.Prelude.{◌≡◌, ◌≤◌, ◌<◌, ◌*◌, ◌^◌, [], IfOk, IfSome, IsTrue, length, option_map};
+ghost use Rattle.std.specs.Prelude.{◌≡◌, ◌≤◌, ◌<◌, ◌*◌, ◌^◌, ◌++◌, ◌∷◌, [], IfOk, OnOk, IfSome, IsTrue, length, option_map};
 ghost use Rattle.limits.specs.Limits.{most_tasks, most_mindeg};
 ghost use Rattle.least_peak.specs.Problem.{system_of};
 ghost use Rattle.least_peak.specs.declared.problem.Origin.TheVariants as origins;
-ghost use Rattle.memplan.specs.Demo.{number_up_to, seeded_of, sides_of, kind_or_tree, made_of, demo_of, IsGridTree, IsMade, HasPositions, IsPostorderPeak, kind_word, check_word, demo_lines, IsJudgedSummary, IsDemoOf};
+ghost use Rattle.memplan.specs.Demo.{number_up_to, seeded_of, sides_of, kind_or_tree, made_of, demo_of, IsGridTree, IsMade, HasPositions, IsPostorderPeak, kind_word, check_word, postorder_lines, demo_lines, IsJudgedSummary, IsDemoOf};
 ghost use Rattle.memplan.specs.GivenViews.{given_views};
 ghost use Rattle.memplan.specs.Pages.{answer_of};
 ghost use Rattle.memplan.specs.Request.{HasWorkers, IsMakeable};
 ghost use Rattle.memplan.specs.RequestViews.{request_view};
 ghost use Rattle.memplan.specs.declared.status.Status.TheVariants.{Done};
-ghost use Rattle.mp_text.specs.Report.{is_token, text_of_lines};
+ghost use Rattle.mp_text.specs.Report.{is_token, is_line_start, line_text, text_of_lines};
 
 use crate::page::{Page, PageKind, print_count, print_end};
 use crate::request::{Request, number_given};
@@ -239,6 +239,30 @@ fn check_word(verdict: Verdict) -> &'static str
     }
 }
 
+// A name and a word on a line.
+fn print_word<'a>(name: &'a str, word: &'a str, report: &mut Report) -> Result<(), AllocError>
+    requires start { IsTrue (is_line_start report.old) }
+    requires name { IsTrue (is_token name.now) }
+    requires word { IsTrue (is_token word.now) }
+    ensures start { OnOk result (IsTrue (is_line_start report.new)) }
+    ensures text { OnOk result (report.new ≡ report.old ++ line_text (name.now ∷ word.now ∷ [])) }
+{
+    let (name, word) = (Word(name), Word(word));
+    report.line(&[name, word])
+}
+
+// The peak of the best postorder, where there is one.
+fn print_postorder(postorder: Option<u64>, report: &mut Report) -> Result<(), AllocError>
+    requires { IsTrue (is_line_start report.old) }
+    ensures start { OnOk result (IsTrue (is_line_start report.new)) }
+    ensures text { OnOk result (report.new ≡ report.old ++ text_of_lines (postorder_lines postorder)) }
+{
+    match postorder {
+        Some(peak) => print_count("postorder", peak, report),
+        None => Ok(()),
+    }
+}
+
 // The lines of the summary.
 fn summary_page(
     alloc: Global,
@@ -254,15 +278,13 @@ fn summary_page(
 {
     printed_lines();
     let mut report = Report::new(alloc);
-    report.line(&[Word("demo"), Word(kind)])?;
+    print_word("demo", kind, &mut report)?;
     let tasks = made.problem.system().tasks().len() as u64;
     print_count("tasks", tasks, &mut report)?;
     print_count("positions", u64::from(made.positions), &mut report)?;
     print_count("peak", peak, &mut report)?;
-    if let Some(peak) = made.postorder {
-        print_count("postorder", peak, &mut report)?;
-    }
-    report.line(&[Word("check"), Word(check)])?;
+    print_postorder(made.postorder, &mut report)?;
+    print_word("check", check, &mut report)?;
     print_end(&mut report)?;
     let kind = PageKind::Done;
     Ok(Page { kind, report })
