@@ -5,6 +5,7 @@ pub mod ReportLemmas
 pub mod SimulationLemmas
 pub mod RunLemmas
 pub mod PageLemmas
+pub mod DemoLemmas
 pub mod OneInput
 pub mod OneFile
 pub mod OneReport

@@ -9,6 +9,7 @@ pub mod Post
 pub mod Check
 pub mod Plan
 pub mod Simulate
+pub mod Demo
 pub mod Commands
 pub mod Clauses
 pub mod Pages

@@ -1,14 +1,16 @@
 -- Requests: what can be asked for, what the commands share of the words for it, and the files that a request names.
-use Rattle.std.specs.Prelude.{ℕ, ◌^◌, ◌≤◌, Bool, true, false, ◌&&◌, nat_le, List, [], ◌∷◌, ◌++◌, Option, Some, None, is_some, option_map, option_and_then, codes, if◌then◌else◌}
+use Rattle.std.specs.Prelude.{ℕ, ◌*◌, ◌^◌, ◌≤◌, Bool, true, false, ◌&&◌, nat_le, List, [], ◌∷◌, ◌++◌, Option, Some, None, is_some, option_map, option_and_then, codes, if◌then◌else◌}
 use Rattle.std.specs.List.{list_any}
 use Rattle.std.specs.Str.{bytes_eq}
-use Rattle.limits.specs.Limits.{most_workers}
+use Rattle.limits.specs.Limits.{most_workers, most_tasks, most_mindeg}
 use Rattle.mp_text.specs.Text.{number_of}
 use Rattle.assembly_tree.specs.declared.front.Shape.{Shape}
 use Rattle.assembly_tree.specs.declared.front.Shape.TheVariants as shapes
 use Rattle.symbolic.specs.declared.options.FrontOptions.{FrontOptions}
 use Rattle.command_line.specs.Words.{Given, value_of}
 use Rattle.memplan.specs.Table.{matrix_options, tree_names}
+use Rattle.memplan.specs.declared.commands.demo.Demo.{Demo}
+use Rattle.memplan.specs.declared.commands.demo.Demo.TheVariants as demos
 
 -- a matrix, by the name of its file, and how it becomes a tree of fronts
 pub record Matrix : Type 0 where
@@ -58,6 +60,8 @@ pub data Request : Type 0 where
   planning : Input → PlanFormat → Request
   -- the run of the input's system on several workers within a bound, its tasks activated in an order
   simulate : Input → OrderSource → Simulation → Request
+  -- an input that is made, its plan, and whether the plan is accepted
+  demo : Demo → Request
 
 -- ---- the options of a matrix
 
@@ -148,9 +152,16 @@ workers_or_one (Some word) = option_and_then workers_within (number_of word)
 abbrev pub AreWorkers : ℕ → Type 0
 AreWorkers n = (1 ≤ n) × (n ≤ most_workers)
 
+-- what the numbers of an input that is to be made keep to
+abbrev pub IsMakeable : Demo → Type 0
+IsMakeable (demos.Tree seed tasks) = (1 ≤ tasks) × (tasks ≤ most_tasks)
+IsMakeable (demos.Workflow seed tasks) = (1 ≤ tasks) × (tasks ≤ most_tasks)
+IsMakeable (demos.Grid rows cols) = (1 ≤ rows) × (1 ≤ cols) × (rows * cols ≤ most_mindeg)
+
 abbrev pub HasWorkers : Request → Type 0
 HasWorkers (check input plan workers) = AreWorkers workers
 HasWorkers (simulate input source s) = AreWorkers s.workers
+HasWorkers (demo made) = IsMakeable made
 HasWorkers request = Unit {0}
 
 abbrev pub format_of : Bool → PlanFormat
@@ -209,3 +220,4 @@ files_of (post input) = tree_input_files input
 files_of (check input plan workers) = input_files input ++ source_file (plan_named plan) ∷ []
 files_of (planning input format) = input_files input
 files_of (simulate input source s) = input_files input ++ source_file source ∷ priority_files input s.priority
+files_of (demo made) = []

@@ -43,3 +43,4 @@ request_view (commands.Post input) = requests.post (tree_input_view input)
 request_view (commands.Check c) = requests.check (input_view c.input) c.plan.now c.workers
 request_view (commands.Plan input format) = requests.planning (input_view input) (format_view format)
 request_view (commands.Simulate names) = requests.simulate (input_view names.input) (source_view names.source) (simulation_view names)
+request_view (commands.Demo made) = requests.demo made

@@ -27,4 +27,5 @@ commands =
       name = codes "simulate";
       options = codes "order" ∷ codes "plan" ∷ codes "bound" ∷ codes "workers" ∷ codes "priority" ∷ input_names;
     }
+    ∷ record { name = codes "demo"; options = codes "kind" ∷ codes "seed" ∷ codes "tasks" ∷ codes "rows" ∷ codes "cols" ∷ [] }
     ∷ []

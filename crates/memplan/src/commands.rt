@@ -1,6 +1,7 @@
 //! The commands, each with what it asks for, what it reads, what it answers and how that is printed.
 
 pub mod check;
+pub mod demo;
 pub mod plan;
 pub mod post;
 pub mod replay;
@@ -23,7 +24,7 @@ use std::thread::Threads;
 
 // Each command, with the names of its options.
 #[rattlefmt::skip]
-static COMMANDS: [Shape; 6] = [
+static COMMANDS: [Shape; 7] = [
     Shape {
         name: "replay",
         options: &["order", "plan", "workflow", "tree", "matrix", "perm", "ordering", "shape", "amalgamate", "inplace"],
@@ -51,6 +52,10 @@ static COMMANDS: [Shape; 6] = [
             "inplace",
         ],
     },
+    Shape {
+        name: "demo",
+        options: &["kind", "seed", "tasks", "rows", "cols"],
+    },
 ];
 
 fn command_of<'a>(line: &Line<'a>) -> Option<Request<'a>>
@@ -64,6 +69,7 @@ fn command_of<'a>(line: &Line<'a>) -> Option<Request<'a>>
         "check" => check::check_of(line),
         "plan" => plan::plan_of(line),
         "simulate" => simulate::simulate_of(line),
+        "demo" => demo::demo_of(line),
         _ => None,
     }
 }
@@ -99,5 +105,6 @@ pub fn report<R: Threads + Sync, F: Files, G: Gate>(
         Request::Check(asked) => check::report_check(rt, alloc, files, asked, gate),
         Request::Plan(input, format) => plan::report_plan(alloc, files, input, format),
         Request::Simulate(asked) => simulate::report_simulate(alloc, files, asked),
+        Request::Demo(made) => Ok(demo::report_demo(rt, alloc, made, gate)?),
     }
 }

@@ -8,9 +8,11 @@ ghost use Rattle.tree_input.specs.declared.node.Node.{Node};
 ghost use Rattle.memplan.specs.Commands.{IsAnswer};
 ghost use Rattle.memplan.specs.Check.{IsCertified};
 ghost use Rattle.memplan.specs.Files.{Answer, HasValue, IsRefused, IsSystemOf, IsSystemWithTerm, IsTreeOf};
+ghost use Rattle.memplan.specs.Demo.{IsDemoOf, IsShown};
 ghost use Rattle.memplan.specs.Plan.{IsBestPlan};
-ghost use Rattle.memplan.specs.Request.{FileRole, HasWorkers, Input, OrderSource, PlanFormat, Request, Simulation, TreeInput, check, input_files, planning, simulate, tree_input_files};
+ghost use Rattle.memplan.specs.Request.{FileRole, HasWorkers, Input, OrderSource, PlanFormat, Request, Simulation, TreeInput, check, demo, input_files, planning, simulate, tree_input_files};
 ghost use Rattle.memplan.specs.Simulate.{IsSimulated};
+ghost use Rattle.memplan.specs.declared.commands.demo.Demo.{Demo};
 ghost use Rattle.memplan.specs.declared.status.Status.TheVariants.{Done};
 
 use activation::laws as run_laws;
@@ -63,6 +65,21 @@ fn one_file()
     plan_laws::exactly_one();
 }
 
+// A demo has one answer: plans may differ, but not their peak; the checker says yes to them, and no traversal has a lower peak.
+fn one_demo()
+    ensures one { (made : Demo) (one two : Answer) → IsDemoOf made one → IsDemoOf made two → one ≡ two }
+    ensures shown { (made : Demo) (answer : Answer) → IsDemoOf made answer → IsShown made answer.text }
+{
+    tree_laws::forest_law();
+    tree_laws::tree_term();
+    claim_laws::accepted_law();
+    claim_laws::accepted_or_objected();
+    system_laws::least_law();
+    postorder_laws::one_best_postorder();
+    matrix_laws::one_pattern();
+    front_laws::one_front_tree();
+}
+
 /// A request has one answer over the texts of its files, and so the program prints what these decide; but `plan` may print any plan of
 /// least peak with a certificate.
 pub fn one_answer()
@@ -81,6 +98,7 @@ pub fn one_answer()
     postorder_laws::one_best_postorder();
     claim_laws::accepted_or_objected();
     run_laws::schedule_law();
+    one_demo();
 }
 
 /// What an answer says: a yes certifies, a plan is best, and a trace is of a run that was simulated. It follows from being an answer.
@@ -91,6 +109,8 @@ pub fn what_answers_say()
         IsAnswer (planning input format) texts answer → answer.status ≡ Done → IsBestPlan input format texts answer.text }
     ensures simulated { (input : Input) (source : OrderSource) (s : Simulation) (texts : List (List ℕ)) (answer : Answer) → 1 ≤ s.workers →
         IsAnswer (simulate input source s) texts answer → answer.status ≡ Done → IsSimulated input source s texts answer.text }
+    ensures shown { (made : Demo) (texts : List (List ℕ)) (answer : Answer) →
+        IsAnswer (demo made) texts answer → answer.status ≡ Done → IsShown made answer.text }
 {
     one_input();
     tree_laws::tree_term();
@@ -100,4 +120,5 @@ pub fn what_answers_say()
     plan_laws::printed_plan();
     plan_laws::printed_length();
     run_laws::schedule_law();
+    one_demo();
 }

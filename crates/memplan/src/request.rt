@@ -4,6 +4,7 @@ ghost use Rattle.memplan.specs.Table.{matrix_options, tree_names};
 ghost use Rattle.memplan.specs.RequestViews.{matrix_view, tree_input_view, input_view, source_view};
 
 use crate::commands::check::Check;
+use crate::commands::demo::Demo;
 use crate::commands::replay::Replay;
 use crate::commands::simulate::Simulation;
 use assembly_tree::Shape;
@@ -67,6 +68,8 @@ pub enum Request<'a> {
     Plan(Input<'a>, PlanFormat),
     /// The run of the input's system on several workers within a bound, its tasks activated in the order.
     Simulate(Simulation<'a>),
+    /// An input that is made, its plan, and whether the plan is accepted.
+    Demo(Demo),
 }
 
 // ---- the options of a matrix

@@ -1,9 +1,11 @@
 ghost use Rattle.std.specs.Prelude.{◌≡◌, ◌⊎◌, ◌<◌, ◌≤◌, ℕ, List, length, take};
 ghost use Rattle.mp_outside.specs.Outside.{Rose, Appended};
-ghost use Rattle.memplan.specs.Request.{Input, OrderSource, PlanFormat, Request, Simulation, check, planning, simulate, files_of};
+ghost use Rattle.memplan.specs.Request.{Input, OrderSource, PlanFormat, Request, Simulation, check, demo, planning, simulate, files_of};
 ghost use Rattle.memplan.specs.Check.{IsCertified};
+ghost use Rattle.memplan.specs.Demo.{IsShown};
 ghost use Rattle.memplan.specs.Plan.{IsBestPlan};
 ghost use Rattle.memplan.specs.Simulate.{IsSimulated};
+ghost use Rattle.memplan.specs.declared.commands.demo.Demo.{Demo};
 ghost use Rattle.memplan.specs.Pages.{answer_of, status_of};
 ghost use Rattle.memplan.specs.Clauses.{Asks, AsksNothing, AreTold, HasText, IsAnswered, IsCutShort, HasFailed, AreQuiet};
 
@@ -52,6 +54,11 @@ pub fn run_words<R: Threads + Sync, F: Files, S: Sink, G: Gate>(
         → Asks words.now (simulate input source s)
         → (texts : List (List ℕ)) → AreTold (F.bytes_of files.old) (files_of (simulate input source s)) texts
         → (printed : List ℕ) × IsSimulated input source s texts printed × Appended (S.written sink.old) (S.written sink.new) printed }
+
+    // where a demo was made, what was printed is its summary: the checker says yes, and no traversal of the made system has a lower peak
+    // than the one that was printed
+    ensures shown { result ≡ Status.Done → (made : Demo) → Asks words.now (demo made)
+        → (printed : List ℕ) × IsShown made printed × Appended (S.written sink.old) (S.written sink.new) printed }
 
     // nothing is appended at usage, read fault and want of memory
     ensures silent { (result ≡ Status.Usage) ⊎ ((result ≡ Status.ReadFault) ⊎ (result ≡ Status.NoMemory))

@@ -30,5 +30,6 @@ returns c =
       best = c.one_best_postorder.ensures;
       verdict = c.accepted_or_objected.ensures.one_verdict;
       schedule = c.schedule_law.ensures.one;
+      demos = c.one_demo.ensures.one;
     } in
     one reports c.one_file.ensures.not_both c.one_file.ensures.one_refusal

@@ -1,5 +1,5 @@
 use Rattle.std.proofs.Common.{[], inl, inr}
-use Rattle.memplan.specs.Request.{check, planning, simulate, files_of}
+use Rattle.memplan.specs.Request.{check, planning, simulate, demo, files_of}
 use Rattle.memplan.proofs.RunLemmas.{first_refusal}
 use Rattle.memplan.proofs.SoundAnswer.{certified, best, simulated}
 use Rattle.memplan.proofs.laws.what_answers_say.Goals as goal
@@ -22,4 +22,10 @@ pub returns-clause-simulated : goal.returns-clause-simulated
 returns-clause-simulated c = λ input source s texts answer workers is done. elim is [
   | inl refused ↦ absurd (first_refusal (files_of (simulate input source s)) [] texts answer refused done)
   | inr report ↦ simulated c.one_input.ensures.system c.schedule_law.ensures.legal c.schedule_law.ensures.each_once c.schedule_law.ensures.within input source s texts answer workers report done
+]
+
+pub returns-clause-shown : goal.returns-clause-shown
+returns-clause-shown c = λ made texts answer is done. elim is [
+  | inl refused ↦ absurd (first_refusal (files_of (demo made)) [] texts answer refused done)
+  | inr report ↦ c.one_demo.ensures.shown made answer report
 ]

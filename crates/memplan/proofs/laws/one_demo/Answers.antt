@@ -1,0 +1,18 @@
+use Rattle.memplan.proofs.DemoLemmas.{Parts, one_demo, shown}
+use Rattle.memplan.proofs.laws.one_demo.Goals as goal
+
+pub returns : goal.returns
+returns c =
+    let parts : Parts = record {
+      forests = c.forest_law.ensures.one;
+      forest_terms = c.tree_term.ensures.terms;
+      forest_system = c.tree_term.ensures.system;
+      own = c.accepted_law.ensures.own;
+      renamed = c.accepted_law.ensures.renamed;
+      not_both = c.accepted_or_objected.ensures.not_both;
+      least = c.least_law.ensures;
+      best = c.one_best_postorder.ensures;
+      patterns = c.one_pattern.ensures.one;
+      fronts = c.one_front_tree.ensures;
+    } in
+    record { one = one_demo parts; shown = shown parts }

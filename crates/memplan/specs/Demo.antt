@@ -1,0 +1,171 @@
+-- `demo`: an input that is made from a number, its plan, and the verdict of the checker on the plan.
+use Rattle.std.specs.Prelude.{◌≡◌, ℕ, ◌*◌, false, ◌&&◌, nat_le, List, [], ◌∷◌, ◌++◌, length, Option, Some, None, option_map, option_and_then, codes, decimal, if◌then◌else◌}
+use Rattle.std.specs.List.{range_with_len}
+use Rattle.std.specs.Str.{bytes_eq}
+use Rattle.assembly_tree.specs.declared.front.Shape.TheVariants.{Triangle}
+use Rattle.claim_check.specs.Accepted.{IsAccepted}
+use Rattle.claim_check.specs.Verdicts.{IsVerdict}
+use Rattle.claim_check.specs.declared.verdict.Verdict.{Verdict}
+use Rattle.claim_check.specs.declared.verdict.Verdict.TheVariants as verdicts
+use Rattle.least_peak.specs.Problem.{system_of, IsTermOf}
+use Rattle.least_peak.specs.declared.problem.Origin.{Origin}
+use Rattle.least_peak.specs.declared.problem.Origin.TheVariants as origins
+use Rattle.limits.specs.Limits.{most_tasks, most_mindeg}
+use Rattle.matrix_market.specs.Pattern.{IsPatternOf}
+use Rattle.mp_gen.specs.Grid.{grid_pairs}
+use Rattle.mp_gen.specs.RandomTree.{tree_of}
+use Rattle.mp_gen.specs.RandomWorkflow.{workflow_of}
+use Rattle.mp_system.specs.Memory.{peak_of}
+use Rattle.mp_system.specs.Traversal.{IsLeast}
+use Rattle.mp_text.specs.Report.{text_of_lines}
+use Rattle.plan_text.specs.Plan.{PlanText}
+use Rattle.postorder_best.specs.BestPostorder.{IsBestPostorder}
+use Rattle.sp_terms.specs.declared.position.Position.{Position}
+use Rattle.sp_terms.specs.Values.{IsTerms}
+use Rattle.symbolic.specs.FrontTree.{IsFrontTree}
+use Rattle.symbolic.specs.declared.options.FrontOptions.{FrontOptions}
+use Rattle.tree_input.specs.declared.node.Node.{Node}
+use Rattle.tree_input.specs.Tree.{IsTree}
+use Rattle.memplan.specs.Files.{Answer}
+use Rattle.command_line.specs.Words.{Given, value_of}
+use Rattle.memplan.specs.Request.{Request, demo, gives_any, number_given}
+use Rattle.memplan.specs.declared.commands.demo.Demo.{Demo}
+use Rattle.memplan.specs.declared.commands.demo.Demo.TheVariants as demos
+use Rattle.memplan.specs.declared.status.Status.TheVariants as status
+
+-- ---- words
+
+-- a number that is given, from 1 to the greatest that passes
+abbrev pub number_up_to : ℕ → Option (List ℕ) → Option ℕ
+number_up_to most given = option_and_then (λ n. if nat_le 1 n && nat_le n most then Some n else None) (number_given given)
+
+-- `--seed S` and `--tasks N`, of at most 10^6 tasks, without rows and columns
+abbrev pub seeded_of : List Given → Option (ℕ × ℕ)
+seeded_of options =
+    if gives_any (codes "rows" ∷ codes "cols" ∷ []) options then None
+    else option_and_then (λ seed.
+    option_map (λ tasks. (seed, tasks))
+    (number_up_to most_tasks (value_of (codes "tasks") options)))
+    (number_given (value_of (codes "seed") options))
+
+-- at most 50,000 vertices
+abbrev pub sides_within : ℕ → ℕ → Option (ℕ × ℕ)
+sides_within rows cols = if nat_le (rows * cols) most_mindeg then Some (rows, cols) else None
+
+-- `--rows R` and `--cols C`, without a seed and tasks
+abbrev pub sides_of : List Given → Option (ℕ × ℕ)
+sides_of options =
+    if gives_any (codes "seed" ∷ codes "tasks" ∷ []) options then None
+    else option_and_then (λ rows.
+    option_and_then (sides_within rows)
+    (number_up_to most_mindeg (value_of (codes "cols") options)))
+    (number_up_to most_mindeg (value_of (codes "rows") options))
+
+-- a tree, where no kind is given
+abbrev pub kind_or_tree : Option (List ℕ) → List ℕ
+kind_or_tree None = codes "tree"
+kind_or_tree (Some kind) = kind
+
+-- what is to be made
+abbrev pub made_of : List ℕ → List Given → Option Demo
+made_of kind options =
+    if bytes_eq kind (codes "tree") then option_map (λ p. demos.Tree p.0 p.1) (seeded_of options)
+    else if bytes_eq kind (codes "workflow") then option_map (λ p. demos.Workflow p.0 p.1) (seeded_of options)
+    else if bytes_eq kind (codes "grid") then option_map (λ p. demos.Grid p.0 p.1) (sides_of options)
+    else None
+
+-- `demo`, `--kind tree|workflow|grid` if it is given, and the numbers of what is to be made
+abbrev pub demo_of : List Given → Option Request
+demo_of options = option_map demo (made_of (kind_or_tree (value_of (codes "kind") options)) options)
+
+-- ---- what is made
+
+-- the fronts of a grid: triangles, none merged, none in place
+abbrev pub plain_fronts : FrontOptions
+plain_fronts = record { shape = Triangle; zeros = None; inplace = false }
+
+-- the tree of the fronts of a grid, its vertices eliminated in the order 1, 2, ..
+abbrev pub IsGridTree : ℕ → ℕ → List Node → Type 0
+IsGridTree rows cols nodes =
+    (pattern : List (List ℕ)) × IsPatternOf (rows * cols) (grid_pairs rows cols) pattern
+    × IsFrontTree plain_fronts pattern (range_with_len 1 (length pattern)) nodes
+
+-- the tree or the workflow that is made, within the limits of its kind
+abbrev pub IsMade : Demo → Origin → Type 0
+IsMade (demos.Tree seed tasks) (origins.Tree nodes) = (nodes ≡ tree_of seed tasks) × IsTree nodes
+IsMade (demos.Workflow seed tasks) (origins.Workflow positions) = (positions ≡ workflow_of seed tasks) × IsTerms positions
+IsMade (demos.Grid rows cols) (origins.Tree nodes) = IsGridTree rows cols nodes × IsTree nodes
+IsMade made origin = ⊥
+
+-- ---- what is said of it
+
+-- its term has so many positions
+abbrev pub HasPositions : Origin → ℕ → Type 0
+HasPositions origin count = (positions : List Position) × IsTermOf origin positions × (length positions ≡ count)
+
+-- the peak of the best postorder of a tree; a workflow has none
+abbrev pub IsPostorderPeak : Origin → Option ℕ → Type 0
+IsPostorderPeak (origins.Tree nodes) (Some peak) =
+    (order : List ℕ) × IsBestPostorder nodes order × (peak ≡ peak_of (system_of (origins.Tree nodes)) order)
+IsPostorderPeak (origins.Workflow positions) None = Unit {0}
+IsPostorderPeak origin peak = ⊥
+
+-- a plan is accepted, by the term of what was made; and the verdict on any plan
+abbrev pub IsAcceptedFor : Origin → PlanText → Type 0
+IsAcceptedFor origin plan = (positions : List Position) × IsTermOf origin positions × IsAccepted (system_of origin) positions plan
+
+abbrev pub IsVerdictFor : Origin → PlanText → Verdict → Type 0
+IsVerdictFor origin plan verdict =
+    (positions : List Position) × IsTermOf origin positions × IsVerdict (system_of origin) positions plan verdict
+
+-- ---- the summary
+
+abbrev pub kind_word : Demo → List ℕ
+kind_word (demos.Tree seed tasks) = codes "tree"
+kind_word (demos.Workflow seed tasks) = codes "workflow"
+kind_word (demos.Grid rows cols) = codes "grid"
+
+abbrev pub check_word : Verdict → List ℕ
+check_word (verdicts.Yes peak) = codes "yes"
+check_word (verdicts.No objection) = codes "no"
+
+abbrev pub postorder_lines : Option ℕ → List (List (List ℕ))
+postorder_lines None = []
+postorder_lines (Some peak) = (codes "postorder" ∷ decimal peak ∷ []) ∷ []
+
+-- `demo KIND`, `tasks N`, `positions N`, `peak PEAK`, for a tree `postorder PEAK`, `check yes` or `check no`, `end`
+abbrev pub demo_lines : List ℕ → ℕ → ℕ → ℕ → Option ℕ → List ℕ → List (List (List ℕ))
+demo_lines kind tasks positions peak postorder check =
+    (codes "demo" ∷ kind ∷ [])
+    ∷ (codes "tasks" ∷ decimal tasks ∷ [])
+    ∷ (codes "positions" ∷ decimal positions ∷ [])
+    ∷ (codes "peak" ∷ decimal peak ∷ [])
+    ∷ postorder_lines postorder ++ (codes "check" ∷ check ∷ []) ∷ (codes "end" ∷ []) ∷ []
+
+-- the summary of what was made, with a plan of this peak and the word of the checker
+pub record IsSummary (kind : List ℕ) (origin : Origin) (peak : ℕ) (check : List ℕ) (text : List ℕ) : Type 0 where
+  pub positions : ℕ
+  pub has_positions : HasPositions origin positions
+  pub postorder : Option ℕ
+  pub is_postorder : IsPostorderPeak origin postorder
+  pub text_is : text ≡ text_of_lines (demo_lines kind (length (system_of origin).tasks) positions peak postorder check)
+
+-- the summary of any plan, with the verdict on it
+abbrev pub IsJudgedSummary : List ℕ → Origin → PlanText → Answer → Type 0
+IsJudgedSummary kind origin plan answer =
+    (verdict : Verdict) × IsVerdictFor origin plan verdict × (answer.status ≡ status.Done)
+    × IsSummary kind origin plan.peak (check_word verdict) answer.text
+
+-- the summary of some plan that is accepted for what was made, whichever it is
+abbrev pub IsDemoOf : Demo → Answer → Type 0
+IsDemoOf made answer =
+    (origin : Origin) × (plan : PlanText) × IsMade made origin × IsAcceptedFor origin plan
+    × IsJudgedSummary (kind_word made) origin plan answer
+
+-- the printed text is the summary of what was made; the checker says yes, and the peak is one that no traversal goes below
+pub record IsShown (made : Demo) (printed : List ℕ) : Type 0 where
+  pub origin : Origin
+  pub is_made : IsMade made origin
+  pub peak : ℕ
+  pub least : IsLeast (system_of origin) peak
+  pub summary : IsSummary (kind_word made) origin peak (codes "yes") printed

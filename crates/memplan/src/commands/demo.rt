@@ -1,0 +1,326 @@
+//! `demo`: an input that is made from a number, its plan, and the verdict of the checker on the plan.
+
+ghost use Rattle.std.specs.Prelude.{◌≡◌, ◌≤◌, ◌<◌, ◌*◌, ◌^◌, ◌++◌, ◌∷◌, [], IfOk, OnOk, IfSome, IsTrue, length, option_map};
+ghost use Rattle.limits.specs.Limits.{most_tasks, most_mindeg};
+ghost use Rattle.least_peak.specs.Problem.{system_of};
+ghost use Rattle.least_peak.specs.declared.problem.Origin.TheVariants as origins;
+ghost use Rattle.memplan.specs.Demo.{number_up_to, seeded_of, sides_of, kind_or_tree, made_of, demo_of, IsGridTree, IsMade, HasPositions, IsPostorderPeak, kind_word, check_word, postorder_lines, demo_lines, IsJudgedSummary, IsDemoOf};
+ghost use Rattle.memplan.specs.Pages.{answer_of};
+ghost use Rattle.memplan.specs.Request.{HasWorkers, IsMakeable};
+ghost use Rattle.memplan.specs.RequestViews.{request_view};
+ghost use Rattle.memplan.specs.declared.status.Status.TheVariants.{Done};
+ghost use Rattle.mp_text.specs.Report.{is_token, is_line_start, line_text, text_of_lines};
+
+use crate::page::{Page, PageKind, print_count, print_end};
+use crate::request::{Request, number_given};
+use assembly_tree::Shape;
+use claim_check::Verdict;
+use command_line::Line;
+use least_peak::Problem;
+use limits::{MOST_MINDEG, MOST_TASKS};
+use mp_gen::{gen_grid, gen_tree, gen_workflow};
+use mp_outside::Gate;
+use mp_text::Report;
+use mp_text::Token::Word;
+use mp_text::laws::printed_lines;
+use ordering::identity;
+use plan_text::PlanFile;
+use postorder_best::best_postorder;
+use sp_terms::Terms;
+use std::alloc::{AllocError, Global};
+use std::thread::Threads;
+use symbolic::{FrontOptions, front_tree};
+use tree_input::laws::forest_law;
+use tree_input::{Tree, terms_of_tree};
+
+/// What is to be made.
+#[derive(Clone, Copy, Debug)]
+pub enum Demo {
+    /// A random tree, of 1 to 10^6 tasks.
+    Tree { seed: u64, tasks: u32 },
+    /// A random workflow, of 1 to 10^6 tasks.
+    Workflow { seed: u64, tasks: u32 },
+    /// The tree of the fronts of a grid, of at most 50,000 vertices.
+    Grid { rows: u32, cols: u32 },
+}
+
+// ---- words
+
+// A number that is given, from 1 to the greatest that passes.
+fn number_up_to(most: u64, given: Option<&str>) -> Option<u32>
+    requires { most < 2 ^ 32 }
+    ensures value { result ≡ number_up_to most (option_map (λ s. s.now) given.entry) }
+    ensures range { IfSome result (λ n. (1 ≤ n) × (n ≤ most)) }
+{
+    let number = number_given(given)?;
+    if 1 <= number && number <= most {
+        Some(number as u32)
+    } else {
+        None
+    }
+}
+
+// A seed and a number of tasks, without rows and columns.
+fn seeded_of(line: &Line<'_>) -> Option<(u64, u32)>
+    ensures value { result ≡ seeded_of line.now.options }
+    ensures tasks { IfSome result (λ p. (1 ≤ p.1) × (p.1 ≤ most_tasks)) }
+{
+    if line.value("rows").is_some() || line.value("cols").is_some() {
+        return None;
+    }
+    let seed = number_given(line.value("seed"))?;
+    let tasks = number_up_to(MOST_TASKS, line.value("tasks"))?;
+    Some((seed, tasks))
+}
+
+// Rows and columns, without a seed and tasks.
+fn sides_of(line: &Line<'_>) -> Option<(u32, u32)>
+    ensures value { result ≡ sides_of line.now.options }
+    ensures few { IfSome result (λ p. (1 ≤ p.0) × (1 ≤ p.1) × (p.0 * p.1 ≤ most_mindeg)) }
+{
+    if line.value("seed").is_some() || line.value("tasks").is_some() {
+        return None;
+    }
+    let rows = number_up_to(MOST_MINDEG, line.value("rows"))?;
+    let cols = number_up_to(MOST_MINDEG, line.value("cols"))?;
+    if u64::from(rows) * u64::from(cols) <= MOST_MINDEG {
+        Some((rows, cols))
+    } else {
+        None
+    }
+}
+
+// A tree, where no kind is given.
+fn kind_or_tree<'a>(given: Option<&'a str>) -> &'a str
+    ensures { result.now ≡ kind_or_tree (option_map (λ s. s.now) given.entry) }
+{
+    match given {
+        Some(kind) => kind,
+        None => "tree",
+    }
+}
+
+// What is to be made.
+fn made_of(kind: &str, line: &Line<'_>) -> Option<Demo>
+    ensures value { result ≡ made_of kind.now line.now.options }
+    ensures within { IfSome result IsMakeable }
+{
+    match kind {
+        "tree" => {
+            let (seed, tasks) = seeded_of(line)?;
+            Some(Demo::Tree { seed, tasks })
+        }
+        "workflow" => {
+            let (seed, tasks) = seeded_of(line)?;
+            Some(Demo::Workflow { seed, tasks })
+        }
+        "grid" => {
+            let (rows, cols) = sides_of(line)?;
+            Some(Demo::Grid { rows, cols })
+        }
+        _ => None,
+    }
+}
+
+/// `demo`, a kind if it is given, and the numbers of what is to be made.
+pub fn demo_of<'a>(line: &Line<'a>) -> Option<Request<'a>>
+    ensures value { option_map request_view result ≡ demo_of line.now.options }
+    ensures workers { IfSome result (λ request. HasWorkers (request_view request)) }
+{
+    let kind = kind_or_tree(line.value("kind"));
+    let made = made_of(kind, line)?;
+    Some(Request::Demo(made))
+}
+
+// ---- what is made
+
+/// A problem, and what is said of it beside its plan: the positions of its term, and for a tree the peak of its best postorder.
+#[derive(Drop)]
+pub struct Made {
+    pub problem: Problem,
+    pub positions: u32,
+    pub postorder: Option<u64>,
+}
+
+fn made_tree(alloc: Global, tree: Tree) -> Result<Made, AllocError>
+    ensures problem { IfOk result (λ made. made.problem ≡ origins.Tree tree) }
+    ensures positions { IfOk result (λ made. HasPositions made.problem made.positions) }
+    ensures postorder { IfOk result (λ made. IsPostorderPeak made.problem made.postorder) }
+{
+    forest_law();
+    tree.keeps();
+    let positions = terms_of_tree(alloc, &tree)?.terms.len();
+    let postorder = Some(best_postorder(alloc, &tree)?.peak);
+    let problem = Problem::of_tree(alloc, tree)?;
+    Ok(Made {
+        problem,
+        positions,
+        postorder,
+    })
+}
+
+fn made_workflow(alloc: Global, terms: Terms) -> Result<Made, AllocError>
+    ensures problem { IfOk result (λ made. made.problem ≡ origins.Workflow terms) }
+    ensures positions { IfOk result (λ made. HasPositions made.problem made.positions) }
+    ensures postorder { IfOk result (λ made. IsPostorderPeak made.problem made.postorder) }
+{
+    let positions = terms.len();
+    let problem = Problem::of_workflow(alloc, terms)?;
+    Ok(Made {
+        problem,
+        positions,
+        postorder: None,
+    })
+}
+
+// The tree of the fronts of a grid.
+fn grid_tree(alloc: Global, rows: u32, cols: u32) -> Result<Tree, AllocError>
+    requires rows { 1 ≤ rows }
+    requires cols { 1 ≤ cols }
+    requires few { rows * cols ≤ most_mindeg }
+    ensures { IfOk result (IsGridTree rows cols) }
+{
+    let pattern = gen_grid(alloc, rows, cols)?;
+    let perm = identity(alloc, pattern.order())?;
+    let fronts = FrontOptions {
+        shape: Shape::Triangle,
+        zeros: None,
+        inplace: false,
+    };
+    front_tree(alloc, &pattern, &perm, fronts)
+}
+
+fn make(alloc: Global, demo: Demo) -> Result<Made, AllocError>
+    requires { IsMakeable demo }
+    ensures made { IfOk result (λ made. IsMade demo made.problem) }
+    ensures positions { IfOk result (λ made. HasPositions made.problem made.positions) }
+    ensures postorder { IfOk result (λ made. IsPostorderPeak made.problem made.postorder) }
+{
+    match demo {
+        Demo::Tree { seed, tasks } => {
+            let tree = gen_tree(alloc, seed, tasks)?;
+            tree.keeps();
+            made_tree(alloc, tree)
+        }
+        Demo::Workflow { seed, tasks } => {
+            let terms = gen_workflow(alloc, seed, tasks)?;
+            terms.keeps();
+            made_workflow(alloc, terms)
+        }
+        Demo::Grid { rows, cols } => {
+            let tree = grid_tree(alloc, rows, cols)?;
+            tree.keeps();
+            made_tree(alloc, tree)
+        }
+    }
+}
+
+// ---- the summary
+
+fn kind_word(demo: Demo) -> &'static str
+    ensures word { result.now ≡ kind_word demo }
+    ensures token { IsTrue (is_token result.now) }
+{
+    match demo {
+        Demo::Tree { .. } => "tree",
+        Demo::Workflow { .. } => "workflow",
+        Demo::Grid { .. } => "grid",
+    }
+}
+
+fn check_word(verdict: Verdict) -> &'static str
+    ensures word { result.now ≡ check_word verdict }
+    ensures token { IsTrue (is_token result.now) }
+{
+    match verdict {
+        Verdict::Yes(_) => "yes",
+        Verdict::No(_) => "no",
+    }
+}
+
+// A name and a word on a line.
+fn print_word<'a>(name: &'a str, word: &'a str, report: &mut Report) -> Result<(), AllocError>
+    requires start { IsTrue (is_line_start report.old) }
+    requires name { IsTrue (is_token name.now) }
+    requires word { IsTrue (is_token word.now) }
+    ensures start { OnOk result (IsTrue (is_line_start report.new)) }
+    ensures text { OnOk result (report.new ≡ report.old ++ line_text (name.now ∷ word.now ∷ [])) }
+{
+    let (name, word) = (Word(name), Word(word));
+    report.line(&[name, word])
+}
+
+// The peak of the best postorder, where there is one.
+fn print_postorder(postorder: Option<u64>, report: &mut Report) -> Result<(), AllocError>
+    requires { IsTrue (is_line_start report.old) }
+    ensures start { OnOk result (IsTrue (is_line_start report.new)) }
+    ensures text { OnOk result (report.new ≡ report.old ++ text_of_lines (postorder_lines postorder)) }
+{
+    match postorder {
+        Some(peak) => print_count("postorder", peak, report),
+        None => Ok(()),
+    }
+}
+
+// The lines of the summary.
+fn summary_page(
+    alloc: Global,
+    kind: &str,
+    made: &Made,
+    peak: u64,
+    check: &str,
+) -> Result<Page, AllocError>
+    requires kind { IsTrue (is_token kind.now) }
+    requires check { IsTrue (is_token check.now) }
+    ensures { IfOk result (λ page. answer_of page ≡ record {
+      status = Done;
+      text = text_of_lines
+          (demo_lines kind.now (length (system_of made.now.problem).tasks) made.now.positions peak made.now.postorder check.now);
+    }) }
+{
+    printed_lines();
+    let mut report = Report::new(alloc);
+    print_word("demo", kind, &mut report)?;
+    let tasks = made.problem.system().tasks().len() as u64;
+    print_count("tasks", tasks, &mut report)?;
+    print_count("positions", u64::from(made.positions), &mut report)?;
+    print_count("peak", peak, &mut report)?;
+    print_postorder(made.postorder, &mut report)?;
+    print_word("check", check, &mut report)?;
+    print_end(&mut report)?;
+    let kind = PageKind::Done;
+    Ok(Page { kind, report })
+}
+
+// The summary of a plan, whoever made it, with the verdict of the checker on it.
+fn judged_page<R: Threads + Sync, G: Gate>(
+    rt: &R,
+    alloc: Global,
+    kind: &str,
+    made: &Made,
+    plan: &PlanFile,
+    gate: &G,
+) -> Result<Page, AllocError>
+    requires kind { IsTrue (is_token kind.now) }
+    requires positions { HasPositions made.now.problem made.now.positions }
+    requires postorder { IsPostorderPeak made.now.problem made.now.postorder }
+    ensures { IfOk result (λ page. IsJudgedSummary kind.now made.now.problem plan.now (answer_of page)) }
+{
+    let verdict = made.problem.check(rt, alloc, plan, 1, gate)?;
+    summary_page(alloc, kind, made, plan.peak(), check_word(verdict))
+}
+
+/// The summary of what is made, planned and checked.
+pub fn report_demo<R: Threads + Sync, G: Gate>(
+    rt: &R,
+    alloc: Global,
+    demo: Demo,
+    gate: &G,
+) -> Result<Page, AllocError>
+    requires { IsMakeable demo }
+    ensures { IfOk result (λ page. IsDemoOf demo (answer_of page)) }
+{
+    let made = make(alloc, demo)?;
+    let plan = made.problem.plan(alloc)?;
+    judged_page(rt, alloc, kind_word(demo), &made, &plan, gate)
+}
