@@ -25,7 +25,7 @@ use Rattle.memplan.specs.Files.{Answer, AreAccepted, HasValue, IsRefused, IsFirs
 use Rattle.memplan.specs.Demo.{IsDemoOf}
 use Rattle.memplan.specs.Post.{IsPost, post_answer}
 use Rattle.memplan.specs.Replay.{IsReplayAnswer, IsReplayOf}
-use Rattle.memplan.specs.Request.{Request, replay, tree, post, check, planning, simulate, demo, HasWorkers, TreeInput, matrix_named, Input, OrderSource, order_named, plan_named, PlanFormat, Simulation, FileRole, NamedFile, tree_input_files, input_files, source_file, priority_files, files_of}
+use Rattle.memplan.specs.Request.{Request, replay, tree, post, check, planning, simulate, demo, IsInRange, TreeInput, matrix_named, Input, OrderSource, order_named, plan_named, PlanFormat, Simulation, FileRole, NamedFile, tree_input_files, input_files, source_file, priority_files, files_of}
 use Rattle.memplan.specs.Simulate.{IsOwnPriority, IsPriorityFrom, IsSimulation, IsSimulationOf, priority_or, setting_of, simulation_answer}
 use Rattle.memplan.specs.Tree.{tree_answer}
 use Rattle.memplan.specs.declared.commands.demo.Demo.{Demo}
@@ -142,7 +142,7 @@ module _ (r : Reports) where
       one_simulation (setting_of system order s) priority a b (r.systems input mine system system is_system is_system).1 workers one.1 is
       (coe 1 0 (i. IsSimulation (setting_of (same.3 i) (orders i) s) (one.0 i) b) is')
 
-  pub one_report : (request : Request) (texts : List (List ℕ)) (a b : Answer) → HasWorkers request → ((input : Input) (format : PlanFormat) → ¬ (request ≡ planning input format))
+  pub one_report : (request : Request) (texts : List (List ℕ)) (a b : Answer) → IsInRange request → ((input : Input) (format : PlanFormat) → ¬ (request ≡ planning input format))
       → IsReport request texts a → IsReport request texts b → a ≡ b
   one_report (replay input source) texts a b workers other is is' = replayed_once input source texts a b is is'
   one_report (tree m) texts a b workers other (nodes, is, e) (nodes', is', e') = e ∙ ap tree_answer (r.trees (matrix_named m) texts nodes nodes' is is').0 ∙ sym e'

@@ -158,11 +158,11 @@ IsMakeable (demos.Tree seed tasks) = (1 ≤ tasks) × (tasks ≤ most_tasks)
 IsMakeable (demos.Workflow seed tasks) = (1 ≤ tasks) × (tasks ≤ most_tasks)
 IsMakeable (demos.Grid rows cols) = (1 ≤ rows) × (1 ≤ cols) × (rows * cols ≤ most_mindeg)
 
-abbrev pub HasWorkers : Request → Type 0
-HasWorkers (check input plan workers) = AreWorkers workers
-HasWorkers (simulate input source s) = AreWorkers s.workers
-HasWorkers (demo made) = IsMakeable made
-HasWorkers request = Unit {0}
+abbrev pub IsInRange : Request → Type 0
+IsInRange (check input plan workers) = AreWorkers workers
+IsInRange (simulate input source s) = AreWorkers s.workers
+IsInRange (demo made) = IsMakeable made
+IsInRange request = Unit {0}
 
 abbrev pub format_of : Bool → PlanFormat
 format_of false = as_file

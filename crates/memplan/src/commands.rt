@@ -11,7 +11,7 @@ pub mod tree;
 ghost use Rattle.std.specs.Prelude.{◌≡◌, ◌≤◌, ℕ, List, IfOk, IfSome, map, string_bytes, option_map};
 ghost use Rattle.memplan.specs.Commands.{command_of, request_of};
 ghost use Rattle.memplan.specs.Judged.{IsReported};
-ghost use Rattle.memplan.specs.Request.{HasWorkers};
+ghost use Rattle.memplan.specs.Request.{IsInRange};
 ghost use Rattle.memplan.specs.RequestViews.{request_view};
 
 use crate::page::Page;
@@ -60,7 +60,7 @@ static COMMANDS: [Shape; 7] = [
 
 fn command_of<'a>(line: &Line<'a>) -> Option<Request<'a>>
     ensures value { option_map request_view result ≡ command_of line.now }
-    ensures workers { IfSome result (λ request. HasWorkers (request_view request)) }
+    ensures range { IfSome result (λ request. IsInRange (request_view request)) }
 {
     match line.command() {
         "replay" => replay::replay_of(line),
@@ -77,7 +77,7 @@ fn command_of<'a>(line: &Line<'a>) -> Option<Request<'a>>
 /// The request of the words after the program's name, if they have one.
 pub fn request_of(alloc: Global, words: &[String]) -> Result<Option<Request<'_>>, AllocError>
     ensures value { IfOk result (λ request. option_map request_view request ≡ request_of (map (λ w. string_bytes w) words.now)) }
-    ensures workers { IfOk result (λ request. IfSome request (λ r. HasWorkers (request_view r))) }
+    ensures range { IfOk result (λ request. IfSome request (λ r. IsInRange (request_view r))) }
 {
     let Some(line) = read_words(alloc, &COMMANDS, words)? else {
         return Ok(None);
@@ -93,7 +93,7 @@ pub fn report<R: Threads + Sync, F: Files, G: Gate>(
     request: Request<'_>,
     gate: &G,
 ) -> Result<Page, Stop>
-    requires { HasWorkers (request_view request) }
+    requires { IsInRange (request_view request) }
     ensures told { IsReported (F.bytes_of files.old) (F.faults_of files.old) (F.faults_of files.new) (request_view request.entry) result }
     ensures same { (other : List ℕ) → F.bytes_of files.new other ≡ F.bytes_of files.old other }
     ensures later { (other : List ℕ) → F.faults_of files.old other ≤ F.faults_of files.new other }

@@ -10,7 +10,7 @@ ghost use Rattle.memplan.specs.Check.{IsCertified};
 ghost use Rattle.memplan.specs.Files.{Answer, HasValue, IsRefused, IsSystemOf, IsSystemWithTerm, IsTreeOf};
 ghost use Rattle.memplan.specs.Demo.{IsDemoOf, IsShown};
 ghost use Rattle.memplan.specs.Plan.{IsBestPlan};
-ghost use Rattle.memplan.specs.Request.{FileRole, HasWorkers, Input, OrderSource, PlanFormat, Request, Simulation, TreeInput, check, demo, input_files, planning, simulate, tree_input_files};
+ghost use Rattle.memplan.specs.Request.{FileRole, IsInRange, Input, OrderSource, PlanFormat, Request, Simulation, TreeInput, check, demo, input_files, planning, simulate, tree_input_files};
 ghost use Rattle.memplan.specs.Simulate.{IsSimulated};
 ghost use Rattle.memplan.specs.declared.commands.demo.Demo.{Demo};
 ghost use Rattle.memplan.specs.declared.status.Status.TheVariants.{Done};
@@ -83,7 +83,7 @@ fn one_demo()
 /// A request has one answer over the texts of its files, and so the program prints what these decide; but `plan` may print any plan of
 /// least peak with a certificate.
 pub fn one_answer()
-    ensures { (request : Request) (texts : List (List ℕ)) (one two : Answer) → HasWorkers request →
+    ensures { (request : Request) (texts : List (List ℕ)) (one two : Answer) → IsInRange request →
         ((input : Input) (format : PlanFormat) → ¬ (request ≡ planning input format)) →
         IsAnswer request texts one → IsAnswer request texts two → one ≡ two }
 {

@@ -4,7 +4,7 @@ ghost use Rattle.std.specs.Prelude.{◌≡◌, ◌≤◌, ◌∷◌, [], ◌++�
 ghost use Rattle.memplan.specs.Check.{check_of, verdict_answer};
 ghost use Rattle.memplan.specs.Judged.{IsReported};
 ghost use Rattle.memplan.specs.Pages.{answer_of};
-ghost use Rattle.memplan.specs.Request.{AreWorkers, HasWorkers, check};
+ghost use Rattle.memplan.specs.Request.{AreWorkers, IsInRange, check};
 ghost use Rattle.memplan.specs.RequestViews.{input_view, request_view};
 
 use crate::files::{PlanTextFile, judge};
@@ -31,7 +31,7 @@ pub struct Check<'a> {
 /// `check`, an input, `--plan NAME`, and `--workers N` if it is given.
 pub fn check_of<'a>(line: &Line<'a>) -> Option<Request<'a>>
     ensures value { option_map request_view result ≡ check_of line.now.options }
-    ensures workers { IfSome result (λ request. HasWorkers (request_view request)) }
+    ensures range { IfSome result (λ request. IsInRange (request_view request)) }
 {
     let input = input_of(line)?;
     let plan = line.value("plan")?;

@@ -6,7 +6,7 @@ ghost use Rattle.least_peak.specs.Problem.{system_of};
 ghost use Rattle.least_peak.specs.declared.problem.Origin.TheVariants as origins;
 ghost use Rattle.memplan.specs.Demo.{number_up_to, seeded_of, sides_of, kind_or_tree, made_of, demo_of, IsGridTree, IsMade, HasPositions, IsPostorderPeak, kind_word, check_word, postorder_lines, demo_lines, IsJudgedSummary, IsDemoOf};
 ghost use Rattle.memplan.specs.Pages.{answer_of};
-ghost use Rattle.memplan.specs.Request.{HasWorkers, IsMakeable};
+ghost use Rattle.memplan.specs.Request.{IsInRange, IsMakeable};
 ghost use Rattle.memplan.specs.RequestViews.{request_view};
 ghost use Rattle.memplan.specs.declared.status.Status.TheVariants.{Done};
 ghost use Rattle.mp_text.specs.Report.{is_token, is_line_start, line_text, text_of_lines};
@@ -125,7 +125,7 @@ fn made_of(kind: &str, line: &Line<'_>) -> Option<Demo>
 /// `demo`, a kind if it is given, and the numbers of what is to be made.
 pub fn demo_of<'a>(line: &Line<'a>) -> Option<Request<'a>>
     ensures value { option_map request_view result ≡ demo_of line.now.options }
-    ensures workers { IfSome result (λ request. HasWorkers (request_view request)) }
+    ensures range { IfSome result (λ request. IsInRange (request_view request)) }
 {
     let kind = kind_or_tree(line.value("kind"));
     let made = made_of(kind, line)?;

@@ -4,7 +4,7 @@ ghost use Rattle.std.specs.Prelude.{◌≡◌, ◌≤◌, ℕ, List, IfOk, IfSom
 ghost use Rattle.memplan.specs.Plan.{plan_of, plan_answer};
 ghost use Rattle.memplan.specs.Judged.{IsReported};
 ghost use Rattle.memplan.specs.Pages.{answer_of};
-ghost use Rattle.memplan.specs.Request.{HasWorkers, planning};
+ghost use Rattle.memplan.specs.Request.{IsInRange, planning};
 ghost use Rattle.memplan.specs.RequestViews.{input_view, format_view, request_view};
 
 use crate::inputs::judge_input;
@@ -21,7 +21,7 @@ use std::alloc::{AllocError, Global};
 /// `plan`, an input, and `--print text` or `--print json` if it is given.
 pub fn plan_of<'a>(line: &Line<'a>) -> Option<Request<'a>>
     ensures value { option_map request_view result ≡ plan_of line.now.options }
-    ensures workers { IfSome result (λ request. HasWorkers (request_view request)) }
+    ensures range { IfSome result (λ request. IsInRange (request_view request)) }
 {
     let input = input_of(line)?;
     let format = if is_second(line.value("print"), "text", "json")? {

@@ -4,7 +4,7 @@ ghost use Rattle.std.specs.Prelude.{◌≡◌, ◌≤◌, ℕ, List, IfOk, IfSom
 ghost use Rattle.memplan.specs.Post.{post_of, IsPost, post_answer};
 ghost use Rattle.memplan.specs.Judged.{IsReported};
 ghost use Rattle.memplan.specs.Pages.{answer_of};
-ghost use Rattle.memplan.specs.Request.{HasWorkers, post};
+ghost use Rattle.memplan.specs.Request.{IsInRange, post};
 ghost use Rattle.memplan.specs.RequestViews.{tree_input_view, request_view};
 
 use crate::inputs::judge_tree;
@@ -22,7 +22,7 @@ use tree_input::Tree;
 /// `post` and a tree or a matrix.
 pub fn post_of<'a>(line: &Line<'a>) -> Option<Request<'a>>
     ensures value { option_map request_view result ≡ post_of line.now.options }
-    ensures workers { IfSome result (λ request. HasWorkers (request_view request)) }
+    ensures range { IfSome result (λ request. IsInRange (request_view request)) }
 {
     let input = tree_input_of(line)?;
     Some(Request::Post(input))

@@ -4,7 +4,7 @@ ghost use Rattle.std.specs.Prelude.{◌≡◌, ◌≤◌, ℕ, List, [], IfOk, I
 ghost use Rattle.memplan.specs.Replay.{replay_of, IsReplayAnswer};
 ghost use Rattle.memplan.specs.Judged.{IsReported};
 ghost use Rattle.memplan.specs.Pages.{answer_of};
-ghost use Rattle.memplan.specs.Request.{HasWorkers, replay};
+ghost use Rattle.memplan.specs.Request.{IsInRange, replay};
 ghost use Rattle.memplan.specs.RequestViews.{input_view, source_view, request_view};
 ghost use Rattle.least_peak.specs.Problem.{system_of};
 
@@ -29,7 +29,7 @@ pub struct Replay<'a> {
 /// `replay`, an input, and `--order NAME` or `--plan NAME`.
 pub fn replay_of<'a>(line: &Line<'a>) -> Option<Request<'a>>
     ensures value { option_map request_view result ≡ replay_of line.now.options }
-    ensures workers { IfSome result (λ request. HasWorkers (request_view request)) }
+    ensures range { IfSome result (λ request. IsInRange (request_view request)) }
 {
     let input = input_of(line)?;
     let source = source_of(line.value("order"), line.value("plan"))?;

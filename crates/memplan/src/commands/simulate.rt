@@ -8,7 +8,7 @@ ghost use Rattle.mp_text.specs.Report.{is_token, is_line_start, line_text, text_
 ghost use Rattle.memplan.specs.Simulate.{simulate_of, IsSimulation, IsPrintedRun, event_word as event_text, event_line, report_lines};
 ghost use Rattle.memplan.specs.Judged.{AreJudged, IsReported, IsPriorityOf, IsRefusedRanking, IsRanking, priority_beside, numbers_of};
 ghost use Rattle.memplan.specs.Pages.{answer_of};
-ghost use Rattle.memplan.specs.Request.{AreWorkers, HasWorkers, Input as AnyInput, simulate as simulation, priority_files};
+ghost use Rattle.memplan.specs.Request.{AreWorkers, IsInRange, Input as AnyInput, simulate as simulation, priority_files};
 ghost use Rattle.memplan.specs.RequestViews.{input_view, source_view, simulation_view, request_view};
 ghost use Rattle.memplan.specs.declared.status.Status.TheVariants.{Done};
 
@@ -45,7 +45,7 @@ pub struct Simulation<'a> {
 /// `simulate`, an input, an order of its tasks, and the bound, the workers and the priority of its run.
 pub fn simulate_of<'a>(line: &Line<'a>) -> Option<Request<'a>>
     ensures value { option_map request_view result ≡ simulate_of line.now.options }
-    ensures workers { IfSome result (λ request. HasWorkers (request_view request)) }
+    ensures range { IfSome result (λ request. IsInRange (request_view request)) }
 {
     let input = input_of(line)?;
     let source = source_of(line.value("order"), line.value("plan"))?;

@@ -4,7 +4,7 @@ ghost use Rattle.std.specs.Prelude.{◌≡◌, ◌≤◌, ℕ, List, IfOk, IfSom
 ghost use Rattle.memplan.specs.Tree.{tree_request_of, tree_answer};
 ghost use Rattle.memplan.specs.Judged.{IsReported};
 ghost use Rattle.memplan.specs.Pages.{answer_of};
-ghost use Rattle.memplan.specs.Request.{HasWorkers, tree};
+ghost use Rattle.memplan.specs.Request.{IsInRange, tree};
 ghost use Rattle.memplan.specs.RequestViews.{matrix_view, request_view};
 
 use crate::inputs::judge_matrix;
@@ -20,7 +20,7 @@ use tree_input::{Tree, print_tree};
 /// `tree` and a matrix.
 pub fn tree_request_of<'a>(line: &Line<'a>) -> Option<Request<'a>>
     ensures value { option_map request_view result ≡ tree_request_of line.now.options }
-    ensures workers { IfSome result (λ request. HasWorkers (request_view request)) }
+    ensures range { IfSome result (λ request. IsInRange (request_view request)) }
 {
     let matrix = matrix_of(line.value("matrix")?, line)?;
     Some(Request::Tree(matrix))

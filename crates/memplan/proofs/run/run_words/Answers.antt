@@ -1,5 +1,5 @@
 use Rattle.std.proofs.Common.{◌≡◌, ◌∙◌, [], map, string_bytes, Some, sym, ap, subst, option_map}
-use Rattle.memplan.specs.Request.{Request, HasWorkers, files_of, check, planning, simulate, demo}
+use Rattle.memplan.specs.Request.{Request, IsInRange, files_of, check, planning, simulate, demo}
 use Rattle.memplan.specs.Commands.{request_of}
 use Rattle.memplan.specs.RequestViews.{request_view}
 use Rattle.memplan.specs.Clauses.{AreQuiet}
@@ -70,7 +70,7 @@ returns-in-Ok-clause-simulated g c = λ done input source s has texts are.
     let answering = reported told mine answer c.in-Ok.ensures.told in
     let whole = c.written.ensures.whole (rw done tt) in
     let asked : mine ≡ simulate input source s = cc (sym has_mine ∙ has) in
-    let workers = subst HasWorkers asked (rw c.in-Ok-Some.field-0-is at c.in-Ok-Some.ensures.workers) in
+    let workers = subst IsInRange asked (rw c.in-Ok-Some.field-0-is at c.in-Ok-Some.ensures.range) in
     (answer.text, c.what_answers_say.ensures.simulated input source s texts answer workers.0 (says told mine answer answering (simulate input source s) asked texts are) (sym whole.0 ∙ done), whole.1)
 
 pub returns-in-Err-Refused-clause-answered : goal.returns-in-Err-Refused-clause-answered
@@ -126,7 +126,7 @@ returns-in-Err-Refused-clause-simulated g c = λ done input source s has texts a
     let answering = was_refused told mine answer (rw c.in-Err-Refused.field-0-is at c.in-Err-Refused.ensures.told) in
     let whole = c.written-in-Err-Refused.ensures.whole (rw done tt) in
     let asked : mine ≡ simulate input source s = cc (sym has_mine ∙ has) in
-    let workers = subst HasWorkers asked (rw c.in-Ok-Some.field-0-is at c.in-Ok-Some.ensures.workers) in
+    let workers = subst IsInRange asked (rw c.in-Ok-Some.field-0-is at c.in-Ok-Some.ensures.range) in
     (answer.text, c.what_answers_say.ensures.simulated input source s texts answer workers.0 (says told mine answer answering (simulate input source s) asked texts are) (sym whole.0 ∙ done), whole.1)
 
 pub returns-in-Ok-clause-shown : goal.returns-in-Ok-clause-shown
