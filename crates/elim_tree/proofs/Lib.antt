@@ -13,3 +13,4 @@ pub mod OnePostorder
 pub mod PermCounts
 pub mod Reorderings
 pub mod Renumberings
+pub mod Postordered

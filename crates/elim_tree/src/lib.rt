@@ -13,7 +13,7 @@ mod tree;
 
 pub use parents::Parents;
 pub use postordering::postorder;
-pub use renumbering::{Numbered, renumber};
+pub use renumbering::{Numbered, postordered_etree, renumber};
 use std::alloc::AllocError;
 pub use tree::etree;
 

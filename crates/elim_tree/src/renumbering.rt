@@ -1,15 +1,19 @@
 ghost use Rattle.std.specs.Prelude.{◌≡◌, ℕ, ◌+◌, ◌≤◌, Bool, length, map, IfOk};
 ghost use Rattle.std.specs.List.{range_with_len};
 ghost use Rattle.limits.specs.Limits.{most_order};
+ghost use Rattle.matrix_market.specs.Pattern.{is_joined};
 ghost use Rattle.ordering.specs.Fill.{IsAdjacency, parents_of, renumbered};
 ghost use Rattle.ordering.specs.Perm.{vertex_at, place_of};
 ghost use Rattle.elim_tree.specs.Paths.{IsWithin};
-ghost use Rattle.elim_tree.specs.Postorders.{IsPostorder, IsNumberedInPostorder};
+ghost use Rattle.elim_tree.specs.Postorders.{IsPostorder, IsPostordered, IsNumberedInPostorder};
 ghost use Rattle.elim_tree.specs.Trees.{parent_at};
 
 use crate::NoMemory;
 use crate::laws::reordering;
 use crate::parents::Parents;
+use crate::postordering::postorder;
+use crate::tree::etree;
+use matrix_market::Pattern;
 use ordering::Perm;
 use ordering::laws::places_are_inverse;
 use std::alloc::Global;
@@ -108,4 +112,25 @@ pub fn renumber(
     let perm = order_along(alloc, perm, post)?;
     let parents = tree_along(alloc, parents, post)?;
     Ok(Numbered { perm, parents })
+}
+
+/// The order of elimination along the postorder of its elimination tree, and the elimination tree of this new order, numbered in postorder.
+/// Nothing else fills in than in the old order (`laws::reordering`). Near linear in the entries: `etree`, `postorder`, `renumber`.
+/// Liu 1990.
+pub fn postordered_etree(
+    alloc: Global,
+    pattern: &Pattern,
+    perm: &Perm,
+) -> Result<Numbered, NoMemory>
+    requires { length perm.now ≡ length pattern.now }
+    ensures len { IfOk result (λ numbered. length numbered.perm ≡ length pattern.now) }
+    ensures order { IfOk result (λ numbered. IsPostordered (is_joined pattern.now) perm.now numbered.perm) }
+    ensures tree { IfOk result (λ numbered.
+        numbered.parents ≡ parents_of (renumbered (is_joined pattern.now) numbered.perm) (length numbered.perm)) }
+    ensures in_postorder { IfOk result (λ numbered. IsNumberedInPostorder numbered.parents) }
+{
+    pattern.keeps();
+    let parents = etree(alloc, pattern, perm)?;
+    let post = postorder(alloc, &parents)?;
+    renumber(alloc, perm, &parents, &post)
 }

@@ -2,7 +2,7 @@
 
 ghost use Rattle.std.specs.Prelude.{◌≡◌, length, IfOk};
 
-use crate::{Parents, etree, postorder, renumber};
+use crate::{Numbered, Parents, etree, postorder, postordered_etree, renumber};
 use matrix_market::{Pattern, read_pattern};
 use mp_text::{Report, Token};
 use ordering::{Perm, read_perm};
@@ -202,5 +202,20 @@ fn trees_by_hand_and_their_postorders(rt: HostRuntime) -> Result<(), Fail> {
         };
         check_row(&rt, rt.alloc(), row)?;
     }
+    Ok(())
+}
+
+// Column 4 has the children 2 and 3, and 3 the child 1, which comes after 2.
+#[test]
+fn an_order_along_the_postorder(rt: HostRuntime) -> Result<(), Fail> {
+    let alloc = rt.alloc();
+    let pattern = pattern_of(alloc, &[(1, 2), (1, 3), (2, 4)])?;
+    let perm = order_of(alloc, [4, 3, 2, 1])?;
+    assert_eq!(rt; perm.len(), pattern.order());
+    let Numbered { perm, parents } = postordered_etree(alloc, &pattern, &perm)?;
+    assert_eq!(rt; perm.len(), 4);
+    assert_eq!(rt; vertices(&perm), [3, 4, 2, 1]);
+    assert_eq!(rt; parents.len(), 4);
+    assert_eq!(rt; parents_in(&parents), [4, 3, 4, 0]);
     Ok(())
 }
