@@ -6,8 +6,8 @@ use crate::options::FrontOptions;
 use assembly_tree::laws::counts_of_fill;
 use assembly_tree::{Assembly, amalgamate, fronts, supernodes};
 use column_counts::counts;
-use elim_tree::laws::{pattern_of_rows, renumbered_pattern};
-use elim_tree::{etree, postorder, renumber};
+use elim_tree::laws::renumbered_pattern;
+use elim_tree::postordered_etree;
 use matrix_market::Pattern;
 use ordering::Perm;
 use std::alloc::Global;
@@ -35,13 +35,10 @@ pub fn front_tree(
     requires { length perm.now ≡ length pattern.now }
     ensures { IfOk result (IsFrontTree options pattern.now perm.now) }
 {
-    pattern_of_rows();
     renumbered_pattern();
     counts_of_fill();
     pattern.keeps();
-    let parents = etree(alloc, pattern, perm)?;
-    let post = postorder(alloc, &parents)?;
-    let numbered = renumber(alloc, perm, &parents, &post)?;
+    let numbered = postordered_etree(alloc, pattern, perm)?;
     let counts = counts(alloc, pattern, &numbered.perm, &numbered.parents)?;
     let assembly = supernodes(alloc, &numbered.parents, &counts)?;
     let merged = relaxed(alloc, assembly, options.zeros)?;

@@ -1,39 +1,25 @@
-use Rattle.std.proofs.Common.{◌∙◌, length}
+use Rattle.std.proofs.Common.{◌∙◌, length, sym}
 use Rattle.std.proofs.lemmas.Result.{IfOk-weaker}
 use Rattle.symbolic.specs.FrontTree.{columns}
-use Rattle.symbolic.proofs.FrontTreeLemmas.{parents-length, new-length, carried, new-counts, front-tree}
+use Rattle.symbolic.proofs.FrontTreeLemmas.{column-counts, front-tree}
 use Rattle.symbolic.proofs.analysis.front_tree.Goals as goal
-
-pub renumber-requires-clause-len : goal.renumber-requires-clause-len
-renumber-requires-clause-len c = parents-length c.args.pattern.now c.args.perm.now c.in_ok-parents.parents c.in_ok-post.post c.in_ok-parents.ensures c.in_ok-post.ensures
-
-pub counts-requires-clause-len : goal.counts-requires-clause-len
-counts-requires-clause-len c =
-    new-length c.args.pattern.now c.args.perm.now c.in_ok-parents.parents c.in_ok-post.post c.in_ok-parents.ensures c.in_ok-post.ensures c.in_ok-numbered.numbered.perm c.in_ok-numbered.ensures.order ∙ c.requires
-
-pub counts-requires-clause-tree : goal.counts-requires-clause-tree
-counts-requires-clause-tree c =
-    let rows = c.args.pattern.now in
-    carried rows c.args.perm.now c.in_ok-parents.parents c.in_ok-post.post c.in_ok-parents.ensures c.in_ok-post.ensures c.in_ok-numbered.numbered.perm c.in_ok-numbered.numbered.parents c.in_ok-numbered.ensures.order c.requires
-    (c.pattern_of_rows.ensures.pattern rows c.keeps.ensures) (c.pattern_of_rows.ensures.within rows c.keeps.ensures) c.in_ok-numbered.ensures.tree
 
 pub supernodes-requires : goal.supernodes-requires
 supernodes-requires c =
     let rows = c.args.pattern.now in
-    let perm = c.in_ok-numbered.numbered.perm in
-    let tree = carried rows c.args.perm.now c.in_ok-parents.parents c.in_ok-post.post c.in_ok-parents.ensures c.in_ok-post.ensures perm c.in_ok-numbered.numbered.parents c.in_ok-numbered.ensures.order c.requires
-    (c.pattern_of_rows.ensures.pattern rows c.keeps.ensures) (c.pattern_of_rows.ensures.within rows c.keeps.ensures) c.in_ok-numbered.ensures.tree in
-    new-counts rows c.args.perm.now c.in_ok-parents.parents c.in_ok-post.post c.in_ok-parents.ensures c.in_ok-post.ensures perm c.in_ok-numbered.numbered.parents c.deref.result.now
-    c.in_ok-numbered.ensures.order tree (c.deref.ensures.value ∙ c.in_ok-counts.ensures)
-    (c.counts_of_fill.ensures (columns rows perm) (length perm) (c.renumbered_pattern.ensures.pattern rows perm c.keeps.ensures) (c.renumbered_pattern.ensures.within rows perm c.keeps.ensures))
+    let numbered = c.in_ok-numbered.numbered in
+    let fill = c.renumbered_pattern.ensures in
+    column-counts rows numbered.perm numbered.parents c.deref.result.now c.in_ok-numbered.ensures.tree
+    (c.deref.ensures.value ∙ c.in_ok-counts.ensures)
+    (c.counts_of_fill.ensures (columns rows numbered.perm) (length numbered.perm)
+    (fill.pattern rows numbered.perm c.keeps.ensures) (fill.within rows numbered.perm c.keeps.ensures))
 
 pub returns : goal.returns
 returns c =
-    let rows = c.args.pattern.now in
-    let perm = c.in_ok-numbered.numbered.perm in
-    let tree = carried rows c.args.perm.now c.in_ok-parents.parents c.in_ok-post.post c.in_ok-parents.ensures c.in_ok-post.ensures perm c.in_ok-numbered.numbered.parents c.in_ok-numbered.ensures.order c.requires
-    (c.pattern_of_rows.ensures.pattern rows c.keeps.ensures) (c.pattern_of_rows.ensures.within rows c.keeps.ensures) c.in_ok-numbered.ensures.tree in
+    let numbered = c.in_ok-numbered.numbered in
+    let is = c.in_ok-numbered.ensures in
     IfOk-weaker c.fronts.result _ _
-    (λ nodes is. front-tree rows c.args.perm.now c.in_ok-parents.parents c.in_ok-post.post c.in_ok-parents.ensures c.in_ok-post.ensures perm c.in_ok-numbered.numbered.parents c.deref.result.now
-    c.in_ok-numbered.ensures.order tree (c.deref.ensures.value ∙ c.in_ok-counts.ensures) c.args.options c.in_ok-assembly.assembly c.in_ok-merged.merged nodes c.in_ok-assembly.ensures c.in_ok-merged.ensures is)
+    (λ nodes are_fronts. front-tree c.args.pattern.now numbered.perm numbered.parents c.deref.result.now is.tree
+    (c.deref.ensures.value ∙ c.in_ok-counts.ensures) c.args.options c.args.perm.now is.order (is.len ∙ sym c.requires)
+    c.in_ok-assembly.assembly c.in_ok-merged.merged nodes c.in_ok-assembly.ensures c.in_ok-merged.ensures are_fronts)
     c.fronts.ensures
