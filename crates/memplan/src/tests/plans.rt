@@ -5,14 +5,16 @@ use super::{
     Texts, check_cases, check_run, files_of, run_into,
 };
 use crate::Status::Done;
+use mp_gen::{gen_tree, gen_workflow};
 use mp_outside::{MemFiles, MemSink};
-use rand_core::utils::NextWord;
-use rand_pcg::Pcg32;
+use mp_text::Report;
+use sp_terms::print_workflow;
 use std::alloc::{AllocError, Global};
 use std::process::Abort;
 use std::str;
 use std::test::Fail;
 use std::thread::Threads;
+use tree_input::print_tree;
 
 // The peak that a plan states.
 fn peak_of(plan: &[u8]) -> Option<&str> {
@@ -93,50 +95,22 @@ fn plans_as_files_and_as_json(rt: HostRuntime) -> Result<(), Fail> {
 
 // ---- random inputs
 
-// A number below `below`.
-fn next(dice: &mut Pcg32, below: u64) -> u64 {
-    u64::from(dice.next_word()) % below.max(1)
-}
-
-// A random tree: the parent of a node is one of the few nodes after it, or none.
-fn random_tree(alloc: Global, dice: &mut Pcg32, nodes: u64) -> Result<String, Fail> {
-    let mut text = format!(in alloc; "tree 1\nnodes {nodes}\n")?;
-    for node in 1..=nodes {
-        let up = node.saturating_add(next(dice, 12));
-        let parent = if node < up && up <= nodes { up } else { 0 };
-        let line = format!(in alloc; "{parent} {} {} 1\n", next(dice, 40), next(dice, 60))?;
-        text.push_str(&line)?;
-    }
-    text.push_str("end\n")?;
-    Ok(text)
-}
-
-// A random workflow: so many branches of a few tasks, side by side in pairs, with a task after each pair but the last.
-fn random_workflow(alloc: Global, dice: &mut Pcg32, branches: u64) -> Result<String, Fail> {
-    let mut body = format!(in alloc; "data {}\n", next(dice, 40))?;
-    let mut tasks = 0u64;
-    for _ in 1..branches {
-        let size = next(dice, 40);
-        let line = format!(in alloc;
-            "data {}\ndata {size}\ntask {} 1\npar 2\ndata {}\ntask {} 1\n",
-            next(dice, 40),
-            next(dice, 60),
-            next(dice, 40),
-            next(dice, 60)
-        )?;
-        body.push_str(&line)?;
-        tasks = tasks.saturating_add(2);
-    }
-    Ok(format!(in alloc; "workflow 1\ntasks {tasks}\n{body}end\n")?)
+// Files of a tree and a workflow that a seed makes.
+fn made_files(alloc: Global, seed: u64) -> Result<MemFiles, Fail> {
+    let mut files = MemFiles::new(alloc)?;
+    let mut text = Report::new(alloc);
+    print_tree(&gen_tree(alloc, seed, 300)?, &mut text)?;
+    files.put("t", text.bytes())?;
+    let mut text = Report::new(alloc);
+    print_workflow(&gen_workflow(alloc, seed, 300)?, &mut text)?;
+    files.put("w", text.bytes())?;
+    Ok(files)
 }
 
 #[test]
 fn plans_of_random_trees_and_workflows(rt: HostRuntime) -> Result<(), Fail> {
-    let mut dice = Pcg32::new(11, 11);
-    for _ in 0..20 {
-        let mut files = MemFiles::new(rt.alloc())?;
-        files.put("t", random_tree(rt.alloc(), &mut dice, 300)?.as_bytes())?;
-        files.put("w", random_workflow(rt.alloc(), &mut dice, 150)?.as_bytes())?;
+    for seed in 0..20 {
+        let mut files = made_files(rt.alloc(), seed)?;
         check_plan(&rt, rt.alloc(), "--tree t", &mut files, None)?;
         check_plan(&rt, rt.alloc(), "--workflow w", &mut files, None)?;
     }
