@@ -73,29 +73,37 @@ fn counts_by_elimination(alloc: Global, pattern: &Pattern, perm: &Perm) -> Resul
     Ok(line)
 }
 
-// A matrix file, by what stands below the banner.
-fn file_of(alloc: Global, matrix: &str) -> Result<String, Fail> {
-    Ok(format!(in alloc; "{BANNER}\n{matrix}")?)
-}
-
 // A pattern and an order of its vertices. The matrix is what stands below the banner.
 fn read(rt: &impl Abort, alloc: Global, matrix: &str, order: &str) -> Result<(Pattern, Perm), Fail>
     ensures { IfOk result (λ r. length r.1 ≡ length r.0) }
 {
-    let file = file_of(alloc, matrix)?;
+    let file = format!(in alloc; "{BANNER}\n{matrix}")?;
     let pattern = read_pattern(alloc, file.as_bytes())?;
     let perm = read_perm(alloc, order.as_bytes(), pattern.order())?;
     assert_eq!(rt; perm.len(), pattern.order());
     Ok((pattern, perm))
 }
 
-// The counts along the postorder, as a line, both ways, which agree with the plain elimination.
+// The order along the postorder, and the counts by it, both ways, which agree.
+fn counts_both_ways(
+    rt: &impl Abort,
+    alloc: Global,
+    pattern: &Pattern,
+    perm: &Perm,
+) -> Result<(Perm, Vec<u32>), Fail>
+    requires { length perm.now ≡ length pattern.now }
+{
+    let Numbered { perm, parents } = postordered_etree(alloc, pattern, perm)?;
+    let found = counts(alloc, pattern, &perm, &parents)?;
+    let marked = counts_by_marking(alloc, pattern, &perm, &parents)?;
+    assert_eq!(rt; found.as_slice(), marked.as_slice());
+    Ok((perm, found))
+}
+
+// The counts along the postorder, as a line, which is that of the plain elimination.
 fn counts_of(rt: &impl Abort, alloc: Global, matrix: &str, order: &str) -> Result<Report, Fail> {
     let (pattern, perm) = read(rt, alloc, matrix, order)?;
-    let Numbered { perm, parents } = postordered_etree(alloc, &pattern, &perm)?;
-    let found = counts(alloc, &pattern, &perm, &parents)?;
-    let marked = counts_by_marking(alloc, &pattern, &perm, &parents)?;
-    assert_eq!(rt; found.as_slice(), marked.as_slice());
+    let (perm, found) = counts_both_ways(rt, alloc, &pattern, &perm)?;
     let line = line_of(alloc, &found)?;
     let plain = counts_by_elimination(alloc, &pattern, &perm)?;
     assert_eq!(rt; line.bytes(), plain.bytes());
