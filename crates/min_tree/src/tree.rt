@@ -84,7 +84,7 @@ impl MinTree {
         self.nodes[self.leaves + place]
     }
 
-    /// Sets the number at this place.
+    /// Sets the number at this place. The way up ends at the first node that stays as it is.
     pub fn put(&mut self, place: usize, number: u64)
         requires { place < length self.old }
         ensures { self.new ≡ slice_set self.old place number }
@@ -92,8 +92,14 @@ impl MinTree {
         let mut at = self.leaves + place;
         self.nodes[at] = number;
         while at > 1 {
-            at /= 2;
-            self.nodes[at] = least_of_children(&self.nodes, at);
+            let up = at / 2;
+            let least = least_of_children(&self.nodes, up);
+            if self.nodes[up] == least {
+                at = 1;
+                continue;
+            }
+            self.nodes[up] = least;
+            at = up;
         }
     }
 

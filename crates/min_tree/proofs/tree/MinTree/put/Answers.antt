@@ -8,7 +8,7 @@ pub loop-at-preserved : goal.loop-at-preserved
 loop-at-preserved c =
     let f = c.loop-at.self-inside in
     let i = c.loop-at.invariant in
-    let least = rw c.deref.ensures.value at c.least_of_children.ensures in
+    let least = rw c.deref.ensures.value at c.least_of_children-least.ensures in
     record {
       depth = i.depth;
       width = i.width;
