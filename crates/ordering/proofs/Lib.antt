@@ -2,6 +2,7 @@ pub mod PlaceLemmas
 pub mod TableLemmas
 pub mod PermLemmas
 pub mod PermFileLemmas
+pub mod OneOrder
 pub mod IdentityLemmas
 pub mod FillLemmas
 pub mod InverseLemmas

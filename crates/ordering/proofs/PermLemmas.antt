@@ -1,11 +1,13 @@
 -- What makes a list a permutation: n vertices of n, none twice.
-use Rattle.std.proofs.Common.{◌≡◌, ℕ, zero, suc, ◌+◌, ◌<◌, ◌≤◌, Bool, cond, eqb, List, [], ◌∷◌, ◌++◌, length, get_or, inl, inr, refl, ap, subst, ◌∙◌, arith}
+use Rattle.std.proofs.Common.{◌≡◌, ℕ, zero, suc, ◌+◌, ◌<◌, ◌≤◌, Bool, cond, eqb, List, [], ◌∷◌, ◌++◌, length, take, drop, get_or, inl, inr, refl, ap, subst, ◌∙◌, arith}
 use Rattle.std.specs.List.{All}
 use Rattle.std.proofs.lemmas.Bool.{cases_eq, eq-eqb, ne_eqb}
 use Rattle.std.proofs.lemmas.List.Elements.{All-nil, All-head, All-tail, All-push}
-use Rattle.std.proofs.lemmas.List.Sums.{sum_by_push}
+use Rattle.std.proofs.lemmas.List.{get_or-drop, length-drop}
+use Rattle.std.proofs.lemmas.List.Sums.{sum_by_push, sum_by-take-drop}
+use Rattle.elimination.specs.Elimination.{IsLeft}
 use Rattle.ordering.specs.Perm.{IsVertex, IsPerm, vertex_at, place_of, times}
-use Rattle.ordering.proofs.PlaceLemmas.{times-here, times-beyond, place-vertex, place-at, place-none, times-none}
+use Rattle.ordering.proofs.PlaceLemmas.{times-here, times-beyond, place-vertex, place-at, place-none, times-none, times-at}
 
 -- one, where a test holds
 abbrev pub bit : Bool → ℕ
@@ -111,3 +113,29 @@ place_of_vertex n order perm zero le = place-none order 0 (nowhere n order perm.
 place_of_vertex n order perm (suc i) le =
     let lt : i < length order = omega (arith, perm.len) in
     place-at order i lt (perm.once (get_or order i 0) (perm.vertices i 0 lt))
+
+-- fewer than n of them leave some vertex out
+some_out : (n : ℕ) (xs : List ℕ) → total n xs < n → (w : ℕ) × IsLeft n xs w
+unfolding total
+some_out zero xs few = absurd (omega arith)
+some_out (suc n) xs few = elim (cases_eq (times xs (suc n)) 0) [
+  | inl none ↦ (suc n, ((omega arith, omega arith), none))
+  | inr some ↦ (let out = some_out n xs (omega arith) in let le = out.1.0.1 in (out.0, ((out.1.0.0, omega arith), out.1.1)))
+]
+
+pub some_left : (n : ℕ) (numbers : List ℕ) → IsPart n numbers → length numbers < n → (w : ℕ) × IsLeft n numbers w
+some_left n numbers part few = some_out n numbers (omega (arith, total-length n numbers part.vertices))
+
+-- a vertex of a permutation is not among those before it
+pub fresh_at : (n : ℕ) (order : List ℕ) → IsPerm n order → (k : ℕ) → k < n → times (take k order) (get_or order k 0) ≡ 0
+fresh_at n order perm k lt =
+    let len = perm.len in
+    let v = get_or order k 0 in
+    let once = perm.once v (perm.vertices k 0 (omega arith)) in
+    let parts = sum_by-take-drop (λ x. bit (eqb x v)) order k in
+    let at : get_or (drop k order) 0 0 ≡ v = get_or-drop k order 0 0 ∙ ap (λ i. get_or order i 0) plus_zero in
+    let here : 0 < times (drop k order) v = subst (λ x. 0 < times (drop k order) x) at (times-at (drop k order) 0 (omega (arith, length-drop k order))) in
+    omega (arith, once, parts, here)
+  where
+    plus_zero : k + 0 ≡ k
+    plus_zero = omega arith

@@ -8,9 +8,10 @@ use Rattle.mp_text.specs.Text.{Row}
 use Rattle.mp_text.specs.Grammar.{Test, tests_of_all, ArePassed}
 use Rattle.mp_text.specs.Reading.{steps_of_all, Follows}
 use Rattle.mp_text.specs.ReadingLaws.{Follows-weaker, tested-follows, Follows-steps_of_all}
-use Rattle.ordering.specs.OrderFile.{value_of, order_token_tests, tokens_of_rows, order_format, numbers_stated}
+use Rattle.ordering.specs.OrderFile.{value_of, order_token_tests, tokens_of_rows, order_format}
 use Rattle.ordering.specs.PermFile.{perm_token_tests, perm_count_tests, perm_format}
-use Rattle.ordering.specs.Reader.{number_step, order_step, took_order, PermState, vertex_step, perm_step, perm_end, took_perm}
+use Rattle.ordering.specs.PermTables.{PermState}
+use Rattle.ordering.specs.Reader.{number_step, order_step, took_order, vertex_step, perm_step, perm_end, took_perm}
 
 -- ---- lines whose tokens are taken one after another
 

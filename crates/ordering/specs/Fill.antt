@@ -5,21 +5,13 @@
 -- column j is the j-th, and both are counted from 1.
 use Rattle.std.specs.Prelude.{◌==◌, ℕ, zero, suc, ◌+◌, ◌-◌, ◌<◌, ◌≤◌, Bool, not, nat_lt, ◌&&◌, ◌||◌, IsTrue, List, find, unwrap_or, map}
 use Rattle.std.specs.List.{range_with_len, count_by}
+pub use Rattle.elimination.specs.Elimination.{IsAdjacency}
+unfoldable pub use Rattle.elimination.specs.Elimination.{eliminate}
 use Rattle.ordering.specs.Perm.{vertex_at}
-
--- pairs are unordered, and of different vertices; 0, which is no vertex, is in none of them
-pub record IsAdjacency (joined : ℕ → ℕ → Bool) : Type 0 where
-  pub symmetric : (a b : ℕ) → IsTrue (joined a b) → IsTrue (joined b a)
-  pub irreflexive : (a : ℕ) → ¬ (IsTrue (joined a a))
-  pub none_of_0 : (b : ℕ) → ¬ (IsTrue (joined 0 b))
 
 -- the pattern by columns: of the vertices in the order in which they are eliminated
 abbrev pub renumbered : (ℕ → ℕ → Bool) → List ℕ → ℕ → ℕ → Bool
 renumbered joined order a b = joined (vertex_at order a) (vertex_at order b)
-
--- the pattern without a vertex, whose neighbours are joined to each other
-unfoldable pub eliminate : (ℕ → ℕ → Bool) → ℕ → ℕ → ℕ → Bool
-eliminate joined v a b = not (a == v) && (not (b == v) && (joined a b || (not (a == b) && (joined v a && joined v b))))
 
 -- the pattern as column j is eliminated: each column below it was, from the lowest on. The lowest is 0, whose elimination changes nothing
 -- among the others: it is joined to none.

@@ -5,4 +5,5 @@ pub mod PermTables
 pub mod PermFile
 pub mod Kinds
 pub mod Fill
+pub mod MinimumDegree
 pub mod Samples

@@ -1,7 +1,8 @@
 -- Permutations: the order in which the vertices of a matrix are eliminated. The vertices of n are 1 to n, and a permutation lists each of
 -- them once: the k-th is the one that is eliminated k-th. Places are counted from 1 too, and 0 is no place and no vertex.
-use Rattle.std.specs.Prelude.{◌≡◌, ◌==◌, ℕ, zero, suc, ◌+◌, ◌<◌, ◌≤◌, List, length, slice_index, slice_index_or, Option, Some, None}
-use Rattle.std.specs.List.{All, count_by, position}
+use Rattle.std.specs.Prelude.{◌≡◌, ◌==◌, ℕ, zero, suc, ◌+◌, ◌<◌, List, length, slice_index, slice_index_or, Option, Some, None}
+use Rattle.std.specs.List.{All, position}
+pub use Rattle.elimination.specs.Elimination.{IsVertex, times}
 
 -- the vertex at a place
 abbrev pub vertex_at : List ℕ → ℕ → ℕ
@@ -16,13 +17,6 @@ place_after (Some i) = i + 1
 -- the place of a vertex: the first at which it stands
 abbrev pub place_of : List ℕ → ℕ → ℕ
 place_of order v = place_after (position (λ x. x == v) order)
-
--- how often a vertex stands in a list
-abbrev pub times : List ℕ → ℕ → ℕ
-times order v = count_by (λ x. x == v) order
-
-abbrev pub IsVertex : ℕ → ℕ → Type 0
-IsVertex n v = (1 ≤ v) × (v ≤ n)
 
 -- the list has n vertices, nothing else, and each of them once
 pub record IsPerm (n : ℕ) (order : List ℕ) : Type 0 where

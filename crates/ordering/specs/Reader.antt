@@ -5,6 +5,7 @@ use Rattle.mp_text.specs.declared.refusals.Refusal.{Refusal}
 use Rattle.mp_text.specs.Text.{Row}
 use Rattle.mp_text.specs.Reading.{tested, steps_of_all}
 use Rattle.ordering.specs.OrderFile.{value_of, order_token_tests, numbers_stated}
+use Rattle.ordering.specs.PermTables.{PermState}
 use Rattle.ordering.specs.PermFile.{perm_token_tests, perm_count_tests}
 use Rattle.ordering.specs.declared.order_file.OrderFileKind.{OrderFileKind}
 use Rattle.ordering.specs.declared.perm_file.PermKind.{PermKind}
@@ -21,11 +22,7 @@ order_step numbers row = steps_of_all (number_step row.number) numbers row.token
 abbrev pub took_order : List ℕ → List Row → Type 0
 took_order numbers rows = numbers ≡ numbers_stated rows
 
--- ---- permutation files: how many vertices there are, and the numbers so far
-
-pub record PermState : Type 0 where
-  pub n : ℕ
-  pub numbers : List ℕ
+-- ---- permutation files: the order so far
 
 unfoldable pub vertex_step : ℕ → PermState → List ℕ → Result PermState (Refusal PermKind)
 vertex_step line s token = tested (perm_token_tests s.n line s.numbers token) (record s { numbers = s.numbers ++ value_of token ∷ [] })

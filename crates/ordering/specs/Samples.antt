@@ -1,8 +1,10 @@
 -- No public clause names this.
--- Worked examples of the fill: parents and counts of small patterns.
+-- Worked examples: parents and counts of small patterns, and minimum degree orders.
 use Rattle.std.specs.Prelude.{◌≡◌, ◌==◌, ℕ, Bool, true, false, ◌&&◌, ◌||◌, List, [], ◌∷◌, map, refl}
 use Rattle.std.specs.List.{range_with_len, list_any}
 use Rattle.ordering.specs.Perm.{vertex_at, place_of}
+use Rattle.elimination.specs.Elimination.{eliminated, degree_of}
+use Rattle.ordering.specs.MinimumDegree.{plain_order}
 use Rattle.ordering.specs.Fill.{eliminate, graph_at, filled, structure_of, renumbered, parents_of, counts_of}
 
 -- the pattern of some pairs
@@ -66,3 +68,31 @@ grid_columns = refl
 pub grid_filled : filled grid 2 2 3 ≡ true
 unfolding filled
 grid_filled = refl
+
+-- ---- minimum degree
+
+-- the arrow: its middle goes third, when it has one neighbour left, since it has the lower number
+pub arrow_order : plain_order arrow 4 ≡ turned
+unfolding eliminate
+arrow_order = refl
+
+-- the grid, step by step: how many neighbours each vertex has once these were eliminated
+abbrev pub degrees_after : List ℕ → List ℕ
+degrees_after gone = map (degree_of (eliminated grid gone) 4) (range_with_len 1 4)
+
+pub grid_degrees : map degrees_after ([] ∷ (1 ∷ []) ∷ (1 ∷ 2 ∷ []) ∷ (1 ∷ 2 ∷ 3 ∷ []) ∷ [])
+    ≡ (2 ∷ 2 ∷ 2 ∷ 2 ∷ []) ∷ (0 ∷ 2 ∷ 2 ∷ 2 ∷ []) ∷ (0 ∷ 0 ∷ 1 ∷ 1 ∷ []) ∷ (0 ∷ 0 ∷ 0 ∷ 0 ∷ []) ∷ []
+unfolding eliminate
+grid_degrees = refl
+
+pub grid_order : plain_order grid 4 ≡ 1 ∷ 2 ∷ 3 ∷ 4 ∷ []
+unfolding eliminate
+grid_order = refl
+
+-- a path of three, and a triangle that hangs on it: 1 - 2 - 3, and 3, 4 and 5 joined to each other
+abbrev pub kite : ℕ → ℕ → Bool
+kite = joined_by ((1, 2) ∷ (2, 3) ∷ (3, 4) ∷ (3, 5) ∷ (4, 5) ∷ [])
+
+pub kite_order : plain_order kite 5 ≡ 1 ∷ 2 ∷ 3 ∷ 4 ∷ 5 ∷ []
+unfolding eliminate
+kite_order = refl

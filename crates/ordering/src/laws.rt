@@ -1,8 +1,9 @@
-//! Laws of order files, permutation files, permutations and the fill: what holds of each, without a call.
+//! Laws of order files, permutation files, permutations, the fill and the minimum degree order: what holds of each, without a call.
 
 ghost use Rattle.std.specs.Prelude.{◌≡◌, ◌≤◌, ◌⊎◌, ℕ, Bool, List};
 ghost use Rattle.mp_text.specs.declared.refusals.Refusal.{Refusal};
 ghost use Rattle.ordering.specs.Fill.{IsAdjacency, graph_at, filled, parent_of, IsParent};
+ghost use Rattle.ordering.specs.MinimumDegree.{IsMinimumDegreeOrder, plain_order};
 ghost use Rattle.ordering.specs.OrderFile.{ReadsOrder, RefusesOrder};
 ghost use Rattle.ordering.specs.Perm.{IsPerm, vertex_at, place_of};
 ghost use Rattle.ordering.specs.PermFile.{ReadsPerm, RefusesPerm};
@@ -64,4 +65,11 @@ pub fn nothing_of_0()
 pub fn parent_is_first()
     ensures parent { (joined : ℕ → ℕ → Bool) (n j : ℕ) → IsParent joined n j (parent_of joined n j) }
     ensures one { (joined : ℕ → ℕ → Bool) (n j p q : ℕ) → IsParent joined n j p → IsParent joined n j q → p ≡ q }
+{}
+
+/// A pattern has one minimum degree order: the one that is made the plain and slow way.
+pub fn one_minimum_degree_order()
+    ensures some { (joined : ℕ → ℕ → Bool) (n : ℕ) → IsMinimumDegreeOrder joined n (plain_order joined n) }
+    ensures one { (joined : ℕ → ℕ → Bool) (n : ℕ) (one two : List ℕ) →
+        IsMinimumDegreeOrder joined n one → IsMinimumDegreeOrder joined n two → one ≡ two }
 {}

@@ -1,7 +1,7 @@
-ghost use Rattle.std.specs.Prelude.{◌≡◌, ℕ, ◌+◌, ◌≤◌, ◌^◌, List, length, drop, slice_index, IfOk};
+ghost use Rattle.std.specs.Prelude.{◌≡◌, ◌==◌, ℕ, ◌+◌, ◌<◌, ◌≤◌, ◌^◌, ◌++◌, ◌∷◌, [], not, List, length, drop, slice_index, IfOk, OnOk};
 ghost use Rattle.std.specs.List.{range_with_len};
-ghost use Rattle.ordering.specs.Perm.{AreInverse, IsPerm, vertex_at, place_of};
-ghost use Rattle.ordering.specs.PermTables.{order_in, ArePermTables};
+ghost use Rattle.ordering.specs.Perm.{AreInverse, IsPerm, IsVertex, vertex_at, place_of, times};
+ghost use Rattle.ordering.specs.PermTables.{order_in, ArePermTables, ArePartTables, PermState};
 
 pub(crate) use crate::NoMemory;
 use std::alloc::Global;
@@ -83,4 +83,79 @@ pub fn identity(alloc: Global, n: u32) -> Result<Perm, NoMemory>
     vertices.push(n)?;
     let places = vertices.clone()?;
     Ok(Perm { vertices, places })
+}
+
+/// The vertices that come first in an order of elimination of `n`.
+#[derive(Drop)]
+pub(crate) struct PartialPerm {
+    pub n: u32,
+    vertices: Vec<u32>,
+    places: Vec<u32>,
+}
+
+impl Model for PartialPerm {
+    ghost Value = { PermState };
+
+    ghost view = { λ s. record { n = s.n; numbers = order_in s.vertices.items } };
+
+    ghost invariant = { λ s. ArePartTables s.n s.vertices.items s.places.items };
+}
+
+impl PartialPerm {
+    /// None yet, of n vertices.
+    pub fn new(alloc: Global, n: u32) -> Result<PartialPerm, NoMemory>
+        ensures { IfOk result (λ reader. reader ≡ record { n = n; numbers = [] }) }
+    {
+        let mut vertices = Vec::with_capacity(alloc, n as usize + 1)?;
+        vertices.push(0)?;
+        let places = vec![in alloc; 0; n as usize + 1]?;
+        Ok(PartialPerm {
+            n,
+            vertices,
+            places,
+        })
+    }
+
+    /// Whether a vertex stands in the order so far.
+    #[tactic(auto, using(crate::proofs::PlaceLemmas::times_test))]
+    pub fn has(&self, vertex: u32) -> bool
+        requires { IsVertex self.now.n vertex }
+        ensures { result ≡ not (times self.now.numbers vertex == 0) }
+    {
+        self.places[vertex as usize] != 0
+    }
+
+    /// How many vertices the order has so far.
+    pub fn len(&self) -> usize
+        ensures { result ≡ length self.now.numbers }
+    {
+        self.vertices.len() - 1
+    }
+
+    /// Puts a vertex at the end of the order.
+    #[tactic(auto, using(crate::proofs::TableLemmas::order_push))]
+    pub fn push(&mut self, vertex: u32) -> Result<(), NoMemory>
+        requires room { length self.old.numbers < self.old.n }
+        requires vertex { IsVertex self.old.n vertex }
+        requires fresh { times self.old.numbers vertex ≡ 0 }
+        ensures { OnOk result (self.new ≡ record self.old { numbers = self.old.numbers ++ vertex ∷ [] }) }
+    {
+        let place = self.vertices.len() as u32;
+        self.vertices.push(vertex)?;
+        self.places[vertex as usize] = place;
+        Ok(())
+    }
+
+    /// The order, where it has just the vertices up to as many.
+    pub fn finish(self) -> Perm
+        requires { IsPerm (length self.numbers) self.numbers }
+        ensures { result ≡ self.numbers }
+    {
+        let PartialPerm {
+            vertices,
+            places,
+            ..
+        } = self;
+        Perm { vertices, places }
+    }
 }

@@ -5,10 +5,9 @@ ghost use Rattle.ordering.specs.Kinds.{perm_word};
 ghost use Rattle.ordering.specs.OrderFile.{value_of};
 ghost use Rattle.ordering.specs.Perm.{IsVertex, times};
 ghost use Rattle.ordering.specs.PermFile.{perm_token_tests, perm_format, ReadsPerm, IsPermRefusal};
-ghost use Rattle.ordering.specs.PermTables.{order_in, ArePartTables};
-ghost use Rattle.ordering.specs.Reader.{PermState, vertex_step, perm_step, perm_end, took_perm};
+ghost use Rattle.ordering.specs.Reader.{vertex_step, perm_step, perm_end, took_perm};
 
-use crate::perm::{NoMemory, Perm};
+use crate::perm::{PartialPerm, Perm};
 use mp_text::{Kind, Layout, Line, Reader, Refusal, fault, number, read_with, tokens};
 use std::alloc::Global;
 use std::fmt::{self, Display, Formatter, Write};
@@ -46,45 +45,7 @@ impl Display for PermKind {
     }
 }
 
-// The order that a file states so far, in the tables of a permutation.
-#[derive(Drop)]
-struct PermReader {
-    n: u32,
-    vertices: Vec<u32>,
-    places: Vec<u32>,
-}
-
-impl Model for PermReader {
-    ghost Value = { PermState };
-
-    ghost view = { λ s. record { n = s.n; numbers = order_in s.vertices.items } };
-
-    ghost invariant = { λ s. ArePartTables s.n s.vertices.items s.places.items };
-}
-
-impl PermReader {
-    fn new(alloc: Global, n: u32) -> Result<PermReader, NoMemory>
-        ensures { IfOk result (λ reader. reader ≡ record { n = n; numbers = [] }) }
-    {
-        let mut vertices = Vec::with_capacity(alloc, n as usize + 1)?;
-        vertices.push(0)?;
-        let places = vec![in alloc; 0; n as usize + 1]?;
-        Ok(PermReader {
-            n,
-            vertices,
-            places,
-        })
-    }
-
-    // Whether a vertex stands in the order so far.
-    #[tactic(auto, using(crate::proofs::PlaceLemmas::times_test))]
-    fn has(&self, vertex: u32) -> bool
-        requires { IsVertex self.now.n vertex }
-        ensures { result ≡ not (times self.now.numbers vertex == 0) }
-    {
-        self.places[vertex as usize] != 0
-    }
-
+impl PartialPerm {
     // The vertex that a token states, where it passes its tests.
     fn vertex(&self, line: u64, token: &[u8]) -> Result<u32, Refusal<PermKind>>
         ensures vertex { Gives (tested (perm_token_tests self.now.n line self.now.numbers token.now) (value_of token.now)) result }
@@ -93,7 +54,7 @@ impl PermReader {
         ensures fresh { IfOk result (λ v. times self.now.numbers v ≡ 0) }
     {
         let value = number(token).ok_or(fault(line, PermKind::Number))?;
-        if self.vertices.len() > self.n as usize {
+        if self.len() >= self.n as usize {
             return Err(fault(line, PermKind::Count));
         }
         if value < 1 || value > u64::from(self.n) {
@@ -112,9 +73,7 @@ impl PermReader {
         ensures { Steps (vertex_step line self.old token.now) result self.new }
     {
         let vertex = self.vertex(line, token)?;
-        let place = self.vertices.len() as u32;
-        self.vertices.push(vertex)?;
-        self.places[vertex as usize] = place;
+        self.push(vertex)?;
         Ok(())
     }
 
@@ -132,14 +91,14 @@ impl PermReader {
     fn take_end(&mut self, past: u64) -> Result<(), Refusal<PermKind>>
         ensures { Steps (perm_end self.old past) result self.new }
     {
-        if self.vertices.len() <= self.n as usize {
+        if self.len() < self.n as usize {
             return Err(fault(past, PermKind::Count));
         }
         Ok(())
     }
 }
 
-impl Reader for PermReader {
+impl Reader for PartialPerm {
     type Kind = PermKind;
 
     ghost format = { λ s. perm_format s.n };
@@ -159,11 +118,6 @@ impl Reader for PermReader {
 pub fn read_perm(alloc: Global, bytes: &[u8], n: u32) -> Result<Perm, Refusal<PermKind>>
     ensures { MatchResult result (λ perm. ReadsPerm n bytes.now perm) (IsPermRefusal n bytes.now) }
 {
-    let reader = read_with(bytes, Layout::Commented, PermReader::new(alloc, n)?)?;
-    let PermReader {
-        vertices,
-        places,
-        ..
-    } = reader;
-    Ok(Perm { vertices, places })
+    let order = read_with(bytes, Layout::Commented, PartialPerm::new(alloc, n)?)?;
+    Ok(order.finish())
 }

@@ -1,4 +1,6 @@
-use crate::{Perm, identity, read_order, read_perm};
+use crate::{MindegRefusal, Perm, identity, min_degree, read_order, read_perm};
+use matrix_market::{Pattern, read_pattern};
+use std::alloc::Global;
 use std::process::Abort;
 use std::test::Fail;
 
@@ -100,5 +102,40 @@ fn refused_permutation_files(rt: HostRuntime) -> Result<(), Fail> {
         let refusal = read_perm(alloc, text.as_bytes(), 4).err().ok_or(text)?;
         assert_eq!(rt; format!(in alloc; "{refusal}")?.as_str(), said, "{text}");
     }
+    Ok(())
+}
+
+// The pattern of a size line and the entries under it.
+fn pattern_of(alloc: Global, entries: &str) -> Result<Pattern, Fail> {
+    let text = format!(in alloc; "%%MatrixMarket matrix coordinate pattern symmetric\n{entries}")?;
+    Ok(read_pattern(alloc, text.as_bytes())?)
+}
+
+#[test]
+fn minimum_degree_orders(rt: HostRuntime) -> Result<(), Fail> {
+    // the arrow, the grid of 2 by 2, and no pairs: the vertices by place, and the places
+    let rows: [(&str, [u32; 4], [u32; 4]); 3] = [
+        ("4 4 3\n2 1\n3 1\n4 1\n", [2, 3, 1, 4], [3, 1, 2, 4]),
+        ("4 4 4\n2 1\n3 1\n4 2\n4 3\n", [1, 2, 3, 4], [1, 2, 3, 4]),
+        ("4 4 0\n", [1, 2, 3, 4], [1, 2, 3, 4]),
+    ];
+    for (entries, vertices, places) in rows {
+        let pattern = pattern_of(rt.alloc(), entries)?;
+        let order = min_degree(rt.alloc(), &pattern)?;
+        check_perm(&rt, &order, &vertices, &places, entries);
+    }
+    Ok(())
+}
+
+#[test]
+fn the_most_vertices_are_ordered_and_no_more(rt: HostRuntime) -> Result<(), Fail> {
+    let most = pattern_of(rt.alloc(), "50000 50000 0\n")?;
+    let order = min_degree(rt.alloc(), &most)?;
+    assert_eq!(rt; order.len(), 50_000);
+    let more = pattern_of(rt.alloc(), "50001 50001 0\n")?;
+    assert_eq!(rt;
+        min_degree(rt.alloc(), &more).err(),
+        Some(MindegRefusal::Limit)
+    );
     Ok(())
 }

@@ -1,0 +1,92 @@
+use Rattle.std.proofs.Common.{◌≡◌, inl, inr, ℕ, List, subst, sym, ap, ◌∙◌, IsTrue}
+use Rattle.std.proofs.lemmas.Bool.{cases_eq, both_ways}
+use Rattle.matrix_market.specs.Pattern.{has}
+use Rattle.elimination.specs.Elimination.{IsVertex}
+use Rattle.elimination.specs.Quotients.{Quotient, at, list_at}
+use Rattle.elimination.specs.Tables.{tables}
+use Rattle.elimination.specs.Turns.{CanGather, IsReleased}
+use Rattle.elimination.specs.Dense.{bit_in}
+use Rattle.elimination.specs.Switch.{AreGone, CanFill}
+use Rattle.elimination.proofs.search.Search.put_vertex.Goals as goal
+use Rattle.elimination.proofs.search.Search.put_vertex.Goals.{After-neighbours, In_ok-gather, After-release, In_ok-row, In_ok-put_group}
+
+stands : (c : After-neighbours) (q : Quotient) (gone : List ℕ) → CanFill c.args.pattern.now q gone (tables c.args.self.now)
+    → q.rep c.args.v ≡ c.args.v
+stands c q gone f = elim (cases_eq (q.rep c.args.v) c.args.v) [
+  | inl e ↦ e
+  | inr ne ↦ absurd (both_ways _ c.requires.v.2 (f.stand.hidden.marked c.args.v ne))
+]
+
+can_gather : (c : After-neighbours) (q : Quotient) (gone : List ℕ) → CanFill c.args.pattern.now q gone (tables c.args.self.now)
+    → CanGather q (tables c.args.self.now) c.args.v c.neighbours.result.now
+can_gather c q gone f = record {
+  stand = f.stand;
+  listed = record {
+    here = c.requires.v.1;
+    stands = stands c q gone f;
+    vertex = subst (λ n. IsVertex n c.args.v) (sym f.order) c.requires.v.0;
+    row = λ x. ap (λ z. has z x) c.neighbours.ensures ∙ f.joined c.args.v x;
+  };
+}
+
+pub gather-requires-clause-start : goal.gather-requires-clause-start
+gather-requires-clause-start c =
+    let start = c.requires.start in
+    (start.0, can_gather (goal.at.gather-requires-clause-start c).After-neighbours start.0 start.1 start.2)
+
+pub release-requires-clause-start : goal.release-requires-clause-start
+release-requires-clause-start c =
+    let start = c.requires.start in
+    let can = can_gather (goal.at.release-requires-clause-start c).After-neighbours start.0 start.1 start.2 in
+    (start.0, c.in_ok-gather.ensures.marked start.0 can)
+
+-- the neighbours are at hand
+released : (c : After-release) (q : Quotient) → CanGather q (tables c.args.self.now) c.args.v c.neighbours.result.now
+    → IsReleased q (tables c.release.new.self) c.args.v
+released c q can = c.release.ensures.released q (c.in_ok-gather.ensures.marked q can)
+
+-- who is gone is gone
+gone_still : (c : After-release) (gone : List ℕ) → AreGone (at c.args.self.now.turns.items) gone
+    → AreGone (at c.release.new.self.turns.items) gone
+gone_still c gone a = subst (λ z. AreGone (at z) gone) (sym (ap (λ v. v.items) (c.release.ensures.turns ∙ c.in_ok-gather.ensures.turns))) a
+
+pub full_row-requires-clause-start : goal.full_row-requires-clause-start
+full_row-requires-clause-start c =
+    let start = c.requires.start in
+    let can = can_gather (goal.at.full_row-requires-clause-start c).After-neighbours start.0 start.1 start.2 in
+    (start.0, released (goal.at.full_row-requires-clause-start c).After-release start.0 can)
+
+pub put_group-requires-clause-start : goal.put_group-requires-clause-start
+put_group-requires-clause-start c =
+    let start = c.requires.start in
+    let can = can_gather (goal.at.put_group-requires-clause-start c).After-neighbours start.0 start.1 start.2 in
+    let r = released (goal.at.put_group-requires-clause-start c).After-release start.0 can in
+    let a = gone_still (goal.at.put_group-requires-clause-start c).After-release start.1 start.2.gone_are in
+    (start.0, start.1, r, a, start.3, c.in_ok-row.ensures start.0 start.1 r a)
+
+pub returns-clause-stands : goal.returns-clause-stands
+returns-clause-stands c = λ q gone f.
+    let can = can_gather (goal.at.returns-clause-stands c).After-neighbours q gone f in
+    record {
+      stand = (released (goal.at.returns-clause-stands c).After-release q can).stand;
+      joined = f.joined;
+      order = f.order;
+      gone_are = gone_still (goal.at.returns-clause-stands c).After-release gone f.gone_are;
+    }
+
+pub returns-clause-filling : goal.returns-clause-filling
+returns-clause-filling c = λ q gone f filling.
+    let can = can_gather (goal.at.returns-clause-filling c).After-neighbours q gone f in
+    let r = released (goal.at.returns-clause-filling c).After-release q can in
+    let a = gone_still (goal.at.returns-clause-filling c).After-release gone f.gone_are in
+    c.in_ok-put_group.ensures.filling q gone r a filling (c.in_ok-row.ensures q gone r a)
+
+pub returns-clause-put : goal.returns-clause-put
+returns-clause-put c = λ q gone f x e.
+    let can = can_gather (goal.at.returns-clause-put c).After-neighbours q gone f in
+    let r = released (goal.at.returns-clause-put c).After-release q can in
+    elim (cases_eq (q.rep x) x) [
+      | inl same ↦ subst (λ z. IsTrue (bit_in c.put_group.new.dense.alive.items z)) (sym e ∙ same) c.in_ok-put_group.ensures.own
+      | inr ne ↦ c.in_ok-put_group.ensures.group x
+          (subst (λ z. IsTrue (has (list_at c.release.new.self.groups.items z) x)) e (r.stand.grouped.listed x ne))
+    ]

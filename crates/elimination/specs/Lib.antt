@@ -1,0 +1,9 @@
+pub mod Elimination
+pub mod Quotients
+pub mod Hoods
+pub mod Tables
+pub mod Twins
+pub mod Turns
+pub mod Progress
+pub mod Dense
+pub mod Switch

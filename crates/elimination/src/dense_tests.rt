@@ -1,0 +1,62 @@
+//! The dense search alone, on orders worked by hand.
+
+ghost use Rattle.std.specs.Prelude.{◌≡◌, ◌≤◌, length, IfOk, []};
+ghost use Rattle.matrix_market.specs.Pattern.{is_joined};
+ghost use Rattle.elimination.specs.Dense.{IsDenseUnderWay, IsLeastDegreeOrder};
+
+use crate::NoMemory;
+use crate::dense::{DenseSearch, eliminate_dense, row_with, set_bits};
+use matrix_market::{Pattern, read_pattern};
+use std::alloc::Global;
+use std::process::Abort;
+use std::test::Fail;
+
+// The search before any vertex is gone.
+fn full_search(alloc: Global, pattern: &Pattern) -> Result<DenseSearch, NoMemory>
+    ensures order { IfOk result (λ search. search.order ≡ length pattern.now) }
+    ensures begins { IfOk result (λ search. IsDenseUnderWay (is_joined pattern.now) [] search) }
+{
+    let n = pattern.order();
+    let mut search = DenseSearch::new(alloc, n)?;
+    for v in 1..n + 1 {
+        let mut row = row_with(alloc, n, v)?;
+        set_bits(&mut row, pattern.neighbours(v));
+        search.put(v, row, 0);
+    }
+    Ok(search)
+}
+
+fn dense_order(alloc: Global, pattern: &Pattern) -> Result<Vec<u32>, NoMemory>
+    ensures { IfOk result (λ order. IsLeastDegreeOrder (is_joined pattern.now) (length pattern.now) order.items) }
+{
+    let search = full_search(alloc, pattern)?;
+    let mut order = Vec::new(alloc);
+    eliminate_dense(alloc, &mut order, search)?;
+    Ok(order)
+}
+
+fn check_order(rt: &impl Abort, alloc: Global, entries: &str, wanted: &[u32]) -> Result<(), Fail> {
+    let matrix = format!(in alloc;
+        "%%MatrixMarket matrix coordinate pattern symmetric\n{entries}"
+    )?;
+    let pattern = read_pattern(alloc, matrix.as_bytes())?;
+    let order = dense_order(alloc, &pattern)?;
+    assert_eq!(rt; order.as_slice(), wanted);
+    Ok(())
+}
+
+#[test]
+fn a_grid(rt: HostRuntime) -> Result<(), Fail> {
+    check_order(
+        &rt,
+        rt.alloc(),
+        "4 4 4\n2 1\n3 1\n4 2\n4 3\n",
+        &[1, 2, 3, 4],
+    )
+}
+
+// The middle has one neighbour left at the third turn.
+#[test]
+fn a_star(rt: HostRuntime) -> Result<(), Fail> {
+    check_order(&rt, rt.alloc(), "4 4 3\n2 1\n3 1\n4 1\n", &[2, 3, 1, 4])
+}

@@ -1,0 +1,141 @@
+//! The neighbours of a vertex in the pattern that is left.
+
+ghost use Rattle.std.specs.Prelude.{◌≡◌, ℕ, ◌<◌, ◌≤◌, ◌∷◌, List, [], IsTrue, length, slice_index, false, OnOk, IfOk};
+ghost use Rattle.matrix_market.specs.Pattern.{has};
+ghost use Rattle.elimination.specs.Hoods.{Visits, Enters, Scans, mark_at};
+ghost use Rattle.elimination.specs.Quotients.{Quotient, IsLinked, at, list_at};
+ghost use Rattle.elimination.specs.Tables.{tables, HaveLength};
+ghost use Rattle.elimination.specs.Turns.{CanGather, IsMarked, IsReleased};
+
+use crate::links::last_of;
+use crate::search::Search;
+use std::alloc::AllocError;
+
+/// Want of memory: an allocation was refused.
+pub type NoMemory = AllocError;
+
+/// The neighbours of a vertex in the pattern that is left that stand for their groups, each once, and the parts that the vertex touches.
+#[derive(Drop)]
+pub struct Hood {
+    pub near: Vec<u32>,
+    pub touched: Vec<u32>,
+}
+
+// Marks and lists a vertex that is not marked.
+#[inline]
+fn note(b: u32, near: &mut Vec<u32>, seen: &mut [bool]) -> Result<(), NoMemory>
+    requires { b < length seen.old }
+    ensures { OnOk result (Visits (b ∷ []) near.old.items near.new.items seen.old seen.new) }
+{
+    if !seen[b as usize] {
+        seen[b as usize] = true;
+        near.push(b)?;
+    }
+    Ok(())
+}
+
+// Marks and lists those of a list that are not marked.
+fn visit(list: &[u32], near: &mut Vec<u32>, seen: &mut [bool]) -> Result<(), NoMemory>
+    requires { (j : ℕ) → j < length list.now → slice_index list.now j < length seen.old }
+    ensures { OnOk result (Visits list.now near.old.items near.new.items seen.old seen.new) }
+{
+    for b in list {
+        note(*b, near, seen)?;
+    }
+    Ok(())
+}
+
+// Marks and lists a part that is not marked, and visits its rim.
+fn enter(part: u32, rims: &[Vec<u32>], hood: &mut Hood, seen: &mut [bool]) -> Result<(), NoMemory>
+    requires part { (part < length rims.now) × (part < length seen.old) }
+    requires rim { (x : ℕ) → IsTrue (has (list_at rims.now part) x) → x < length seen.old }
+    ensures { OnOk result (Enters (list_at rims.now) part hood.old.near.items hood.new.near.items
+        hood.old.touched.items hood.new.touched.items seen.old seen.new) }
+{
+    if !seen[part as usize] {
+        seen[part as usize] = true;
+        hood.touched.push(part)?;
+        visit(&rims[part as usize], &mut hood.near, seen)?;
+    }
+    Ok(())
+}
+
+// Looks at each vertex of a row: lists it, or, where it was eliminated, enters its part.
+fn scan(
+    row: &[u32],
+    turns: &[u32],
+    links: &mut [u32],
+    rims: &[Vec<u32>],
+    hood: &mut Hood,
+    seen: &mut [bool],
+) -> Result<(), NoMemory>
+    requires row { (j : ℕ) → j < length row.now → slice_index row.now j < length turns.now }
+    requires links { length links.old ≡ length turns.now }
+    requires rims { length rims.now ≡ length turns.now }
+    requires seen { length seen.old ≡ length turns.now }
+    requires linked { IsLinked (at turns.now) links.old }
+    requires within { (p x : ℕ) → IsTrue (has (list_at rims.now p) x) → x < length turns.now }
+    ensures linked { OnOk result (IsLinked (at turns.now) links.new) }
+    ensures scanned { OnOk result (Scans (at turns.now) (list_at rims.now) row.now links.old links.new
+        hood.old.near.items hood.new.near.items hood.old.touched.items hood.new.touched.items seen.old seen.new) }
+{
+    for b in row {
+        if turns[*b as usize] == 0 {
+            note(*b, &mut hood.near, seen)?;
+            continue;
+        }
+        let part = last_of(links, turns, *b);
+        enter(part, rims, hood, seen)?;
+    }
+    Ok(())
+}
+
+// Takes away the marks of a list.
+pub fn unmark(list: &[u32], seen: &mut [bool])
+    requires { (j : ℕ) → j < length list.now → slice_index list.now j < length seen.old }
+    ensures gone { (x : ℕ) → IsTrue (has list.now x) → mark_at seen.new x ≡ false }
+    ensures others { (x : ℕ) → has list.now x ≡ false → mark_at seen.new x ≡ mark_at seen.old x }
+{
+    for b in list {
+        seen[*b as usize] = false;
+    }
+}
+
+impl Search {
+    // Gathers the neighbours of u, whose row in the file this is, and marks them.
+    pub fn gather(&mut self, u: u32, row: &[u32]) -> Result<(), NoMemory>
+        requires lengths { HaveLength (length self.old.turns.items) self.old }
+        requires start { (q : Quotient) × CanGather q (tables self.old) u row.now }
+        ensures lengths { OnOk result (HaveLength (length self.old.turns.items) self.new) }
+        ensures turns { OnOk result (self.new.turns ≡ self.old.turns) }
+        ensures bounds { OnOk result (self.new.bounds ≡ self.old.bounds) }
+        ensures marked { OnOk result ((q : Quotient) → CanGather q (tables self.old) u row.now → IsMarked q (tables self.new) u) }
+    {
+        self.hood.near.clear();
+        self.hood.touched.clear();
+        self.seen[u as usize] = true;
+        scan(
+            row,
+            &self.turns,
+            &mut self.links,
+            &self.rims,
+            &mut self.hood,
+            &mut self.seen,
+        )?;
+        Ok(())
+    }
+
+    // Takes away the marks of u, its neighbours and its parts.
+    pub fn release(&mut self, u: u32)
+        requires lengths { HaveLength (length self.old.turns.items) self.old }
+        requires start { (q : Quotient) × IsMarked q (tables self.old) u }
+        ensures lengths { HaveLength (length self.old.turns.items) self.new }
+        ensures turns { self.new.turns ≡ self.old.turns }
+        ensures bounds { self.new.bounds ≡ self.old.bounds }
+        ensures released { (q : Quotient) → IsMarked q (tables self.old) u → IsReleased q (tables self.new) u }
+    {
+        unmark(&self.hood.near, &mut self.seen);
+        unmark(&self.hood.touched, &mut self.seen);
+        self.seen[u as usize] = false;
+    }
+}
