@@ -1,16 +1,18 @@
--- What a builder has room for, one position further: so none of a random workflow is refused, and one term is left at the end.
-use Rattle.std.proofs.Common.{◌≡◌, ℕ, zero, suc, ◌+◌, ◌-◌, ◌*◌, ◌<◌, ◌≤◌, Bool, true, false, cond, Option, Some, None, lit<, List, [], ◌∷◌, ◌++◌, length, refl, sym, ap, subst, ◌∙◌, arith, length-append}
+-- What a builder has room for, one position further: so none of a random workflow is refused, and one term is left at the end,
+-- within the limits.
+use Rattle.std.proofs.Common.{◌≡◌, ℕ, zero, suc, ◌+◌, ◌-◌, ◌*◌, ◌≤◌, Bool, true, false, cond, Option, Some, None, lit<, List, [], ◌∷◌, ◌++◌, length, refl, sym, ap, subst, ◌∙◌, arith, length-append}
 use Rattle.std.specs.Prelude.{◌==◌, ◌&&◌, nat_le, option_and_then}
 use Rattle.std.proofs.lemmas.Bool.{leb-true, leb-false}
+use Rattle.std.proofs.lemmas.List.Elements.{All-push}
 use Rattle.std.proofs.lemmas.List.Sums.{sum_by_push}
 use Rattle.limits.specs.Limits.{most_tasks, most_positions, most_total}
 use Rattle.rand_pcg.specs.Lcg.{Lcg}
 use Rattle.sp_terms.specs.declared.position.Position.{Position}
 use Rattle.sp_terms.specs.declared.position.Position.TheVariants.{Hold, Par}
 use Rattle.sp_terms.specs.declared.position.Position.TheVariants as at
-use Rattle.sp_terms.specs.Term.{Term, hold, series, par, Parts, no_parts, part}
+use Rattle.sp_terms.specs.Term.{Term, hold, series, par, Parts, no_parts, part, count, AreAllowed}
 use Rattle.sp_terms.specs.Postfix.{gather, push, push_all}
-use Rattle.sp_terms.specs.Values.{stack_from, added_tasks, added_size}
+use Rattle.sp_terms.specs.Values.{stack_from, stack_of, last_term, added_tasks, added_size, IsWithinLimits, AllAllowed, Leaves, IsTerms}
 use Rattle.sp_terms.specs.Builder.{IsOneTerm}
 use Rattle.mp_gen.specs.Dice.{dice_of, draw}
 use Rattle.mp_gen.specs.RandomWorkflow.{height_of, with_hold, with_data, with_task, with_par, with_one, with_tasks, closed, workflow_of}
@@ -32,31 +34,53 @@ pushed (q ∷ ps) p start stack out e f = go (push q start) e (λ mid g. pushed 
     go None e rest = cc
     go (Some mid) e rest = rest mid e
 
-gather-some : (k : ℕ) (stack : List Term) (ts : Parts) → k ≤ length stack
-    → (r : Parts × List Term) × (gather k stack ts ≡ Some r) × (length r.1 + k ≡ length stack)
-gather-some zero stack ts le = ((ts, stack), refl, omega arith)
-gather-some (suc k) [] ts le = absurd (omega arith)
-gather-some (suc k) (t ∷ stack) ts le = let r = gather-some k stack (part t ts) (omega arith) in (r.0, r.1, omega (arith, r.2))
+-- so many of the terms of a stack, in front of those that were taken
+record Gathered (k : ℕ) (stack : List Term) (ts : Parts) : Type 0 where
+  pub taken : Parts × List Term
+  pub is : gather k stack ts ≡ Some taken
+  pub left : length taken.1 + k ≡ length stack
+  pub parts : count taken.0 ≡ k + count ts
+  pub allowed : AreAllowed taken.0 × AllAllowed taken.1
+
+gathered : (k : ℕ) (stack : List Term) (ts : Parts) → k ≤ length stack → AreAllowed ts → AllAllowed stack → Gathered k stack ts
+gathered zero stack ts le a all = record { taken = (ts, stack); is = refl; left = omega arith; parts = omega arith; allowed = (a, all) }
+gathered (suc k) [] ts le a all = absurd (omega arith)
+gathered (suc k) (t ∷ stack) ts le a all =
+    let g = gathered k stack (part t ts) (omega arith) (all.0, a) all.1 in
+    record { taken = g.taken; is = g.is; left = omega (arith, g.left); parts = omega (arith, g.parts); allowed = g.allowed }
 
 -- a position finds enough terms, and leaves so many
-abbrev Takes : Position → List Term → ℕ → Type 0
-Takes p stack height = (out : List Term) × (push p stack ≡ Some out) × (length out ≡ height)
+record Takes (p : Position) (stack : List Term) (height : ℕ) : Type 0 where
+  pub out : List Term
+  pub is : push p stack ≡ Some out
+  pub len : length out ≡ height
+  pub allowed : AllAllowed out
 
-takes-task : (extra time : ℕ) (stack : List Term) → 2 ≤ length stack → Takes (at.Task extra 0 time) stack (length stack - 1)
-takes-task extra time [] two = absurd (omega arith)
-takes-task extra time (b ∷ []) two = absurd (omega arith)
-takes-task extra time (b ∷ (a ∷ stack)) two =
-    (series a (record { extra = extra; share = 0; time = time }) b ∷ stack, refl, omega arith)
+takes-task : (extra time : ℕ) (stack : List Term) → 2 ≤ length stack → AllAllowed stack
+    → Takes (at.Task extra 0 time) stack (length stack - 1)
+takes-task extra time [] two all = absurd (omega arith)
+takes-task extra time (b ∷ []) two all = absurd (omega arith)
+takes-task extra time (b ∷ (a ∷ stack)) two all = record {
+  out = series a (record { extra = extra; share = 0; time = time }) b ∷ stack;
+  is = refl;
+  len = omega arith;
+  allowed = ((omega arith, omega arith, all.1.0, all.0), all.1.1);
+}
 
-takes-par : (k : ℕ) (stack : List Term) → k ≤ length stack → Takes (Par k) stack (suc (length stack) - k)
-takes-par k stack le =
-    let (r, g, len) = gather-some k stack no_parts le in
-    (par r.0 ∷ r.1, ap (option_and_then (λ (p : Parts × List Term). Some (par p.0 ∷ p.1))) g, omega (arith, len))
+takes-par : (k : ℕ) (stack : List Term) → k ≤ length stack → 2 ≤ k → AllAllowed stack
+    → Takes (Par k) stack (suc (length stack) - k)
+takes-par k stack le two all =
+    let g = gathered k stack no_parts le tt all in record {
+      out = par g.taken.0 ∷ g.taken.1;
+      is = ap (option_and_then (λ (p : Parts × List Term). Some (par p.0 ∷ p.1))) g.is;
+      len = omega (arith, g.left);
+      allowed = ((omega (arith, g.parts), g.allowed.0), g.allowed.1);
+    }
 
 -- ---- room
 
 height-is : (ps : List Position) (a t s : ℕ) (room : HasRoom ps a t s) → height_of ps ≡ length room.stack
-height-is ps a t s room = ap (λ (o : Option (List Term)). length (stack_from o)) room.leaves
+height-is ps a t s room = ap (λ (o : Option (List Term)). length (stack_from o)) room.leaves.is
 
 pub less : (ps : List Position) (a t s a' t' s' : ℕ) → HasRoom ps a t s → a' ≤ a → t' ≤ t → s' ≤ s → HasRoom ps a' t' s'
 less ps a t s a' t' s' room less_a less_t less_s = record {
@@ -74,38 +98,54 @@ pub record Stands (ps : List Position) (a t s height : ℕ) : Type 0 where
 
 -- one position more
 more : (ps : List Position) (p : Position) (a t s height : ℕ) (room : HasRoom ps (suc a) (t + added_tasks p) (s + added_size p))
-    → Takes p room.stack height → Stands (ps ++ p ∷ []) a t s height
-more ps p a t s height room (out, e, len) =
+    → IsWithinLimits p → Takes p room.stack height → Stands (ps ++ p ∷ []) a t s height
+more ps p a t s height room small takes =
+    let len = length-append ps (p ∷ []) in
+    let tasks = sum_by_push added_tasks ps p in
+    let size = sum_by_push added_size ps p in
     let after : HasRoom (ps ++ p ∷ []) a t s = record {
-      stack = out;
-      leaves = pushed ps p [] room.stack out room.leaves e;
-      positions_fit = omega (arith, length-append ps (p ∷ []), room.positions_fit);
-      tasks_fit = omega (arith, sum_by_push added_tasks ps p, room.tasks_fit);
-      size_fits = omega (arith, sum_by_push added_size ps p, room.size_fits);
+      stack = takes.out;
+      leaves = record {
+        is = pushed ps p [] room.stack takes.out room.leaves.is takes.is;
+        allowed = takes.allowed;
+        within = All-push IsWithinLimits ps p room.leaves.within small;
+        few = omega (arith, len, room.positions_fit);
+        few_tasks = omega (arith, tasks, room.tasks_fit);
+        total = omega (arith, size, room.size_fits);
+      };
+      positions_fit = omega (arith, len, room.positions_fit);
+      tasks_fit = omega (arith, tasks, room.tasks_fit);
+      size_fits = omega (arith, size, room.size_fits);
     } in
-    record { room = after; height_is = height-is (ps ++ p ∷ []) a t s after ∙ len }
+    record { room = after; height_is = height-is (ps ++ p ∷ []) a t s after ∙ takes.len }
 
 hold-more : (ps : List Position) (size a t s : ℕ) → HasRoom ps (suc a) t (s + 1000) → size ≤ 1000
     → Stands (ps ++ Hold size ∷ []) a t s (height_of ps + 1)
 hold-more ps size a t s room small =
     let enough = less ps _ _ _ (suc a) (t + 0) (s + size) room (omega arith) (omega arith) (omega arith) in
-    more ps (Hold size) a t s _ enough (hold size ∷ enough.stack, refl, omega (arith, height-is ps _ _ _ enough))
+    more ps (Hold size) a t s _ enough (omega arith) (record {
+      out = hold size ∷ enough.stack;
+      is = refl;
+      len = omega (arith, height-is ps _ _ _ enough);
+      allowed = (tt, enough.leaves.allowed);
+    })
 
-task-more : (ps : List Position) (extra time a t s : ℕ) → HasRoom ps (suc a) (suc t) (s + 1000) → extra ≤ 1000 → 2 ≤ height_of ps
-    → Stands (ps ++ at.Task extra 0 time ∷ []) a t s (height_of ps - 1)
-task-more ps extra time a t s room small two =
+task-more : (ps : List Position) (extra time a t s : ℕ) → HasRoom ps (suc a) (suc t) (s + 1000) → extra ≤ 1000 → 1 ≤ time → time ≤ 16
+    → 2 ≤ height_of ps → Stands (ps ++ at.Task extra 0 time ∷ []) a t s (height_of ps - 1)
+task-more ps extra time a t s room small some short two =
     let enough = less ps _ _ _ (suc a) (t + 1) (s + extra) room (omega arith) (omega arith) (omega arith) in
     let height = height-is ps _ _ _ enough in
-    let taken = takes-task extra time enough.stack (omega arith) in
-    more ps (at.Task extra 0 time) a t s _ enough (taken.0, taken.1, omega (arith, taken.2))
+    let takes = takes-task extra time enough.stack (omega arith) enough.leaves.allowed in
+    more ps (at.Task extra 0 time) a t s _ enough (omega arith, some, omega arith)
+    (subst (Takes (at.Task extra 0 time) enough.stack) (omega (arith, height)) takes)
 
-par-more : (ps : List Position) (k a t s : ℕ) → HasRoom ps (suc a) t s → k ≤ height_of ps
+par-more : (ps : List Position) (k a t s : ℕ) → HasRoom ps (suc a) t s → k ≤ height_of ps → 2 ≤ k
     → Stands (ps ++ Par k ∷ []) a t s (suc (height_of ps) - k)
-par-more ps k a t s room high =
+par-more ps k a t s room high two =
     let enough = less ps _ _ _ (suc a) (t + 0) (s + 0) room (omega arith) (omega arith) (omega arith) in
     let height = height-is ps _ _ _ enough in
-    let taken = takes-par k enough.stack (omega arith) in
-    more ps (Par k) a t s _ enough (taken.0, taken.1, omega (arith, taken.2))
+    let takes = takes-par k enough.stack (omega arith) two enough.leaves.allowed in
+    more ps (Par k) a t s _ enough two (subst (Takes (Par k) enough.stack) (omega (arith, height)) takes)
 
 -- ---- the steps of a random workflow
 
@@ -142,7 +182,10 @@ pub task-room : (ps : List Position) (dice : Lcg) (a t s : ℕ) → HasRoom ps (
     → StandsWith (with_task ps dice).0 a t s 1
 unfolding with_task
 task-room ps dice a t s room two =
-    let after = task-more ps (draw 1000 dice).0 _ a t s room (omega (arith, draw-below 1000 dice (lit< tt))) two in
+    let (extra, left) = draw 1000 dice in
+    let time = draw-below 16 left (lit< tt) in
+    let small = draw-below 1000 dice (lit< tt) in
+    let after = task-more ps extra (1 + (draw 16 left).0) a t s room (omega (arith, small)) (omega arith) (omega (arith, time)) two in
     record { room = after.room; some = omega (arith, after.height_is) }
 
 par-room : (ps : List Position) (dice : Lcg) (a t s : ℕ) → HasRoom ps (suc a) t s → 1 ≤ height_of ps
@@ -156,7 +199,7 @@ par-room ps dice a t s room one = go (nat_le 2 (height_of ps)) ((draw 3 dice).0 
     go : (high third : Bool) → nat_le 2 (height_of ps) ≡ high → StandsWith (cond (high && third) (ps ++ Par 2 ∷ []) ps) a t s 1
     go true true e =
         let two = leb-true 2 (height_of ps) e in
-        let after = par-more ps 2 a t s room two in
+        let after = par-more ps 2 a t s room two (omega arith) in
         record { room = after.room; some = omega (arith, after.height_is) }
     go true false e = same
     go false third e = same
@@ -177,8 +220,20 @@ one-room ps dice a t s room =
 pub tasks-room : (i : ℕ) (dice : Lcg) (a t s : ℕ) → 4 * i + a ≤ most_positions → i + t ≤ most_tasks → 3000 * i + s ≤ most_total
     → HasRoom (with_tasks i dice).0 a t s
 unfolding with_tasks
-tasks-room zero dice a t s fit_a fit_t fit_s =
-    record { stack = []; leaves = refl; positions_fit = omega arith; tasks_fit = omega arith; size_fits = omega arith }
+tasks-room zero dice a t s fit_a fit_t fit_s = record {
+  stack = [];
+  leaves = record {
+    is = refl;
+    allowed = tt;
+    within = λ k d lt. absurd (omega arith);
+    few = omega arith;
+    few_tasks = omega arith;
+    total = omega arith;
+  };
+  positions_fit = omega arith;
+  tasks_fit = omega arith;
+  size_fits = omega arith;
+}
 tasks-room (suc i) dice a t s fit_a fit_t fit_s =
     let (ps, left) = with_tasks i dice in
     let before = tasks-room i dice (4 + a) (suc t) (s + 3000) (omega arith) (omega arith) (omega arith) in
@@ -192,17 +247,34 @@ tasks-stand (suc i) dice some few =
     let (ps, left) = with_tasks i dice in
     one-room ps left 1 0 0 (tasks-room i dice 5 1 3000 (omega arith) (omega arith) (omega arith))
 
-closed-one : (ps : List Position) → StandsWith ps 1 0 0 1 → IsOneTerm (closed ps)
-unfolding closed
-closed-one ps stands = go (nat_le 2 (height_of ps)) refl
+-- where one term stands, the positions denote it
+whole : (ps : List Position) (a t s height : ℕ) → Stands ps a t s height → height ≡ 1 → IsTerms ps
+whole ps a t s height stands one =
+    let leaves = stands.room.leaves in
+    let left : stands.room.stack ≡ stack_of ps = sym (ap stack_from leaves.is) in
+    subst (Leaves ps) (left ∙ single (stack_of ps) (stands.height_is ∙ one)) leaves
   where
-    go : (high : Bool) → nat_le 2 (height_of ps) ≡ high → IsOneTerm (cond high (ps ++ Par (height_of ps) ∷ []) ps)
-    go true e = (par-more ps (height_of ps) 0 0 0 stands.room (omega arith)).height_is ∙ omega arith
-    go false e = omega (arith, leb-false 2 (height_of ps) e, stands.some)
+    single : (stack : List Term) → length stack ≡ 1 → stack ≡ last_term stack ∷ []
+    single [] e = absurd (omega (arith, e))
+    single (t ∷ []) e = refl
+    single (t ∷ (u ∷ stack)) e = absurd (omega (arith, e))
+
+closed-terms : (ps : List Position) → StandsWith ps 1 0 0 1 → IsTerms (closed ps)
+unfolding closed
+closed-terms ps stands = go (nat_le 2 (height_of ps)) refl
+  where
+    go : (high : Bool) → nat_le 2 (height_of ps) ≡ high → IsTerms (cond high (ps ++ Par (height_of ps) ∷ []) ps)
+    go true e = whole _ _ _ _ _ (par-more ps (height_of ps) 0 0 0 stands.room (omega arith) (leb-true 2 (height_of ps) e)) (omega arith)
+    go false e =
+        let own : Stands ps 1 0 0 (height_of ps) = record { room = stands.room; height_is = refl } in
+        whole ps 1 0 0 (height_of ps) own (omega (arith, leb-false 2 (height_of ps) e, stands.some))
+
+pub workflow_of-terms : (seed n : ℕ) → 1 ≤ n → n ≤ most_tasks → IsTerms (workflow_of seed n)
+unfolding workflow_of
+workflow_of-terms seed n some few = closed-terms _ (tasks-stand n (dice_of seed) some few)
 
 pub workflow_of-one : (seed n : ℕ) → 1 ≤ n → n ≤ most_tasks → IsOneTerm (workflow_of seed n)
-unfolding workflow_of
-workflow_of-one seed n some few = closed-one _ (tasks-stand n (dice_of seed) some few)
+workflow_of-one seed n some few = ap (λ (o : Option (List Term)). length (stack_from o)) (workflow_of-terms seed n some few).is
 
 -- ---- what the code makes
 

@@ -1,10 +1,12 @@
 //! Inputs made from a number, the seed: random trees and workflows to try and to measure with, and grids.
 //!
-//! The same seed makes the same input, on every machine. The definitions stand in specs/: `RandomTree`, `RandomWorkflow`, `Grid`.
+//! The same seed makes the same input, on every machine. The definitions stand in specs/: `RandomTree`, `RandomWorkflow`, `Grid`. What
+//! holds of all that is made stands in `laws`.
 #![tactic(auto)]
 
 mod dice;
 mod grid;
+pub mod laws;
 #[cfg(test)]
 mod tests;
 mod tree;

@@ -5,10 +5,9 @@ ghost use Rattle.sp_terms.specs.Builder.{IsPosition};
 
 use crate::{NoMemory, claims_of};
 use claim_check::{Verdict, check};
+use mp_gen::{gen_tree, gen_workflow};
 use mp_outside::NoGate;
 use plan_text::{Claim, PlanFile, is_plan};
-use rand_core::utils::NextWord;
-use rand_pcg::Pcg32;
 use sp_cuts::{Plan, plan_terms};
 use sp_terms::{Position, TermBuilder, Terms, read_workflow, system_of};
 use std::alloc::Global;
@@ -18,6 +17,7 @@ use std::sync::ledger::{Blank, Ledger};
 use std::test::Fail;
 use std::thread::Threads;
 use step_count::Steps;
+use tree_input::{Node, terms_of_tree};
 
 // A plan, and claims that certify its peak.
 fn certified<L: Ledger>(
@@ -98,99 +98,96 @@ fn the_peaks_of_the_worked_rows_are_certified(rt: HostRuntime) -> Result<(), Fai
     Ok(())
 }
 
-// A number below `below`.
-fn next(dice: &mut Pcg32, below: u64) -> u64 {
-    u64::from(dice.next_word()) % below.max(1)
-}
-
-// Puts a position in, where it is allowed.
-fn put(builder: &mut TermBuilder, position: Position)
+// Puts a position in; that it is refused fails the test.
+fn put(builder: &mut TermBuilder, position: Position) -> Result<(), Fail>
     requires { IsPosition position }
 {
-    if builder.push(position).is_err() {}
+    Ok(builder.push(position).ok().ok_or("a position")?)
 }
 
-// A task with this share, where it is allowed, and else with none.
-fn put_task(builder: &mut TermBuilder, extra: u64, share: u64) {
-    for share in [share, 0] {
-        let task = Position::Task {
-            extra,
-            share,
-            time: 1,
-        };
-        if builder.push(task).is_ok() {
-            return;
-        }
+fn task(extra: u64, share: u64) -> Position
+    ensures { IsPosition result }
+{
+    Position::Task {
+        extra,
+        share,
+        time: 1,
     }
 }
 
-// A random workflow with shares: a data item, a series of the last two terms, or the last terms side by side.
-fn random_workflow(alloc: Global, dice: &mut Pcg32, positions: u32) -> Option<Terms> {
+// A task that takes over so much, or nothing where that does not fit.
+fn put_task(builder: &mut TermBuilder, extra: u64, share: u64) -> Result<(), Fail> {
+    if builder.push(task(extra, share)).is_ok() {
+        return Ok(());
+    }
+    put(builder, task(extra, 0))
+}
+
+// The position with numbers below 10, of which many are equal or 0. Its time says how much a task takes over.
+fn put_small(builder: &mut TermBuilder, position: Position) -> Result<(), Fail> {
+    match position {
+        Position::Hold(size) => put(builder, Position::Hold(size % 10)),
+        Position::Task { extra, time, .. } => put_task(builder, extra % 10, time % 6),
+        // there are two parts or more, which a position alone does not say
+        Position::Par(parts) => put(builder, Position::Par(parts.max(2))),
+    }
+}
+
+// The same shape with small numbers, and with shares.
+fn small(alloc: Global, terms: &Terms) -> Result<Terms, Fail> {
     let mut builder = TermBuilder::new(alloc);
-    let mut height = 0u32;
-    for _ in 0..positions {
-        let kind = next(dice, 5);
-        if height < 2 || kind < 2 {
-            put(&mut builder, Position::Hold(next(dice, 10)));
-            height = height.saturating_add(1);
-        } else if kind < 4 {
-            height = height.saturating_sub(1);
-            put_task(&mut builder, next(dice, 8), next(dice, 6));
-        } else {
-            put(&mut builder, Position::Par(2));
-            height = height.saturating_sub(1);
-        }
+    for position in 1..=terms.len() {
+        put_small(&mut builder, terms.at(position))?;
     }
-    if 1 < height {
-        put(&mut builder, Position::Par(height));
-    }
-    builder.finish().ok()
+    Ok(builder.finish().ok().ok_or("one term")?)
 }
 
 #[test]
 fn random_workflows_are_certified(rt: HostRuntime) -> Result<(), Fail> {
     let alloc = rt.alloc();
-    let mut dice = Pcg32::new(7, 11);
-    let mut done = 0u32;
-    for size in 1..=60 {
-        for _ in 0..12 {
-            if let Some(terms) = random_workflow(alloc, &mut dice, size) {
-                assert_accepted(&rt, alloc, &terms)?;
-                done = done.saturating_add(1);
-            }
+    for tasks in 1..=20 {
+        for seed in 0..18 {
+            let terms = gen_workflow(alloc, seed, tasks)?;
+            assert_accepted(&rt, alloc, &terms)?;
+            assert_accepted(&rt, alloc, &small(alloc, &terms)?)?;
         }
     }
-    assert_eq!(rt; done, 720);
     Ok(())
 }
 
-// A chain of so many nodes, or a caterpillar, whose nodes have a leaf each beside the node below.
-fn long_tree(alloc: Global, dice: &mut Pcg32, nodes: u32, leaves: bool) -> Option<Terms> {
+// A node above the last term.
+fn put_node(builder: &mut TermBuilder, out: u64, extra: u64) -> Result<(), Fail> {
+    put(builder, Position::Hold(out))?;
+    put(builder, task(extra, 0))
+}
+
+// A leaf beside the last term.
+fn put_leaf(builder: &mut TermBuilder, out: u64, extra: u64) -> Result<(), Fail> {
+    put(builder, Position::Hold(0))?;
+    put_node(builder, out, extra)?;
+    put(builder, Position::Par(2))
+}
+
+// A chain with the numbers of these nodes, or a caterpillar, whose nodes have a leaf each beside the node below.
+fn long_tree(alloc: Global, nodes: &[Node], leaves: bool) -> Result<Terms, Fail> {
     let mut builder = TermBuilder::new(alloc);
-    put(&mut builder, Position::Hold(0));
-    for node in 0..nodes {
-        if leaves && 0 < node {
-            put(&mut builder, Position::Hold(0));
-            put(&mut builder, Position::Hold(next(dice, 100)));
-            put_task(&mut builder, next(dice, 1000), 0);
-            put(&mut builder, Position::Par(2));
+    put(&mut builder, Position::Hold(0))?;
+    for (i, node) in nodes.iter().enumerate() {
+        if leaves && 0 < i {
+            put_leaf(&mut builder, node.extra % 100, node.out)?;
         }
-        put(&mut builder, Position::Hold(next(dice, 100)));
-        put_task(&mut builder, next(dice, 1000), 0);
+        put_node(&mut builder, node.out % 100, node.extra)?;
     }
-    builder.finish().ok()
+    Ok(builder.finish().ok().ok_or("one tree")?)
 }
 
 #[test]
 fn long_trees_are_certified(rt: HostRuntime) -> Result<(), Fail> {
     let alloc = rt.alloc();
-    let mut dice = Pcg32::new(3, 11);
+    let tree = gen_tree(alloc, 3, 3000)?;
+    assert_accepted(&rt, alloc, &terms_of_tree(alloc, &tree)?.terms)?;
     for leaves in [false, true] {
-        let tree = long_tree(alloc, &mut dice, 3000, leaves);
-        assert!(rt; tree.is_some());
-        if let Some(terms) = tree {
-            assert_accepted(&rt, alloc, &terms)?;
-        }
+        assert_accepted(&rt, alloc, &long_tree(alloc, tree.nodes(), leaves)?)?;
     }
     Ok(())
 }

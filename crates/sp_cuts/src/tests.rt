@@ -1,13 +1,13 @@
-//! Worked examples, by hand, and small trees and workflows against a plain search.
+//! Worked examples, by hand, and small random trees and workflows against a plain search.
 
-ghost use Rattle.std.specs.Prelude.{◌≡◌, ◌<◌};
+ghost use Rattle.std.specs.Prelude.{◌≡◌, ◌≤◌, ◌<◌};
+ghost use Rattle.limits.specs.Limits.{most_tasks};
 ghost use Rattle.sp_terms.specs.Builder.{IsPosition};
 
 use crate::{NoMemory, Plan, plan_terms};
 use hill_valley::Side;
+use mp_gen::{gen_tree, gen_workflow};
 use mp_system::{System, replay};
-use rand_core::utils::NextWord;
-use rand_pcg::Pcg32;
 use sp_terms::{Position, TermBuilder, Terms, read_workflow, system_of};
 use std::alloc::Global;
 use std::marker::Brand;
@@ -15,6 +15,7 @@ use std::process::Abort;
 use std::sync::ledger::{Blank, Ledger};
 use std::test::Fail;
 use step_count::Steps;
+use tree_input::terms_of_tree;
 
 // The plan, with a count of its own.
 fn plan<L: Ledger>(alloc: Global, blank: Blank, terms: &Terms) -> Result<Plan, NoMemory>
@@ -146,19 +147,13 @@ fn a_part_of_two_chains_is_cut_in_both(rt: HostRuntime) -> Result<(), Fail> {
     Ok(())
 }
 
-// A number below `below`.
-fn next(dice: &mut Pcg32, below: u64) -> u64 {
-    u64::from(dice.next_word()) % below.max(1)
-}
-
-// Puts a position in, where it is allowed.
-fn put(builder: &mut TermBuilder, position: Position)
+// Puts a position in; that it is refused fails the test.
+fn put(builder: &mut TermBuilder, position: Position) -> Result<(), Fail>
     requires { IsPosition position }
 {
-    let _ = builder.push(position);
+    Ok(builder.push(position).ok().ok_or("a position")?)
 }
 
-// A task that takes over so much.
 fn task(extra: u64, share: u64) -> Position
     ensures { IsPosition result }
 {
@@ -169,81 +164,64 @@ fn task(extra: u64, share: u64) -> Position
     }
 }
 
-// A random tree in postorder: each node takes some of the last subtrees as its children, and the root all.
-fn random_tree(alloc: Global, dice: &mut Pcg32, nodes: u32) -> Result<Terms, Fail> {
-    let mut builder = TermBuilder::new(alloc);
-    let mut roots = 0u32;
-    for node in 1..=nodes {
-        let children = if node == nodes {
-            roots
-        } else {
-            next(dice, u64::from(roots).saturating_add(1)).min(1000) as u32
-        };
-        if children == 0 {
-            put(&mut builder, Position::Hold(0));
-        } else if 1 < children {
-            put(&mut builder, Position::Par(children));
-        }
-        put(&mut builder, Position::Hold(next(dice, 10)));
-        put(&mut builder, task(next(dice, 10), 0));
-        roots = roots.saturating_sub(children).saturating_add(1);
+// A task that takes over so much, or nothing where that does not fit.
+fn put_task(builder: &mut TermBuilder, extra: u64, share: u64) -> Result<(), Fail> {
+    if builder.push(task(extra, share)).is_ok() {
+        return Ok(());
     }
-    Ok(builder.finish().ok().ok_or("one tree")?)
+    put(builder, task(extra, 0))
 }
 
-// A random workflow with shares: a data item, a series of the last two terms, or the last terms side by side.
-fn random_workflow(alloc: Global, dice: &mut Pcg32, tasks: u64) -> Result<Terms, Fail> {
+// The position with numbers below 10, of which many are equal or 0. Its time says how much a task takes over.
+fn put_small(builder: &mut TermBuilder, position: Position) -> Result<(), Fail> {
+    match position {
+        Position::Hold(size) => put(builder, Position::Hold(size % 10)),
+        Position::Task { extra, time, .. } => put_task(builder, extra % 10, time % 6),
+        // there are two parts or more, which a position alone does not say
+        Position::Par(parts) => put(builder, Position::Par(parts.max(2))),
+    }
+}
+
+// The same shape with small numbers, and with shares.
+fn small(alloc: Global, terms: &Terms) -> Result<Terms, Fail> {
     let mut builder = TermBuilder::new(alloc);
-    let mut height = 0u32;
-    let mut left = tasks;
-    for _ in 0..40 {
-        let kind = next(dice, 3);
-        if height < 2 || kind == 0 {
-            put(&mut builder, Position::Hold(next(dice, 10)));
-            height = height.saturating_add(1);
-        } else if kind == 1 && 0 < left {
-            let (extra, share) = (next(dice, 8), next(dice, 6));
-            // a share that is too large is left out
-            if builder.push(task(extra, share)).is_err() {
-                put(&mut builder, task(extra, 0));
-            }
-            left -= 1;
-            height = height.saturating_sub(1);
-        } else {
-            put(&mut builder, Position::Par(2));
-            height = height.saturating_sub(1);
-        }
-        if left == 0 && height == 1 {
-            break;
-        }
+    for position in 1..=terms.len() {
+        put_small(&mut builder, terms.at(position))?;
     }
-    if 1 < height {
-        put(&mut builder, Position::Par(height));
-    }
-    Ok(builder.finish().ok().ok_or("one workflow")?)
+    Ok(builder.finish().ok().ok_or("one term")?)
+}
+
+// The plan of a term has the least peak, and so has that of its shape with small numbers.
+fn check_least(rt: &impl Abort, alloc: Global, terms: &Terms) -> Result<(), Fail> {
+    checked_peak(rt, alloc, terms)?;
+    checked_peak(rt, alloc, &small(alloc, terms)?)?;
+    Ok(())
+}
+
+fn random_tree(alloc: Global, seed: u64, nodes: u32) -> Result<Terms, NoMemory>
+    requires { (1 ≤ nodes) × (nodes ≤ most_tasks) }
+{
+    let tree = gen_tree(alloc, seed, nodes)?;
+    Ok(terms_of_tree(alloc, &tree)?.terms)
 }
 
 #[test]
 fn small_trees_have_the_least_peaks(rt: HostRuntime) -> Result<(), Fail> {
     let alloc = rt.alloc();
-    let mut dice = Pcg32::new(1, 11);
     for nodes in 1..=6 {
-        for _ in 0..60 {
-            let tree = random_tree(alloc, &mut dice, nodes)?;
-            checked_peak(&rt, alloc, &tree)?;
+        for seed in 0..60 {
+            check_least(&rt, alloc, &random_tree(alloc, seed, nodes)?)?;
         }
     }
     Ok(())
 }
 
 #[test]
-fn small_workflows_with_shares_have_the_least_peaks(rt: HostRuntime) -> Result<(), Fail> {
+fn small_workflows_have_the_least_peaks(rt: HostRuntime) -> Result<(), Fail> {
     let alloc = rt.alloc();
-    let mut dice = Pcg32::new(7, 11);
-    for tasks in 0..=7 {
-        for _ in 0..40 {
-            let workflow = random_workflow(alloc, &mut dice, tasks)?;
-            checked_peak(&rt, alloc, &workflow)?;
+    for tasks in 1..=7 {
+        for seed in 0..40 {
+            check_least(&rt, alloc, &gen_workflow(alloc, seed, tasks)?)?;
         }
     }
     Ok(())
