@@ -1,7 +1,5 @@
 -- What a demo prints, that it has one answer, and that the answer says yes.
-use Rattle.std.proofs.Common.{◌≡◌, ◌∙◌, ℕ, ◌*◌, List, [], ◌∷◌, ◌++◌, Option, Some, None, length, codes, refl, sym, ap, subst, append_assoc}
-use Rattle.std.specs.List.{range_with_len}
-use Rattle.std.proofs.lemmas.List.FromFn.{length-range_with_len}
+use Rattle.std.proofs.Common.{◌≡◌, ◌∙◌, ℕ, ◌*◌, ◌≤◌, Bool, List, [], ◌∷◌, ◌++◌, Option, Some, None, length, codes, refl, sym, ap, subst, append_assoc}
 use Rattle.claim_check.specs.Accepted.{IsAccepted, IsObjection}
 use Rattle.claim_check.specs.declared.objection.Objection.{Objection}
 use Rattle.claim_check.specs.declared.verdict.Verdict.{Verdict}
@@ -9,13 +7,17 @@ use Rattle.claim_check.specs.declared.verdict.Verdict.TheVariants.{Yes, No}
 use Rattle.least_peak.specs.Problem.{system_of, IsTermOf}
 use Rattle.least_peak.specs.declared.problem.Origin.{Origin}
 use Rattle.least_peak.specs.declared.problem.Origin.TheVariants as origins
-use Rattle.matrix_market.specs.Pattern.{IsPattern, IsPatternOf}
+use Rattle.matrix_market.specs.Pattern.{IsPattern, IsPatternOf, is_joined}
+use Rattle.limits.specs.Limits.{most_tasks}
 use Rattle.mp_gen.specs.Grid.{grid_pairs}
+use Rattle.mp_gen.specs.RandomTree.{tree_of}
+use Rattle.mp_gen.specs.RandomWorkflow.{workflow_of}
 use Rattle.mp_system.specs.Memory.{peak_of}
 use Rattle.mp_system.specs.Renaming.{IsRenamed}
 use Rattle.mp_system.specs.System.{TaskSystem}
 use Rattle.mp_system.specs.Traversal.{IsLeast}
 use Rattle.mp_text.specs.Report.{line_text, text_of_lines}
+use Rattle.ordering.specs.MinimumDegree.{IsMinimumDegreeOrder}
 use Rattle.plan_text.specs.Plan.{PlanText}
 use Rattle.postorder_best.specs.BestPostorder.{IsBestPostorder}
 use Rattle.sp_terms.specs.declared.position.Position.{Position}
@@ -29,6 +31,7 @@ use Rattle.tree_input.specs.Tree.{IsTree, system_of_nodes}
 use Rattle.tree_input.specs.TreeTerm.{forest_positions}
 use Rattle.memplan.specs.Demo.{plain_fronts, IsGridTree, IsMade, HasPositions, IsPostorderPeak, IsAcceptedFor, IsVerdictFor, kind_word, check_word, demo_lines, IsSummary, IsDemoOf, IsShown}
 use Rattle.memplan.specs.Files.{Answer}
+use Rattle.memplan.specs.Request.{IsMakeable}
 use Rattle.memplan.specs.declared.commands.demo.Demo.{Demo}
 use Rattle.memplan.specs.declared.commands.demo.Demo.TheVariants as demos
 use Rattle.memplan.proofs.PageLemmas.{trace-lines}
@@ -60,6 +63,11 @@ pub record Parts : Type 0 where
   pub least : (system : TaskSystem) (peak other : ℕ) → IsLeast system peak → IsLeast system other → peak ≡ other
   pub best : (nodes : List Node) (a b : List ℕ) → IsTree nodes → IsBestPostorder nodes a → IsBestPostorder nodes b → a ≡ b
   pub patterns : (order : ℕ) (pairs : List (ℕ × ℕ)) (a b : List (List ℕ)) → IsPatternOf order pairs a → IsPatternOf order pairs b → a ≡ b
+  pub min_degrees : (joined : ℕ → ℕ → Bool) (n : ℕ) (one two : List ℕ) → IsMinimumDegreeOrder joined n one → IsMinimumDegreeOrder joined n two → one ≡ two
+  pub trees : (seed n : ℕ) → 1 ≤ n → n ≤ most_tasks → IsTree (tree_of seed n)
+  pub workflows : (seed n : ℕ) → 1 ≤ n → n ≤ most_tasks → IsTerms (workflow_of seed n)
+  pub front_trees : (options : FrontOptions) (rows : List (List ℕ)) (order : List ℕ) (nodes : List Node) → IsPattern rows
+      → length order ≡ length rows → IsFrontTree options rows order nodes → IsTree nodes
   pub fronts : (options : FrontOptions) (rows : List (List ℕ)) (order : List ℕ) (a b : List Node) → IsPattern rows
       → length order ≡ length rows → IsFrontTree options rows order a → IsFrontTree options rows order b → a ≡ b
 
@@ -68,15 +76,16 @@ abbrev IsInput : Origin → Type 0
 IsInput (origins.Tree nodes) = IsTree nodes
 IsInput (origins.Workflow ps) = IsTerms ps
 
-is_input : (made : Demo) (origin : Origin) → IsMade made origin → IsInput origin
-is_input (demos.Tree s n) (origins.Tree nodes) is = is.1
-is_input (demos.Tree s n) (origins.Workflow ps) is = absurd is
-is_input (demos.Workflow s n) (origins.Tree nodes) is = absurd is
-is_input (demos.Workflow s n) (origins.Workflow ps) is = is.1
-is_input (demos.Grid r c) (origins.Tree nodes) is = is.1
-is_input (demos.Grid r c) (origins.Workflow ps) is = absurd is
-
 module _ (p : Parts) where
+  is_input : (made : Demo) (origin : Origin) → IsMakeable made → IsMade made origin → IsInput origin
+  is_input (demos.Tree s n) (origins.Tree nodes) makeable is = subst IsTree (sym is) (p.trees s n makeable.0 makeable.1)
+  is_input (demos.Tree s n) (origins.Workflow ps) makeable is = absurd is
+  is_input (demos.Workflow s n) (origins.Tree nodes) makeable is = absurd is
+  is_input (demos.Workflow s n) (origins.Workflow ps) makeable is = subst IsTerms (sym is) (p.workflows s n makeable.0 makeable.1)
+  is_input (demos.Grid r c) (origins.Tree nodes) makeable (pattern, order, is, least, fronts) =
+      p.front_trees plain_fronts pattern order nodes is.pattern least.perm.len fronts
+  is_input (demos.Grid r c) (origins.Workflow ps) makeable is = absurd is
+
   one_term_of : (origin : Origin) (ps qs : List Position) → IsTermOf origin ps → IsTermOf origin qs → ps ≡ qs
   one_term_of (origins.Tree nodes) ps qs (f, is, e) (g, is', e') = e ∙ ap (forest_positions nodes) (p.forests nodes f g is is') ∙ sym e'
   one_term_of (origins.Workflow own) ps qs e e' = e ∙ sym e'
@@ -99,12 +108,12 @@ module _ (p : Parts) where
       absurd (p.not_both (system_of origin) ps plan objection accepted
       (subst (λ (xs : List Position). IsObjection (system_of origin) xs plan objection) (sym same) objected))
 
-  pub shown : (made : Demo) (answer : Answer) → IsDemoOf made answer → IsShown made answer.text
-  shown made answer (origin, plan, is_made, accepted, (verdict, is_verdict, done, summary)) = record {
+  pub shown : (made : Demo) (answer : Answer) → IsMakeable made → IsDemoOf made answer → IsShown made answer.text
+  shown made answer makeable (origin, plan, is_made, accepted, (verdict, is_verdict, done, summary)) = record {
     origin = origin;
     is_made = is_made;
     peak = plan.peak;
-    least = is_least origin plan (is_input made origin is_made) accepted;
+    least = is_least origin plan (is_input made origin makeable is_made) accepted;
     summary = subst (λ (word : List ℕ). IsSummary (kind_word made) origin plan.peak word answer.text)
         (says_yes origin plan verdict accepted is_verdict) summary;
   }
@@ -112,19 +121,21 @@ module _ (p : Parts) where
   -- ---- one answer
 
   one_grid_tree : (rows cols : ℕ) (a b : List Node) → IsGridTree rows cols a → IsGridTree rows cols b → a ≡ b
-  one_grid_tree rows cols a b (pattern, is, fronts) (pattern', is', fronts') =
+  one_grid_tree rows cols a b (pattern, order, is, least, fronts) (pattern', order', is', least', fronts') =
       let same = p.patterns (rows * cols) (grid_pairs rows cols) pattern pattern' is is' in
-      p.fronts plain_fronts pattern (range_with_len 1 (length pattern)) a b is.pattern (length-range_with_len 1 (length pattern)) fronts
-      (subst (λ (x : List (List ℕ)). IsFrontTree plain_fronts x (range_with_len 1 (length x)) b) (sym same) fronts')
+      let other = subst (λ (x : List (List ℕ)). IsMinimumDegreeOrder (is_joined x) (length x) order') (sym same) least' in
+      let orders = p.min_degrees (is_joined pattern) (length pattern) order order' least other in
+      p.fronts plain_fronts pattern order a b is.pattern least.perm.len fronts
+      (subst (λ (x : List (List ℕ)). IsFrontTree plain_fronts x order b) (sym same) (subst (λ (o : List ℕ). IsFrontTree plain_fronts pattern' o b) (sym orders) fronts'))
 
   one_origin : (made : Demo) (a b : Origin) → IsMade made a → IsMade made b → a ≡ b
-  one_origin (demos.Tree s n) (origins.Tree xs) (origins.Tree ys) is is' = ap origins.Tree (is.0 ∙ sym is'.0)
+  one_origin (demos.Tree s n) (origins.Tree xs) (origins.Tree ys) is is' = ap origins.Tree (is ∙ sym is')
   one_origin (demos.Tree s n) (origins.Tree xs) (origins.Workflow ys) is is' = absurd is'
   one_origin (demos.Tree s n) (origins.Workflow xs) b is is' = absurd is
   one_origin (demos.Workflow s n) (origins.Tree xs) b is is' = absurd is
   one_origin (demos.Workflow s n) (origins.Workflow xs) (origins.Tree ys) is is' = absurd is'
-  one_origin (demos.Workflow s n) (origins.Workflow xs) (origins.Workflow ys) is is' = ap origins.Workflow (is.0 ∙ sym is'.0)
-  one_origin (demos.Grid r c) (origins.Tree xs) (origins.Tree ys) is is' = ap origins.Tree (one_grid_tree r c xs ys is.0 is'.0)
+  one_origin (demos.Workflow s n) (origins.Workflow xs) (origins.Workflow ys) is is' = ap origins.Workflow (is ∙ sym is')
+  one_origin (demos.Grid r c) (origins.Tree xs) (origins.Tree ys) is is' = ap origins.Tree (one_grid_tree r c xs ys is is')
   one_origin (demos.Grid r c) (origins.Tree xs) (origins.Workflow ys) is is' = absurd is'
   one_origin (demos.Grid r c) (origins.Workflow xs) b is is' = absurd is
 
@@ -149,16 +160,16 @@ module _ (p : Parts) where
       ∙ (λ i. text_of_lines (demo_lines kind (length (system_of origin).tasks) (counts i) peak (posts i) check))
       ∙ sym is'.text_is
 
-  one_shown : (made : Demo) (a b : List ℕ) → IsShown made a → IsShown made b → a ≡ b
-  one_shown made a b is is' =
+  one_shown : (made : Demo) (a b : List ℕ) → IsMakeable made → IsShown made a → IsShown made b → a ≡ b
+  one_shown made a b makeable is is' =
       let same = one_origin made is.origin is'.origin is.is_made is'.is_made in
       let other = subst (λ (o : Origin). IsLeast (system_of o) is'.peak) (sym same) is'.least in
       let peaks = p.least (system_of is.origin) is.peak is'.peak is.least other in
-      one_summary (kind_word made) is.origin is.peak (codes "yes") a b (is_input made is.origin is.is_made) is.summary
+      one_summary (kind_word made) is.origin is.peak (codes "yes") a b (is_input made is.origin makeable is.is_made) is.summary
       (coe 1 0 (i. IsSummary (kind_word made) (same i) (peaks i) (codes "yes") b) is'.summary)
 
-  pub one_demo : (made : Demo) (a b : Answer) → IsDemoOf made a → IsDemoOf made b → a ≡ b
-  one_demo made a b is is' =
+  pub one_demo : (made : Demo) (a b : Answer) → IsMakeable made → IsDemoOf made a → IsDemoOf made b → a ≡ b
+  one_demo made a b makeable is is' =
       let ends = is.4.2 ∙ sym is'.4.2 in
-      let texts = one_shown made a.text b.text (shown made a is) (shown made b is') in
+      let texts = one_shown made a.text b.text makeable (shown made a makeable is) (shown made b makeable is') in
       λ i. record { status = ends i; text = texts i }

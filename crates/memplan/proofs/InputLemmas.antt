@@ -1,6 +1,5 @@
 -- What is judged of the files of an input, and of an order of its tasks.
-use Rattle.std.proofs.Common.{◌≡◌, ℕ, ◌≤◌, List, [], ◌∷◌, ◌++◌, Option, Some, None, refl, sym, subst, inl, arith, length}
-use Rattle.std.specs.List.{range_with_len}
+use Rattle.std.proofs.Common.{◌≡◌, ℕ, ◌≤◌, List, [], ◌∷◌, ◌++◌, Option, Some, None, refl, sym, subst, ap, inl, inr, arith, length, length-append}
 use Rattle.least_peak.specs.Problem.{system_of, IsTermOf}
 use Rattle.least_peak.specs.declared.problem.Origin.{Origin}
 use Rattle.least_peak.specs.declared.problem.Origin.TheVariants as origins
@@ -8,43 +7,74 @@ use Rattle.mp_system.specs.System.{TaskSystem}
 use Rattle.sp_terms.specs.declared.position.Position.{Position}
 use Rattle.sp_terms.specs.Values.{term_of}
 use Rattle.tree_input.specs.declared.node.Node.{Node}
-use Rattle.memplan.specs.Files.{Answer, HasValue, IsMatrixFile, IsOrderOf, IsOrderFrom, IsMatrixTree, IsTreeOf, IsSystemOf, IsSystemWithTerm, IsFirstRefusal, AreAccepted}
-use Rattle.memplan.specs.Clauses.{AreTold}
-use Rattle.memplan.specs.Judged.{IsRefusedOrder, IsProblemOf, IsOrderRead, IsOrderedOf, IsRefusedSource, numbers_of}
+use Rattle.memplan.specs.Files.{Answer, HasValue, IsMatrixFile, CanBeOrdered, IsOrderOf, IsOrderFrom, IsMatrixTree, IsTreeOf, IsSystemOf, IsSystemWithTerm, IsFirstRefusal, AreAccepted}
+use Rattle.memplan.specs.Clauses.{AreTold, HasFailed}
+use Rattle.memplan.specs.Judged.{IsStop, IsRefusedOrder, IsProblemOf, IsOrderRead, IsOrderedOf, IsRefusedSource, tasks_in}
 use Rattle.memplan.specs.declared.inputs.Order.{Order}
-use Rattle.memplan.specs.Request.{Matrix, TreeInput, tree_named, matrix_named, Input, tree_input, workflow_named, NamedFile, OrderSource, order_named, plan_named, matrix_file, perm_files, matrix_files, tree_input_files, input_files, source_file}
-use Rattle.memplan.proofs.StepLemmas.{over_both, accepted_after}
+use Rattle.memplan.specs.Request.{Ordering, natural, min_degree, perm_named, Matrix, TreeInput, tree_named, matrix_named, Input, tree_input, workflow_named, NamedFile, OrderSource, order_named, plan_named, matrix_file, ordering_files, matrix_files, tree_input_files, input_files, source_file}
+use Rattle.memplan.specs.Pages.{answer_of}
+use Rattle.memplan.specs.declared.stop.Stop.{Stop}
+use Rattle.memplan.specs.declared.stop.Stop.TheVariants as stops
+use Rattle.memplan.proofs.StepLemmas.{alone_told, stop_after, over_both, accepted_after}
 
 -- ---- a matrix and its permutation
 
-abbrev pub matrix_at : List ℕ → NamedFile
-matrix_at name = record { role = matrix_file; name = name }
+abbrev pub matrix_at : Ordering → List ℕ → NamedFile
+matrix_at ordering name = record { role = matrix_file ordering; name = name }
 
-pub few_perm : (name : Option (List ℕ)) → length (perm_files name) ≤ 1
-few_perm None = omega arith
-few_perm (Some name) = omega arith
+-- an order that takes no file
+pub no_file : {T : Type 0} (told : List ℕ → Option (List ℕ)) (takes : List (List ℕ) → T → Type 0) (value : T) → takes [] value
+    → (texts : List (List ℕ)) → AreTold told [] texts → takes texts value
+no_file told takes value is [] are = is
+no_file told takes value is (t ∷ texts) are = absurd are
 
-pub natural : (told : List ℕ → Option (List ℕ)) (n : ℕ) (order : List ℕ) → order ≡ range_with_len 1 n
-    → (texts : List (List ℕ)) → AreTold told (perm_files None) texts → IsOrderOf None n texts order
-natural told n order is [] are = is
-natural told n order is (t ∷ texts) are = absurd are
+nothing_failed : (told : List ℕ → Option (List ℕ)) (before after : List ℕ → ℕ) → HasFailed told before after [] → ⊥
+nothing_failed told before after failed = omega (arith, ap length failed.split, length-append failed.earlier (failed.file ∷ failed.later))
 
-pub order_refused : (rows : List (List ℕ)) (perm : Option (List ℕ)) (matrix : List ℕ) (texts : List (List ℕ)) (answer : Answer) → IsMatrixFile matrix rows
-    → IsRefusedOrder (length rows) texts answer → (told : List ℕ → Option (List ℕ)) → AreTold told (perm_files perm) texts → IsFirstRefusal (perm_files perm) (matrix ∷ []) texts answer
-order_refused rows perm matrix [] answer is refused told are = absurd refused
-order_refused rows None matrix (t ∷ texts) answer is refused told are = absurd are
-order_refused rows (Some name) matrix (t ∷ texts) answer is refused told are = inl (rows, is, refused)
+perm_refused : (rows : List (List ℕ)) (name matrix : List ℕ) (texts : List (List ℕ)) (answer : Answer) → IsMatrixFile matrix rows
+    → IsRefusedOrder (perm_named name) rows texts answer → IsFirstRefusal (ordering_files (perm_named name)) (matrix ∷ []) texts answer
+perm_refused rows name matrix [] answer is refused = absurd refused
+perm_refused rows name matrix (t ∷ texts) answer is refused = inl (rows, is, refused)
 
-order_accepted : (perm : Option (List ℕ)) (matrix : List ℕ) (rows : List (List ℕ)) (texts : List (List ℕ)) (order : List ℕ) → IsMatrixFile matrix rows → IsOrderOf perm (length rows) texts order
-    → AreAccepted (perm_files perm) (matrix ∷ []) texts
-order_accepted None matrix rows texts order is is_order = tt
-order_accepted (Some name) matrix rows [] order is is_order = absurd is_order
-order_accepted (Some name) matrix rows (text ∷ []) order is is_order = ((rows, order, is, is_order), tt)
-order_accepted (Some name) matrix rows (text ∷ more ∷ texts) order is is_order = absurd is_order
+-- a stop at the order, once the matrix is read
+module _ (told now : List ℕ → Option (List ℕ)) (same : (name : List ℕ) → now name ≡ told name) (before then after : List ℕ → ℕ)
+    (le : (name : List ℕ) → before name ≤ then name) (name : List ℕ) (rows : List (List ℕ))
+    (is_matrix : (text : List ℕ) → told name ≡ Some text → IsMatrixFile text rows) where
+  pub ordering_stop : (o : Ordering) (e : Stop) → IsStop now then after (ordering_files o) (IsRefusedOrder o rows) e
+      → IsStop told before after (matrix_at o name ∷ ordering_files o) (IsFirstRefusal (matrix_at o name ∷ ordering_files o) []) e
+  ordering_stop natural (stops.Refused page) h = absurd (h [] tt)
+  ordering_stop natural stops.ReadFault failed = absurd (nothing_failed now then after failed)
+  ordering_stop natural stops.NoMemory h = tt
+  ordering_stop min_degree (stops.Refused page) h =
+      alone_told told (matrix_at min_degree name) (λ texts. IsFirstRefusal (matrix_at min_degree name ∷ []) [] texts (answer_of page))
+      (λ text is. let large = h [] tt in inl (inr (rows, is_matrix text is, large.0, large.1)))
+  ordering_stop min_degree stops.ReadFault failed = absurd (nothing_failed now then after failed)
+  ordering_stop min_degree stops.NoMemory h = tt
+  ordering_stop (perm_named perm) e h =
+      stop_after told now same before then after le (matrix_at (perm_named perm) name ∷ [])
+      (alone_told told (matrix_at (perm_named perm) name) (AreAccepted (matrix_at (perm_named perm) name ∷ []) []) (λ text is. ((rows, is_matrix text is, tt), tt)))
+      (ordering_files (perm_named perm)) (omega arith) (IsRefusedOrder (perm_named perm) rows)
+      (λ one two answer are more refused. alone_told told (matrix_at (perm_named perm) name) (λ texts. IsFirstRefusal (ordering_files (perm_named perm)) texts two answer)
+      (λ text is. perm_refused rows perm text two answer (is_matrix text is) refused) one are) e h
+
+can_be_ordered : (o : Ordering) (rows texts : List (List ℕ)) (order : List ℕ) → IsOrderOf o rows texts order → CanBeOrdered o (length rows)
+can_be_ordered natural rows texts order is = tt
+can_be_ordered min_degree rows [] order is = is.0
+can_be_ordered min_degree rows (text ∷ texts) order is = absurd is
+can_be_ordered (perm_named name) rows texts order is = tt
+
+order_accepted : (o : Ordering) (matrix : List ℕ) (rows : List (List ℕ)) (texts : List (List ℕ)) (order : List ℕ) → IsMatrixFile matrix rows → IsOrderOf o rows texts order
+    → AreAccepted (ordering_files o) (matrix ∷ []) texts
+order_accepted natural matrix rows texts order is is_order = tt
+order_accepted min_degree matrix rows texts order is is_order = tt
+order_accepted (perm_named name) matrix rows [] order is is_order = absurd is_order
+order_accepted (perm_named name) matrix rows (text ∷ []) order is is_order = ((rows, order, is, is_order), tt)
+order_accepted (perm_named name) matrix rows (text ∷ more ∷ texts) order is is_order = absurd is_order
 
 pub matrix_accepted : (m : Matrix) (texts : List (List ℕ)) (nodes : List Node) → IsMatrixTree m texts nodes → AreAccepted (matrix_files m) [] texts
 matrix_accepted m [] nodes is = absurd is
-matrix_accepted m (text ∷ texts) nodes (rows, order, matrix, is_order, fronts) = ((rows, matrix), order_accepted m.perm text rows texts order matrix is_order)
+matrix_accepted m (text ∷ texts) nodes (rows, order, matrix, is_order, fronts) =
+    ((rows, matrix, can_be_ordered m.ordering rows texts order is_order), order_accepted m.ordering text rows texts order matrix is_order)
 
 pub tree_accepted : (input : TreeInput) (texts : List (List ℕ)) (nodes : List Node) → IsTreeOf input texts nodes → AreAccepted (tree_input_files input) [] texts
 tree_accepted (tree_named name) [] nodes is = absurd is
@@ -116,7 +146,7 @@ module _ (told : List ℕ → Option (List ℕ)) (input : Input) (source : Order
     is_order = read;
     accepted =
         accepted_after told (input_files input) (source_file source ∷ []) [] mine (text ∷ []) are (problem_accepted input mine problem (is_problem mine are))
-        (source_accepted source mine text (numbers_of order) read.0, tt);
+        (source_accepted source mine text (tasks_in order) read.0, tt);
   }
 
   pub ordered : (texts : List (List ℕ)) → AreTold told (input_files input ++ source_file source ∷ []) texts

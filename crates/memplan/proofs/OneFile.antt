@@ -15,8 +15,8 @@ use Rattle.sp_terms.specs.Kinds.{word_of as workflow_word}
 use Rattle.sp_terms.specs.WorkflowFile.{ReadsWorkflow, RefusesWorkflow}
 use Rattle.tree_input.specs.Kinds.{word_of as tree_word}
 use Rattle.tree_input.specs.TreeFile.{ReadsTree, RefusesTree}
-use Rattle.memplan.specs.Files.{Answer, IsWithinBytes, IsRefusedAs, IsRefusedFile, HasValue, IsRefused, IsSystemOf}
-use Rattle.memplan.specs.Request.{Input, FileRole, tree_file, workflow_file, matrix_file, perm_file, order_file, plan_file, priority_file}
+use Rattle.memplan.specs.Files.{Answer, IsMatrixFile, CanBeOrdered, IsTooLarge, IsWithinBytes, IsRefusedAs, IsRefusedFile, HasValue, IsRefused, IsSystemOf}
+use Rattle.memplan.specs.Request.{Ordering, natural, min_degree, perm_named, Input, FileRole, tree_file, workflow_file, matrix_file, perm_file, order_file, plan_file, priority_file}
 use Rattle.memplan.proofs.OneInput.{Systems, same_texts}
 
 -- what is known of a format
@@ -61,10 +61,27 @@ module _ (f : Formats) where
   abbrev perm_refused : List ℕ → ℕ → List ℕ → Answer → Type 0
   perm_refused file n text answer = IsRefusedFile file perm_word (RefusesPerm n text) text answer
 
+  not_too_large : (o : Ordering) (text : List ℕ) (answer : Answer) (rows : List (List ℕ)) → IsMatrixFile text rows → CanBeOrdered o (length rows) → IsTooLarge o text answer → ⊥
+  not_too_large natural text answer rows is fits large = large
+  not_too_large min_degree text answer rows is fits (other, is_other, more, line) = omega (arith, ap length (f.patterns text rows other is.1 is_other.1), fits, more)
+  not_too_large (perm_named name) text answer rows is fits large = large
+
+  -- a matrix that is too large is one that is read
+  read_before : (o : Ordering) (text : List ℕ) (one two : Answer) → IsRefusedFile (codes "matrix") matrix_word (RefusesPattern text) text one → IsTooLarge o text two → ⊥
+  read_before natural text one two refused large = large
+  read_before min_degree text one two refused (rows, is, more, line) = not_refused (codes "matrix") matrix_word ReadsPattern RefusesPattern f.matrices text one rows is refused
+  read_before (perm_named name) text one two refused large = large
+
+  large_once : (o : Ordering) (text : List ℕ) (one two : Answer) → IsTooLarge o text one → IsTooLarge o text two → one ≡ two
+  large_once natural text one two large other = absurd large
+  large_once min_degree text one two (rows, is, more, line) (rows', is', more', line') = line ∙ sym line'
+  large_once (perm_named name) text one two large other = absurd large
+
   pub not_both : (role : FileRole) (earlier : List (List ℕ)) (text : List ℕ) (answer : Answer) → HasValue role earlier text → IsRefused role earlier text answer → ⊥
   not_both tree_file earlier text answer (nodes, is) refused = not_refused (codes "tree") tree_word ReadsTree RefusesTree f.trees text answer nodes is refused
   not_both workflow_file earlier text answer (positions, is) refused = not_refused (codes "workflow") workflow_word ReadsWorkflow RefusesWorkflow f.workflows text answer positions is refused
-  not_both matrix_file earlier text answer (rows, is) refused = not_refused (codes "matrix") matrix_word ReadsPattern RefusesPattern f.matrices text answer rows is refused
+  not_both (matrix_file o) earlier text answer (rows, is, fits) (inl refused) = not_refused (codes "matrix") matrix_word ReadsPattern RefusesPattern f.matrices text answer rows is refused
+  not_both (matrix_file o) earlier text answer (rows, is, fits) (inr large) = not_too_large o text answer rows is fits large
   not_both perm_file [] text answer is refused = absurd is
   not_both perm_file (matrix ∷ earlier) text answer (rows, order, matrix_is, is) (rows', matrix_is', refused) =
       not_refused (codes "perm") perm_word (ReadsPerm (length rows)) (RefusesPerm (length rows)) (f.perms (length rows)) text answer order is
@@ -79,7 +96,10 @@ module _ (f : Formats) where
   pub one_refusal : (role : FileRole) (earlier : List (List ℕ)) (text : List ℕ) (one two : Answer) → IsRefused role earlier text one → IsRefused role earlier text two → one ≡ two
   one_refusal tree_file earlier text one two is other = refused_once (codes "tree") tree_word ReadsTree RefusesTree f.trees text one two is other
   one_refusal workflow_file earlier text one two is other = refused_once (codes "workflow") workflow_word ReadsWorkflow RefusesWorkflow f.workflows text one two is other
-  one_refusal matrix_file earlier text one two is other = refused_once (codes "matrix") matrix_word ReadsPattern RefusesPattern f.matrices text one two is other
+  one_refusal (matrix_file o) earlier text one two (inl is) (inl other) = refused_once (codes "matrix") matrix_word ReadsPattern RefusesPattern f.matrices text one two is other
+  one_refusal (matrix_file o) earlier text one two (inl is) (inr large) = absurd (read_before o text one two is large)
+  one_refusal (matrix_file o) earlier text one two (inr large) (inl is) = absurd (read_before o text two one is large)
+  one_refusal (matrix_file o) earlier text one two (inr large) (inr other) = large_once o text one two large other
   one_refusal perm_file [] text one two is other = absurd is
   one_refusal perm_file (matrix ∷ earlier) text one two (rows, matrix_is, is) (rows', matrix_is', other) =
       refused_once (codes "perm") perm_word (ReadsPerm (length rows)) (RefusesPerm (length rows)) (f.perms (length rows)) text one two is

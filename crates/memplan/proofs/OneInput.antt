@@ -1,9 +1,10 @@
 -- The texts of an input are read as one tree, one system and one term, within the limits.
-use Rattle.std.proofs.Common.{◌≡◌, ◌∙◌, ℕ, List, [], ◌∷◌, ◌++◌, Option, Some, None, length, refl, sym, ap, ap₂, subst, arith}
+use Rattle.std.proofs.Common.{◌≡◌, ◌∙◌, ℕ, Bool, List, [], ◌∷◌, ◌++◌, Option, Some, None, length, refl, sym, ap, ap₂, subst, arith}
 use Rattle.std.proofs.lemmas.List.FromFn.{length-range_with_len}
 use Rattle.matrix_market.specs.MatrixFile.{ReadsPattern}
-use Rattle.matrix_market.specs.Pattern.{IsPattern}
+use Rattle.matrix_market.specs.Pattern.{IsPattern, is_joined}
 use Rattle.mp_system.specs.System.{TaskSystem, IsSystem}
+use Rattle.ordering.specs.MinimumDegree.{IsMinimumDegreeOrder}
 use Rattle.ordering.specs.Perm.{IsPerm}
 use Rattle.ordering.specs.PermFile.{ReadsPerm}
 use Rattle.sp_terms.specs.declared.position.Position.{Position}
@@ -20,7 +21,7 @@ use Rattle.tree_input.specs.Tree.{IsTree, system_of_nodes}
 use Rattle.tree_input.specs.TreeFile.{ReadsTree}
 use Rattle.tree_input.specs.TreeTerm.{forest_positions}
 use Rattle.memplan.specs.Files.{IsOrderOf, IsMatrixTree, IsTreeOf, IsSystemOf, IsSystemWithTerm}
-use Rattle.memplan.specs.Request.{Matrix, TreeInput, tree_named, matrix_named, Input, tree_input, workflow_named, perm_files, matrix_files, tree_input_files, input_files}
+use Rattle.memplan.specs.Request.{Ordering, natural, min_degree, perm_named, Matrix, TreeInput, tree_named, matrix_named, Input, tree_input, workflow_named, ordering_files, matrix_files, tree_input_files, input_files}
 
 -- lists that are cut at the same place
 same_cut : {A : Type 0} (a b : List A) (x y : A) (xs ys : List A) → length a ≡ length b → a ++ x ∷ xs ≡ b ++ y ∷ ys → (a ≡ b) × (x ≡ y) × (xs ≡ ys)
@@ -45,6 +46,7 @@ pub record Parts : Type 0 where
   pub forests : (nodes : List Node) (f g : Forest) → IsForestOf nodes f → IsForestOf nodes g → f ≡ g
   pub patterns : OneValue ReadsPattern
   pub perms : (n : ℕ) → OneValue (ReadsPerm n)
+  pub min_degrees : (joined : ℕ → ℕ → Bool) (n : ℕ) (one two : List ℕ) → IsMinimumDegreeOrder joined n one → IsMinimumDegreeOrder joined n two → one ≡ two
   pub perm : (n : ℕ) (bytes order : List ℕ) → ReadsPerm n bytes order → IsPerm n order
   pub fronts : (options : FrontOptions) (rows : List (List ℕ)) (order : List ℕ) (one two : List Node) → IsPattern rows → length order ≡ length rows
       → IsFrontTree options rows order one → IsFrontTree options rows order two → one ≡ two
@@ -56,20 +58,22 @@ pub record Parts : Type 0 where
   pub term_system : (positions : List Position) → IsTerms positions → IsSystem (system_of_term (term_of positions))
 
 module _ (p : Parts) where
-  one_order : (perm : Option (List ℕ)) (n : ℕ) (texts : List (List ℕ)) (a b : List ℕ) → IsOrderOf perm n texts a → IsOrderOf perm n texts b
-      → (a ≡ b) × (length a ≡ n) × (length texts ≡ length (perm_files perm))
-  one_order None n [] a b is other = (is ∙ sym other, ap length is ∙ length-range_with_len 1 n, refl)
-  one_order None n (t ∷ ts) a b is other = absurd is
-  one_order (Some name) n [] a b is other = absurd is
-  one_order (Some name) n (t ∷ []) a b is other = (p.perms n t a b is.1 other.1, (p.perm n t a is.1).len, refl)
-  one_order (Some name) n (t ∷ u ∷ ts) a b is other = absurd is
+  one_order : (o : Ordering) (rows texts : List (List ℕ)) (a b : List ℕ) → IsOrderOf o rows texts a → IsOrderOf o rows texts b
+      → (a ≡ b) × (length a ≡ length rows) × (length texts ≡ length (ordering_files o))
+  one_order natural rows [] a b is other = (is ∙ sym other, ap length is ∙ length-range_with_len 1 (length rows), refl)
+  one_order natural rows (t ∷ ts) a b is other = absurd is
+  one_order min_degree rows [] a b is other = (p.min_degrees (is_joined rows) (length rows) a b is.1 other.1, is.1.perm.len, refl)
+  one_order min_degree rows (t ∷ ts) a b is other = absurd is
+  one_order (perm_named name) rows [] a b is other = absurd is
+  one_order (perm_named name) rows (t ∷ []) a b is other = (p.perms (length rows) t a b is.1 other.1, (p.perm (length rows) t a is.1).len, refl)
+  one_order (perm_named name) rows (t ∷ u ∷ ts) a b is other = absurd is
 
   one_matrix_tree : (m : Matrix) (texts : List (List ℕ)) (a b : List Node) → IsMatrixTree m texts a → IsMatrixTree m texts b
       → (a ≡ b) × IsTree a × (length texts ≡ length (matrix_files m))
   one_matrix_tree m [] a b is other = absurd is
   one_matrix_tree m (t ∷ ts) a b (rows, order, matrix, is_order, fronts) (rows', order', matrix', is_order', fronts') =
       let same = p.patterns t rows rows' matrix.1 matrix'.1 in
-      let orders = one_order m.perm (length rows) ts order order' is_order (subst (λ (r : List (List ℕ)). IsOrderOf m.perm (length r) ts order') (sym same) is_order') in
+      let orders = one_order m.ordering rows ts order order' is_order (subst (λ (r : List (List ℕ)). IsOrderOf m.ordering r ts order') (sym same) is_order') in
       let other = subst (λ (o : List ℕ). IsFrontTree m.fronts rows o b) (sym orders.0) (subst (λ (r : List (List ℕ)). IsFrontTree m.fronts r order' b) (sym same) fronts') in
       let pattern = matrix.1.pattern.pattern in (
         p.fronts m.fronts rows order a b pattern orders.1 fronts other,

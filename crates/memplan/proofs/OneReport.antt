@@ -25,7 +25,7 @@ use Rattle.memplan.specs.Files.{Answer, AreAccepted, HasValue, IsRefused, IsFirs
 use Rattle.memplan.specs.Demo.{IsDemoOf}
 use Rattle.memplan.specs.Post.{IsPost, post_answer}
 use Rattle.memplan.specs.Replay.{IsReplayAnswer, IsReplayOf}
-use Rattle.memplan.specs.Request.{Request, replay, tree, post, check, planning, simulate, demo, IsInRange, TreeInput, matrix_named, Input, OrderSource, order_named, plan_named, PlanFormat, Simulation, FileRole, NamedFile, tree_input_files, input_files, source_file, priority_files, files_of}
+use Rattle.memplan.specs.Request.{Request, replay, tree, post, check, planning, simulate, demo, IsInRange, IsMakeable, TreeInput, matrix_named, Input, OrderSource, order_named, plan_named, PlanFormat, Simulation, FileRole, NamedFile, tree_input_files, input_files, source_file, priority_files, files_of}
 use Rattle.memplan.specs.Simulate.{IsOwnPriority, IsPriorityFrom, IsSimulation, IsSimulationOf, priority_or, setting_of, simulation_answer}
 use Rattle.memplan.specs.Tree.{tree_answer}
 use Rattle.memplan.specs.declared.commands.demo.Demo.{Demo}
@@ -49,7 +49,7 @@ pub record Reports : Type 0 where
   pub best : (nodes : List Node) (a b : List ℕ) → IsTree nodes → IsBestPostorder nodes a → IsBestPostorder nodes b → a ≡ b
   pub verdict : (system : TaskSystem) (ps : List Position) (plan : PlanText) (a b : Verdict) → IsVerdict system ps plan a → IsVerdict system ps plan b → a ≡ b
   pub schedule : (c : Setting) → IsSetting c → (priority : List ℕ) → HoldsEach c.system priority → (a b : List Event) → IsSchedule c priority (first_moment c) a → IsSchedule c priority (first_moment c) b → a ≡ b
-  pub demos : (made : Demo) (a b : Answer) → IsDemoOf made a → IsDemoOf made b → a ≡ b
+  pub demos : (made : Demo) (a b : Answer) → IsMakeable made → IsDemoOf made a → IsDemoOf made b → a ≡ b
 
 module _ (r : Reports) where
   -- ---- the parts
@@ -152,7 +152,7 @@ module _ (r : Reports) where
   one_report (check input plan workers) texts a b has other is is' = checked_once input texts a b is is'
   one_report (planning input format) texts a b workers other is is' = absurd (other input format refl)
   one_report (simulate input source s) texts a b workers other is is' = simulated_once input source s texts a b workers.0 is is'
-  one_report (demo made) texts a b within other is is' = r.demos made a b is is'
+  one_report (demo made) texts a b within other is is' = r.demos made a b within is is'
 
   -- ---- files that have values
 

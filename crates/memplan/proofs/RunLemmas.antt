@@ -13,13 +13,13 @@ use Rattle.matrix_market.specs.Kinds.{word_of as matrix_word}
 use Rattle.matrix_market.specs.MatrixFile.{RefusesPattern}
 use Rattle.plan_text.specs.PlanFile.{RefusesPlan}
 use Rattle.memplan.specs.Commands.{IsAnswer, IsReport}
-use Rattle.memplan.specs.Files.{Answer, IsRefusedAs, IsRefusedFile, IsRefusedPerm, IsRefused, IsFirstRefusal}
+use Rattle.memplan.specs.Files.{Answer, IsRefusedAs, IsRefusedFile, IsRefusedPerm, IsRefused, IsFirstRefusal, IsTooLarge}
 use Rattle.memplan.specs.Clauses.{AreTold, IsAnswered, IsCutShort}
 use Rattle.sp_terms.specs.Kinds.{word_of as workflow_word}
 use Rattle.ordering.specs.Kinds.{perm_word}
 use Rattle.ordering.specs.Kinds.{order_file_word}
 use Rattle.plan_text.specs.Kinds.{word_of as plan_word}
-use Rattle.memplan.specs.Request.{Request, replay, tree, post, check, planning, simulate, FileRole, NamedFile, tree_file, workflow_file, matrix_file, perm_file, order_file, plan_file, priority_file, files_of}
+use Rattle.memplan.specs.Request.{Ordering, natural, min_degree, perm_named, Request, replay, tree, post, check, planning, simulate, FileRole, NamedFile, tree_file, workflow_file, matrix_file, perm_file, order_file, plan_file, priority_file, files_of}
 use Rattle.memplan.specs.declared.status.Status.{Status}
 use Rattle.memplan.specs.declared.status.Status.TheVariants as status
 
@@ -39,10 +39,16 @@ refused_perm : (earlier : List (List ℕ)) (text : List ℕ) (answer : Answer) �
 refused_perm [] text answer refused done = refused
 refused_perm (matrix ∷ earlier) text answer (rows, is, refused) done = refused_file (codes "perm") perm_word (RefusesPerm (length rows) text) text answer refused done
 
+too_large : (o : Ordering) (text : List ℕ) (answer : Answer) → IsTooLarge o text answer → answer.status ≡ status.Done → ⊥
+too_large natural text answer large done = large
+too_large min_degree text answer (rows, is, more, line) done = absurd (cc (sym (ap (λ (a : Answer). a.status) line) ∙ done))
+too_large (perm_named name) text answer large done = large
+
 refused : (role : FileRole) (earlier : List (List ℕ)) (text : List ℕ) (answer : Answer) → IsRefused role earlier text answer → answer.status ≡ status.Done → ⊥
 refused tree_file earlier text answer r done = refused_file (codes "tree") tree_word (RefusesTree text) text answer r done
 refused workflow_file earlier text answer r done = refused_file (codes "workflow") workflow_word (RefusesWorkflow text) text answer r done
-refused matrix_file earlier text answer r done = refused_file (codes "matrix") matrix_word (RefusesPattern text) text answer r done
+refused (matrix_file o) earlier text answer (inl r) done = refused_file (codes "matrix") matrix_word (RefusesPattern text) text answer r done
+refused (matrix_file o) earlier text answer (inr large) done = too_large o text answer large done
 refused perm_file earlier text answer r done = refused_perm earlier text answer r done
 refused order_file earlier text answer r done = refused_file (codes "order") order_file_word (RefusesOrder text) text answer r done
 refused plan_file earlier text answer r done = refused_file (codes "plan") plan_word (RefusesPlan text) text answer r done

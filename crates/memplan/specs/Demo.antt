@@ -1,6 +1,5 @@
 -- `demo`: an input that is made from a number, its plan, and the verdict of the checker on the plan.
 use Rattle.std.specs.Prelude.{◌≡◌, ℕ, ◌*◌, false, ◌&&◌, nat_le, List, [], ◌∷◌, ◌++◌, length, Option, Some, None, option_map, option_and_then, codes, decimal, if◌then◌else◌}
-use Rattle.std.specs.List.{range_with_len}
 use Rattle.std.specs.Str.{bytes_eq}
 use Rattle.assembly_tree.specs.declared.front.Shape.TheVariants.{Triangle}
 use Rattle.claim_check.specs.Accepted.{IsAccepted}
@@ -11,33 +10,28 @@ use Rattle.least_peak.specs.Problem.{system_of, IsTermOf}
 use Rattle.least_peak.specs.declared.problem.Origin.{Origin}
 use Rattle.least_peak.specs.declared.problem.Origin.TheVariants as origins
 use Rattle.limits.specs.Limits.{most_tasks, most_mindeg}
-use Rattle.matrix_market.specs.Pattern.{IsPatternOf}
+use Rattle.matrix_market.specs.Pattern.{IsPatternOf, is_joined}
 use Rattle.mp_gen.specs.Grid.{grid_pairs}
 use Rattle.mp_gen.specs.RandomTree.{tree_of}
 use Rattle.mp_gen.specs.RandomWorkflow.{workflow_of}
 use Rattle.mp_system.specs.Memory.{peak_of}
 use Rattle.mp_system.specs.Traversal.{IsLeast}
 use Rattle.mp_text.specs.Report.{text_of_lines}
+use Rattle.ordering.specs.MinimumDegree.{IsMinimumDegreeOrder}
 use Rattle.plan_text.specs.Plan.{PlanText}
 use Rattle.postorder_best.specs.BestPostorder.{IsBestPostorder}
 use Rattle.sp_terms.specs.declared.position.Position.{Position}
-use Rattle.sp_terms.specs.Values.{IsTerms}
 use Rattle.symbolic.specs.FrontTree.{IsFrontTree}
 use Rattle.symbolic.specs.declared.options.FrontOptions.{FrontOptions}
 use Rattle.tree_input.specs.declared.node.Node.{Node}
-use Rattle.tree_input.specs.Tree.{IsTree}
 use Rattle.memplan.specs.Files.{Answer}
 use Rattle.command_line.specs.Words.{Given, value_of}
-use Rattle.memplan.specs.Request.{Request, demo, gives_any, number_given}
+use Rattle.memplan.specs.Request.{Request, demo, gives_any, number_given, number_up_to}
 use Rattle.memplan.specs.declared.commands.demo.Demo.{Demo}
 use Rattle.memplan.specs.declared.commands.demo.Demo.TheVariants as demos
 use Rattle.memplan.specs.declared.status.Status.TheVariants as status
 
 -- ---- words
-
--- a number that is given, from 1 to the greatest that passes
-abbrev pub number_up_to : ℕ → Option (List ℕ) → Option ℕ
-number_up_to most given = option_and_then (λ n. if nat_le 1 n && nat_le n most then Some n else None) (number_given given)
 
 -- `--seed S` and `--tasks N`, of at most 10^6 tasks, without rows and columns
 abbrev pub seeded_of : List Given → Option (ℕ × ℕ)
@@ -84,17 +78,17 @@ demo_of options = option_map demo (made_of (kind_or_tree (value_of (codes "kind"
 abbrev pub plain_fronts : FrontOptions
 plain_fronts = record { shape = Triangle; zeros = None; inplace = false }
 
--- the tree of the fronts of a grid, its vertices eliminated in the order 1, 2, ..
+-- the tree of the fronts of a grid, its vertices eliminated by minimum degree
 abbrev pub IsGridTree : ℕ → ℕ → List Node → Type 0
 IsGridTree rows cols nodes =
-    (pattern : List (List ℕ)) × IsPatternOf (rows * cols) (grid_pairs rows cols) pattern
-    × IsFrontTree plain_fronts pattern (range_with_len 1 (length pattern)) nodes
+    (pattern : List (List ℕ)) × (order : List ℕ) × IsPatternOf (rows * cols) (grid_pairs rows cols) pattern
+    × IsMinimumDegreeOrder (is_joined pattern) (length pattern) order × IsFrontTree plain_fronts pattern order nodes
 
--- the tree or the workflow that is made, within the limits of its kind
+-- the tree or the workflow that is made
 abbrev pub IsMade : Demo → Origin → Type 0
-IsMade (demos.Tree seed tasks) (origins.Tree nodes) = (nodes ≡ tree_of seed tasks) × IsTree nodes
-IsMade (demos.Workflow seed tasks) (origins.Workflow positions) = (positions ≡ workflow_of seed tasks) × IsTerms positions
-IsMade (demos.Grid rows cols) (origins.Tree nodes) = IsGridTree rows cols nodes × IsTree nodes
+IsMade (demos.Tree seed tasks) (origins.Tree nodes) = nodes ≡ tree_of seed tasks
+IsMade (demos.Workflow seed tasks) (origins.Workflow positions) = positions ≡ workflow_of seed tasks
+IsMade (demos.Grid rows cols) (origins.Tree nodes) = IsGridTree rows cols nodes
 IsMade made origin = ⊥
 
 -- ---- what is said of it

@@ -12,22 +12,24 @@ use Rattle.tree_input.specs.Forest.{Forest, IsForestOf}
 use Rattle.tree_input.specs.TreeTerm.{forest_positions}
 use Rattle.tree_input.specs.TreeFile.{ReadsTree, RefusesTree}
 use Rattle.matrix_market.specs.MatrixFile.{ReadsPattern, RefusesPattern}
+use Rattle.matrix_market.specs.Pattern.{is_joined}
 use Rattle.sp_terms.specs.declared.position.Position.{Position}
 use Rattle.sp_terms.specs.Term.{Term}
 use Rattle.sp_terms.specs.Postfix.{Denotes}
 use Rattle.sp_terms.specs.SystemOfTerm.{system_of_term}
 use Rattle.sp_terms.specs.WorkflowFile.{ReadsWorkflow, RefusesWorkflow}
 use Rattle.ordering.specs.OrderFile.{ReadsOrder, RefusesOrder}
+use Rattle.ordering.specs.MinimumDegree.{IsMinimumDegreeOrder}
 use Rattle.ordering.specs.PermFile.{ReadsPerm, RefusesPerm}
 use Rattle.plan_text.specs.Plan.{PlanText}
 use Rattle.plan_text.specs.PlanFile.{ReadsPlan, RefusesPlan}
 use Rattle.symbolic.specs.FrontTree.{IsFrontTree}
 use Rattle.memplan.specs.declared.status.Status.{Status}
-use Rattle.memplan.specs.Request.{Matrix, TreeInput, tree_named, matrix_named, Input, tree_input, workflow_named, OrderSource, order_named, plan_named, FileRole, tree_file, workflow_file, matrix_file, perm_file, order_file, plan_file, priority_file, NamedFile}
+use Rattle.memplan.specs.Request.{Ordering, natural, min_degree, perm_named, Matrix, TreeInput, tree_named, matrix_named, Input, tree_input, workflow_named, OrderSource, order_named, plan_named, FileRole, tree_file, workflow_file, matrix_file, perm_file, order_file, plan_file, priority_file, NamedFile}
 use Rattle.sp_terms.specs.Kinds.{word_of as workflow_word}
 use Rattle.ordering.specs.Kinds.{perm_word, order_file_word}
 use Rattle.plan_text.specs.Kinds.{word_of as plan_word}
-use Rattle.limits.specs.Limits.{most_bytes, word_of as limit_word}
+use Rattle.limits.specs.Limits.{most_bytes, most_mindeg, word_of as limit_word}
 use Rattle.tree_input.specs.Kinds.{word_of as tree_word}
 use Rattle.matrix_market.specs.Kinds.{word_of as matrix_word}
 use Rattle.mp_system.specs.Refusal.{word_of as order_word}
@@ -88,19 +90,27 @@ IsOrderFile text numbers = IsWithinBytes text × ReadsOrder text numbers
 abbrev pub IsPlanFile : List ℕ → PlanText → Type 0
 IsPlanFile text plan = IsWithinBytes text × ReadsPlan text plan
 
--- the order of elimination that a matrix comes with: of its permutation file, or 1, 2, .., n
-abbrev pub IsOrderOf : Option (List ℕ) → ℕ → List (List ℕ) → List ℕ → Type 0
-IsOrderOf None n [] order = order ≡ range_with_len 1 n
-IsOrderOf None n (text ∷ texts) order = ⊥
-IsOrderOf (Some name) n [] order = ⊥
-IsOrderOf (Some name) n (text ∷ []) order = IsPermFile n text order
-IsOrderOf (Some name) n (text ∷ more ∷ texts) order = ⊥
+-- a matrix of n rows can be eliminated in this order: by minimum degree only up to a limit
+abbrev pub CanBeOrdered : Ordering → ℕ → Type 0
+CanBeOrdered natural n = Unit {0}
+CanBeOrdered min_degree n = n ≤ most_mindeg
+CanBeOrdered (perm_named name) n = Unit {0}
+
+-- the order in which the rows of a matrix are eliminated: 1, 2, .., n, by minimum degree, or of its permutation file
+abbrev pub IsOrderOf : Ordering → List (List ℕ) → List (List ℕ) → List ℕ → Type 0
+IsOrderOf natural rows [] order = order ≡ range_with_len 1 (length rows)
+IsOrderOf natural rows (text ∷ texts) order = ⊥
+IsOrderOf min_degree rows [] order = (length rows ≤ most_mindeg) × IsMinimumDegreeOrder (is_joined rows) (length rows) order
+IsOrderOf min_degree rows (text ∷ texts) order = ⊥
+IsOrderOf (perm_named name) rows [] order = ⊥
+IsOrderOf (perm_named name) rows (text ∷ []) order = IsPermFile (length rows) text order
+IsOrderOf (perm_named name) rows (text ∷ more ∷ texts) order = ⊥
 
 -- the tree of a matrix, over the texts of its files
 abbrev pub IsMatrixTree : Matrix → List (List ℕ) → List Node → Type 0
 IsMatrixTree m [] nodes = ⊥
 IsMatrixTree m (text ∷ texts) nodes =
-    (rows : List (List ℕ)) × (order : List ℕ) × IsMatrixFile text rows × IsOrderOf m.perm (length rows) texts order
+    (rows : List (List ℕ)) × (order : List ℕ) × IsMatrixFile text rows × IsOrderOf m.ordering rows texts order
     × IsFrontTree m.fronts rows order nodes
 
 abbrev pub IsTreeOf : TreeInput → List (List ℕ) → List Node → Type 0
@@ -132,6 +142,14 @@ abbrev pub IsOrderFrom : OrderSource → List ℕ → List ℕ → Type 0
 IsOrderFrom (order_named name) text numbers = IsOrderFile text numbers
 IsOrderFrom (plan_named name) text numbers = (plan : PlanText) × IsPlanFile text plan × (numbers ≡ plan.order)
 
+-- a matrix has more rows than can be eliminated in this order
+abbrev pub IsTooLarge : Ordering → List ℕ → Answer → Type 0
+IsTooLarge natural text answer = ⊥
+IsTooLarge min_degree text answer =
+    (rows : List (List ℕ)) × IsMatrixFile text rows × (most_mindeg < length rows)
+    × (answer ≡ limit_refused (codes "matrix") (limit_word limits.Mindeg))
+IsTooLarge (perm_named name) text answer = ⊥
+
 -- a permutation file stands after the matrix file whose vertices it orders
 abbrev pub IsRefusedPerm : List (List ℕ) → List ℕ → Answer → Type 0
 IsRefusedPerm [] text answer = ⊥
@@ -158,7 +176,8 @@ IsAcceptedPriority input earlier text =
 abbrev pub IsRefused : FileRole → List (List ℕ) → List ℕ → Answer → Type 0
 IsRefused tree_file earlier text answer = IsRefusedFile (codes "tree") tree_word (RefusesTree text) text answer
 IsRefused workflow_file earlier text answer = IsRefusedFile (codes "workflow") workflow_word (RefusesWorkflow text) text answer
-IsRefused matrix_file earlier text answer = IsRefusedFile (codes "matrix") matrix_word (RefusesPattern text) text answer
+IsRefused (matrix_file ordering) earlier text answer =
+    IsRefusedFile (codes "matrix") matrix_word (RefusesPattern text) text answer ⊎ IsTooLarge ordering text answer
 IsRefused perm_file earlier text answer = IsRefusedPerm earlier text answer
 IsRefused order_file earlier text answer = IsRefusedFile (codes "order") order_file_word (RefusesOrder text) text answer
 IsRefused plan_file earlier text answer = IsRefusedFile (codes "plan") plan_word (RefusesPlan text) text answer
@@ -168,7 +187,7 @@ IsRefused (priority_file input) earlier text answer = IsRefusedPriority input ea
 abbrev pub HasValue : FileRole → List (List ℕ) → List ℕ → Type 0
 HasValue tree_file earlier text = (nodes : List Node) × IsTreeFile text nodes
 HasValue workflow_file earlier text = (positions : List Position) × IsWorkflowFile text positions
-HasValue matrix_file earlier text = (rows : List (List ℕ)) × IsMatrixFile text rows
+HasValue (matrix_file ordering) earlier text = (rows : List (List ℕ)) × IsMatrixFile text rows × CanBeOrdered ordering (length rows)
 HasValue perm_file earlier text = IsAcceptedPerm earlier text
 HasValue order_file earlier text = (numbers : List ℕ) × IsOrderFile text numbers
 HasValue plan_file earlier text = (plan : PlanText) × IsPlanFile text plan

@@ -1,22 +1,24 @@
 -- No public clause names this.
 -- What a step over files says of their texts: a value, or why there is none.
-use Rattle.std.specs.Prelude.{◌≡◌, ℕ, List, [], ◌∷◌, ◌++◌, Option, Some, None, Ok, Err, Result, MatchResult, codes}
+use Rattle.std.specs.Prelude.{◌≡◌, ℕ, ◌<◌, List, [], ◌∷◌, ◌++◌, Option, Some, None, Ok, Err, Result, MatchResult, codes, length}
 use Rattle.mp_outside.specs.Outside.{Rose}
 use Rattle.mp_text.specs.declared.refusals.Refusal.{Refusal}
 use Rattle.mp_text.specs.declared.refusals.Refusal.TheVariants as refusals
 use Rattle.least_peak.specs.declared.problem.Origin.{Origin}
 use Rattle.least_peak.specs.declared.problem.Origin.TheVariants as origins
+use Rattle.limits.specs.Limits.{most_mindeg, word_of as limit_word}
+use Rattle.limits.specs.declared.name.LimitName.TheVariants as limits
 use Rattle.ordering.specs.Perm.{IsPerm}
 use Rattle.ordering.specs.PermFile.{RefusesPerm}
 use Rattle.sp_terms.specs.Postfix.{Denotes}
 use Rattle.sp_terms.specs.Values.{term_of}
 use Rattle.memplan.specs.Commands.{IsReport}
-use Rattle.memplan.specs.Files.{Answer, IsRefused, IsRefusedAs, IsRefusedFile, IsFirstRefusal, IsOrderFrom, IsPermFile, IsTreeOf, IsWorkflowFile, AreAccepted}
+use Rattle.memplan.specs.Files.{limit_refused, Answer, IsRefused, IsRefusedAs, IsRefusedFile, IsFirstRefusal, IsOrderFrom, IsPermFile, IsTreeOf, IsWorkflowFile, AreAccepted}
 use Rattle.memplan.specs.Simulate.{IsOwnPriority, priority_or}
 use Rattle.memplan.specs.Clauses.{AreTold, HasFailed}
 use Rattle.memplan.specs.Pages.{answer_of}
 use Rattle.ordering.specs.Kinds.{perm_word}
-use Rattle.memplan.specs.Request.{Input, tree_input, workflow_named, NamedFile, OrderSource, Request, input_files, source_file, files_of}
+use Rattle.memplan.specs.Request.{Ordering, natural, min_degree, perm_named, Input, tree_input, workflow_named, NamedFile, OrderSource, Request, input_files, source_file, files_of}
 use Rattle.memplan.specs.declared.commands.simulate.Priority.{Priority}
 use Rattle.memplan.specs.declared.commands.simulate.Priority.TheVariants as priorities
 use Rattle.memplan.specs.declared.files.Ranked.{Ranked}
@@ -60,6 +62,12 @@ abbrev pub rank_word : Ranked → List ℕ
 rank_word Vertices = codes "perm"
 rank_word Tasks = codes "priority"
 
+-- the page of a refusal, or that memory ran out
+abbrev pub IsRefusingPage : (Answer → Type 0) → Stop → Type 0
+IsRefusingPage refuses (stops.Refused page) = refuses (answer_of page)
+IsRefusingPage refuses stops.ReadFault = ⊥
+IsRefusingPage refuses stops.NoMemory = Unit {0}
+
 -- ---- files in turn
 
 -- the page of a refusal, or the count of one of them rose
@@ -77,10 +85,14 @@ AreJudged told before after files takes refuses result =
     MatchResult result (λ value. (texts : List (List ℕ)) → AreTold told files texts → takes texts value)
     (IsStop told before after files refuses)
 
--- a permutation file of n vertices is refused
-abbrev pub IsRefusedOrder : ℕ → List (List ℕ) → Answer → Type 0
-IsRefusedOrder n [] answer = ⊥
-IsRefusedOrder n (text ∷ texts) answer = IsRefusedFile (codes "perm") perm_word (RefusesPerm n text) text answer
+-- a matrix has too many rows to be eliminated in this order, or its permutation file is refused
+abbrev pub IsRefusedOrder : Ordering → List (List ℕ) → List (List ℕ) → Answer → Type 0
+IsRefusedOrder natural rows texts answer = ⊥
+IsRefusedOrder min_degree rows texts answer =
+    (most_mindeg < length rows) × (answer ≡ limit_refused (codes "matrix") (limit_word limits.Mindeg))
+IsRefusedOrder (perm_named name) rows [] answer = ⊥
+IsRefusedOrder (perm_named name) rows (text ∷ texts) answer =
+    IsRefusedFile (codes "perm") perm_word (RefusesPerm (length rows) text) text answer
 
 -- what an input is read as
 abbrev pub IsProblemOf : Input → List (List ℕ) → Origin → Type 0
@@ -90,9 +102,9 @@ IsProblemOf (workflow_named name) (text ∷ []) (origins.Workflow positions) =
 IsProblemOf input texts origin = ⊥
 
 -- the tasks of an order that was read
-abbrev pub numbers_of : Order → List ℕ
-numbers_of (orders.Listed numbers) = numbers.items
-numbers_of (orders.Planned plan) = plan.order
+abbrev pub tasks_in : Order → List ℕ
+tasks_in (orders.Listed numbers) = numbers.items
+tasks_in (orders.Planned plan) = plan.order
 
 -- the priority that comes with an order that was read
 abbrev pub own_priority : Order → List ℕ
@@ -102,7 +114,7 @@ own_priority (orders.Planned plan) = priority_or plan.order plan.priority
 -- the order that a source gives, and the priority that comes with it
 abbrev pub IsOrderRead : OrderSource → List (List ℕ) → Order → Type 0
 IsOrderRead source (text ∷ []) order =
-    IsOrderFrom source text (numbers_of order) × IsOwnPriority source text (numbers_of order) (own_priority order)
+    IsOrderFrom source text (tasks_in order) × IsOwnPriority source text (tasks_in order) (own_priority order)
 IsOrderRead source texts order = ⊥
 
 -- the file of a source is refused, after any others

@@ -12,11 +12,19 @@ use Rattle.memplan.specs.Table.{matrix_options, tree_names}
 use Rattle.memplan.specs.declared.commands.demo.Demo.{Demo}
 use Rattle.memplan.specs.declared.commands.demo.Demo.TheVariants as demos
 
+-- in which order the rows of a matrix are eliminated
+pub data Ordering : Type 0 where
+  -- 1, 2, ..
+  natural : Ordering
+  -- by minimum degree
+  min_degree : Ordering
+  -- of a permutation file, by its name
+  perm_named : List ℕ → Ordering
+
 -- a matrix, by the name of its file, and how it becomes a tree of fronts
 pub record Matrix : Type 0 where
   pub name : List ℕ
-  -- the name of a permutation file; with none, the order of elimination is that of the file
-  pub perm : Option (List ℕ)
+  pub ordering : Ordering
   pub fronts : FrontOptions
 
 -- what becomes a tree
@@ -70,11 +78,15 @@ abbrev pub is_second : List ℕ → List ℕ → Option (List ℕ) → Option Bo
 is_second first second None = Some false
 is_second first second (Some word) = if bytes_eq word first then Some false else if bytes_eq word second then Some true else None
 
--- a permutation file or the natural order, not both
-abbrev pub chooses_order : Option (List ℕ) → Option (List ℕ) → Bool
-chooses_order perm None = true
-chooses_order None (Some word) = bytes_eq word (codes "natural")
-chooses_order (Some name) (Some word) = false
+-- a permutation file, the natural order or minimum degree; the natural order, where nothing is given
+abbrev pub ordering_named : List ℕ → Option Ordering
+ordering_named word = if bytes_eq word (codes "natural") then Some natural else if bytes_eq word (codes "mindeg") then Some min_degree else None
+
+abbrev pub ordering_of : Option (List ℕ) → Option (List ℕ) → Option Ordering
+ordering_of None None = Some natural
+ordering_of None (Some word) = ordering_named word
+ordering_of (Some name) None = Some (perm_named name)
+ordering_of (Some name) (Some word) = None
 
 -- a number of zeros is at most 2^40
 abbrev pub zeros_within : ℕ → Option (Option ℕ)
@@ -88,20 +100,19 @@ abbrev pub shape_of : Bool → Shape
 shape_of false = shapes.Triangle
 shape_of true = shapes.Square
 
--- the matrix of this name, and what is given of `--perm NAME` or `--ordering natural`, `--shape triangle|square`,
+-- the matrix of this name, and what is given of `--perm NAME` or `--ordering natural|mindeg`, `--shape triangle|square`,
 -- `--amalgamate ZEROS` and `--inplace no|yes`
 abbrev pub matrix_of : List ℕ → List Given → Option Matrix
 matrix_of name options =
     option_and_then (λ square.
     option_and_then (λ zeros.
     option_and_then (λ inplace.
-    if chooses_order (value_of (codes "perm") options) (value_of (codes "ordering") options)
-    then Some (record {
+    option_map (λ ordering. record {
       name = name;
-      perm = value_of (codes "perm") options;
+      ordering = ordering;
       fronts = record { shape = shape_of square; zeros = zeros; inplace = inplace };
     })
-    else None)
+    (ordering_of (value_of (codes "perm") options) (value_of (codes "ordering") options)))
     (is_second (codes "no") (codes "yes") (value_of (codes "inplace") options)))
     (zeros_of (value_of (codes "amalgamate") options)))
     (is_second (codes "triangle") (codes "square") (value_of (codes "shape") options))
@@ -139,14 +150,18 @@ source_of None (Some plan) = Some (plan_named plan)
 source_of (Some order) None = Some (order_named order)
 source_of (Some order) (Some plan) = None
 
--- 1 to 4,096 workers
-abbrev pub workers_within : ℕ → Option ℕ
-workers_within n = if nat_le 1 n && nat_le n most_workers then Some n else None
+-- a number that is given
+abbrev pub number_given : Option (List ℕ) → Option ℕ
+number_given given = option_and_then number_of given
+
+-- a number that is given, from 1 to the greatest that passes
+abbrev pub number_up_to : ℕ → Option (List ℕ) → Option ℕ
+number_up_to most given = option_and_then (λ n. if nat_le 1 n && nat_le n most then Some n else None) (number_given given)
 
 -- one worker, where no number is given
 abbrev pub workers_or_one : Option (List ℕ) → Option ℕ
 workers_or_one None = Some 1
-workers_or_one (Some word) = option_and_then workers_within (number_of word)
+workers_or_one (Some word) = number_up_to most_workers (Some word)
 
 -- what the number of workers of a request keeps to
 abbrev pub AreWorkers : ℕ → Type 0
@@ -168,17 +183,14 @@ abbrev pub format_of : Bool → PlanFormat
 format_of false = as_file
 format_of true = as_json
 
--- a number that is given
-abbrev pub number_given : Option (List ℕ) → Option ℕ
-number_given given = option_and_then number_of given
-
 -- ---- files
 
 -- what a file is read as
 pub data FileRole : Type 0 where
   tree_file : FileRole
   workflow_file : FileRole
-  matrix_file : FileRole
+  -- a matrix whose rows are to be eliminated in this order
+  matrix_file : Ordering → FileRole
   perm_file : FileRole
   order_file : FileRole
   plan_file : FileRole
@@ -189,12 +201,13 @@ pub record NamedFile : Type 0 where
   pub role : FileRole
   pub name : List ℕ
 
-abbrev pub perm_files : Option (List ℕ) → List NamedFile
-perm_files None = []
-perm_files (Some name) = record { role = perm_file; name = name } ∷ []
+abbrev pub ordering_files : Ordering → List NamedFile
+ordering_files natural = []
+ordering_files min_degree = []
+ordering_files (perm_named name) = record { role = perm_file; name = name } ∷ []
 
 abbrev pub matrix_files : Matrix → List NamedFile
-matrix_files m = record { role = matrix_file; name = m.name } ∷ perm_files m.perm
+matrix_files m = record { role = matrix_file m.ordering; name = m.name } ∷ ordering_files m.ordering
 
 abbrev pub tree_input_files : TreeInput → List NamedFile
 tree_input_files (tree_named name) = record { role = tree_file; name = name } ∷ []

@@ -4,6 +4,8 @@ use Rattle.memplan.specs.Request as requests
 use Rattle.memplan.specs.declared.request.Input.{Input}
 use Rattle.memplan.specs.declared.request.Input.TheVariants as inputs
 use Rattle.memplan.specs.declared.request.Matrix.{Matrix}
+use Rattle.memplan.specs.declared.request.Ordering.{Ordering}
+use Rattle.memplan.specs.declared.request.Ordering.TheVariants as orderings
 use Rattle.memplan.specs.declared.request.OrderSource.{OrderSource}
 use Rattle.memplan.specs.declared.request.OrderSource.TheVariants as sources
 use Rattle.memplan.specs.declared.request.PlanFormat.{PlanFormat}
@@ -14,8 +16,13 @@ use Rattle.memplan.specs.declared.commands.simulate.Simulation.{Simulation}
 use Rattle.memplan.specs.declared.request.TreeInput.{TreeInput}
 use Rattle.memplan.specs.declared.request.TreeInput.TheVariants as trees
 
+abbrev pub ordering_view : Ordering → requests.Ordering
+ordering_view orderings.Natural = requests.natural
+ordering_view orderings.MinDegree = requests.min_degree
+ordering_view (orderings.Perm name) = requests.perm_named name.now
+
 abbrev pub matrix_view : Matrix → requests.Matrix
-matrix_view m = record { name = m.name.now; perm = option_map (λ name. name.now) m.perm; fronts = m.fronts }
+matrix_view m = record { name = m.name.now; ordering = ordering_view m.ordering; fronts = m.fronts }
 
 abbrev pub tree_input_view : TreeInput → requests.TreeInput
 tree_input_view (trees.Tree name) = requests.tree_named name.now

@@ -11,7 +11,8 @@ use Rattle.activation.specs.declared.events.Event.{Event}
 use Rattle.activation.specs.Machine.{Setting, start_state}
 use Rattle.activation.specs.Schedule.{IsSchedule, first_moment, last_time, most_used, most_booked}
 use Rattle.command_line.specs.Words.{Given, value_of}
-use Rattle.memplan.specs.Request.{Request, simulate, Input, OrderSource, order_named, plan_named, Simulation, input_of, source_of, workers_within, number_given}
+use Rattle.limits.specs.Limits.{most_workers}
+use Rattle.memplan.specs.Request.{Request, simulate, Input, OrderSource, order_named, plan_named, Simulation, input_of, source_of, number_up_to, number_given}
 use Rattle.memplan.specs.declared.status.Status.TheVariants as status
 use Rattle.activation.specs.Runs.{AreLegal, state_after_all, IsWithinBound, EachOnce}
 use Rattle.activation.specs.declared.events.EventKind.{EventKind}
@@ -26,7 +27,7 @@ simulate_of options =
     option_and_then (λ bound.
     option_map (λ workers.
     simulate input source (record { bound = bound; workers = workers; priority = value_of (codes "priority") options }))
-    (option_and_then workers_within (number_given (value_of (codes "workers") options))))
+    (number_up_to most_workers (value_of (codes "workers") options)))
     (number_given (value_of (codes "bound") options)))
     (source_of (value_of (codes "order") options) (value_of (codes "plan") options)))
     (input_of options)

@@ -1,52 +1,73 @@
 //! The files of an input are read and judged one after the other, and come to a tree or a problem; and so is the order of its tasks.
 
-ghost use Rattle.std.specs.Prelude.{◌≡◌, ◌≤◌, ℕ, List, [], ◌∷◌, ◌++◌, IfOk, length, option_map};
+ghost use Rattle.std.specs.Prelude.{◌≡◌, ◌≤◌, ℕ, List, [], ◌∷◌, ◌++◌, IfOk, MatchResult, length};
 ghost use Rattle.activation.specs.Schedule.{HoldsEach};
 ghost use Rattle.mp_system.specs.System.{TaskSystem};
 ghost use Rattle.mp_system.specs.Traversal.{IsTraversal};
 ghost use Rattle.plan_text.specs.Plan.{IsPlan};
 ghost use Rattle.memplan.specs.Files.{IsOrderOf, IsMatrixTree, IsTreeOf, IsFirstRefusal};
 ghost use Rattle.memplan.specs.Simulate.{priority_or};
-ghost use Rattle.memplan.specs.Judged.{AreJudged, IsRefusedOrder, IsProblemOf, IsOrderedOf, IsOrderRead, IsRefusedSource, numbers_of, own_priority};
-ghost use Rattle.memplan.specs.Request.{matrix_files, perm_files, tree_input_files, input_files, source_file};
-ghost use Rattle.memplan.specs.RequestViews.{matrix_view, tree_input_view, input_view, source_view};
+ghost use Rattle.memplan.specs.Judged.{AreJudged, IsRefusingPage, IsRefusedOrder, IsProblemOf, IsOrderedOf, IsOrderRead, IsRefusedSource, tasks_in, own_priority};
+ghost use Rattle.memplan.specs.Request.{matrix_files, min_degree, ordering_files, tree_input_files, input_files, source_file};
+ghost use Rattle.memplan.specs.RequestViews.{ordering_view, matrix_view, tree_input_view, input_view, source_view};
 
 use crate::files::{
     MatrixFile, OrderFile, PermFile, PlanTextFile, Ranked, TreeFile, WorkflowFile, judge,
 };
-use crate::request::{Input, Matrix, OrderSource, TreeInput};
+use crate::page::limit_page;
+use crate::request::{Input, Matrix, OrderSource, Ordering, TreeInput};
 use crate::stop::Stop;
 use least_peak::Problem;
+use limits::LimitName;
+use matrix_market::Pattern;
 use mp_outside::Files;
 use mp_system::laws::traversal_law;
 use ordering::laws::read_is_perm;
-use ordering::{Perm, identity};
+use ordering::{MindegRefusal, Perm, identity, min_degree};
 use plan_text::PlanFile;
 use sp_terms::laws::terms_law;
 use std::alloc::Global;
 use symbolic::front_tree;
 use tree_input::Tree;
 
-// The order of elimination of a matrix of `n` vertices: of a permutation file, if one is named, or 1, 2, .., n.
-fn judge_perm<F: Files>(
+// The minimum degree order of a matrix that is not too large for it.
+fn by_min_degree(alloc: Global, pattern: &Pattern) -> Result<Perm, Stop>
+    ensures { MatchResult result (IsOrderOf min_degree pattern.now []) (IsRefusingPage (IsRefusedOrder min_degree pattern.now [])) }
+{
+    match min_degree(alloc, pattern) {
+        Ok(order) => Ok(order),
+        Err(MindegRefusal::Limit) => {
+            let page = limit_page(alloc, "matrix", LimitName::Mindeg)?;
+            Err(Stop::Refused(page))
+        }
+        Err(MindegRefusal::NoMemory) => Err(Stop::NoMemory),
+    }
+}
+
+// The order in which the rows of a matrix are eliminated.
+fn judge_ordering<F: Files>(
     alloc: Global,
     files: &mut F,
-    name: Option<&str>,
-    n: u32,
+    ordering: Ordering<'_>,
+    pattern: &Pattern,
 ) -> Result<Perm, Stop>
     ensures judged { AreJudged (F.bytes_of files.old) (F.faults_of files.old) (F.faults_of files.new)
-        (perm_files (option_map (λ s. s.now) name.entry)) (IsOrderOf (option_map (λ s. s.now) name.entry) n) (IsRefusedOrder n) result }
-    ensures len { IfOk result (λ order. length order ≡ n) }
+        (ordering_files (ordering_view ordering.entry)) (IsOrderOf (ordering_view ordering.entry) pattern.now)
+        (IsRefusedOrder (ordering_view ordering.entry) pattern.now) result }
+    ensures len { IfOk result (λ order. length order ≡ length pattern.now) }
     ensures same { (other : List ℕ) → F.bytes_of files.new other ≡ F.bytes_of files.old other }
     ensures later { (other : List ℕ) → F.faults_of files.old other ≤ F.faults_of files.new other }
 {
     read_is_perm();
-    let Some(name) = name else {
-        return Ok(identity(alloc, n)?);
-    };
-    let ranked = Ranked::Vertices;
-    let perm = judge(alloc, files, name, &PermFile { ranked, n })?;
-    Ok(perm)
+    let n = pattern.order();
+    match ordering {
+        Ordering::Natural => Ok(identity(alloc, n)?),
+        Ordering::MinDegree => by_min_degree(alloc, pattern),
+        Ordering::Perm(name) => {
+            let ranked = Ranked::Vertices;
+            judge(alloc, files, name, &PermFile { ranked, n })
+        }
+    }
 }
 
 /// The tree of the fronts of a matrix.
@@ -62,7 +83,7 @@ pub fn judge_matrix<F: Files>(
     ensures later { (other : List ℕ) → F.faults_of files.old other ≤ F.faults_of files.new other }
 {
     let pattern = judge(alloc, files, matrix.name, &MatrixFile)?;
-    let perm = judge_perm(alloc, files, matrix.perm, pattern.order())?;
+    let perm = judge_ordering(alloc, files, matrix.ordering, &pattern)?;
     Ok(front_tree(alloc, &pattern, &perm, matrix.fronts)?)
 }
 
@@ -119,7 +140,7 @@ pub enum Order {
 impl Order {
     /// The tasks in the order in which they run.
     pub fn numbers(&self) -> &[u32]
-        ensures { result.now ≡ numbers_of self.now }
+        ensures { result.now ≡ tasks_in self.now }
     {
         match self {
             Order::Listed(numbers) => numbers,
@@ -130,7 +151,7 @@ impl Order {
     /// The tasks in the order in which they claim a worker: the priority of a plan that has one, else the order itself.
     pub fn priority(&self) -> &[u32]
         ensures value { result.now ≡ own_priority self.now }
-        ensures each { (system : TaskSystem) → IsTraversal system (numbers_of self.now) → HoldsEach system result.now }
+        ensures each { (system : TaskSystem) → IsTraversal system (tasks_in self.now) → HoldsEach system result.now }
     {
         traversal_law();
         match self {

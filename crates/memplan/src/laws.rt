@@ -10,7 +10,7 @@ ghost use Rattle.memplan.specs.Check.{IsCertified};
 ghost use Rattle.memplan.specs.Files.{Answer, HasValue, IsRefused, IsSystemOf, IsSystemWithTerm, IsTreeOf};
 ghost use Rattle.memplan.specs.Demo.{IsDemoOf, IsShown};
 ghost use Rattle.memplan.specs.Plan.{IsBestPlan};
-ghost use Rattle.memplan.specs.Request.{FileRole, IsInRange, Input, OrderSource, PlanFormat, Request, Simulation, TreeInput, check, demo, input_files, planning, simulate, tree_input_files};
+ghost use Rattle.memplan.specs.Request.{FileRole, IsInRange, IsMakeable, Input, OrderSource, PlanFormat, Request, Simulation, TreeInput, check, demo, input_files, planning, simulate, tree_input_files};
 ghost use Rattle.memplan.specs.Simulate.{IsSimulated};
 ghost use Rattle.memplan.specs.declared.commands.demo.Demo.{Demo};
 ghost use Rattle.memplan.specs.declared.status.Status.TheVariants.{Done};
@@ -18,6 +18,7 @@ ghost use Rattle.memplan.specs.declared.status.Status.TheVariants.{Done};
 use activation::laws as run_laws;
 use claim_check::laws as claim_laws;
 use matrix_market::laws as matrix_laws;
+use mp_gen::laws::made_inputs;
 use mp_system::laws as system_laws;
 use ordering::laws as order_laws;
 use plan_text::laws as plan_laws;
@@ -42,6 +43,7 @@ fn one_input()
     matrix_laws::exactly_one();
     order_laws::exactly_one_perm();
     order_laws::read_is_perm();
+    order_laws::one_minimum_degree_order();
     front_laws::one_front_tree();
     front_laws::front_tree_is_tree();
     term_laws::exactly_one();
@@ -67,8 +69,8 @@ fn one_file()
 
 // A demo has one answer: plans may differ, but not their peak; the checker says yes to them, and no traversal has a lower peak.
 fn one_demo()
-    ensures one { (made : Demo) (one two : Answer) → IsDemoOf made one → IsDemoOf made two → one ≡ two }
-    ensures shown { (made : Demo) (answer : Answer) → IsDemoOf made answer → IsShown made answer.text }
+    ensures one { (made : Demo) (one two : Answer) → IsMakeable made → IsDemoOf made one → IsDemoOf made two → one ≡ two }
+    ensures shown { (made : Demo) (answer : Answer) → IsMakeable made → IsDemoOf made answer → IsShown made answer.text }
 {
     tree_laws::forest_law();
     tree_laws::tree_term();
@@ -77,7 +79,10 @@ fn one_demo()
     system_laws::least_law();
     postorder_laws::one_best_postorder();
     matrix_laws::one_pattern();
+    order_laws::one_minimum_degree_order();
     front_laws::one_front_tree();
+    front_laws::front_tree_is_tree();
+    made_inputs();
 }
 
 /// A request has one answer over the texts of its files, and so the program prints what these decide; but `plan` may print any plan of
@@ -109,7 +114,7 @@ pub fn what_answers_say()
         IsAnswer (planning input format) texts answer → answer.status ≡ Done → IsBestPlan input format texts answer.text }
     ensures simulated { (input : Input) (source : OrderSource) (s : Simulation) (texts : List (List ℕ)) (answer : Answer) → 1 ≤ s.workers →
         IsAnswer (simulate input source s) texts answer → answer.status ≡ Done → IsSimulated input source s texts answer.text }
-    ensures shown { (made : Demo) (texts : List (List ℕ)) (answer : Answer) →
+    ensures shown { (made : Demo) (texts : List (List ℕ)) (answer : Answer) → IsMakeable made →
         IsAnswer (demo made) texts answer → answer.status ≡ Done → IsShown made answer.text }
 {
     one_input();

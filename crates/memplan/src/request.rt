@@ -1,7 +1,7 @@
-ghost use Rattle.std.specs.Prelude.{◌≡◌, IfSome, option_map};
-ghost use Rattle.memplan.specs.Request.{is_second, chooses_order, zeros_of, matrix_of, gives_any, tree_input_of, input_of, source_of, workers_within, workers_or_one, number_given, AreWorkers};
+ghost use Rattle.std.specs.Prelude.{◌≡◌, ◌<◌, ◌≤◌, ◌^◌, IfSome, option_map};
+ghost use Rattle.memplan.specs.Request.{is_second, ordering_named, ordering_of, zeros_of, matrix_of, gives_any, tree_input_of, input_of, source_of, number_given, number_up_to, workers_or_one, AreWorkers};
 ghost use Rattle.memplan.specs.Table.{matrix_options, tree_names};
-ghost use Rattle.memplan.specs.RequestViews.{matrix_view, tree_input_view, input_view, source_view};
+ghost use Rattle.memplan.specs.RequestViews.{ordering_view, matrix_view, tree_input_view, input_view, source_view};
 
 use crate::commands::check::Check;
 use crate::commands::demo::Demo;
@@ -13,12 +13,22 @@ use limits::MOST_WORKERS;
 use mp_text::number;
 use symbolic::FrontOptions;
 
+/// In which order the rows of a matrix are eliminated.
+#[derive(Clone, Copy, Debug)]
+pub enum Ordering<'a> {
+    /// 1, 2, ..
+    Natural,
+    /// By minimum degree, a matrix of at most 50,000 rows.
+    MinDegree,
+    /// Of a permutation file, by its name.
+    Perm(&'a str),
+}
+
 /// A matrix, by the name of its file, and how it becomes a tree of fronts.
 #[derive(Clone, Copy, Debug)]
 pub struct Matrix<'a> {
     pub name: &'a str,
-    /// The name of a permutation file; with none, the order of elimination is that of the file.
-    pub perm: Option<&'a str>,
+    pub ordering: Ordering<'a>,
     /// How the fronts are made, with at most 2^40 explicit zeros in a merge.
     pub fronts: FrontOptions,
 }
@@ -86,14 +96,26 @@ pub fn is_second(given: Option<&str>, first: &str, second: &str) -> Option<bool>
     }
 }
 
-// Whether a permutation file or the natural order is chosen, not both.
-fn chooses_order(perm: Option<&str>, ordering: Option<&str>) -> bool
-    ensures { result ≡ chooses_order (option_map (λ s. s.now) perm.entry) (option_map (λ s. s.now) ordering.entry) }
+// The order of this name.
+fn ordering_named<'a>(word: &str) -> Option<Ordering<'a>>
+    ensures { option_map ordering_view result ≡ ordering_named word.now }
+{
+    match word {
+        "natural" => Some(Ordering::Natural),
+        "mindeg" => Some(Ordering::MinDegree),
+        _ => None,
+    }
+}
+
+// A permutation file, or an order by its name, not both.
+fn ordering_of<'a>(perm: Option<&'a str>, ordering: Option<&'a str>) -> Option<Ordering<'a>>
+    ensures { option_map ordering_view result ≡ ordering_of (option_map (λ s. s.now) perm.entry) (option_map (λ s. s.now) ordering.entry) }
 {
     match (perm, ordering) {
-        (_, None) => true,
-        (None, Some(word)) => word == "natural",
-        (Some(_), Some(_)) => false,
+        (None, None) => Some(Ordering::Natural),
+        (None, Some(word)) => ordering_named(word),
+        (Some(name), None) => Some(Ordering::Perm(name)),
+        (Some(_), Some(_)) => None,
     }
 }
 
@@ -119,10 +141,7 @@ pub fn matrix_of<'a>(name: &'a str, line: &Line<'a>) -> Option<Matrix<'a>>
     let square = is_second(line.value("shape"), "triangle", "square")?;
     let zeros = zeros_of(line.value("amalgamate"))?;
     let inplace = is_second(line.value("inplace"), "no", "yes")?;
-    let perm = line.value("perm");
-    if !chooses_order(perm, line.value("ordering")) {
-        return None;
-    }
+    let ordering = ordering_of(line.value("perm"), line.value("ordering"))?;
     let shape = if square {
         Shape::Square
     } else {
@@ -133,7 +152,11 @@ pub fn matrix_of<'a>(name: &'a str, line: &Line<'a>) -> Option<Matrix<'a>>
         zeros,
         inplace,
     };
-    Some(Matrix { name, perm, fronts })
+    Some(Matrix {
+        name,
+        ordering,
+        fronts,
+    })
 }
 
 // ---- inputs
@@ -201,13 +224,22 @@ pub fn source_of<'a>(order: Option<&'a str>, plan: Option<&'a str>) -> Option<Or
     }
 }
 
-/// From 1 to 4,096 workers.
-pub fn workers_within(workers: u64) -> Option<u32>
-    ensures value { result ≡ workers_within workers }
-    ensures range { IfSome result AreWorkers }
+/// A number that is given.
+pub fn number_given(given: Option<&str>) -> Option<u64>
+    ensures { result ≡ number_given (option_map (λ s. s.now) given.entry) }
 {
-    if 1 <= workers && workers <= u64::from(MOST_WORKERS) {
-        Some(workers as u32)
+    number(given?.as_bytes())
+}
+
+/// A number that is given, from 1 to the greatest that passes.
+pub fn number_up_to(most: u64, given: Option<&str>) -> Option<u32>
+    requires { most < 2 ^ 32 }
+    ensures value { result ≡ number_up_to most (option_map (λ s. s.now) given.entry) }
+    ensures range { IfSome result (λ n. (1 ≤ n) × (n ≤ most)) }
+{
+    let number = number_given(given)?;
+    if 1 <= number && number <= most {
+        Some(number as u32)
     } else {
         None
     }
@@ -218,16 +250,8 @@ pub fn workers_of(given: Option<&str>) -> Option<u32>
     ensures value { result ≡ workers_or_one (option_map (λ s. s.now) given.entry) }
     ensures range { IfSome result AreWorkers }
 {
-    let Some(word) = given else {
+    if given.is_none() {
         return Some(1);
-    };
-    let workers = number(word.as_bytes())?;
-    workers_within(workers)
-}
-
-/// A number that is given.
-pub fn number_given(given: Option<&str>) -> Option<u64>
-    ensures { result ≡ number_given (option_map (λ s. s.now) given.entry) }
-{
-    number(given?.as_bytes())
+    }
+    number_up_to(u64::from(MOST_WORKERS), given)
 }

@@ -1,5 +1,5 @@
 ghost use Rattle.std.specs.Prelude.{◌≡◌, option_map};
-ghost use Rattle.memplan.specs.Statuses.{number_of, complaint_of};
+ghost use Rattle.memplan.specs.Statuses.{exit_code_of, complaint_of};
 
 /// How a run ended. The program ends with the number of its status.
 #[derive(Clone, Copy, Debug, PartialEq, Eq)]
@@ -26,7 +26,7 @@ pub enum Status {
 
 /// The number with which the program ends: 0 to 8, in the order of the statuses.
 pub fn code_of(status: Status) -> u8
-    ensures { result ≡ number_of status }
+    ensures { result ≡ exit_code_of status }
 {
     match status {
         Status::Done => 0,

@@ -4,7 +4,7 @@ ghost use Rattle.std.specs.Prelude.{◌≡◌, ◌≤◌, ◌<◌, ◌*◌, ◌^
 ghost use Rattle.limits.specs.Limits.{most_tasks, most_mindeg};
 ghost use Rattle.least_peak.specs.Problem.{system_of};
 ghost use Rattle.least_peak.specs.declared.problem.Origin.TheVariants as origins;
-ghost use Rattle.memplan.specs.Demo.{number_up_to, seeded_of, sides_of, kind_or_tree, made_of, demo_of, IsGridTree, IsMade, HasPositions, IsPostorderPeak, kind_word, check_word, postorder_lines, demo_lines, IsJudgedSummary, IsDemoOf};
+ghost use Rattle.memplan.specs.Demo.{seeded_of, sides_of, kind_or_tree, made_of, demo_of, IsGridTree, IsMade, HasPositions, IsPostorderPeak, kind_word, check_word, postorder_lines, demo_lines, IsJudgedSummary, IsDemoOf};
 ghost use Rattle.memplan.specs.Pages.{answer_of};
 ghost use Rattle.memplan.specs.Request.{IsInRange, IsMakeable};
 ghost use Rattle.memplan.specs.RequestViews.{request_view};
@@ -12,7 +12,7 @@ ghost use Rattle.memplan.specs.declared.status.Status.TheVariants.{Done};
 ghost use Rattle.mp_text.specs.Report.{is_token, is_line_start, line_text, text_of_lines};
 
 use crate::page::{Page, PageKind, print_count, print_end};
-use crate::request::{Request, number_given};
+use crate::request::{Request, number_given, number_up_to};
 use assembly_tree::Shape;
 use claim_check::Verdict;
 use command_line::Line;
@@ -23,7 +23,7 @@ use mp_outside::Gate;
 use mp_text::Report;
 use mp_text::Token::Word;
 use mp_text::laws::printed_lines;
-use ordering::identity;
+use ordering::{MindegRefusal, min_degree};
 use plan_text::PlanFile;
 use postorder_best::best_postorder;
 use sp_terms::Terms;
@@ -45,20 +45,6 @@ pub enum Demo {
 }
 
 // ---- words
-
-// A number that is given, from 1 to the greatest that passes.
-fn number_up_to(most: u64, given: Option<&str>) -> Option<u32>
-    requires { most < 2 ^ 32 }
-    ensures value { result ≡ number_up_to most (option_map (λ s. s.now) given.entry) }
-    ensures range { IfSome result (λ n. (1 ≤ n) × (n ≤ most)) }
-{
-    let number = number_given(given)?;
-    if 1 <= number && number <= most {
-        Some(number as u32)
-    } else {
-        None
-    }
-}
 
 // A seed and a number of tasks, without rows and columns.
 fn seeded_of(line: &Line<'_>) -> Option<(u64, u32)>
@@ -181,13 +167,17 @@ fn grid_tree(alloc: Global, rows: u32, cols: u32) -> Result<Tree, AllocError>
     ensures { IfOk result (IsGridTree rows cols) }
 {
     let pattern = gen_grid(alloc, rows, cols)?;
-    let perm = identity(alloc, pattern.order())?;
+    let order = match min_degree(alloc, &pattern) {
+        Ok(order) => order,
+        Err(MindegRefusal::Limit) => unreachable!(),
+        Err(MindegRefusal::NoMemory) => return Err(AllocError),
+    };
     let fronts = FrontOptions {
         shape: Shape::Triangle,
         zeros: None,
         inplace: false,
     };
-    front_tree(alloc, &pattern, &perm, fronts)
+    front_tree(alloc, &pattern, &order, fronts)
 }
 
 fn make(alloc: Global, demo: Demo) -> Result<Made, AllocError>
@@ -199,17 +189,14 @@ fn make(alloc: Global, demo: Demo) -> Result<Made, AllocError>
     match demo {
         Demo::Tree { seed, tasks } => {
             let tree = gen_tree(alloc, seed, tasks)?;
-            tree.keeps();
             made_tree(alloc, tree)
         }
         Demo::Workflow { seed, tasks } => {
             let terms = gen_workflow(alloc, seed, tasks)?;
-            terms.keeps();
             made_workflow(alloc, terms)
         }
         Demo::Grid { rows, cols } => {
             let tree = grid_tree(alloc, rows, cols)?;
-            tree.keeps();
             made_tree(alloc, tree)
         }
     }

@@ -6,7 +6,7 @@ ghost use Rattle.least_peak.specs.Problem.{system_of};
 ghost use Rattle.mp_system.specs.Traversal.{IsTraversal};
 ghost use Rattle.mp_text.specs.Report.{is_token, is_line_start, line_text, text_of_lines};
 ghost use Rattle.memplan.specs.Simulate.{simulate_of, IsSimulation, IsPrintedRun, event_word as event_text, event_line, report_lines};
-ghost use Rattle.memplan.specs.Judged.{AreJudged, IsReported, IsPriorityOf, IsRefusedRanking, IsRanking, priority_beside, numbers_of};
+ghost use Rattle.memplan.specs.Judged.{AreJudged, IsReported, IsPriorityOf, IsRefusedRanking, IsRanking, priority_beside, tasks_in};
 ghost use Rattle.memplan.specs.Pages.{answer_of};
 ghost use Rattle.memplan.specs.Request.{AreWorkers, IsInRange, Input as AnyInput, simulate as simulation, priority_files};
 ghost use Rattle.memplan.specs.RequestViews.{input_view, source_view, simulation_view, request_view};
@@ -16,11 +16,12 @@ use crate::files::{PermFile, Ranked, judge};
 use crate::inputs::{OrderedProblem, judge_ordered};
 use crate::page::{Page, PageKind, line_page, order_page, print_count, print_end};
 use crate::request::{
-    Input, OrderSource, Request, input_of, number_given, source_of, workers_within,
+    Input, OrderSource, Request, input_of, number_given, number_up_to, source_of,
 };
 use crate::stop::Stop;
 use activation::{CoreRefusal, Event, EventKind, Simulator, Trace};
 use command_line::Line;
+use limits::MOST_WORKERS;
 use mp_outside::Files;
 use mp_text::Report;
 use mp_text::Token::{Number, Word};
@@ -50,8 +51,7 @@ pub fn simulate_of<'a>(line: &Line<'a>) -> Option<Request<'a>>
     let input = input_of(line)?;
     let source = source_of(line.value("order"), line.value("plan"))?;
     let bound = number_given(line.value("bound"))?;
-    let workers = number_given(line.value("workers"))?;
-    let workers = workers_within(workers)?;
+    let workers = number_up_to(u64::from(MOST_WORKERS), line.value("workers"))?;
     Some(Request::Simulate(Simulation {
         input,
         source,
@@ -126,7 +126,7 @@ pub enum Priority {
 }
 
 // The numbers of a permutation by place.
-fn numbers_of(alloc: Global, perm: &Perm) -> Result<Vec<u32>, AllocError>
+fn listed(alloc: Global, perm: &Perm) -> Result<Vec<u32>, AllocError>
     ensures { IfOk result (λ numbers. numbers.items ≡ perm.now) }
 {
     let mut numbers = Vec::with_capacity(alloc, perm.len() as usize)?;
@@ -156,7 +156,7 @@ fn judge_priority<F: Files>(
     };
     let ranked = Ranked::Tasks;
     let perm = judge(alloc, files, name, &PermFile { ranked, n })?;
-    Ok(Priority::Given(numbers_of(alloc, &perm)?))
+    Ok(Priority::Given(listed(alloc, &perm)?))
 }
 
 // ---- the run
@@ -165,7 +165,7 @@ fn judge_priority<F: Files>(
 fn chosen<'a>(ordered: &'a OrderedProblem, priority: &'a Priority) -> &'a [u32]
     requires { IsRanking (length (system_of ordered.now.problem).tasks) priority.now }
     ensures value { result.now ≡ priority_beside ordered.now.order priority.now }
-    ensures each { IsTraversal (system_of ordered.now.problem) (numbers_of ordered.now.order) →
+    ensures each { IsTraversal (system_of ordered.now.problem) (tasks_in ordered.now.order) →
         HoldsEach (system_of ordered.now.problem) result.now }
 {
     match priority {
@@ -183,10 +183,10 @@ fn simulation_page(
     workers: u32,
 ) -> Result<Page, AllocError>
     requires workers { AreWorkers workers }
-    requires priority { IsTraversal (system_of ordered.now.problem) (numbers_of ordered.now.order) →
+    requires priority { IsTraversal (system_of ordered.now.problem) (tasks_in ordered.now.order) →
         HoldsEach (system_of ordered.now.problem) priority.now }
     ensures { IfOk result (λ page. IsSimulation
-        (record { system = system_of ordered.now.problem; order = numbers_of ordered.now.order; bound = bound; workers = workers })
+        (record { system = system_of ordered.now.problem; order = tasks_in ordered.now.order; bound = bound; workers = workers })
         priority.now (answer_of page)) }
 {
     let order = ordered.order.numbers();

@@ -18,6 +18,15 @@ const ARROWS: &[(&str, &str)] = &[("m", ARROW), ("s", SPELLED), ("p", TURNED)];
 // The fronts of the arrow, in their order.
 const FRONTS: &[(&str, &str)] = &[("m", ARROW), ("p", TURNED), ("o", "1 2 3\n")];
 
+// A matrix of one row more than minimum degree takes.
+const LARGE: &[(&str, &str)] = &[
+    (
+        "m",
+        "%%MatrixMarket matrix coordinate pattern general\n50001 50001 0\n",
+    ),
+    ("o", "x"),
+];
+
 const TREE: &[&str] = &["tree --matrix m"];
 
 const PERMUTED: &[&str] = &["tree --matrix m --perm p", "post --matrix m --perm p"];
@@ -31,19 +40,21 @@ const CASES: &[Case] = &[
     (TREE, &[("m", GRID)], Done, "tree 1\nnodes 2\n2 3 3 1\n0 0 6 3\nend\n"),
     // the parents of the columns are 3 4 0 0
     (TREE, &[("m", PAIRS)], Done, "tree 1\nnodes 2\n0 0 3 2\n0 0 3 2\nend\n"),
-    (&["tree --matrix m --perm p", "tree --matrix s --perm p",
+    (&["tree --matrix m --perm p", "tree --matrix s --perm p", "tree --matrix m --ordering mindeg", "tree --matrix s --ordering=mindeg",
             "tree --matrix m --perm p --shape triangle", "tree --matrix s --perm p --shape triangle",
             "tree --matrix m --perm p --inplace no", "tree --matrix s --perm p --inplace no",
             "tree --matrix m --perm p --amalgamate 0", "tree --matrix s --perm p --amalgamate 0"],
         ARROWS, Done, "tree 1\nnodes 3\n3 1 2 1\n3 1 2 1\n0 0 3 2\nend\n"),
-    (&["tree --matrix m --perm p --shape square", "tree --matrix s --perm p --shape square"], ARROWS, Done,
+    (&["tree --matrix m --perm p --shape square", "tree --matrix s --perm p --shape square",
+            "tree --matrix m --ordering mindeg --shape square"], ARROWS, Done,
         "tree 1\nnodes 3\n3 1 3 1\n3 1 3 1\n0 0 4 2\nend\n"),
-    (&["tree --matrix m --perm p --amalgamate 1", "tree --matrix s --perm p --amalgamate 1"], ARROWS, Done,
+    (&["tree --matrix m --perm p --amalgamate 1", "tree --matrix s --perm p --amalgamate 1",
+            "tree --matrix m --ordering mindeg --amalgamate 1"], ARROWS, Done,
         "tree 1\nnodes 2\n2 1 2 1\n0 0 6 3\nend\n"),
     (&["tree --matrix m --perm p --inplace yes", "tree --matrix s --perm p --inplace yes"], ARROWS, Done,
         "tree 2\nnodes 3\n3 1 2 0 1\n3 1 2 0 1\n0 0 3 1 2\nend\n"),
     // replays
-    (&["replay --matrix m --inplace no --order o --perm p"], FRONTS, Done, "peak 5\n"),
+    (&["replay --matrix m --inplace no --order o --perm p", "replay --matrix m --ordering mindeg --order o"], FRONTS, Done, "peak 5\n"),
     (&["replay --matrix m --inplace yes --order o --perm p"], FRONTS, Done, "peak 4\n"),
     (&["replay --matrix m --shape square --order o --perm p"], FRONTS, Done, "peak 6\n"),
     (&["replay --matrix m --amalgamate 1 --order o --perm p"], FRONTS, No, "no order 3 unknown\n"),
@@ -56,6 +67,11 @@ const CASES: &[Case] = &[
     (PERMUTED, &[("m", ""), ("p", "x")], Format, "refused format matrix banner 1\n"),
     (PERMUTED, &[("m", "%%MatrixMarket matrix coordinate pattern symmetric\n1000001 1000001 0\n"), ("p", "x")], Limit,
         "refused limit matrix order\n"),
+    // the limit of minimum degree comes right after the matrix, and for that order only
+    (&["tree --matrix m --ordering mindeg", "plan --matrix m --ordering mindeg", "post --matrix m --ordering mindeg",
+            "replay --matrix m --ordering mindeg --order o"], LARGE, Limit, "refused limit matrix mindeg\n"),
+    (&["replay --matrix m --order o"], LARGE, Format, "refused format order number 1\n"),
+    (&["tree --matrix m --ordering mindeg"], &[("m", "")], Format, "refused format matrix banner 1\n"),
     (PERMUTED, &[("m", ARROW), ("p", "2 3 1\n")], Format, "refused format perm count 2\n"),
     (PERMUTED, &[("m", ARROW), ("p", "2 3\n5 4\n")], Format, "refused format perm range 2\n"),
     // best postorders

@@ -135,7 +135,8 @@ const REFUSED: &[Case] = &[
     (UNBOUND, &[("t", FOUR), ("o", "1 2 3 4 5\n"), ("p", "3 2 1 4 5\n")], Format, "refused format priority count 1\n"),
     (UNBOUND, &[("t", FOUR), ("o", "x\n"), ("p", "x\n")], Format, "refused format order number 1\n"),
     // a front that is assembled in the place of a block
-    (&["simulate --matrix t --perm q --inplace yes --order o --bound 4 --workers 2"], ARROW_FILES, Done,
+    (&["simulate --matrix t --perm q --inplace yes --order o --bound 4 --workers 2",
+            "simulate --matrix t --ordering mindeg --inplace yes --order o --bound 4 --workers 2"], ARROW_FILES, Done,
         "makespan 4\nused 4\nbooked 4\nevents 9\n0 activate 1\n0 start 1\n1 finish 1\n1 activate 2\n1 start 2\n\
             2 finish 2\n2 activate 3\n2 start 3\n4 finish 3\nend\n"),
     (&["simulate --matrix t --perm q --inplace yes --order o --bound 3 --workers 2"], ARROW_FILES, Bound, "refused bound 3 4\n"),

@@ -1,13 +1,12 @@
-use Rattle.std.proofs.Common.{ℕ, List, [], ◌∷◌, ◌++◌, inl, length, subst}
+use Rattle.std.proofs.Common.{ℕ, List, [], ◌∷◌, ◌++◌, inl, length}
 use Rattle.std.specs.Prelude.{codes}
 use Rattle.matrix_market.specs.Kinds.{word_of}
 use Rattle.matrix_market.specs.MatrixFile.{RefusesPattern}
-use Rattle.memplan.specs.Files.{IsFirstRefusal, IsMatrixTree, IsOrderOf, IsRefusedFile, AreAccepted}
-use Rattle.memplan.specs.Judged.{IsStop, IsRefusedOrder}
-use Rattle.memplan.specs.Request.{perm_files}
+use Rattle.memplan.specs.Files.{IsFirstRefusal, IsMatrixTree, IsRefusedFile}
+use Rattle.memplan.specs.Request.{ordering_files}
 use Rattle.memplan.specs.RequestViews.{matrix_view}
-use Rattle.memplan.proofs.StepLemmas.{passed, alone_told, alone_stop, stop_before, stop_after, over_both, told_same}
-use Rattle.memplan.proofs.InputLemmas.{matrix_at, few_perm, order_refused}
+use Rattle.memplan.proofs.StepLemmas.{passed, alone_told, alone_stop, stop_before, over_both, told_same}
+use Rattle.memplan.proofs.InputLemmas.{matrix_at, ordering_stop}
 use Rattle.memplan.proofs.inputs.judge_matrix.Goals as goal
 
 pub returns-in_err-pattern-clause-judged : goal.returns-in_err-pattern-clause-judged
@@ -18,9 +17,9 @@ returns-in_err-pattern-clause-judged g c =
     let after = g.F.Files.faults_of c.judge.new.files in
     let e = c.in_err-pattern.field-0.0 in
     passed c.from_residual.result _ _ e c.from_residual.ensures.1
-    (stop_before told before after (matrix_at m.name ∷ []) (perm_files m.perm) e
-    (alone_stop told before after (matrix_at m.name) (λ (text : List ℕ). IsRefusedFile (codes "matrix") word_of (RefusesPattern text) text) (IsFirstRefusal (matrix_at m.name ∷ []) [])
-    (λ text answer refused. inl refused) e c.in_err-pattern.ensures.judged))
+    (stop_before told before after (matrix_at m.ordering m.name ∷ []) (ordering_files m.ordering) e
+    (alone_stop told before after (matrix_at m.ordering m.name) (λ (text : List ℕ). IsRefusedFile (codes "matrix") word_of (RefusesPattern text) text)
+    (IsFirstRefusal (matrix_at m.ordering m.name ∷ []) []) (λ text answer refused. inl (inl refused)) e c.in_err-pattern.ensures.judged))
 
 pub returns-in_err-perm-clause-judged : goal.returns-in_err-perm-clause-judged
 returns-in_err-perm-clause-judged g c =
@@ -29,17 +28,11 @@ returns-in_err-perm-clause-judged g c =
     let now = g.F.Files.bytes_of c.judge.new.files in
     let before = g.F.Files.faults_of c.args.files.now in
     let then = g.F.Files.faults_of c.judge.new.files in
-    let after = g.F.Files.faults_of c.judge_perm.new.files in
+    let after = g.F.Files.faults_of c.judge_ordering.new.files in
     let e = c.in_err-perm.field-0.0 in
-    let rows = c.in_ok-pattern.pattern in
-    let is_matrix = c.in_ok-pattern.ensures.judged in
     passed c.from_residual-in_err-perm.result _ _ e c.from_residual-in_err-perm.ensures.1
-    (stop_after told now c.in_ok-pattern.ensures.same before then after c.in_ok-pattern.ensures.later (matrix_at m.name ∷ [])
-    (alone_told told (matrix_at m.name) (λ texts. AreAccepted (matrix_at m.name ∷ []) [] texts) (λ text is. ((rows, is_matrix text is), tt)))
-    (perm_files m.perm) (few_perm m.perm) (IsRefusedOrder (length rows))
-    (λ one two answer are more refused. alone_told told (matrix_at m.name) (λ texts. IsFirstRefusal (perm_files m.perm) texts two answer)
-    (λ text is. order_refused rows m.perm text two answer (is_matrix text is) refused told more) one are) e
-    (subst (λ (n : ℕ). IsStop now then after (perm_files m.perm) (IsRefusedOrder n) e) c.order.ensures.value c.in_err-perm.ensures.judged))
+    (ordering_stop told now c.in_ok-pattern.ensures.same before then after c.in_ok-pattern.ensures.later m.name c.in_ok-pattern.pattern
+    c.in_ok-pattern.ensures.judged m.ordering e c.in_err-perm.ensures.judged)
 
 pub returns-clause-judged : goal.returns-clause-judged
 returns-clause-judged g c =
@@ -49,12 +42,12 @@ returns-clause-judged g c =
     let rows = c.in_ok-pattern.pattern in
     let order = c.in_ok-perm.perm in
     let nodes = c.in_ok-front_tree.field-0 in
-    over_both told (matrix_at m.name ∷ []) (perm_files m.perm) (λ texts. IsMatrixTree m texts nodes)
-    (λ one two are more. alone_told told (matrix_at m.name) (λ texts. IsMatrixTree m (texts ++ two) nodes)
+    over_both told (matrix_at m.ordering m.name ∷ []) (ordering_files m.ordering) (λ texts. IsMatrixTree m texts nodes)
+    (λ one two are more. alone_told told (matrix_at m.ordering m.name) (λ texts. IsMatrixTree m (texts ++ two) nodes)
     (λ text is. (
       rows,
       order,
       c.in_ok-pattern.ensures.judged text is,
-      subst (λ (n : ℕ). IsOrderOf m.perm n two order) c.order.ensures.value (c.in_ok-perm.ensures.judged two (told_same told now c.in_ok-pattern.ensures.same (perm_files m.perm) two more)),
+      c.in_ok-perm.ensures.judged two (told_same told now c.in_ok-pattern.ensures.same (ordering_files m.ordering) two more),
       c.in_ok-front_tree.ensures,
     )) one are)

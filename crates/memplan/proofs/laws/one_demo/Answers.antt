@@ -13,6 +13,10 @@ returns c =
       least = c.least_law.ensures;
       best = c.one_best_postorder.ensures;
       patterns = c.one_pattern.ensures.one;
+      min_degrees = c.one_minimum_degree_order.ensures.one;
       fronts = c.one_front_tree.ensures;
+      front_trees = c.front_tree_is_tree.ensures;
+      trees = c.made_inputs.ensures.tree;
+      workflows = c.made_inputs.ensures.workflow;
     } in
     record { one = one_demo parts; shown = shown parts }

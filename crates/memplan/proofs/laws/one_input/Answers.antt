@@ -11,6 +11,7 @@ returns c =
       patterns = c.exactly_one-2.ensures.one_pattern;
       perms = c.exactly_one_perm.ensures.one_order;
       perm = c.read_is_perm.ensures;
+      min_degrees = c.one_minimum_degree_order.ensures.one;
       fronts = c.one_front_tree.ensures;
       front_tree = c.front_tree_is_tree.ensures;
       workflows = c.exactly_one-3.ensures.one_workflow;

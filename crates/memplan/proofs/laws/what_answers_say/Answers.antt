@@ -25,7 +25,7 @@ returns-clause-simulated c = λ input source s texts answer workers is done. eli
 ]
 
 pub returns-clause-shown : goal.returns-clause-shown
-returns-clause-shown c = λ made texts answer is done. elim is [
+returns-clause-shown c = λ made texts answer makeable is done. elim is [
   | inl refused ↦ absurd (first_refusal (files_of (demo made)) [] texts answer refused done)
-  | inr report ↦ c.one_demo.ensures.shown made answer report
+  | inr report ↦ c.one_demo.ensures.shown made answer makeable report
 ]

@@ -138,8 +138,10 @@ returns-in-Ok-clause-shown g c = λ done made has.
     let answer = answer_of c.in-Ok.page in
     let answering = reported told mine answer c.in-Ok.ensures.told in
     let whole = c.written.ensures.whole (rw done tt) in
-    let says_so = says told mine answer answering (demo made) (cc (sym has_mine ∙ has)) [] tt in
-    (answer.text, c.what_answers_say.ensures.shown made [] answer says_so (sym whole.0 ∙ done), whole.1)
+    let asked : mine ≡ demo made = cc (sym has_mine ∙ has) in
+    let makeable = subst IsInRange asked (rw c.in-Ok-Some.field-0-is at c.in-Ok-Some.ensures.range) in
+    let says_so = says told mine answer answering (demo made) asked [] tt in
+    (answer.text, c.what_answers_say.ensures.shown made [] answer makeable says_so (sym whole.0 ∙ done), whole.1)
 
 pub returns-in-Err-Refused-clause-shown : goal.returns-in-Err-Refused-clause-shown
 returns-in-Err-Refused-clause-shown g c = λ done made has.
@@ -150,5 +152,7 @@ returns-in-Err-Refused-clause-shown g c = λ done made has.
     let answer = answer_of c.in-Err-Refused.page in
     let answering = was_refused told mine answer (rw c.in-Err-Refused.field-0-is at c.in-Err-Refused.ensures.told) in
     let whole = c.written-in-Err-Refused.ensures.whole (rw done tt) in
-    let says_so = says told mine answer answering (demo made) (cc (sym has_mine ∙ has)) [] tt in
-    (answer.text, c.what_answers_say.ensures.shown made [] answer says_so (sym whole.0 ∙ done), whole.1)
+    let asked : mine ≡ demo made = cc (sym has_mine ∙ has) in
+    let makeable = subst IsInRange asked (rw c.in-Ok-Some.field-0-is at c.in-Ok-Some.ensures.range) in
+    let says_so = says told mine answer answering (demo made) asked [] tt in
+    (answer.text, c.what_answers_say.ensures.shown made [] answer makeable says_so (sym whole.0 ∙ done), whole.1)

@@ -23,4 +23,4 @@ returns-in_err-perm-clause-judged g c = λ input.
 pub returns-clause-each : goal.returns-clause-each
 returns-clause-each g c =
     let read = c.in_ok-perm.ensures.read in
-    subst (IsPerm c.args.n) (sym c.in_ok-numbers_of.ensures) (c.read_is_perm.ensures c.args.n read.0 c.in_ok-perm.perm read.1)
+    subst (IsPerm c.args.n) (sym c.in_ok-listed.ensures) (c.read_is_perm.ensures c.args.n read.0 c.in_ok-perm.perm read.1)
