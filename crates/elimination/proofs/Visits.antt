@@ -1,6 +1,8 @@
 -- Visiting one vertex, and one list after another.
-use Rattle.std.proofs.Common.{◌≡◌, ◌≢◌, ℕ, ◌<◌, inl, inr, Bool, true, false, List, [], ◌∷◌, ◌++◌, length, refl, sym, ap, ◌∙◌, arith, subst, IsTrue, set}
+use Rattle.std.proofs.Common.{◌≡◌, ◌≢◌, ℕ, ◌+◌, ◌<◌, inl, inr, Bool, true, false, not, List, [], ◌∷◌, ◌++◌, length, take, refl, sym, ap, ◌∙◌, arith, subst, IsTrue, set}
+use Rattle.std.specs.Int.{from_bool}
 use Rattle.std.proofs.lemmas.Bool.{cases_eq, cases_Bool, both_ways}
+use Rattle.std.proofs.lemmas.List.{take-set, set-get_or, take_more_set}
 use Rattle.elimination.proofs.VertexLists.{part-push}
 use Rattle.matrix_market.specs.Pattern.{has}
 use Rattle.elimination.specs.Hoods.{IsTracked, IsVisited, AreLeft, mark_at}
@@ -94,6 +96,32 @@ module _ (n u : ℕ) (turn rep : ℕ → ℕ) where
         | inr ne ↦ mark_other seen b x true ne
       ];
     }
+
+  -- one more is written after those that are listed, and counts if it was not marked
+  pub visit_written : (b count more : ℕ) (near : List ℕ) (seen : List Bool) → IsTracked n u turn rep (take count near) seen
+      → AreLeft n turn (b ∷ []) → b < length seen → count < length near → more ≡ from_bool (not (mark_at seen b))
+      → IsVisited n u turn rep (b ∷ []) (take count near) (take (count + more) (set near count b)) seen (set seen b true)
+  visit_written b count more near seen t left lt room is =
+      elim (cases_Bool (mark_at seen b)) [
+        | inl marked ↦ (
+            let none : more ≡ 0 = is ∙ ap (λ m. from_bool (not m)) marked in
+            let still : count + more ≡ count = omega arith in
+            let listed : take (count + more) (set near count b) ≡ take count near = ap (λ z. take z (set near count b)) still
+            ∙ take-set near count b in
+            let marks : set seen b true ≡ seen = ap (λ m. set seen b m) (sym marked) ∙ set-get_or seen b false in
+            subst (λ z. IsVisited n u turn rep (b ∷ []) (take count near) z seen (set seen b true)) (sym listed)
+            (subst (λ z. IsVisited n u turn rep (b ∷ []) (take count near) (take count near) seen z) (sym marks)
+            (visit_marked b (take count near) seen t left marked))
+            )
+        | inr unmarked ↦ (
+            let one : more ≡ 1 = is ∙ ap (λ m. from_bool (not m)) unmarked in
+            let next : count + more ≡ count + 1 = omega arith in
+            let listed : take (count + more) (set near count b) ≡ take count near ++ b ∷ [] = ap (λ z. take z (set near count b)) next
+            ∙ take_more_set near count b room in
+            subst (λ z. IsVisited n u turn rep (b ∷ []) (take count near) z seen (set seen b true)) (sym listed)
+            (visit_new b (take count near) seen t left unmarked lt)
+            )
+      ]
 
   -- one list after another
   pub visit_more : (xs ys near near' near'' : List ℕ) (seen seen' seen'' : List Bool) → IsVisited n u turn rep xs near near' seen seen'

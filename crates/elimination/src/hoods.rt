@@ -1,6 +1,6 @@
 //! The neighbours of a vertex in the pattern that is left.
 
-ghost use Rattle.std.specs.Prelude.{◌≡◌, ℕ, ◌<◌, ◌≤◌, ◌∷◌, List, [], IsTrue, length, slice_index, false, OnOk, IfOk};
+ghost use Rattle.std.specs.Prelude.{◌≡◌, ℕ, ◌+◌, ◌<◌, ◌≤◌, ◌∷◌, List, [], IsTrue, length, take, slice_index, false, OnOk, IfOk};
 ghost use Rattle.matrix_market.specs.Pattern.{has};
 ghost use Rattle.elimination.specs.Hoods.{Visits, Enters, Scans, mark_at};
 ghost use Rattle.elimination.specs.Quotients.{Quotient, IsLinked, at, list_at};
@@ -19,6 +19,8 @@ pub type NoMemory = AllocError;
 pub struct Hood {
     pub near: Vec<u32>,
     pub touched: Vec<u32>,
+    /// Where the rim of the first part ends among the neighbours, or beyond them all. Twins touch the same parts, so they stand before it.
+    pub first_end: usize,
 }
 
 // Marks and lists a vertex that is not marked.
@@ -34,14 +36,32 @@ fn note(b: u32, near: &mut Vec<u32>, seen: &mut [bool]) -> Result<(), NoMemory>
     Ok(())
 }
 
+// Marks those of a list that are not marked, and writes them one after another from this place on; after the last comes the place that is
+// returned. Each number is written, and counts if it was not marked, since a branch on a mark is mispredicted too often.
+fn write_unmarked(list: &[u32], from: usize, near: &mut [u32], seen: &mut [bool]) -> usize
+    requires room { from + length list.now ≤ length near.old }
+    requires within { (j : ℕ) → j < length list.now → slice_index list.now j < length seen.old }
+    ensures len { result ≤ length near.new }
+    ensures visits { Visits list.now (take from near.old) (take result near.new) seen.old seen.new }
+{
+    let mut count = from;
+    for b in list {
+        near[count] = *b;
+        count += usize::from(!seen[*b as usize]);
+        seen[*b as usize] = true;
+    }
+    count
+}
+
 // Marks and lists those of a list that are not marked.
 fn visit(list: &[u32], near: &mut Vec<u32>, seen: &mut [bool]) -> Result<(), NoMemory>
     requires { (j : ℕ) → j < length list.now → slice_index list.now j < length seen.old }
     ensures { OnOk result (Visits list.now near.old.items near.new.items seen.old seen.new) }
 {
-    for b in list {
-        note(*b, near, seen)?;
-    }
+    let from = near.len();
+    near.extend_from_slice(list)?;
+    let count = write_unmarked(list, from, near, seen);
+    near.truncate(count);
     Ok(())
 }
 
@@ -56,6 +76,7 @@ fn enter(part: u32, rims: &[Vec<u32>], hood: &mut Hood, seen: &mut [bool]) -> Re
         seen[part as usize] = true;
         hood.touched.push(part)?;
         visit(&rims[part as usize], &mut hood.near, seen)?;
+        hood.first_end = hood.first_end.min(hood.near.len());
     }
     Ok(())
 }
@@ -113,6 +134,7 @@ impl Search {
     {
         self.hood.near.clear();
         self.hood.touched.clear();
+        self.hood.first_end = usize::MAX;
         self.seen[u as usize] = true;
         scan(
             row,

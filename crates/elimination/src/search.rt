@@ -67,7 +67,11 @@ impl Search {
             sizes: vec![in alloc; 1; size]?,
             seen: vec![in alloc; false; size]?,
             bounds: first_bounds(alloc, pattern)?,
-            hood: Hood { near, touched },
+            hood: Hood {
+                near,
+                touched,
+                first_end: usize::MAX,
+            },
         })
     }
 }

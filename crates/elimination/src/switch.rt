@@ -161,7 +161,7 @@ impl Effort {
     /// Whether rows of bits of so many vertices are worth their making, and have room: half a gigabyte at most.
     pub fn calls_for_rows(&self, order: u32) -> bool {
         self.left > 64
-            && self.dear >= self.left / 4
+            && self.dear >= self.left / 8
             && u64::from(self.left) * u64::from(order) <= 1 << 32
     }
 }

@@ -213,7 +213,8 @@ impl Search {
     {
         let _order = pattern.order();
         let mut tries = 0;
-        for i in 0..self.hood.near.len() {
+        let end = self.hood.near.len().min(self.hood.first_end);
+        for i in 0..end {
             let u = self.hood.near[i];
             if self.bounds.at(u as usize) != degree {
                 continue;

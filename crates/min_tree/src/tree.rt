@@ -34,18 +34,14 @@ fn least_of_children(nodes: &[u64], at: usize) -> u64
     nodes[2 * at].min(nodes[2 * at + 1])
 }
 
-// The child that has the lesser number, the left one where they are equal.
+// The child that has the lesser number, the left one where they are equal. Found without a branch, since which it is can't be foreseen.
 #[inline]
 fn lesser_child(nodes: &[u64], at: usize) -> usize
     requires { 2 * at + 1 < length nodes.now }
     ensures left { slice_index nodes.now (2 * at) ≤ slice_index nodes.now (2 * at + 1) → result ≡ 2 * at }
     ensures right { slice_index nodes.now (2 * at + 1) < slice_index nodes.now (2 * at) → result ≡ 2 * at + 1 }
 {
-    if nodes[2 * at + 1] < nodes[2 * at] {
-        2 * at + 1
-    } else {
-        2 * at
-    }
+    2 * at + usize::from(nodes[2 * at + 1] < nodes[2 * at])
 }
 
 impl MinTree {
@@ -86,6 +82,37 @@ impl MinTree {
 
     /// Sets the number at this place. The way up ends at the first node that stays as it is.
     pub fn put(&mut self, place: usize, number: u64)
+        requires { place < length self.old }
+        ensures { self.new ≡ slice_set self.old place number }
+    {
+        if number <= self.at(place) {
+            self.lower(place, number);
+        } else {
+            self.raise(place, number);
+        }
+    }
+
+    // Sets a number that is not above the one before: the nodes above it that are greater fall to it.
+    fn lower(&mut self, place: usize, number: u64)
+        requires within { place < length self.old }
+        requires low { number ≤ slice_index self.old place }
+        ensures { self.new ≡ slice_set self.old place number }
+    {
+        let mut at = self.leaves + place;
+        self.nodes[at] = number;
+        while at > 1 {
+            let up = at / 2;
+            if self.nodes[up] <= number {
+                at = 1;
+                continue;
+            }
+            self.nodes[up] = number;
+            at = up;
+        }
+    }
+
+    // Sets any number: the nodes above it are the lesser of their children again.
+    fn raise(&mut self, place: usize, number: u64)
         requires { place < length self.old }
         ensures { self.new ≡ slice_set self.old place number }
     {

@@ -7,10 +7,6 @@ use Rattle.elimination.proofs.ListWrites.{list_get}
 use Rattle.elimination.proofs.Scans.{again_step, rim_list, mark_part, enter_step}
 use Rattle.elimination.proofs.hoods.enter.Goals as goal
 
-the_rim : (c : goal.In_ok-visit) → c.deref.result.now ≡ list_at c.args.rims.now c.args.part
-the_rim c = c.deref.ensures.value ∙ ap (λ v. v.items) c.index-rims-part.is
-    ∙ list_get c.args.rims.now c.args.part c.index-rims-part.result c.requires.part.0
-
 pub visit-requires : goal.visit-requires
 visit-requires c = λ j lt.
     let e : c.deref.result.now ≡ list_at c.args.rims.now c.args.part = c.deref.ensures.value ∙ ap (λ v. v.items) c.index-rims-part.is
@@ -32,8 +28,10 @@ returns-in_ok-visit c = λ q turn u row i can s.
     let near = c.args.hood.now.near.items in
     let touched = c.args.hood.now.touched.items in
     let seen = c.args.seen.now in
+    let e : c.deref.result.now ≡ rim part = c.deref.ensures.value ∙ ap (λ v. v.items) c.index-rims-part.is
+    ∙ list_get c.args.rims.now part c.index-rims-part.result c.requires.part.0 in
     let visits : Visits (rim part) near c.visit.new.near.items (set seen part true) c.visit.new.seen =
-    subst (λ z. Visits z near c.visit.new.near.items (set seen part true) c.visit.new.seen) (the_rim c) c.in_ok-visit.ensures in
+    subst (λ z. Visits z near c.visit.new.near.items (set seen part true) c.visit.new.seen) e c.in_ok-visit.ensures in
     let v = visits q.order u turn q.rep (mark_part q turn rim u row i part near touched seen can s c.requires.part.1)
     (rim_list q turn rim u row i part near touched seen can s) in
     subst (λ z. IsScanned q turn rim u row (i + 1) c.visit.new.near.items z c.visit.new.seen) (sym c.in_ok-push.ensures.items)

@@ -68,7 +68,7 @@ returns-then-all_marked-clause-twin c =
     let u = c.index-u.result.now in
     let turns = turns_are (goal.at.returns-then-all_marked-clause-twin c).After-all_marked in
     let same_near : c.loop-i.self.hood.near.items ≡ near = ap (λ (z : Search). z.hood.near.items) i.same in
-    let lt : n < length near = let l = ap length same_near in let e = c.len-i-end.ensures in omega
+    let lt : n < length near = let l = ap length same_near in let e = c.len.ensures in let m = c.min-end.ensures in omega
     (arith, c.loop-i-test.true, c.loop-i.auto.i-end, s.hood.near.ok.0) in
     let is : u ≡ get_or near n 0 = c.index-u.ensures ∙ ap (λ z. get_or z n u) same_near ∙ get_or_default_zero near n u lt in
     let bounds = ap (λ (z : Search). at z.bounds u) i.same in

@@ -2,7 +2,7 @@ use Rattle.std.proofs.Common.{◌≡◌, ◌/◌, ◌<◌, length, take, drop, s
 use Rattle.std.proofs.lemmas.List.{length-take, drop-set-add}
 use Rattle.std.proofs.Math.Seq.{take-set-lt}
 use Rattle.min_tree.proofs.Trees.{IsMinTreeBut, mended, leaves_stay, all_right}
-use Rattle.min_tree.proofs.tree.MinTree.put.Goals as goal
+use Rattle.min_tree.proofs.tree.MinTree.raise.Goals as goal
 
 pub loop-at-preserved : goal.loop-at-preserved
 loop-at-preserved c =
