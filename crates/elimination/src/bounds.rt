@@ -16,6 +16,7 @@ use min_tree::MinTree;
 use std::alloc::Global;
 
 // Lowers the bounds of these vertices by one.
+#[inline(never)]
 pub fn lower(list: &[u32], bounds: &mut MinTree)
     requires { (j : ℕ) → j < length list.now → slice_index list.now j < length bounds.old }
     ensures len { length bounds.new ≡ length bounds.old }

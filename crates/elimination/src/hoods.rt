@@ -38,6 +38,7 @@ fn note(b: u32, near: &mut Vec<u32>, seen: &mut [bool]) -> Result<(), NoMemory>
 
 // Marks those of a list that are not marked, and writes them one after another from this place on; after the last comes the place that is
 // returned. Each number is written, and counts if it was not marked, since a branch on a mark is mispredicted too often.
+#[inline(never)]
 fn write_unmarked(list: &[u32], from: usize, near: &mut [u32], seen: &mut [bool]) -> usize
     requires room { from + length list.now ≤ length near.old }
     requires within { (j : ℕ) → j < length list.now → slice_index list.now j < length seen.old }
@@ -124,6 +125,7 @@ pub fn unmark(list: &[u32], seen: &mut [bool])
 
 impl Search {
     // Gathers the neighbours of u, whose row in the file this is, and marks them.
+    #[inline(never)]
     pub fn gather(&mut self, u: u32, row: &[u32]) -> Result<(), NoMemory>
         requires lengths { HaveLength (length self.old.turns.items) self.old }
         requires start { (q : Quotient) × CanGather q (tables self.old) u row.now }

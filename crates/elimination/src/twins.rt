@@ -200,6 +200,7 @@ fn touch_all(
 impl Search {
     // Of the neighbours of a vertex of this degree, which are marked, one with the same neighbours: its own are all marked, and it has no
     // fewer.
+    #[inline(never)]
     pub fn find_twin(&mut self, pattern: &Pattern, degree: u64) -> Option<u32>
         requires near { (j : ℕ) → j < length self.old.hood.near.items
             → IsVertex (length pattern.now) (slice_index self.old.hood.near.items j) }

@@ -39,8 +39,8 @@ loop-b-preserved c =
           let w = visit_written n u turn rep b count more near seen v.tracked last
           (let k = c.requires.within i c.loop-b-test.true in omega arith) (let k = c.requires.room in omega arith) c.from-count.ensures in
           subst (λ z. IsVisited n u turn rep z old (take (count + more) (set near count b)) c.args.seen.now (set seen b true)) (sym e)
-          (visit_more n u turn rep (take i list) (b ∷ []) old (take count near) (take (count + more) (set near count b)) c.args.seen.now seen
-          (set seen b true) v w);
+          (visit_more n u turn rep (take i list) (b ∷ []) old (take count near) (take (count + more) (set near count b)) c.args.seen.now
+          seen (set seen b true) v w);
     }
 
 pub returns-clause-visits : goal.returns-clause-visits
