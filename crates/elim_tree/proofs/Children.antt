@@ -2,7 +2,7 @@
 use Rattle.std.proofs.Common.{sym, subst, ◌+◌, ◌≡◌, ◌≢◌, ◌⊎◌, ◌↔◌, inl, inr, ℕ, zero, suc, ◌<◌, ◌≤◌, Bool, true, false, IsTrue, arith}
 use Rattle.std.proofs.lemmas.Bool.{cases_eq, cases_Bool, cases_order, both_ways}
 use Rattle.ordering.specs.Fill.{graph_at, IsAdjacency}
-use Rattle.elim_tree.specs.Reaches.{Reaches, IsFirst}
+use Rattle.elim_tree.specs.Reaches.{Reaches, IsFirstReached}
 use Rattle.elim_tree.proofs.Fills.{later, different, clique, from_pattern, origin}
 
 -- the least number below n that passes a test, or none does
@@ -19,7 +19,7 @@ least_below p (suc n) =
 
 -- a child of j reaches i, which is not j
 abbrev pub FromChild : (ℕ → ℕ → Bool) → ℕ → ℕ → Type 0
-FromChild joined j i = (c : ℕ) × IsFirst joined c j × (0 < j) × Reaches joined c i × (i ≢ j)
+FromChild joined j i = (c : ℕ) × IsFirstReached joined c j × (0 < j) × Reaches joined c i × (i ≢ j)
 
 module _ (joined : ℕ → ℕ → Bool) (pattern : IsAdjacency joined) where
   pub reaches_later : (j i : ℕ) → Reaches joined j i → j < i
@@ -29,7 +29,7 @@ module _ (joined : ℕ → ℕ → Bool) (pattern : IsAdjacency joined) where
       omega arith
 
   -- a column that reaches something reaches a first, at most that
-  pub first_of : (j i : ℕ) → Reaches joined j i → (p : ℕ) × IsFirst joined j p × (0 < p) × (p ≤ i)
+  pub first_of : (j i : ℕ) → Reaches joined j i → (p : ℕ) × IsFirstReached joined j p × (0 < p) × (p ≤ i)
   first_of j i h =
       elim (least_below (λ k. graph_at joined j j k) (suc i)) [
         | inl f ↦
@@ -53,7 +53,7 @@ module _ (joined : ℕ → ℕ → Bool) (pattern : IsAdjacency joined) where
       ]
 
   -- what a column reaches besides the first, the first reaches
-  pub first_reaches : (c p i : ℕ) → IsFirst joined c p → Reaches joined c i → i ≢ p → Reaches joined p i
+  pub first_reaches : (c p i : ℕ) → IsFirstReached joined c p → Reaches joined c i → i ≢ p → Reaches joined p i
   first_reaches c p i par h ne =
       let l = par.least i h in
       clique joined pattern c p i (par.reached l.0) h (omega arith)
@@ -65,7 +65,7 @@ module _ (joined : ℕ → ℕ → Bool) (pattern : IsAdjacency joined) where
       let p = first_of m j hj in
       let lt = reaches_later m p.0 (p.1.reached p.2) in
       elim (cases_eq p.0 j) [
-        | inl e ↦ (m, subst (λ x. IsFirst joined m x) e p.1, omega arith, hi, omega arith)
+        | inl e ↦ (m, subst (λ x. IsFirstReached joined m x) e p.1, omega arith, hi, omega arith)
         | inr np ↦
             let below = p.1.least i hi in
             let pj = first_reaches m p.0 j p.1 hj (λ e. np (sym e)) in

@@ -9,7 +9,7 @@ use Rattle.ordering.specs.Perm.{IsVertex}
 use Rattle.ordering.specs.Fill.{structure_of, parent_of, parents_of, IsAdjacency, IsParent}
 use Rattle.elim_tree.specs.ParentTables.{parents_in, IsParentTable}
 use Rattle.elim_tree.specs.Paths.{IsWithin}
-use Rattle.elim_tree.specs.Reaches.{Reaches, IsFirst}
+use Rattle.elim_tree.specs.Reaches.{Reaches, IsFirstReached}
 use Rattle.elim_tree.specs.Trees.{parent_at, IsForest}
 use Rattle.elim_tree.proofs.Fills.{at_zero, within}
 use Rattle.elim_tree.proofs.Children.{reaches_later}
@@ -41,13 +41,13 @@ module _ (joined : ℕ → ℕ → Bool) (pattern : IsAdjacency joined) (n : ℕ
 
   -- ---- the parent is the first that is reached
 
-  pub parent_is : (j p : ℕ) → IsParent joined n j p → IsFirst joined j p
+  pub parent_is : (j p : ℕ) → IsParent joined n j p → IsFirstReached joined j p
   parent_is j p par = record {
     reached = λ some. let r = par.reached some in let lt = r.0 in reached_or_own joined j p r.2 (omega arith);
     least = λ i h. par.least i (reaches_later joined pattern j i h) (row_within j i h) (in_structure joined j i h);
   }
 
-  pub first_is : (j p : ℕ) → IsFirst joined j p → IsParent joined n j p
+  pub first_is : (j p : ℕ) → IsFirstReached joined j p → IsParent joined n j p
   first_is j p first = record {
     reached = λ some. let r = first.reached some in (reaches_later joined pattern j p r, row_within j p r, in_structure joined j p r);
     least = λ i lt le h. first.least i (reached_or_own joined j i h (omega arith));

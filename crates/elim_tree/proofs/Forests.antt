@@ -1,7 +1,7 @@
 use Rattle.std.proofs.Common.{List, length, get_or-set_other, get_or-set_same, set, sym, ◌∙◌, subst, ap, ◌≡◌, ◌≢◌, inl, inr, ℕ, zero, suc, ◌<◌, Bool, IsTrue, arith, refl, cond, ◌==◌, slice_index}
 use Rattle.std.proofs.lemmas.Bool.{cases_eq, cases_order, cond-true, cond-false, eq-eqb, ne_eqb}
 use Rattle.ordering.specs.Fill.{IsAdjacency}
-use Rattle.elim_tree.specs.Reaches.{Reaches, IsFirst}
+use Rattle.elim_tree.specs.Reaches.{Reaches, IsFirstReached}
 use Rattle.elim_tree.specs.Forests.{IsGrown, IsOnWay, Covers}
 use Rattle.elim_tree.proofs.Fills.{clique}
 use Rattle.elim_tree.proofs.Children.{reaches_later, reaches_by_children}
@@ -105,7 +105,7 @@ module _ (joined : ℕ → ℕ → Bool) (pattern : IsAdjacency joined) where
               tied = λ x lt p. elim (cases_eq x c) [
                 | inl q ↦ let z = ap parent' q ∙ here_p in
                     let zj = ap ancestor' q ∙ here_j in (
-                      subst (λ v. IsFirst joined x v) (sym z) (subst (λ v. IsFirst joined v k) (sym q) (record {
+                      subst (λ v. IsFirstReached joined x v) (sym z) (subst (λ v. IsFirstReached joined v k) (sym q) (record {
                         reached = λ _. way.reach;
                         least = λ i h. (omega arith, elim (cases_order k i) [ inl e ↦ omega arith | inr o ↦ elim o [ inl l ↦ omega arith | inr l ↦ absurd (b.2 i l h) ] ]);
                       })),
@@ -116,7 +116,7 @@ module _ (joined : ℕ → ℕ → Bool) (pattern : IsAdjacency joined) where
                 | inr q ↦ let z = others_p x q in let f = way.tied x lt (omega arith) in
                     let zj = others_j x q in
                     let w = f.3 in (
-                      subst (λ v. IsFirst joined x v) (sym z) f.0,
+                      subst (λ v. IsFirstReached joined x v) (sym z) f.0,
                       omega arith,
                       put_under_same root c k x (parent x) f.2 ∙ ap (put_under root c k) (sym z),
                       omega arith,

@@ -12,7 +12,7 @@ use Rattle.ordering.specs.Fill.{renumbered, parent_of, parents_of, IsAdjacency}
 use Rattle.elim_tree.specs.Forests.{IsGrown, CanTake, IsTaken, column_in}
 use Rattle.elim_tree.specs.ParentTables.{parents_in, IsParentTable}
 use Rattle.elim_tree.specs.Paths.{IsWithin}
-use Rattle.elim_tree.specs.Reaches.{Reaches, IsFirst}
+use Rattle.elim_tree.specs.Reaches.{Reaches, IsFirstReached}
 use Rattle.elim_tree.specs.Trees.{parent_at}
 use Rattle.elim_tree.proofs.Fills.{from_pattern}
 use Rattle.elim_tree.proofs.Children.{reaches_later}
@@ -122,7 +122,7 @@ module _ (rows : List (List ℕ)) (order : List ℕ) (pattern : IsPattern rows) 
   )
 
   pub grown_firsts : (k : ℕ) → length order < k → (root : ℕ → ℕ) (parents ancestors : List ℕ) → IsGrown (renumbered (is_joined rows) order) k root (slice_index parents) (slice_index ancestors)
-      → (j : ℕ) → j ≤ length order → IsFirst (renumbered (is_joined rows) order) j (slice_index parents j)
+      → (j : ℕ) → j ≤ length order → IsFirstReached (renumbered (is_joined rows) order) j (slice_index parents j)
   grown_firsts k past root parents ancestors grown j le =
       elim (cases_order (slice_index parents j) 0) [
         | inl none ↦ record {
@@ -145,7 +145,7 @@ first_column joined pattern parents ancestors clear = record {
 -- ---- the table of all firsts
 
 module _ (parents_are_first : ParentsAreFirst) (joined : ℕ → ℕ → Bool) (pattern : IsAdjacency joined) (n : ℕ) (inside : IsWithin n joined)
-    (table : List ℕ) (long : length table ≡ suc n) (firsts : (j : ℕ) → j ≤ n → IsFirst joined j (slice_index table j)) where
+    (table : List ℕ) (long : length table ≡ suc n) (firsts : (j : ℕ) → j ≤ n → IsFirstReached joined j (slice_index table j)) where
   none_of_0 : slice_index table 0 ≡ 0
   none_of_0 =
       elim (cases_order (slice_index table 0) 0) [

@@ -6,7 +6,7 @@ use Rattle.ordering.specs.Perm.{IsVertex, IsPerm, place_of}
 use Rattle.elim_tree.specs.ParentTables.{parents_in, IsParentTable}
 use Rattle.elim_tree.specs.Trees.{parent_at, IsForest, IsAbove, self, step}
 use Rattle.elim_tree.specs.Postorders.{Precedes, below, beside, IsPostorder}
-use Rattle.elim_tree.specs.Spans.{in_children, IsCounted, ArePlaces}
+use Rattle.elim_tree.specs.Spans.{in_children, AreSpanSizes, ArePlaces}
 use Rattle.elim_tree.proofs.Columns.{in_table, length_of_table, parent_within}
 use Rattle.elim_tree.proofs.SpanLemmas.{IsPlaced, IsPlacedFrom, placed_all}
 use Rattle.elim_tree.proofs.CountLemmas.{IsRising, children_yes, children_to, children_all}
@@ -31,7 +31,7 @@ locate parent many p (suc m) k pos le =
     ]
 
 module _ (parents : List ℕ) (forest : IsForest parents) (n : ℕ) (len : n ≡ suc (length parents)) (many before start place : ℕ → ℕ)
-    (counted : IsCounted n (parent_at parents) many before) (placed : IsPlaced n (parent_at parents) many start place) where
+    (counted : AreSpanSizes n (parent_at parents) many before) (placed : IsPlaced n (parent_at parents) many start place) where
   rising : IsRising n (parent_at parents)
   rising x some = let f = forest.rising x some in (f.0, omega arith)
 
@@ -193,9 +193,9 @@ module _ (table : List ℕ) (is : IsParentTable table) where
       let most = parent_within (parents_in table) is.forest x in
       omega arith
 
-  module _ (many before start place : ℕ → ℕ) (counted : IsCounted (length table) (slice_index table) many before) (j : ℕ) (done : j ≤ 1) (from : IsPlacedFrom j (length table) (slice_index table) many before start place) where
-    here_counted : IsCounted (length table) (parent_at (parents_in table)) many before
-    here_counted = subst (λ parent. IsCounted (length table) parent many before) table_is counted
+  module _ (many before start place : ℕ → ℕ) (counted : AreSpanSizes (length table) (slice_index table) many before) (j : ℕ) (done : j ≤ 1) (from : IsPlacedFrom j (length table) (slice_index table) many before start place) where
+    here_counted : AreSpanSizes (length table) (parent_at (parents_in table)) many before
+    here_counted = subst (λ parent. AreSpanSizes (length table) parent many before) table_is counted
 
     here_placed : IsPlaced (length table) (parent_at (parents_in table)) many start place
     here_placed = subst (λ parent. IsPlaced (length table) parent many start place) table_is (placed_all (length table) (slice_index table) many before table_rising counted j start place done from)

@@ -9,7 +9,7 @@ use Rattle.ordering.specs.Perm.{IsVertex, IsPerm, vertex_at, place_of}
 use Rattle.ordering.specs.Fill.{structure_of, parent_of, count_of, parents_of, counts_of, renumbered, IsAdjacency}
 use Rattle.elim_tree.specs.Paths.{Path, edge, via, IsWithin}
 use Rattle.elim_tree.specs.Postorders.{below, IsPostorder}
-use Rattle.elim_tree.specs.Reaches.{Reaches, IsFirst}
+use Rattle.elim_tree.specs.Reaches.{Reaches, IsFirstReached}
 use Rattle.elim_tree.specs.Trees.{parent_at, IsAbove, self, step}
 use Rattle.elim_tree.proofs.Fills.{from_pattern}
 use Rattle.elim_tree.proofs.Paths.{reaches_by_path}
@@ -182,7 +182,7 @@ module _ (parents_are_first : ParentsAreFirst) (joined : ℕ → ℕ → Bool) (
 
     -- ---- parents
 
-    first_carried : (j p : ℕ) → IsVertex n j → IsFirst joined j p → IsFirst (renumbered joined post) (place_of post j) (place_of post p)
+    first_carried : (j p : ℕ) → IsVertex n j → IsFirstReached joined j p → IsFirstReached (renumbered joined post) (place_of post j) (place_of post p)
     first_carried j p vj first = record {
       reached = λ some. reaches_forth j p (first.reached (elim (cases_eq p 0) [ inl e ↦ let z = ap (place_of post) e ∙ places_back n post perm 0 (omega arith) in absurd (omega arith) | inr ne ↦ omega arith ]));
       least = λ m h.

@@ -5,7 +5,7 @@ use Rattle.std.proofs.lemmas.List.FromFn.{length-map-range_with_len}
 use Rattle.ordering.specs.Perm.{IsVertex}
 use Rattle.ordering.specs.Fill.{structure_of, parent_of, parents_of, IsAdjacency, IsParent}
 use Rattle.elim_tree.specs.Paths.{Path, IsWithin, IsInherited, IsInRowSubtree}
-use Rattle.elim_tree.specs.Reaches.{Reaches, IsFirst}
+use Rattle.elim_tree.specs.Reaches.{Reaches, IsFirstReached}
 use Rattle.elim_tree.specs.Trees.{parent_at, IsAbove, self, step}
 use Rattle.elim_tree.proofs.Fills.{later, from_pattern}
 use Rattle.elim_tree.proofs.Paths.{reaches_by_path}
@@ -27,7 +27,7 @@ abbrev pub ParentsAreFirst : Type 0
 ParentsAreFirst = (joined : ℕ → ℕ → Bool) (n j : ℕ) → IsParent joined n j (parent_of joined n j)
 
 -- only one is the first
-pub one_first : (joined : ℕ → ℕ → Bool) (j p q : ℕ) → IsFirst joined j p → IsFirst joined j q → p ≡ q
+pub one_first : (joined : ℕ → ℕ → Bool) (j p q : ℕ) → IsFirstReached joined j p → IsFirstReached joined j q → p ≡ q
 one_first joined j zero zero one two = refl
 one_first joined j (suc p) zero one two = let some = (two.least (suc p) (one.reached (omega arith))).0 in absurd (omega arith)
 one_first joined j zero (suc q) one two = let some = (one.least (suc q) (two.reached (omega arith))).0 in absurd (omega arith)
@@ -37,14 +37,14 @@ one_first joined j (suc p) (suc q) one two =
     omega arith
 
 module _ (parents_are_first : ParentsAreFirst) (joined : ℕ → ℕ → Bool) (pattern : IsAdjacency joined) (n : ℕ) (inside : IsWithin n joined) where
-  pub first_is_parent : (j : ℕ) → IsFirst joined j (parent_of joined n j)
+  pub first_is_parent : (j : ℕ) → IsFirstReached joined j (parent_of joined n j)
   first_is_parent j = parent_is joined pattern n inside j (parent_of joined n j) (parents_are_first joined n j)
 
-  pub parent_is_first : (j p : ℕ) → IsFirst joined j p → parent_of joined n j ≡ p
+  pub parent_is_first : (j p : ℕ) → IsFirstReached joined j p → parent_of joined n j ≡ p
   parent_is_first j p first = one_first joined j (parent_of joined n j) p (first_is_parent j) first
 
-  pub first_in_list : (j : ℕ) → IsVertex n j → IsFirst joined j (parent_at (parents_of joined n) j)
-  first_in_list j vertex = subst (λ p. IsFirst joined j p) (sym (parent_in_list joined n j vertex)) (first_is_parent j)
+  pub first_in_list : (j : ℕ) → IsVertex n j → IsFirstReached joined j (parent_at (parents_of joined n) j)
+  first_in_list j vertex = subst (λ p. IsFirstReached joined j p) (sym (parent_in_list joined n j vertex)) (first_is_parent j)
 
   -- ---- the structure by children
 
@@ -72,7 +72,7 @@ module _ (parents_are_first : ParentsAreFirst) (joined : ℕ → ℕ → Bool) (
         | inr f ↦ elim (cases_eq i j) [
           | inl e ↦ own_row joined j i e
           | inr ne ↦ in_structure joined j i (first_reaches joined pattern f.0 j i
-              (subst (λ p. IsFirst joined f.0 p) f.2 (first_is_parent f.0)) (reached_or_own joined f.0 i f.3 f.4) ne)
+              (subst (λ p. IsFirstReached joined f.0 p) f.2 (first_is_parent f.0)) (reached_or_own joined f.0 i f.3 f.4) ne)
         ]
       ]
     ],

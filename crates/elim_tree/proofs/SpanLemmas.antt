@@ -1,7 +1,7 @@
 -- The pass that places each column, from the last one on: what it has placed so far, and that one column more keeps this.
 use Rattle.std.proofs.Common.{sym, ◌∙◌, ap, ◌+◌, ◌≡◌, ◌≢◌, inl, inr, ℕ, suc, ◌<◌, ◌≤◌, arith, refl}
 use Rattle.std.proofs.lemmas.Bool.{cases_eq}
-use Rattle.elim_tree.specs.Spans.{in_children, IsCounted}
+use Rattle.elim_tree.specs.Spans.{in_children, AreSpanSizes}
 use Rattle.elim_tree.proofs.CountLemmas.{IsRising, children_yes, children_to}
 
 -- after how many places the span of each column begins, and the place of the column, which ends it
@@ -20,7 +20,7 @@ pub record IsPlacedFrom (j n : ℕ) (parent below before start place : ℕ → �
   pub ends : (x : ℕ) → 0 < x → j ≤ x → x < n → place x ≡ start x + below x + 1
   pub unused : place 0 ≡ 0
 
-module _ (n : ℕ) (parent below before : ℕ → ℕ) (rising : IsRising n parent) (counted : IsCounted n parent below before) where
+module _ (n : ℕ) (parent below before : ℕ → ℕ) (rising : IsRising n parent) (counted : AreSpanSizes n parent below before) where
   -- a column and those below it are counted below its parent
   within : (j : ℕ) → 0 < j → j < n → before j + below j + 1 ≤ below (parent j)
   within j pos lt =

@@ -3,7 +3,7 @@
 use Rattle.std.specs.Prelude.{◌≡◌, ◌⊎◌, ℕ, ◌<◌, ◌≤◌, Bool, List, length, slice_index}
 use Rattle.ordering.specs.Fill.{IsAdjacency}
 use Rattle.ordering.specs.Perm.{place_of}
-use Rattle.elim_tree.specs.Reaches.{Reaches, IsFirst}
+use Rattle.elim_tree.specs.Reaches.{Reaches, IsFirstReached}
 
 -- a pattern, and the root of each column in the forest so far
 pub record Rooted : Type 0 where
@@ -19,7 +19,8 @@ pub record IsGrown (joined : ℕ → ℕ → Bool) (k : ℕ) (root parent ancest
   -- a root reaches none of the columns so far
   pub bare : (x : ℕ) → x < k → parent x ≡ 0 → (root x ≡ x) × (ancestor x ≡ 0) × ((i : ℕ) → i < k → ¬ (Reaches joined x i))
   -- whoever has a parent has the right one
-  pub tied : (x : ℕ) → x < k → 0 < parent x → IsFirst joined x (parent x) × (parent x ≤ k) × (root x ≡ root (parent x)) × (0 < ancestor x)
+  pub tied : (x : ℕ) → x < k → 0 < parent x
+      → IsFirstReached joined x (parent x) × (parent x ≤ k) × (root x ≡ root (parent x)) × (0 < ancestor x)
   -- an ancestor stands in the same tree, and reaches what is reached past it
   pub ancestors : (x : ℕ) → x < k → 0 < ancestor x
       → (x < ancestor x) × (ancestor x ≤ k) × Covers joined x (ancestor x) × (root x ≡ root (ancestor x))
@@ -32,7 +33,8 @@ pub record IsOnWay (joined : ℕ → ℕ → Bool) (k start c : ℕ) (root paren
   pub reach : Reaches joined c k
   pub same : root c ≡ root start
   pub bare : (x : ℕ) → x < k → parent x ≡ 0 → (root x ≡ x) × (ancestor x ≡ 0) × ((i : ℕ) → i < k → ¬ (Reaches joined x i))
-  pub tied : (x : ℕ) → x < k → 0 < parent x → IsFirst joined x (parent x) × (parent x ≤ k) × (root x ≡ root (parent x)) × (0 < ancestor x)
+  pub tied : (x : ℕ) → x < k → 0 < parent x
+      → IsFirstReached joined x (parent x) × (parent x ≤ k) × (root x ≡ root (parent x)) × (0 < ancestor x)
   pub ancestors : (x : ℕ) → x < k → 0 < ancestor x → (x < ancestor x) × (ancestor x ≤ k) × Covers joined x (ancestor x)
       × ((root x ≡ root (ancestor x)) ⊎ ((x < c) × (ancestor x ≡ k) × (root x ≡ root start)))
   pub fresh : (x : ℕ) → k ≤ x → (parent x ≡ 0) × (ancestor x ≡ 0) × (root x ≡ x)

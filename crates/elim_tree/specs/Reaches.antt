@@ -8,6 +8,6 @@ abbrev pub Reaches : (ℕ → ℕ → Bool) → ℕ → ℕ → Type 0
 Reaches joined j i = IsTrue (graph_at joined j j i)
 
 -- p is the first row that column j reaches, or 0 where it reaches none
-pub record IsFirst (joined : ℕ → ℕ → Bool) (j p : ℕ) : Type 0 where
+pub record IsFirstReached (joined : ℕ → ℕ → Bool) (j p : ℕ) : Type 0 where
   pub reached : 0 < p → Reaches joined j p
   pub least : (i : ℕ) → Reaches joined j i → (0 < p) × (p ≤ i)

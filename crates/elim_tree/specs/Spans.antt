@@ -10,7 +10,7 @@ in_children parent below p (suc m) =
     (if parent m == p then (if m == 0 then 0 else below m + 1) else 0) + in_children parent below p m
 
 -- how many columns are below each, and how many are in the subtrees of its earlier siblings; all columns are below 0
-pub record IsCounted (n : ℕ) (parent below before : ℕ → ℕ) : Type 0 where
+pub record AreSpanSizes (n : ℕ) (parent below before : ℕ → ℕ) : Type 0 where
   pub sizes : (x : ℕ) → x < n → below x ≡ in_children parent below x n
   pub siblings : (j : ℕ) → 0 < j → j < n → before j ≡ in_children parent below (parent j) j
   pub all : below 0 + 1 ≡ n

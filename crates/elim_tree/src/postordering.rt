@@ -2,7 +2,7 @@ ghost use Rattle.std.specs.Prelude.{◌≡◌, ℕ, ◌+◌, ◌<◌, ◌≤◌,
 ghost use Rattle.ordering.specs.Perm.{AreInverse, IsVertex};
 ghost use Rattle.elim_tree.specs.ParentTables.{parents_in, IsParentTable};
 ghost use Rattle.elim_tree.specs.Postorders.{Precedes, IsPostorder};
-ghost use Rattle.elim_tree.specs.Spans.{IsCounted, ArePlaces};
+ghost use Rattle.elim_tree.specs.Spans.{AreSpanSizes, ArePlaces};
 
 use crate::NoMemory;
 use crate::parents::Parents;
@@ -14,7 +14,7 @@ fn count_below(parents: &[u32], below: &mut [u32], before: &mut [u32])
     requires lengths { (length below.old ≡ length parents.now) × (length before.old ≡ length parents.now) }
     requires table { IsParentTable parents.now }
     requires none { (x : ℕ) → slice_index below.old x ≡ 0 }
-    ensures counted { IsCounted (length parents.now) (slice_index parents.now) (slice_index below.new) (slice_index before.new) }
+    ensures counted { AreSpanSizes (length parents.now) (slice_index parents.now) (slice_index below.new) (slice_index before.new) }
     ensures unused { slice_index before.new 0 ≡ slice_index before.old 0 }
 {
     for j in 1..parents.len() {
@@ -30,7 +30,7 @@ fn place_columns(parents: &[u32], below: &[u32], starts: &mut [u32], places: &mu
     requires lengths { (length below.now ≡ length parents.now) × (length starts.old ≡ length parents.now)
         × (length places.old ≡ length parents.now) }
     requires table { IsParentTable parents.now }
-    requires counted { IsCounted (length parents.now) (slice_index parents.now) (slice_index below.now) (slice_index starts.old) }
+    requires counted { AreSpanSizes (length parents.now) (slice_index parents.now) (slice_index below.now) (slice_index starts.old) }
     requires unused { (slice_index starts.old 0 ≡ 0) × (slice_index places.old 0 ≡ 0) }
     ensures len { length places.new ≡ length places.old }
     ensures places { ArePlaces (length parents.now) (slice_index places.new) }

@@ -4,7 +4,7 @@ ghost use Rattle.std.specs.Prelude.{◌≡◌, ℕ, ◌+◌, ◌<◌, ◌≤◌,
 ghost use Rattle.matrix_market.specs.Pattern.{is_joined};
 ghost use Rattle.ordering.specs.Fill.{renumbered, parents_of};
 ghost use Rattle.elim_tree.specs.Forests.{Rooted, CanLink, IsLinked, CanTake, IsTaken};
-ghost use Rattle.elim_tree.specs.Reaches.{IsFirst};
+ghost use Rattle.elim_tree.specs.Reaches.{IsFirstReached};
 
 use crate::NoMemory;
 use crate::parents::Parents;
@@ -57,7 +57,8 @@ fn grow(parents: &mut [u32], ancestors: &mut [u32], pattern: &Pattern, perm: &Pe
     requires clear { (x : ℕ) → (slice_index parents.old x ≡ 0) × (slice_index ancestors.old x ≡ 0) }
     requires len { length perm.now ≡ length pattern.now }
     ensures len { length parents.new ≡ length parents.old }
-    ensures firsts { (j : ℕ) → j ≤ length perm.now → IsFirst (renumbered (is_joined pattern.now) perm.now) j (slice_index parents.new j) }
+    ensures firsts { (j : ℕ) → j ≤ length perm.now
+        → IsFirstReached (renumbered (is_joined pattern.now) perm.now) j (slice_index parents.new j) }
 {
     places_are_inverse();
     perm.keeps();

@@ -3,7 +3,7 @@ use Rattle.std.proofs.Common.{◌≡◌, ◌≢◌, ℕ, ◌<◌, inl, inr, ◌�
 use Rattle.std.proofs.lemmas.Bool.{cases_eq, cases_Bool, both_ways, eq-eqb, ne_eqb, or_left, or_right}
 use Rattle.elimination.specs.Elimination.{eliminate, IsVertex}
 use Rattle.matrix_market.specs.Pattern.{has}
-use Rattle.elimination.specs.Quotients.{Quotient, IsQuotient, IsParted, IsLinked, LeadsTo, at}
+use Rattle.elimination.specs.Quotients.{Quotient, IsQuotient, IsParted, AreLinks, LeadsTo, at}
 use Rattle.elimination.specs.Hoods.{IsHood}
 use Rattle.elimination.proofs.Eliminations.{pattern_eliminate}
 use Rattle.elimination.proofs.Partings.{IsMerged, parted}
@@ -83,7 +83,7 @@ module _ (q : Quotient) (turn turn' : ℕ → ℕ) (links links' : List ℕ) (ri
   was_gone : (x : ℕ) → x ≢ v → 0 < turn' x → 0 < turn x
   was_gone x ne g = let k = w.turns x ne in omega arith
 
-  linked' : IsLinked turn' links'
+  linked' : AreLinks turn' links'
   linked' = record {
     inside = λ x g. elim (cases_eq x v) [
       | inl e ↦ to_v (ap (at links') e ∙ w.own)

@@ -7,10 +7,10 @@ use Rattle.std.proofs.lemmas.List.Sums.{sum_by-set}
 use Rattle.matrix_market.specs.Pattern.{has, neighbours_of}
 use Rattle.min_tree.specs.Least.{IsFirstLeast, greatest}
 use Rattle.elimination.specs.Elimination.{IsVertex, degree_of}
-use Rattle.elimination.specs.Quotients.{Quotient, IsLinked, LeadsTo, at}
+use Rattle.elimination.specs.Quotients.{Quotient, AreLinks, LeadsTo, at}
 use Rattle.elimination.specs.Tables.{Tables}
 use Rattle.elimination.specs.Twins.{is_near, IsTwinFound}
-use Rattle.elimination.specs.Turns.{StandFor, CanGather, IsMarked, IsReleased, CanJoin, IsChosen, quotient_of}
+use Rattle.elimination.specs.Turns.{StandFor, CanGather, HasMarks, IsReleased, CanPair, IsChosen, quotient_of}
 use Rattle.elimination.proofs.VertexLists.{length-part}
 use Rattle.elimination.proofs.LinkLemmas.{relinked}
 use Rattle.elimination.proofs.Groups.{degree_weighed}
@@ -36,7 +36,7 @@ pub record IsTwin (q : Quotient) (v other : ℕ) : Type 0 where
   pub stands : q.rep other ≡ other
   pub twins : (z : ℕ) → is_near q.left other z ≡ is_near q.left v z
 
-module _ (q : Quotient) (t : Tables) (v : ℕ) (m : IsMarked q t v) where
+module _ (q : Quotient) (t : Tables) (v : ℕ) (m : HasMarks q t v) where
   neighbour : (a x : ℕ) → IsTrue (q.left a x) → IsVertex q.order x
   neighbour = neighbour_within q t.turn t.links t.rims v t.near t.touched t.seen m.gathered
 
@@ -66,8 +66,8 @@ module _ (q : Quotient) (t : Tables) (v : ℕ) (m : IsMarked q t v) where
       }
 
 -- by links that were shortened
-pub marked_still : (q : Quotient) (t : Tables) (v : ℕ) → IsMarked q t v → (links' : List ℕ) → length links' ≡ length t.links
-    → IsLinked t.turn links' → LeadsTo t.turn q.part links' → IsMarked q (record t { links = links' }) v
+pub marked_still : (q : Quotient) (t : Tables) (v : ℕ) → HasMarks q t v → (links' : List ℕ) → length links' ≡ length t.links
+    → AreLinks t.turn links' → LeadsTo t.turn q.part links' → HasMarks q (record t { links = links' }) v
 marked_still q t v m links' len linked leads =
     let g = m.gathered in
     record {
@@ -122,11 +122,11 @@ module _ (q : Quotient) (t : Tables) (v : ℕ) (r : IsReleased q t v) (degree : 
 
   -- .. and the lesser of v and its twin can come to stand for the other
   pub can_join : (other : ℕ) → q.order ≤ 1000000 → IsTwin q v other
-      → CanJoin q (record t { bounds = set t.bounds v degree }) (min v other) (max v other)
+      → CanPair q (record t { bounds = set t.bounds v degree }) (min v other) (max v other)
   can_join other few w =
       let gone = (r.stand.quotient.parted.alive v other w.near).1 in
       let apart : v ≢ other = λ e. r.stand.quotient.plain.irreflexive v (subst (λ z. IsTrue (q.left v z)) (sym e) w.near) in
-      in_order (CanJoin q (record t { bounds = set t.bounds v degree })) v other apart
+      in_order (CanPair q (record t { bounds = set t.bounds v degree })) v other apart
       (λ lt. record {
         stand = raised;
         few = few;

@@ -3,7 +3,7 @@ use Rattle.std.proofs.Common.{◌≡◌, ◌≢◌, ℕ, ◌+◌, ◌<◌, ◌�
 use Rattle.std.proofs.lemmas.Bool.{cases_eq, cases_lt, cases_Bool, or_cases, or_left, or_right, eq-eqb, eqb-true, both_ways}
 use Rattle.matrix_market.specs.Pattern.{has}
 use Rattle.min_tree.specs.Least.{IsFirstLeast}
-use Rattle.elimination.specs.Elimination.{IsLeft, IsAdjacency, times, eliminate, eliminated, degree_of}
+use Rattle.elimination.specs.Elimination.{IsRemaining, IsAdjacency, times, eliminate, eliminated, degree_of}
 use Rattle.elimination.specs.Twins.{is_near}
 use Rattle.elimination.specs.Dense.{IsStanding, IsDense, IsDenseChoice, IsDenseUnderWay, IsDenseRest, IsLeastDegreeOrder, bit_in, stage_of, stage_after}
 use Rattle.elimination.specs.declared.dense.DenseSearch.{DenseSearch}
@@ -86,7 +86,7 @@ module _ (joined : ℕ → ℕ → Bool) (n : ℕ) (alive vertices : List ℕ) (
     within = s.within;
     all = s.all;
     passed = λ u vertex lt none. elim (cases_eq u v) [
-      | inl e ↦ both_ways _ gone (s.alive_to v (omega arith) (subst (IsLeft n vertices) e (vertex, none)))
+      | inl e ↦ both_ways _ gone (s.alive_to v (omega arith) (subst (IsRemaining n vertices) e (vertex, none)))
       | inr ne ↦ s.passed u vertex (omega arith) none
     ];
     alive_from = λ u le t. s.alive_from u (omega arith) t;
@@ -94,27 +94,27 @@ module _ (joined : ℕ → ℕ → Bool) (n : ℕ) (alive vertices : List ℕ) (
   }
 
   module _ (stands : bit_in alive v ≡ true) where
-    here : IsLeft n vertices v
+    here : IsRemaining n vertices v
     here = s.alive_from v (omega arith) stands
 
     left_is : eliminate (eliminated joined vertices) v ≡ eliminated joined (vertices ++ v ∷ [])
     left_is = sym (eliminated_push joined vertices v)
 
-    still : (x : ℕ) → IsLeft n vertices x → x ≢ v → IsLeft n (vertices ++ v ∷ []) x
+    still : (x : ℕ) → IsRemaining n vertices x → x ≢ v → IsRemaining n (vertices ++ v ∷ []) x
     still x lx ne = let a = times_append vertices (v ∷ []) x in let b = times-beyond v x [] (λ z. ne (sym z)) in let z = lx.1 in
         (lx.0, omega arith)
 
-    was : (x : ℕ) → IsLeft n (vertices ++ v ∷ []) x → IsLeft n vertices x × (x ≢ v)
+    was : (x : ℕ) → IsRemaining n (vertices ++ v ∷ []) x → IsRemaining n vertices x × (x ≢ v)
     was x lx =
         let a = times_append vertices (v ∷ []) x in
         let z = lx.1 in
         ((lx.0, omega arith), λ e. absurd (let b = times-here v x [] (sym e) in omega arith))
 
-    near_all : (a u z : ℕ) → IsLeft n vertices a → IsLeft n vertices u → IsTrue (is_near (eliminated joined vertices) a z)
+    near_all : (a u z : ℕ) → IsRemaining n vertices a → IsRemaining n vertices u → IsTrue (is_near (eliminated joined vertices) a z)
         → IsTrue (is_near (eliminated joined vertices) u z)
     near_all a u z la lu h =
-        let lz : IsLeft n vertices z = elim (or_cases (eqb a z) _ h) [
-          | inl e ↦ subst (IsLeft n vertices) (eqb-true a z e) la
+        let lz : IsRemaining n vertices z = elim (or_cases (eqb a z) _ h) [
+          | inl e ↦ subst (IsRemaining n vertices) (eqb-true a z e) la
           | inr t ↦ s.within z a (s.plain.symmetric a z t)
         ] in
         elim (cases_eq u z) [

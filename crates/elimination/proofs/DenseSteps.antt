@@ -8,7 +8,7 @@ use Rattle.matrix_market.specs.Pattern.{has}
 use Rattle.min_tree.specs.Least.{IsFirstLeast, greatest}
 use Rattle.elimination.specs.Elimination.{IsVertex, IsAhead, degree_of, times, eliminate}
 use Rattle.elimination.specs.Twins.{is_near}
-use Rattle.elimination.specs.Dense.{Stage, IsStanding, IsInOpen, bit_in, AreRows, AreLowBounds, stage_after, width_of, lacks}
+use Rattle.elimination.specs.Dense.{Stage, IsStanding, IsInOpen, bit_in, AreBitRows, AreLowBounds, stage_after, width_of, lacks}
 use Rattle.elimination.proofs.Eliminations.{pattern_eliminate, kept, keep_old, keep_new, no_neighbour}
 use Rattle.elimination.proofs.ListFacts.{has_one, has_own, has_left, has_right, has_cases}
 use Rattle.elimination.proofs.VertexLists.{times_append, times-here, times-beyond}
@@ -139,7 +139,7 @@ filter_to q (x ∷ xs) p h t = elim (has_cases (x ∷ []) xs p h) [
       )
 ]
 
-module _ (stage : Stage) (row : ℕ → List ℕ) (opened alive : List ℕ) (s : AreRows stage row opened alive) (v : ℕ) (here : IsStanding stage v)
+module _ (stage : Stage) (row : ℕ → List ℕ) (opened alive : List ℕ) (s : AreBitRows stage row opened alive) (v : ℕ) (here : IsStanding stage v)
     (exact : (x : ℕ) → IsStanding stage x → bit_in (row v) x ≡ is_near stage.left v x)
     (alive' : List ℕ) (alive_len : length alive' ≡ length alive) (cleared : bit_in alive' v ≡ false)
     (others : (x : ℕ) → x ≢ v → bit_in alive' x ≡ bit_in alive x) where
@@ -190,7 +190,7 @@ module _ (stage : Stage) (row : ℕ → List ℕ) (opened alive : List ℕ) (s :
       left_of : (x : ℕ) → x ≢ v → IsTrue (is_near stage.left v x) → IsTrue (stage.left v x)
       left_of x ne near = elim (or_cases (eqb v x) _ near) [ inl e ↦ absurd (ne (sym (eqb-true v x e))) | inr t ↦ t ]
 
-  pub eliminated_rows : AreRows (stage_after stage v) row (filter (lacks row v) opened ++ v ∷ []) alive'
+  pub eliminated_rows : AreBitRows (stage_after stage v) row (filter (lacks row v) opened ++ v ∷ []) alive'
   eliminated_rows = record {
     plain = pattern_eliminate stage.left v s.plain;
     within = λ a b t.

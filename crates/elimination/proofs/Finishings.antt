@@ -3,7 +3,7 @@ use Rattle.std.proofs.Common.{◌≡◌, ◌≢◌, ℕ, ◌+◌, ◌≤◌, inl
 use Rattle.std.proofs.lemmas.Bool.{cases_eq, cases_lt, cases_Bool}
 use Rattle.matrix_market.specs.Pattern.{has, is_joined}
 use Rattle.min_tree.specs.Least.{IsFirstLeast}
-use Rattle.elimination.specs.Elimination.{IsVertex, times, eliminate, eliminated, degree_of, IsLeft, IsAdjacency}
+use Rattle.elimination.specs.Elimination.{IsVertex, times, eliminate, eliminated, degree_of, IsRemaining, IsAdjacency}
 use Rattle.elimination.specs.Quotients.{at}
 use Rattle.elimination.specs.Tables.{Tables}
 use Rattle.elimination.specs.Twins.{is_near}
@@ -40,7 +40,7 @@ module _ (rows : List (List ℕ)) (vertices : List ℕ) (t : Tables) (place : �
   pub finishing_first : IsFinishing rows vertices t.turn 1
   finishing_first =
       let q = s.search.stand.quotient in
-      let alive' : (a b : ℕ) → IsTrue (eliminated (is_joined rows) vertices a b) → IsLeft (length rows) vertices b = λ a b h. (
+      let alive' : (a b : ℕ) → IsTrue (eliminated (is_joined rows) vertices a b) → IsRemaining (length rows) vertices b = λ a b h. (
         elim (q.parted.near a b h) [ inl e ↦ q.within a b e | inr y ↦ (let r = q.parted.rim_from y.0 b y.1 y.3 in q.within r.0 b r.3) ],
         s.unlisted b (q.parted.alive a b h).1,
       ) in
@@ -89,11 +89,11 @@ module _ (rows : List (List ℕ)) (vertices : List ℕ) (turn : ℕ → ℕ) (v 
         absurd (omega arith)) in
         (sym (times_push_other vertices v x other) ∙ none, other)
 
-    near_all : (a u z : ℕ) → IsLeft (length rows) vertices a → IsLeft (length rows) vertices u
+    near_all : (a u z : ℕ) → IsRemaining (length rows) vertices a → IsRemaining (length rows) vertices u
         → IsTrue (is_near (eliminated (is_joined rows) vertices) a z) → IsTrue (is_near (eliminated (is_joined rows) vertices) u z)
     near_all a u z la lu h =
-        let lz : IsLeft (length rows) vertices z = elim (near_cases (eliminated (is_joined rows) vertices) a z h) [
-          | inl e ↦ subst (IsLeft (length rows) vertices) e la
+        let lz : IsRemaining (length rows) vertices z = elim (near_cases (eliminated (is_joined rows) vertices) a z h) [
+          | inl e ↦ subst (IsRemaining (length rows) vertices) e la
           | inr t ↦ s.alive a z t
         ] in
         elim (cases_eq u z) [
@@ -116,7 +116,7 @@ module _ (rows : List (List ℕ)) (vertices : List ℕ) (turn : ℕ → ℕ) (v 
           plain = subst IsAdjacency left_is (pattern_eliminate h v s.plain);
           alive = λ a b t.
               let k = kept h v a b (subst (λ z. IsTrue (z a b)) (sym left_is) t) in
-              let old : IsLeft n vertices b = elim k.from [ inl x ↦ s.alive a b x | inr x ↦ s.alive v b x.2 ] in
+              let old : IsRemaining n vertices b = elim k.from [ inl x ↦ s.alive a b x | inr x ↦ s.alive v b x.2 ] in
               (old.0, times_push_other vertices v b k.right ∙ old.1);
           all = λ a b la lb ne.
               let wa = was_fresh a la.1 in

@@ -10,7 +10,7 @@ use Rattle.elimination.specs.Quotients.{Quotient, IsQuotient, at}
 use Rattle.elimination.specs.Hoods.{AreHidden, mark_at}
 use Rattle.elimination.specs.Twins.{is_near, IsGrouped, IsJoinedTo}
 use Rattle.elimination.specs.Tables.{Tables}
-use Rattle.elimination.specs.Turns.{AreBounds, CanJoin, StandForOthers}
+use Rattle.elimination.specs.Turns.{AreBounds, CanPair, StandForOthers}
 use Rattle.elimination.proofs.BoundSteps.{at_other, at_here}
 use Rattle.elimination.proofs.Groups.{in_block, block_once}
 use Rattle.elimination.proofs.ListFacts.{has_own, has_left, has_right, has_cases, times_unless}
@@ -216,7 +216,7 @@ group_vertices q turn groups sizes g r = All-from_get_or (IsVertex q.order) (gro
     (λ i lt. let m = g.members r (get_or (groups r) i 0) (has_at (groups r) i lt) in
     (g.vertex (get_or (groups r) i 0) (λ e. m.1 (sym e ∙ m.0))).0)
 
-module _ (q : Quotient) (t : Tables) (least other : ℕ) (can : CanJoin q t least other) where
+module _ (q : Quotient) (t : Tables) (least other : ℕ) (can : CanPair q t least other) where
   pub sizes_small : at t.sizes least + at t.sizes other < 2 ^ 32
   sizes_small =
       let g = can.stand.grouped in

@@ -1,10 +1,10 @@
 -- Shortening one link.
 use Rattle.std.proofs.Common.{sym, ◌∙◌, subst, ap, ◌≡◌, ◌≢◌, inl, inr, ℕ, ◌<◌, arith, List, length, set, get_or-set_other, get_or-set_same, length-set}
 use Rattle.std.proofs.lemmas.Bool.{cases_eq}
-use Rattle.elimination.specs.Quotients.{Quotient, IsQuotient, IsLinked, LeadsTo, at}
+use Rattle.elimination.specs.Quotients.{Quotient, IsQuotient, AreLinks, LeadsTo, at}
 
 module _ (turn : ℕ → ℕ) (links : List ℕ) (z : ℕ) (lt : z < length links) (gone : 0 < turn z) (moved : at links z ≢ z)
-    (l : IsLinked turn links) where
+    (l : AreLinks turn links) where
   other : (x : ℕ) → x ≢ z → at (set links z (at links (at links z))) x ≡ at links x
   other x ne = rw get_or-set_other
 
@@ -25,7 +25,7 @@ module _ (turn : ℕ → ℕ) (links : List ℕ) (z : ℕ) (lt : z < length link
         ],
       )
 
-  pub shorter : IsLinked turn (set links z (at links (at links z)))
+  pub shorter : AreLinks turn (set links z (at links (at links z)))
   shorter =
       let len = length-set {A = ℕ} links z (at links (at links z)) in
       record {
@@ -64,7 +64,7 @@ module _ (turn : ℕ → ℕ) (links : List ℕ) (z : ℕ) (lt : z < length link
 -- links that were shortened lead to the same parts
 pub relinked : {q : Quotient} {turn : ℕ → ℕ} {links links' : List ℕ} {rim : ℕ → List ℕ} → IsQuotient q turn links rim
     → length links' ≡ length links
-    → IsLinked turn links' → LeadsTo turn q.part links' → IsQuotient q turn links' rim
+    → AreLinks turn links' → LeadsTo turn q.part links' → IsQuotient q turn links' rim
 relinked s len linked leads = record {
   size = len ∙ s.size;
   pattern = s.pattern;

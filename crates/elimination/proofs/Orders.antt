@@ -3,7 +3,7 @@ use Rattle.std.proofs.Common.{◌≡◌, ℕ, inl, inr, Bool, List, [], ◌∷�
 use Rattle.std.proofs.lemmas.Bool.{cases_lt}
 use Rattle.std.proofs.lemmas.List.{get_or_append_left, get_or_push, take-append-le, take_all}
 use Rattle.std.proofs.lemmas.List.Elements.{All-nil}
-use Rattle.elimination.specs.Elimination.{IsVertex, times, eliminated, degree_of, IsLeft, IsAhead, GoByLeastDegree}
+use Rattle.elimination.specs.Elimination.{IsVertex, times, eliminated, degree_of, IsRemaining, IsAhead, GoByLeastDegree}
 use Rattle.elimination.specs.Progress.{IsBegun}
 use Rattle.elimination.proofs.VertexLists.{part-push}
 
@@ -13,7 +13,7 @@ least_push : (joined : ℕ → ℕ → Bool) (n : ℕ) (gone : List ℕ) (v : �
 least_push joined n gone v least first k u lt left =
     let len = length-append gone (v ∷ []) in
     let take_is : take k (gone ++ v ∷ []) ≡ take k gone = take-append-le k gone (v ∷ []) (omega arith) in
-    let left' : IsLeft n (take k gone) u = subst (λ z. IsLeft n z u) take_is left in
+    let left' : IsRemaining n (take k gone) u = subst (λ z. IsRemaining n z u) take_is left in
     let goal : List ℕ → ℕ → Type 0 = λ xs w. IsAhead (degree_of (eliminated joined xs) n) w u in
     elim (cases_lt k (length gone)) [
       | inl before ↦ (

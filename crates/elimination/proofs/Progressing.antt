@@ -5,7 +5,7 @@ use Rattle.matrix_market.specs.Pattern.{has, is_joined}
 use Rattle.matrix_market.specs.Pattern as pattern
 use Rattle.elimination.specs.Elimination.{times, IsAdjacency, eliminated}
 use Rattle.elimination.specs.Quotients.{IsQuotient, at}
-use Rattle.elimination.specs.Tables.{Tables, IsFresh}
+use Rattle.elimination.specs.Tables.{Tables, IsUntouched}
 use Rattle.elimination.specs.Turns.{StandFor, IsSearch, IsEliminated, quotient_of}
 use Rattle.elimination.specs.Progress.{IsUnderWay}
 use Rattle.elimination.proofs.Eliminations.{eliminated_push}
@@ -21,7 +21,7 @@ plain_pattern rows p = record {
   none_of_0 = λ b t. both_ways _ refl t;
 }
 
-module _ (rows : List (List ℕ)) (p : pattern.IsPattern rows) (t : Tables) (fresh : IsFresh rows t)
+module _ (rows : List (List ℕ)) (p : pattern.IsPattern rows) (t : Tables) (fresh : IsUntouched rows t)
     (links_len : length t.links ≡ length rows + 1)
     (keys_len : length t.bounds ≡ length rows + 1) where
   none_gone : (x : ℕ) → 0 < t.turn x → ⊥

@@ -5,7 +5,7 @@ use Rattle.elimination.specs.Elimination.{IsAdjacency, eliminate, IsVertex, time
 use Rattle.matrix_market.specs.Pattern.{has}
 use Rattle.elimination.proofs.VertexLists.{place_of, has_at}
 use Rattle.min_tree.specs.Least.{greatest}
-use Rattle.elimination.specs.Quotients.{Quotient, IsQuotient, IsLinked, LeadsTo, at}
+use Rattle.elimination.specs.Quotients.{Quotient, IsQuotient, AreLinks, LeadsTo, at}
 use Rattle.elimination.specs.Hoods.{AreHidden, IsHood}
 use Rattle.elimination.specs.Twins.{is_near, IsGrouped, AreTouched, AreReopened}
 use Rattle.elimination.specs.Turns.{AreBounds}
@@ -262,7 +262,7 @@ module _ (q : Quotient) (turn turn' : ℕ → ℕ) (groups groups' : ℕ → Lis
         hood_vertex near hood w t = let p = place_of near w t in subst (IsVertex q.order) p.2 (hood.vertices p.0 0 p.1)
 
   pub quotient_open : (links links' : List ℕ) (rim rim' : ℕ → List ℕ) → IsQuotient (after q v touched) turn' links rim
-      → length links' ≡ length links → IsLinked turn' links'
+      → length links' ≡ length links → AreLinks turn' links'
       → LeadsTo turn' (after q v touched).part links' → AreTouched q.joined turn' (after q v touched).part members
       (length members) rim rim' → IsQuotient (reopened q v touched) turn' links' rim'
   quotient_open links links' rim rim' s len linked leads t = record {

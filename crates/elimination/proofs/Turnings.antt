@@ -4,7 +4,7 @@ use Rattle.std.proofs.lemmas.Bool.{cases_eq}
 use Rattle.matrix_market.specs.Pattern.{has}
 use Rattle.min_tree.specs.Least.{greatest}
 use Rattle.elimination.specs.Elimination.{IsVertex, eliminate}
-use Rattle.elimination.specs.Quotients.{Quotient, IsQuotient, IsLinked, at}
+use Rattle.elimination.specs.Quotients.{Quotient, IsQuotient, AreLinks, at}
 use Rattle.elimination.specs.Tables.{Tables}
 use Rattle.elimination.specs.Turns.{StandFor, IsReleased, IsChosen, IsAbsorbed, AreBack, IsSearch, IsEliminated, quotient_of}
 use Rattle.elimination.proofs.VertexLists.{has_at}
@@ -52,7 +52,7 @@ module _ (q : Quotient) (t : Tables) (v : ℕ) (r : IsReleased q t v) where
     merged_quotient = quotient_after q t.turn turn' t.links links1 t.rims lists1 v t.near t.touched r.stand.quotient r.hood r.vertex
         r.here written
 
-    pub merged_linked : IsLinked turn' links1
+    pub merged_linked : AreLinks turn' links1
     merged_linked = merged_quotient.linked
 
     module _ (bound : ℕ) (keys0 keys1 : List ℕ) (t' : Tables) (len2 : length t'.links ≡ length links1)

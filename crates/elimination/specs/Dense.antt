@@ -4,8 +4,8 @@ use Rattle.std.specs.Prelude.{◌≡◌, ◌≢◌, ◌==◌, ◌⊎◌, ℕ, �
 use Rattle.std.specs.Int.{bit_at}
 use Rattle.matrix_market.specs.Pattern.{has}
 use Rattle.min_tree.specs.Least.{greatest}
-use Rattle.elimination.specs.Elimination.{IsVertex, IsLeft, IsAhead, IsAdjacency, times, eliminate, eliminated, degree_of}
-use Rattle.elimination.specs.Quotients.{list_at}
+use Rattle.elimination.specs.Elimination.{IsVertex, IsRemaining, IsAhead, IsAdjacency, times, eliminate, eliminated, degree_of}
+use Rattle.elimination.specs.Quotients.{inner_at}
 use Rattle.elimination.specs.Twins.{is_near}
 use Rattle.elimination.specs.Progress.{IsBegun}
 use Rattle.elimination.specs.declared.dense.DenseSearch.{DenseSearch}
@@ -25,7 +25,7 @@ pub record Stage : Type 0 where
   pub gone : List ℕ
 
 abbrev pub IsStanding : Stage → ℕ → Type 0
-IsStanding stage x = IsLeft stage.order stage.gone x
+IsStanding stage x = IsRemaining stage.order stage.gone x
 
 -- whether the row of p lacks v
 abbrev pub lacks : (ℕ → List ℕ) → ℕ → ℕ → Bool
@@ -36,7 +36,7 @@ abbrev pub IsInOpen : (ℕ → List ℕ) → List ℕ → ℕ → ℕ → Type 0
 IsInOpen row opened a b = (p : ℕ) × IsTrue (has opened p) × IsTrue (bit_in (row p) a) × IsTrue (bit_in (row p) b)
 
 -- the rows stand for what is left
-pub record AreRows (stage : Stage) (row : ℕ → List ℕ) (opened alive : List ℕ) : Type 0 where
+pub record AreBitRows (stage : Stage) (row : ℕ → List ℕ) (opened alive : List ℕ) : Type 0 where
   pub plain : IsAdjacency stage.left
   pub within : (a b : ℕ) → IsTrue (stage.left a b) → IsStanding stage a
   pub from : (a b : ℕ) → IsStanding stage a → IsStanding stage b → IsTrue (is_near stage.left a b)
@@ -52,7 +52,7 @@ pub record AreRows (stage : Stage) (row : ℕ → List ℕ) (opened alive : List
 
 -- .. and v was looked at: its row has just its neighbours and itself, of those that are left
 pub record IsLookedAt (stage : Stage) (row : ℕ → List ℕ) (opened alive : List ℕ) (v degree : ℕ) : Type 0 where
-  pub rows : AreRows stage row opened alive
+  pub rows : AreBitRows stage row opened alive
   pub exact : (x : ℕ) → IsStanding stage x → bit_in (row v) x ≡ is_near stage.left v x
   pub degree_is : degree ≡ degree_of stage.left stage.order v
 
@@ -67,14 +67,14 @@ pub record IsDense (stage : Stage) (search : DenseSearch) : Type 0 where
   pub order_is : search.order ≡ stage.order
   pub few : stage.order ≤ 1000000
   pub rows_len : length search.rows.items ≡ stage.order + 1
-  pub rows : AreRows stage (list_at search.rows.items) search.pivots.items search.alive.items
+  pub rows : AreBitRows stage (inner_at search.rows.items) search.pivots.items search.alive.items
   pub bounds : AreLowBounds stage search.bounds
 
 -- .. and v, whose row is exact, is the first of all that are left, by degree and number
 pub record IsDenseChoice (stage : Stage) (search : DenseSearch) (v : ℕ) : Type 0 where
   pub dense : IsDense stage search
   pub here : IsStanding stage v
-  pub exact : (x : ℕ) → IsStanding stage x → bit_in (list_at search.rows.items v) x ≡ is_near stage.left v x
+  pub exact : (x : ℕ) → IsStanding stage x → bit_in (inner_at search.rows.items v) x ≡ is_near stage.left v x
   pub first : (u : ℕ) → IsStanding stage u → IsAhead (degree_of stage.left stage.order) v u
 
 -- the stage after v
@@ -99,11 +99,11 @@ pub record IsLeastDegreeOrder (joined : ℕ → ℕ → Bool) (n : ℕ) (order :
 pub record IsDenseRest (joined : ℕ → ℕ → Bool) (n : ℕ) (alive vertices : List ℕ) (v : ℕ) : Type 0 where
   pub begun : IsBegun joined n vertices
   pub plain : IsAdjacency (eliminated joined vertices)
-  pub within : (a b : ℕ) → IsTrue (eliminated joined vertices a b) → IsLeft n vertices a
-  pub all : (a b : ℕ) → IsLeft n vertices a → IsLeft n vertices b → a ≢ b → IsTrue (eliminated joined vertices a b)
+  pub within : (a b : ℕ) → IsTrue (eliminated joined vertices a b) → IsRemaining n vertices a
+  pub all : (a b : ℕ) → IsRemaining n vertices a → IsRemaining n vertices b → a ≢ b → IsTrue (eliminated joined vertices a b)
   pub passed : (u : ℕ) → IsVertex n u → u < v → times vertices u ≢ 0
-  pub alive_from : (u : ℕ) → v ≤ u → IsTrue (bit_in alive u) → IsLeft n vertices u
-  pub alive_to : (u : ℕ) → v ≤ u → IsLeft n vertices u → IsTrue (bit_in alive u)
+  pub alive_from : (u : ℕ) → v ≤ u → IsTrue (bit_in alive u) → IsRemaining n vertices u
+  pub alive_to : (u : ℕ) → v ≤ u → IsRemaining n vertices u → IsTrue (bit_in alive u)
 
 -- the row of v, before any is eliminated in the search: just its neighbours and itself, of those that are left
 pub record IsFullRow (stage : Stage) (v : ℕ) (row : List ℕ) : Type 0 where
@@ -118,7 +118,7 @@ pub record IsFilling (stage : Stage) (search : DenseSearch) : Type 0 where
   pub none_open : search.pivots.items ≡ []
   pub alive_width : length search.alive.items ≡ width_of stage.order
   pub alive_from : (x : ℕ) → IsTrue (bit_in search.alive.items x) → IsStanding stage x
-  pub full : (x : ℕ) → IsTrue (bit_in search.alive.items x) → IsFullRow stage x (list_at search.rows.items x)
+  pub full : (x : ℕ) → IsTrue (bit_in search.alive.items x) → IsFullRow stage x (inner_at search.rows.items x)
   pub bounds_len : length search.bounds ≡ stage.order + 1
   pub low : (x : ℕ) → IsTrue (bit_in search.alive.items x) → slice_index search.bounds x ≤ degree_of stage.left stage.order x
   pub off : (x : ℕ) → x ≤ stage.order → bit_in search.alive.items x ≡ false → slice_index search.bounds x ≡ greatest

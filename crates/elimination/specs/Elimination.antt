@@ -32,8 +32,8 @@ abbrev pub degree_of : (ℕ → ℕ → Bool) → ℕ → ℕ → ℕ
 degree_of joined n v = count_by (joined v) (range_with_len 1 n)
 
 -- a vertex that is not among these
-abbrev pub IsLeft : ℕ → List ℕ → ℕ → Type 0
-IsLeft n gone u = IsVertex n u × (times gone u ≡ 0)
+abbrev pub IsRemaining : ℕ → List ℕ → ℕ → Type 0
+IsRemaining n gone u = IsVertex n u × (times gone u ≡ 0)
 
 -- v comes no later than u: by degree, and then by number
 abbrev pub IsAhead : (ℕ → ℕ) → ℕ → ℕ → Type 0
@@ -42,4 +42,5 @@ IsAhead degree v u = (degree v < degree u) ⊎ ((degree v ≡ degree u) × (v �
 -- each of these vertices, as it was eliminated, was the first by degree and number of all that were left
 abbrev pub GoByLeastDegree : (ℕ → ℕ → Bool) → ℕ → List ℕ → Type 0
 GoByLeastDegree joined n order =
-    (k u : ℕ) → k < length order → IsLeft n (take k order) u → IsAhead (degree_of (eliminated joined (take k order)) n) (slice_index order k) u
+    (k u : ℕ) → k < length order → IsRemaining n (take k order) u
+    → IsAhead (degree_of (eliminated joined (take k order)) n) (slice_index order k) u

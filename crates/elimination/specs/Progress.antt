@@ -2,7 +2,7 @@
 use Rattle.std.specs.Prelude.{◌≡◌, ◌≢◌, ℕ, ◌+◌, ◌<◌, ◌≤◌, Bool, IsTrue, List, length}
 use Rattle.std.specs.List.{All}
 use Rattle.matrix_market.specs.Pattern.{is_joined}
-use Rattle.elimination.specs.Elimination.{IsVertex, times, IsAdjacency, eliminated, IsLeft, GoByLeastDegree}
+use Rattle.elimination.specs.Elimination.{IsVertex, times, IsAdjacency, eliminated, IsRemaining, GoByLeastDegree}
 use Rattle.elimination.specs.Tables.{Tables}
 use Rattle.elimination.specs.Turns.{IsSearch}
 
@@ -28,7 +28,7 @@ pub record IsFinishing (rows : List (List ℕ)) (vertices : List ℕ) (turn : �
   pub unturned : (u : ℕ) → v ≤ u → times vertices u ≡ 0 → turn u ≡ 0
   pub unlisted : (u : ℕ) → v ≤ u → turn u ≡ 0 → times vertices u ≡ 0
   pub plain : IsAdjacency (eliminated (is_joined rows) vertices)
-  pub alive : (a b : ℕ) → IsTrue (eliminated (is_joined rows) vertices a b) → IsLeft (length rows) vertices b
-  pub all : (a b : ℕ) → IsLeft (length rows) vertices a → IsLeft (length rows) vertices b → a ≢ b
+  pub alive : (a b : ℕ) → IsTrue (eliminated (is_joined rows) vertices a b) → IsRemaining (length rows) vertices b
+  pub all : (a b : ℕ) → IsRemaining (length rows) vertices a → IsRemaining (length rows) vertices b → a ≢ b
       → IsTrue (eliminated (is_joined rows) vertices a b)
   pub passed : (u : ℕ) → IsVertex (length rows) u → u < v → times vertices u ≢ 0

@@ -11,10 +11,10 @@ abbrev pub at : List ℕ → ℕ → ℕ
 at table x = slice_index table x
 
 -- a table of lists as a function
-abbrev pub list_at : List (Vec ℕ Global) → ℕ → List ℕ
-list_at [] x = []
-list_at (v ∷ vs) zero = v.items
-list_at (v ∷ vs) (suc x) = list_at vs x
+abbrev pub inner_at : List (Vec ℕ Global) → ℕ → List ℕ
+inner_at [] x = []
+inner_at (v ∷ vs) zero = v.items
+inner_at (v ∷ vs) (suc x) = inner_at vs x
 
 -- a and b hang together by the pattern, or by a part that both touch
 abbrev pub IsNear : (ℕ → ℕ → Bool) → (ℕ → ℕ) → (ℕ → ℕ) → (ℕ → ℕ → Bool) → ℕ → ℕ → Type 0
@@ -33,7 +33,7 @@ pub record IsParted (joined left : ℕ → ℕ → Bool) (turn part : ℕ → �
   pub joins : (a b : ℕ) → turn a ≡ 0 → turn b ≡ 0 → a ≢ b → IsNear joined turn part rim a b → IsTrue (left a b)
 
 -- from an eliminated vertex the links lead to eliminated vertices, each to a later one or to itself, within the table
-pub record IsLinked (turn : ℕ → ℕ) (links : List ℕ) : Type 0 where
+pub record AreLinks (turn : ℕ → ℕ) (links : List ℕ) : Type 0 where
   pub inside : (x : ℕ) → 0 < turn x → (at links x < length links) × (0 < turn (at links x))
   pub rises : (x : ℕ) → 0 < turn x → at links x ≢ x → turn x < turn (at links x)
 
@@ -65,5 +65,5 @@ pub record IsQuotient (q : Quotient) (turn : ℕ → ℕ) (links : List ℕ) (ri
   -- of each group of twins that touch a part, its list has the one that stands for them
   pub listed_from : (d x : ℕ) → 0 < turn d → IsTrue (has (rim (q.part d)) x) → IsTrue (q.rim (q.part d) x)
   pub listed_to : (d x : ℕ) → 0 < turn d → IsTrue (q.rim (q.part d) x) → q.rep x ≡ x → IsTrue (has (rim (q.part d)) x)
-  pub linked : IsLinked turn links
+  pub linked : AreLinks turn links
   pub leads : LeadsTo turn q.part links

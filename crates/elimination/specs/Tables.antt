@@ -4,7 +4,7 @@ use Rattle.min_tree.specs.Least.{greatest}
 use Rattle.matrix_market.specs.Pattern.{neighbours_of}
 use Rattle.elimination.specs.Elimination.{IsVertex}
 use Rattle.elimination.specs.declared.search.Search.{Search}
-use Rattle.elimination.specs.Quotients.{at, list_at}
+use Rattle.elimination.specs.Quotients.{at, inner_at}
 use Rattle.elimination.specs.Hoods.{mark_at}
 
 pub record Tables : Type 0 where
@@ -22,8 +22,8 @@ abbrev pub tables : Search → Tables
 tables s = record {
   turn = at s.turns.items;
   links = s.links.items;
-  rims = list_at s.rims.items;
-  groups = list_at s.groups.items;
+  rims = inner_at s.rims.items;
+  groups = inner_at s.groups.items;
   sizes = s.sizes.items;
   seen = s.seen.items;
   bounds = s.bounds;
@@ -32,7 +32,7 @@ tables s = record {
 }
 
 -- all tables have this length
-pub record HaveLength (len : ℕ) (s : Search) : Type 0 where
+pub record AllHaveLength (len : ℕ) (s : Search) : Type 0 where
   pub turns : length s.turns.items ≡ len
   pub links : length s.links.items ≡ len
   pub rims : length s.rims.items ≡ len
@@ -42,7 +42,7 @@ pub record HaveLength (len : ℕ) (s : Search) : Type 0 where
   pub bounds : length s.bounds ≡ len
 
 -- none of the vertices is eliminated, and the bounds are the degrees
-pub record IsFresh (rows : List (List ℕ)) (t : Tables) : Type 0 where
+pub record IsUntouched (rows : List (List ℕ)) (t : Tables) : Type 0 where
   pub clear : (x : ℕ) → t.turn x ≡ 0
   pub empty : (x : ℕ) → t.rims x ≡ []
   pub single : (x : ℕ) → t.groups x ≡ []

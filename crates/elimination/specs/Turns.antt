@@ -3,7 +3,7 @@ use Rattle.std.specs.Prelude.{◌≡◌, ◌≢◌, ◌⊎◌, ℕ, ◌+◌, ◌
 use Rattle.matrix_market.specs.Pattern.{has, is_joined}
 use Rattle.min_tree.specs.Least.{greatest}
 use Rattle.elimination.specs.Elimination.{IsVertex, eliminate, degree_of, IsAhead}
-use Rattle.elimination.specs.Quotients.{Quotient, IsQuotient, IsLinked, LeadsTo, at}
+use Rattle.elimination.specs.Quotients.{Quotient, IsQuotient, AreLinks, LeadsTo, at}
 use Rattle.elimination.specs.Hoods.{AreHidden, IsHood, IsRowOf, IsGathered}
 use Rattle.elimination.specs.Twins.{IsGrouped, is_near, AreTouched, AreReopened}
 use Rattle.elimination.specs.Tables.{Tables}
@@ -33,7 +33,7 @@ pub record CanGather (q : Quotient) (t : Tables) (u : ℕ) (row : List ℕ) : Ty
   pub listed : IsRowOf q t.turn u row
 
 -- they were, and are marked
-pub record IsMarked (q : Quotient) (t : Tables) (u : ℕ) : Type 0 where
+pub record HasMarks (q : Quotient) (t : Tables) (u : ℕ) : Type 0 where
   pub gathered : IsGathered q t.turn t.links t.rims u t.near t.touched t.seen
   pub grouped : IsGrouped q t.turn t.groups t.sizes
   pub bounds : AreBounds q t.turn t.bounds
@@ -47,7 +47,7 @@ pub record IsReleased (q : Quotient) (t : Tables) (u : ℕ) : Type 0 where
   pub hood : IsHood q t.turn u t.near t.touched
 
 -- two twins that stand for their groups, the lesser first
-pub record CanJoin (q : Quotient) (t : Tables) (least other : ℕ) : Type 0 where
+pub record CanPair (q : Quotient) (t : Tables) (least other : ℕ) : Type 0 where
   pub stand : StandFor q t
   pub few : q.order ≤ 1000000
   pub before : least < other
@@ -89,7 +89,7 @@ pub record IsAbsorbed (v : ℕ) (near touched : List ℕ) (links links' : List �
 pub record AreBack (joined : ℕ → ℕ → Bool) (v bound : ℕ) (t t' : Tables) : Type 0 where
   pub empty : t'.groups v ≡ []
   pub others : (r : ℕ) → r ≢ v → t'.groups r ≡ t.groups r
-  pub linked : IsLinked t.turn t'.links
+  pub linked : AreLinks t.turn t'.links
   pub leads : (part : ℕ → ℕ) → LeadsTo t.turn part t.links → LeadsTo t.turn part t'.links
   pub touched : (part : ℕ → ℕ) → LeadsTo t.turn part t.links
       → AreTouched joined t.turn part (t.groups v) (length (t.groups v)) t.rims t'.rims

@@ -4,8 +4,8 @@ ghost use Rattle.std.specs.Prelude.{◌≡◌, ℕ, Bool, ◌+◌, ◌-◌, ◌<
 ghost use Rattle.elimination.specs.Elimination.{IsVertex, degree_of};
 ghost use Rattle.matrix_market.specs.Pattern.{has};
 ghost use Rattle.elimination.specs.Quotients.{Quotient, at};
-ghost use Rattle.elimination.specs.Tables.{tables, HaveLength};
-ghost use Rattle.elimination.specs.Turns.{IsMarked, IsSearch, IsChosen};
+ghost use Rattle.elimination.specs.Tables.{tables, AllHaveLength};
+ghost use Rattle.elimination.specs.Turns.{HasMarks, IsSearch, IsChosen};
 
 use crate::hoods::NoMemory;
 use crate::search::Search;
@@ -32,10 +32,10 @@ pub fn lower(list: &[u32], bounds: &mut MinTree)
 impl Search {
     // The degree of v, whose neighbours are gathered.
     fn degree(&self, v: u32) -> u64
-        requires lengths { HaveLength (length self.now.turns.items) self.now }
+        requires lengths { AllHaveLength (length self.now.turns.items) self.now }
         requires few { length self.now.turns.items ≤ 1000001 }
-        requires start { (q : Quotient) × IsMarked q (tables self.now) v }
-        ensures { (q : Quotient) → IsMarked q (tables self.now) v → result ≡ degree_of q.left q.order v }
+        requires start { (q : Quotient) × HasMarks q (tables self.now) v }
+        ensures { (q : Quotient) → HasMarks q (tables self.now) v → result ≡ degree_of q.left q.order v }
     {
         let weight = u64::from(self.sizes[v as usize]) + weigh(&self.hood.near, &self.sizes);
         weight.saturating_sub(1)
@@ -49,11 +49,11 @@ impl Search {
         pattern: &Pattern,
         effort: &mut Effort,
     ) -> Result<u32, NoMemory>
-        requires lengths { HaveLength (length pattern.now + 1) self.old }
+        requires lengths { AllHaveLength (length pattern.now + 1) self.old }
         requires few { length pattern.now ≤ 1000000 }
         requires some { (w : ℕ) × IsVertex (length pattern.now) w × (at self.old.turns.items w ≡ 0) }
         requires start { (left : ℕ → ℕ → Bool) × IsSearch pattern.now left (tables self.old) }
-        ensures lengths { OnOk result (HaveLength (length pattern.now + 1) self.new) }
+        ensures lengths { OnOk result (AllHaveLength (length pattern.now + 1) self.new) }
         ensures turns { OnOk result (self.new.turns ≡ self.old.turns) }
         ensures chosen { IfOk result (λ v. (left : ℕ → ℕ → Bool) → IsSearch pattern.now left (tables self.old)
             → IsChosen pattern.now left (tables self.new) v) }

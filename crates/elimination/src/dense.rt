@@ -1,22 +1,22 @@
-//! The end of an elimination, where what is left is nearly a clique: the neighbours of each vertex are a row of bits, the bit of vertex x at
-//! place x. An eliminated vertex whose row still counts is open; to look at a vertex is to put the open rows that have it into its row. So an
-//! open vertex is an element of a quotient graph, as in George and Liu, The evolution of the minimum degree ordering algorithm, 1989.
+//! The end of an elimination, where what is left is nearly a clique: the neighbours of each vertex are a row of bits, the bit of vertex x
+//! at place x. An eliminated vertex whose row still counts is open; to look at a vertex is to put the open rows that have it into its row.
+//! So an open vertex is an element of a quotient graph, as in George and Liu, The evolution of the minimum degree ordering algorithm, 1989.
 
 ghost use Rattle.std.specs.Prelude.{◌≡◌, ◌≢◌, ℕ, ◌+◌, ◌-◌, ◌*◌, ◌/◌, ◌^◌, ◌<◌, ◌≤◌, ◌&&◌, ◌||◌, ◌⊎◌, Bool, List, IsTrue, OnOk, IfOk, ◌==◌, length, slice_index, take, not, true, false};
 ghost use Rattle.std.specs.List.{count_by, filter, range_with_len};
 ghost use Rattle.std.specs.Int.{bit_at};
 ghost use Rattle.matrix_market.specs.Pattern.{has};
-ghost use Rattle.elimination.specs.Elimination.{IsVertex, IsLeft, degree_of};
-ghost use Rattle.elimination.specs.Dense.{bit_in, lacks, Stage, IsStanding, IsInOpen, AreRows, IsLookedAt, IsDense, IsDenseChoice, IsDenseUnderWay, IsDenseRest, IsLeastDegreeOrder, stage_after, width_of, IsFullRow, IsFilling};
-ghost use Rattle.elimination.specs.Quotients.{list_at};
+ghost use Rattle.elimination.specs.Elimination.{IsVertex, IsRemaining, degree_of};
+ghost use Rattle.elimination.specs.Dense.{bit_in, lacks, Stage, IsStanding, IsInOpen, AreBitRows, IsLookedAt, IsDense, IsDenseChoice, IsDenseUnderWay, IsDenseRest, IsLeastDegreeOrder, stage_after, width_of, IsFullRow, IsFilling};
+ghost use Rattle.elimination.specs.Quotients.{inner_at};
 
 use crate::NoMemory;
 use min_tree::MinTree;
 use std::alloc::Global;
 use std::mem;
 
-/// What is left of a pattern as rows of bits: the row of a vertex that is left has its neighbours as far as it was looked at, and itself; an
-/// eliminated vertex that is open keeps its row, and of that those that are left are all joined to each other.
+/// What is left of a pattern as rows of bits: the row of a vertex that is left has its neighbours as far as it was looked at, and itself;
+/// an eliminated vertex that is open keeps its row, and of that those that are left are all joined to each other.
 #[derive(Drop)]
 pub struct DenseSearch {
     order: u32,
@@ -152,11 +152,11 @@ impl DenseSearch {
 // Adds to a row the open rows that have v.
 fn unite_open(row: &mut [u64], rows: &[Vec<u64>], pivots: &[u32], v: u32)
     requires within { (j : ℕ) → j < length pivots.now → slice_index pivots.now j < length rows.now }
-    requires widths { (j : ℕ) → j < length pivots.now → length (list_at rows.now (slice_index pivots.now j)) ≡ length row.old }
+    requires widths { (j : ℕ) → j < length pivots.now → length (inner_at rows.now (slice_index pivots.now j)) ≡ length row.old }
     requires v { v / 64 < length row.old }
     ensures kept { (x : ℕ) → IsTrue (bit_in row.old x) → IsTrue (bit_in row.new x) }
-    ensures from { (x : ℕ) → IsTrue (bit_in row.new x) → IsTrue (bit_in row.old x) ⊎ IsInOpen (list_at rows.now) pivots.now v x }
-    ensures to { (x : ℕ) → IsInOpen (list_at rows.now) pivots.now v x → IsTrue (bit_in row.new x) }
+    ensures from { (x : ℕ) → IsTrue (bit_in row.new x) → IsTrue (bit_in row.old x) ⊎ IsInOpen (inner_at rows.now) pivots.now v x }
+    ensures to { (x : ℕ) → IsInOpen (inner_at rows.now) pivots.now v x → IsTrue (bit_in row.new x) }
 {
     for p in pivots {
         let other = &rows[*p as usize];
@@ -169,11 +169,11 @@ fn unite_open(row: &mut [u64], rows: &[Vec<u64>], pivots: &[u32], v: u32)
 // Makes the row of v exact among the vertices that are left, and counts its degree.
 fn look(alloc: Global, rows: &mut [Vec<u64>], pivots: &[u32], alive: &[u64], v: u32) -> u32
     requires few { length rows.old ≤ 1000001 }
-    requires stand { (stage : Stage) × AreRows stage (list_at rows.old) pivots.now alive.now × IsStanding stage v
+    requires stand { (stage : Stage) × AreBitRows stage (inner_at rows.old) pivots.now alive.now × IsStanding stage v
         × (length rows.old ≡ stage.order + 1) }
     ensures len { length rows.new ≡ length rows.old }
-    ensures looked { (stage : Stage) → AreRows stage (list_at rows.old) pivots.now alive.now → IsStanding stage v
-        → IsLookedAt stage (list_at rows.new) pivots.now alive.now v result }
+    ensures looked { (stage : Stage) → AreBitRows stage (inner_at rows.old) pivots.now alive.now → IsStanding stage v
+        → IsLookedAt stage (inner_at rows.new) pivots.now alive.now v result }
 {
     let mut row = mem::replace(&mut rows[v as usize], Vec::new(alloc));
     unite_open(&mut row, rows, pivots, v);
@@ -233,8 +233,8 @@ fn lower_common(row: &[u64], other: &[u64], bounds: &mut MinTree)
 // Moves the open vertices whose rows lack v to the front, and says how many they are.
 fn keep_apart(rows: &[Vec<u64>], pivots: &mut [u32], v: u32) -> usize
     requires within { (j : ℕ) → j < length pivots.old → slice_index pivots.old j < length rows.now }
-    requires widths { (j : ℕ) → j < length pivots.old → v / 64 < length (list_at rows.now (slice_index pivots.old j)) }
-    ensures { take result pivots.new ≡ filter (lacks (list_at rows.now) v) pivots.old }
+    requires widths { (j : ℕ) → j < length pivots.old → v / 64 < length (inner_at rows.now (slice_index pivots.old j)) }
+    ensures { take result pivots.new ≡ filter (lacks (inner_at rows.now) v) pivots.old }
 {
     let mut kept = 0;
     for i in 0..pivots.len() {

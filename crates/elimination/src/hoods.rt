@@ -3,9 +3,9 @@
 ghost use Rattle.std.specs.Prelude.{◌≡◌, ℕ, ◌+◌, ◌<◌, ◌≤◌, ◌∷◌, List, [], IsTrue, length, take, slice_index, false, OnOk, IfOk};
 ghost use Rattle.matrix_market.specs.Pattern.{has};
 ghost use Rattle.elimination.specs.Hoods.{Visits, Enters, Scans, mark_at};
-ghost use Rattle.elimination.specs.Quotients.{Quotient, IsLinked, at, list_at};
-ghost use Rattle.elimination.specs.Tables.{tables, HaveLength};
-ghost use Rattle.elimination.specs.Turns.{CanGather, IsMarked, IsReleased};
+ghost use Rattle.elimination.specs.Quotients.{Quotient, AreLinks, at, inner_at};
+ghost use Rattle.elimination.specs.Tables.{tables, AllHaveLength};
+ghost use Rattle.elimination.specs.Turns.{CanGather, HasMarks, IsReleased};
 
 use crate::links::last_of;
 use crate::search::Search;
@@ -69,8 +69,8 @@ fn visit(list: &[u32], near: &mut Vec<u32>, seen: &mut [bool]) -> Result<(), NoM
 // Marks and lists a part that is not marked, and visits its rim.
 fn enter(part: u32, rims: &[Vec<u32>], hood: &mut Hood, seen: &mut [bool]) -> Result<(), NoMemory>
     requires part { (part < length rims.now) × (part < length seen.old) }
-    requires rim { (x : ℕ) → IsTrue (has (list_at rims.now part) x) → x < length seen.old }
-    ensures { OnOk result (Enters (list_at rims.now) part hood.old.near.items hood.new.near.items
+    requires rim { (x : ℕ) → IsTrue (has (inner_at rims.now part) x) → x < length seen.old }
+    ensures { OnOk result (Enters (inner_at rims.now) part hood.old.near.items hood.new.near.items
         hood.old.touched.items hood.new.touched.items seen.old seen.new) }
 {
     if !seen[part as usize] {
@@ -95,10 +95,10 @@ fn scan(
     requires links { length links.old ≡ length turns.now }
     requires rims { length rims.now ≡ length turns.now }
     requires seen { length seen.old ≡ length turns.now }
-    requires linked { IsLinked (at turns.now) links.old }
-    requires within { (p x : ℕ) → IsTrue (has (list_at rims.now p) x) → x < length turns.now }
-    ensures linked { OnOk result (IsLinked (at turns.now) links.new) }
-    ensures scanned { OnOk result (Scans (at turns.now) (list_at rims.now) row.now links.old links.new
+    requires linked { AreLinks (at turns.now) links.old }
+    requires within { (p x : ℕ) → IsTrue (has (inner_at rims.now p) x) → x < length turns.now }
+    ensures linked { OnOk result (AreLinks (at turns.now) links.new) }
+    ensures scanned { OnOk result (Scans (at turns.now) (inner_at rims.now) row.now links.old links.new
         hood.old.near.items hood.new.near.items hood.old.touched.items hood.new.touched.items seen.old seen.new) }
 {
     for b in row {
@@ -127,12 +127,12 @@ impl Search {
     // Gathers the neighbours of u, whose row in the file this is, and marks them.
     #[inline(never)]
     pub fn gather(&mut self, u: u32, row: &[u32]) -> Result<(), NoMemory>
-        requires lengths { HaveLength (length self.old.turns.items) self.old }
+        requires lengths { AllHaveLength (length self.old.turns.items) self.old }
         requires start { (q : Quotient) × CanGather q (tables self.old) u row.now }
-        ensures lengths { OnOk result (HaveLength (length self.old.turns.items) self.new) }
+        ensures lengths { OnOk result (AllHaveLength (length self.old.turns.items) self.new) }
         ensures turns { OnOk result (self.new.turns ≡ self.old.turns) }
         ensures bounds { OnOk result (self.new.bounds ≡ self.old.bounds) }
-        ensures marked { OnOk result ((q : Quotient) → CanGather q (tables self.old) u row.now → IsMarked q (tables self.new) u) }
+        ensures marked { OnOk result ((q : Quotient) → CanGather q (tables self.old) u row.now → HasMarks q (tables self.new) u) }
     {
         self.hood.near.clear();
         self.hood.touched.clear();
@@ -151,12 +151,12 @@ impl Search {
 
     // Takes away the marks of u, its neighbours and its parts.
     pub fn release(&mut self, u: u32)
-        requires lengths { HaveLength (length self.old.turns.items) self.old }
-        requires start { (q : Quotient) × IsMarked q (tables self.old) u }
-        ensures lengths { HaveLength (length self.old.turns.items) self.new }
+        requires lengths { AllHaveLength (length self.old.turns.items) self.old }
+        requires start { (q : Quotient) × HasMarks q (tables self.old) u }
+        ensures lengths { AllHaveLength (length self.old.turns.items) self.new }
         ensures turns { self.new.turns ≡ self.old.turns }
         ensures bounds { self.new.bounds ≡ self.old.bounds }
-        ensures released { (q : Quotient) → IsMarked q (tables self.old) u → IsReleased q (tables self.new) u }
+        ensures released { (q : Quotient) → HasMarks q (tables self.old) u → IsReleased q (tables self.new) u }
     {
         unmark(&self.hood.near, &mut self.seen);
         unmark(&self.hood.touched, &mut self.seen);

@@ -5,7 +5,7 @@ ghost use Rattle.std.specs.List.{All};
 ghost use Rattle.matrix_market.specs.Pattern.{is_joined};
 ghost use Rattle.elimination.specs.Elimination.{IsVertex, times, GoByLeastDegree};
 ghost use Rattle.elimination.specs.Quotients.{at};
-ghost use Rattle.elimination.specs.Tables.{tables, HaveLength};
+ghost use Rattle.elimination.specs.Tables.{tables, AllHaveLength};
 ghost use Rattle.elimination.specs.Turns.{IsSearch, IsEliminated};
 ghost use Rattle.elimination.specs.Progress.{IsBegun, IsUnderWay, IsFinishing};
 
@@ -27,12 +27,12 @@ impl Search {
         place: u32,
         effort: &mut Effort,
     ) -> Result<u32, NoMemory>
-        requires lengths { HaveLength (length pattern.now + 1) self.old }
+        requires lengths { AllHaveLength (length pattern.now + 1) self.old }
         requires few { length pattern.now ≤ 1000000 }
         requires latest { (x : ℕ) → at self.old.turns.items x < place }
         requires some { (w : ℕ) × IsVertex (length pattern.now) w × (at self.old.turns.items w ≡ 0) }
         requires start { (left : ℕ → ℕ → Bool) × IsSearch pattern.now left (tables self.old) }
-        ensures lengths { OnOk result (HaveLength (length pattern.now + 1) self.new) }
+        ensures lengths { OnOk result (AllHaveLength (length pattern.now + 1) self.new) }
         ensures turn { IfOk result (λ v. self.new.turns.items ≡ slice_set self.old.turns.items v place) }
         ensures eliminated { IfOk result (λ v. (left : ℕ → ℕ → Bool) → IsSearch pattern.now left (tables self.old)
             → IsEliminated pattern.now left (at self.old.turns.items) (tables self.new) v) }
@@ -72,7 +72,7 @@ fn eliminate_rest(
     search: &mut Search,
     vertices: &mut Vec<u32>,
 ) -> Result<(), NoMemory>
-    requires lengths { HaveLength (length pattern.now + 1) search.old }
+    requires lengths { AllHaveLength (length pattern.now + 1) search.old }
     requires few { length pattern.now ≤ 1000000 }
     requires start { (place : ℕ) × IsUnderWay pattern.now vertices.old.items (tables search.old) place }
     ensures len { OnOk result (length vertices.new.items ≡ length pattern.now) }
@@ -90,7 +90,7 @@ fn eliminate_all(
     search: &mut Search,
     vertices: &mut Vec<u32>,
 ) -> Result<(), NoMemory>
-    requires lengths { HaveLength (length pattern.now + 1) search.old }
+    requires lengths { AllHaveLength (length pattern.now + 1) search.old }
     requires start { IsUnderWay pattern.now vertices.old.items (tables search.old) 1 }
     ensures len { OnOk result (length vertices.new.items ≡ length pattern.now) }
     ensures begun { OnOk result (IsBegun (is_joined pattern.now) (length pattern.now) vertices.new.items) }

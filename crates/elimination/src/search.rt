@@ -5,7 +5,7 @@ ghost use Rattle.matrix_market.specs.Pattern.{neighbours_of};
 ghost use Rattle.min_tree.specs.Least.{greatest};
 ghost use Rattle.elimination.specs.Elimination.{IsVertex};
 ghost use Rattle.elimination.specs.Quotients.{at};
-ghost use Rattle.elimination.specs.Tables.{tables, HaveLength, IsFresh};
+ghost use Rattle.elimination.specs.Tables.{tables, AllHaveLength, IsUntouched};
 
 use crate::hoods::{Hood, NoMemory};
 use crate::parts::empty_lists;
@@ -53,8 +53,8 @@ fn first_bounds(alloc: Global, pattern: &Pattern) -> Result<MinTree, NoMemory>
 impl Search {
     /// All vertices are left, each stands for itself, and the bounds are the degrees.
     pub fn new(alloc: Global, pattern: &Pattern) -> Result<Search, NoMemory>
-        ensures lengths { IfOk result (HaveLength (length pattern.now + 1)) }
-        ensures fresh { IfOk result (λ search. IsFresh pattern.now (tables search)) }
+        ensures lengths { IfOk result (AllHaveLength (length pattern.now + 1)) }
+        ensures fresh { IfOk result (λ search. IsUntouched pattern.now (tables search)) }
     {
         let size = pattern.order() as usize + 1;
         let near = Vec::new(alloc);

@@ -4,10 +4,10 @@ ghost use Rattle.std.specs.Prelude.{◌≡◌, ◌≢◌, ℕ, ◌+◌, ◌<◌,
 ghost use Rattle.std.specs.List.{sum_by};
 ghost use Rattle.elimination.specs.Elimination.{IsVertex};
 ghost use Rattle.matrix_market.specs.Pattern.{has, neighbours_of, is_joined};
-ghost use Rattle.elimination.specs.Quotients.{IsLinked, LeadsTo, at, list_at, Quotient};
+ghost use Rattle.elimination.specs.Quotients.{AreLinks, LeadsTo, at, inner_at, Quotient};
 ghost use Rattle.elimination.specs.Twins.{AreRowsMarked, IsTouched, AreTouched, IsTwinFound};
-ghost use Rattle.elimination.specs.Tables.{tables, HaveLength};
-ghost use Rattle.elimination.specs.Turns.{IsMarked, CanJoin, StandForOthers, AreBack};
+ghost use Rattle.elimination.specs.Tables.{tables, AllHaveLength};
+ghost use Rattle.elimination.specs.Turns.{HasMarks, CanPair, StandForOthers, AreBack};
 ghost use Rattle.min_tree.specs.Least.{greatest};
 
 use crate::hoods::{NoMemory, unmark};
@@ -35,8 +35,8 @@ pub fn weigh(list: &[u32], sizes: &[u32]) -> u64
 // Where a vertex has its mark: at itself, or, if it was eliminated, at its part.
 fn mark_of(links: &mut [u32], turns: &[u32], b: u32) -> u32
     requires within { (b < length turns.now) × (length links.old ≡ length turns.now) }
-    requires linked { IsLinked (at turns.now) links.old }
-    ensures linked { IsLinked (at turns.now) links.new }
+    requires linked { AreLinks (at turns.now) links.old }
+    ensures linked { AreLinks (at turns.now) links.new }
     ensures leads { (part : ℕ → ℕ) → LeadsTo (at turns.now) part links.old → LeadsTo (at turns.now) part links.new }
     ensures own { at turns.now b ≡ 0 → result ≡ b }
     ensures part { 0 < at turns.now b → (part : ℕ → ℕ) → LeadsTo (at turns.now) part links.old → result ≡ part b }
@@ -53,8 +53,8 @@ fn all_marked(row: &[u32], turns: &[u32], links: &mut [u32], seen: &[bool]) -> b
     requires row { (j : ℕ) → j < length row.now → slice_index row.now j < length turns.now }
     requires links { length links.old ≡ length turns.now }
     requires seen { length seen.now ≡ length turns.now }
-    requires linked { IsLinked (at turns.now) links.old }
-    ensures linked { IsLinked (at turns.now) links.new }
+    requires linked { AreLinks (at turns.now) links.old }
+    ensures linked { AreLinks (at turns.now) links.new }
     ensures leads { (part : ℕ → ℕ) → LeadsTo (at turns.now) part links.old → LeadsTo (at turns.now) part links.new }
     ensures marked { IsTrue result → (part : ℕ → ℕ) → LeadsTo (at turns.now) part links.old
         → AreRowsMarked (at turns.now) part row.now seen.now }
@@ -79,11 +79,11 @@ fn touch(
     requires row { (j : ℕ) → j < length row.now → slice_index row.now j < length turns.now }
     requires links { length links.old ≡ length turns.now }
     requires rims { length rims.old ≡ length turns.now }
-    requires linked { IsLinked (at turns.now) links.old }
-    ensures linked { OnOk result (IsLinked (at turns.now) links.new) }
+    requires linked { AreLinks (at turns.now) links.old }
+    ensures linked { OnOk result (AreLinks (at turns.now) links.new) }
     ensures leads { OnOk result ((part : ℕ → ℕ) → LeadsTo (at turns.now) part links.old → LeadsTo (at turns.now) part links.new) }
     ensures touched { OnOk result ((part : ℕ → ℕ) → LeadsTo (at turns.now) part links.old →
-        IsTouched (at turns.now) part x row.now (length row.now) (list_at rims.old) (list_at rims.new)) }
+        IsTouched (at turns.now) part x row.now (length row.now) (inner_at rims.old) (inner_at rims.new)) }
 {
     for b in row {
         if turns[*b as usize] == 0 {
@@ -98,8 +98,8 @@ fn touch(
 // Puts a number at the end of a list.
 fn push_at(lists: &mut [Vec<u32>], at: u32, number: u32) -> Result<(), NoMemory>
     requires { at < length lists.old }
-    ensures pushed { OnOk result (list_at lists.new at ≡ list_at lists.old at ++ number ∷ []) }
-    ensures others { (y : ℕ) → y ≢ at → list_at lists.new y ≡ list_at lists.old y }
+    ensures pushed { OnOk result (inner_at lists.new at ≡ inner_at lists.old at ++ number ∷ []) }
+    ensures others { (y : ℕ) → y ≢ at → inner_at lists.new y ≡ inner_at lists.old y }
 {
     lists[at as usize].push(number)?;
     Ok(())
@@ -112,8 +112,8 @@ const MOST_TRIES: u32 = 64;
 // Puts numbers at the end of a list.
 fn extend_at(lists: &mut [Vec<u32>], at: u32, numbers: &[u32]) -> Result<(), NoMemory>
     requires { at < length lists.old }
-    ensures put { OnOk result (list_at lists.new at ≡ list_at lists.old at ++ numbers.now) }
-    ensures others { (y : ℕ) → y ≢ at → list_at lists.new y ≡ list_at lists.old y }
+    ensures put { OnOk result (inner_at lists.new at ≡ inner_at lists.old at ++ numbers.now) }
+    ensures others { (y : ℕ) → y ≢ at → inner_at lists.new y ≡ inner_at lists.old y }
     ensures len { length lists.new ≡ length lists.old }
 {
     lists[at as usize].extend_from_slice(numbers)?;
@@ -123,9 +123,9 @@ fn extend_at(lists: &mut [Vec<u32>], at: u32, numbers: &[u32]) -> Result<(), NoM
 // Takes a list out.
 pub fn take_at(alloc: Global, lists: &mut [Vec<u32>], at: u32) -> Vec<u32>
     requires { at < length lists.old }
-    ensures value { result.items ≡ list_at lists.old at }
-    ensures empty { list_at lists.new at ≡ [] }
-    ensures others { (y : ℕ) → y ≢ at → list_at lists.new y ≡ list_at lists.old y }
+    ensures value { result.items ≡ inner_at lists.old at }
+    ensures empty { inner_at lists.new at ≡ [] }
+    ensures others { (y : ℕ) → y ≢ at → inner_at lists.new y ≡ inner_at lists.old y }
 {
     mem::replace(&mut lists[at as usize], Vec::new(alloc))
 }
@@ -139,9 +139,9 @@ fn join_groups(
 ) -> Result<(), NoMemory>
     requires within { (least < length groups.old) × (other < length groups.old) }
     requires differ { least ≢ other }
-    ensures taken { OnOk result (list_at groups.new least ≡ list_at groups.old least ++ (other ∷ list_at groups.old other)) }
-    ensures empty { OnOk result (list_at groups.new other ≡ []) }
-    ensures others { OnOk result ((r : ℕ) → r ≢ least → r ≢ other → list_at groups.new r ≡ list_at groups.old r) }
+    ensures taken { OnOk result (inner_at groups.new least ≡ inner_at groups.old least ++ (other ∷ inner_at groups.old other)) }
+    ensures empty { OnOk result (inner_at groups.new other ≡ []) }
+    ensures others { OnOk result ((r : ℕ) → r ≢ least → r ≢ other → inner_at groups.new r ≡ inner_at groups.old r) }
 {
     let members = take_at(alloc, groups, other);
     push_at(groups, least, other)?;
@@ -184,13 +184,13 @@ fn touch_all(
     requires turns { length turns.now ≡ length pattern.now + 1 }
     requires links { length links.old ≡ length turns.now }
     requires rims { length rims.old ≡ length turns.now }
-    requires linked { IsLinked (at turns.now) links.old }
-    ensures linked { OnOk result (IsLinked (at turns.now) links.new) }
+    requires linked { AreLinks (at turns.now) links.old }
+    ensures linked { OnOk result (AreLinks (at turns.now) links.new) }
     ensures leads { OnOk result ((part : ℕ → ℕ) → LeadsTo (at turns.now) part links.old → LeadsTo (at turns.now) part links.new) }
     ensures touched { OnOk result ((part : ℕ → ℕ) → LeadsTo (at turns.now) part links.old →
-        AreTouched (is_joined pattern.now) (at turns.now) part list.now (length list.now) (list_at rims.old) (list_at rims.new)) }
+        AreTouched (is_joined pattern.now) (at turns.now) part list.now (length list.now) (inner_at rims.old) (inner_at rims.new)) }
 {
-    let _order = pattern.order();
+    pattern.keeps();
     for x in list {
         touch(*x, pattern.neighbours(*x), turns, links, rims)?;
     }
@@ -204,15 +204,15 @@ impl Search {
     pub fn find_twin(&mut self, pattern: &Pattern, degree: u64) -> Option<u32>
         requires near { (j : ℕ) → j < length self.old.hood.near.items
             → IsVertex (length pattern.now) (slice_index self.old.hood.near.items j) }
-        requires lengths { HaveLength (length pattern.now + 1) self.old }
-        requires linked { IsLinked (at self.old.turns.items) self.old.links.items }
-        ensures lengths { HaveLength (length pattern.now + 1) self.new }
+        requires lengths { AllHaveLength (length pattern.now + 1) self.old }
+        requires linked { AreLinks (at self.old.turns.items) self.old.links.items }
+        ensures lengths { AllHaveLength (length pattern.now + 1) self.new }
         ensures turns { self.new.turns ≡ self.old.turns }
         ensures bounds { self.new.bounds ≡ self.old.bounds }
-        ensures marked { (q : Quotient) (u : ℕ) → IsMarked q (tables self.old) u → IsMarked q (tables self.new) u }
+        ensures marked { (q : Quotient) (u : ℕ) → HasMarks q (tables self.old) u → HasMarks q (tables self.new) u }
         ensures twin { IfSome result (IsTwinFound (tables self.old) pattern.now degree) }
     {
-        let _order = pattern.order();
+        pattern.keeps();
         let mut tries = 0;
         let end = self.hood.near.len().min(self.hood.first_end);
         for i in 0..end {
@@ -234,12 +234,12 @@ impl Search {
 
     // Lets a vertex stand for its twin and for those that the twin stands for.
     pub fn join(&mut self, alloc: Global, least: u32, other: u32) -> Result<(), NoMemory>
-        requires lengths { HaveLength (length self.old.turns.items) self.old }
-        requires can { (q : Quotient) × CanJoin q (tables self.old) least other }
-        ensures lengths { OnOk result (HaveLength (length self.old.turns.items) self.new) }
+        requires lengths { AllHaveLength (length self.old.turns.items) self.old }
+        requires can { (q : Quotient) × CanPair q (tables self.old) least other }
+        ensures lengths { OnOk result (AllHaveLength (length self.old.turns.items) self.new) }
         ensures turns { OnOk result (self.new.turns ≡ self.old.turns) }
         ensures bounds { OnOk result (self.new.bounds ≡ slice_set self.old.bounds other greatest) }
-        ensures joined { OnOk result ((q : Quotient) → CanJoin q (tables self.old) least other → StandForOthers q (tables self.new)) }
+        ensures joined { OnOk result ((q : Quotient) → CanPair q (tables self.old) least other → StandForOthers q (tables self.new)) }
     {
         join_groups(alloc, &mut self.groups, least, other)?;
         self.sizes[least as usize] += self.sizes[other as usize];
@@ -256,12 +256,12 @@ impl Search {
         v: u32,
         bound: u64,
     ) -> Result<(), NoMemory>
-        requires group { (j : ℕ) → j < length (list_at self.old.groups.items v)
-            → IsVertex (length pattern.now) (slice_index (list_at self.old.groups.items v) j) }
+        requires group { (j : ℕ) → j < length (inner_at self.old.groups.items v)
+            → IsVertex (length pattern.now) (slice_index (inner_at self.old.groups.items v) j) }
         requires within { v < length pattern.now + 1 }
-        requires lengths { HaveLength (length pattern.now + 1) self.old }
-        requires linked { IsLinked (at self.old.turns.items) self.old.links.items }
-        ensures lengths { OnOk result (HaveLength (length pattern.now + 1) self.new) }
+        requires lengths { AllHaveLength (length pattern.now + 1) self.old }
+        requires linked { AreLinks (at self.old.turns.items) self.old.links.items }
+        ensures lengths { OnOk result (AllHaveLength (length pattern.now + 1) self.new) }
         ensures turns { OnOk result (self.new.turns ≡ self.old.turns) }
         ensures back { OnOk result (AreBack (is_joined pattern.now) v bound (tables self.old) (tables self.new)) }
     {

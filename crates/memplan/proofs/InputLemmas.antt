@@ -9,7 +9,7 @@ use Rattle.sp_terms.specs.Values.{term_of}
 use Rattle.tree_input.specs.declared.node.Node.{Node}
 use Rattle.memplan.specs.Files.{Answer, HasValue, IsMatrixFile, CanBeOrdered, IsOrderOf, IsOrderFrom, IsMatrixTree, IsTreeOf, IsSystemOf, IsSystemWithTerm, IsFirstRefusal, AreAccepted}
 use Rattle.memplan.specs.Clauses.{AreTold, HasFailed}
-use Rattle.memplan.specs.Judged.{IsStop, IsRefusedOrder, IsProblemOf, IsOrderRead, IsOrderedOf, IsRefusedSource, tasks_in}
+use Rattle.memplan.specs.Judged.{IsStop, IsRefusedOrder, IsProblemOf, IsOrderRead, IsOrderedOf, IsRefusedSource, order_tasks}
 use Rattle.memplan.specs.declared.inputs.Order.{Order}
 use Rattle.memplan.specs.Request.{Ordering, natural, min_degree, perm_named, Matrix, TreeInput, tree_named, matrix_named, Input, tree_input, workflow_named, NamedFile, OrderSource, order_named, plan_named, matrix_file, ordering_files, matrix_files, tree_input_files, input_files, source_file}
 use Rattle.memplan.specs.Pages.{answer_of}
@@ -146,7 +146,7 @@ module _ (told : List ℕ → Option (List ℕ)) (input : Input) (source : Order
     is_order = read;
     accepted =
         accepted_after told (input_files input) (source_file source ∷ []) [] mine (text ∷ []) are (problem_accepted input mine problem (is_problem mine are))
-        (source_accepted source mine text (tasks_in order) read.0, tt);
+        (source_accepted source mine text (order_tasks order) read.0, tt);
   }
 
   pub ordered : (texts : List (List ℕ)) → AreTold told (input_files input ++ source_file source ∷ []) texts

@@ -5,7 +5,7 @@ use Rattle.memplan.specs.Commands.{IsReport}
 use Rattle.memplan.specs.Files.{Answer, IsFirstRefusal}
 use Rattle.memplan.specs.Simulate.{IsOwnPriority, IsPriorityFrom, IsSimulation, setting_of, priority_or}
 use Rattle.memplan.specs.Clauses.{AreTold}
-use Rattle.memplan.specs.Judged.{IsStop, IsOrderedOf, IsPriorityOf, IsRefusedRanking, tasks_in, own_priority, priority_beside}
+use Rattle.memplan.specs.Judged.{IsStop, IsOrderedOf, IsPriorityOf, IsRefusedRanking, order_tasks, own_priority, priority_beside}
 use Rattle.memplan.specs.Request.{Input, OrderSource, Simulation, NamedFile, simulate, input_files, source_file, priority_files, files_of}
 use Rattle.memplan.specs.declared.commands.simulate.Priority.{Priority}
 use Rattle.memplan.specs.declared.commands.simulate.Priority.TheVariants as priorities
@@ -46,8 +46,8 @@ few_priority input (Some name) = omega arith
 
 -- a priority that was judged is the one that is meant
 priority_from : (source : OrderSource) (name : Option (List ℕ)) (n : ℕ) (text : List ℕ) (rest : List (List ℕ)) (order : Order) (priority : Priority)
-    → IsOwnPriority source text (tasks_in order) (own_priority order) → IsPriorityOf name n rest priority
-    → IsPriorityFrom source name n text rest (tasks_in order) (priority_beside order priority)
+    → IsOwnPriority source text (order_tasks order) (own_priority order) → IsPriorityOf name n rest priority
+    → IsPriorityFrom source name n text rest (order_tasks order) (priority_beside order priority)
 priority_from source None n text [] order priorities.Own own is = own
 priority_from source None n text [] order (priorities.Given numbers) own is = absurd is
 priority_from source None n text (file ∷ files) order priority own is = absurd is
@@ -83,7 +83,7 @@ module _ (told : List ℕ → Option (List ℕ)) (input : Input) (source : Order
 
     pub simulated : (are_ordered : (texts : List (List ℕ)) → AreTold told first texts → IsOrderedOf input source texts ordered) (priority : Priority) (answer : Answer)
         → ((texts : List (List ℕ)) → AreTold told more texts → IsPriorityOf s.priority (length (system_of ordered.problem).tasks) texts priority)
-        → IsSimulation (setting_of (system_of ordered.problem) (tasks_in ordered.order) s) (priority_beside ordered.order priority) answer
+        → IsSimulation (setting_of (system_of ordered.problem) (order_tasks ordered.order) s) (priority_beside ordered.order priority) answer
         → (texts : List (List ℕ)) → AreTold told (files_of (simulate input source s)) texts
         → IsReport (simulate input source s) texts answer
     simulated are_ordered priority answer is_priority is texts are =
@@ -96,7 +96,7 @@ module _ (told : List ℕ → Option (List ℕ)) (input : Input) (source : Order
           work.text,
           two,
           system,
-          tasks_in ordered.order,
+          order_tasks ordered.order,
           priority_beside ordered.order priority,
           split,
           problem_has_system input work.mine ordered.problem work.is_problem,

@@ -102,9 +102,9 @@ IsProblemOf (workflow_named name) (text ∷ []) (origins.Workflow positions) =
 IsProblemOf input texts origin = ⊥
 
 -- the tasks of an order that was read
-abbrev pub tasks_in : Order → List ℕ
-tasks_in (orders.Listed numbers) = numbers.items
-tasks_in (orders.Planned plan) = plan.order
+abbrev pub order_tasks : Order → List ℕ
+order_tasks (orders.Listed numbers) = numbers.items
+order_tasks (orders.Planned plan) = plan.order
 
 -- the priority that comes with an order that was read
 abbrev pub own_priority : Order → List ℕ
@@ -114,7 +114,7 @@ own_priority (orders.Planned plan) = priority_or plan.order plan.priority
 -- the order that a source gives, and the priority that comes with it
 abbrev pub IsOrderRead : OrderSource → List (List ℕ) → Order → Type 0
 IsOrderRead source (text ∷ []) order =
-    IsOrderFrom source text (tasks_in order) × IsOwnPriority source text (tasks_in order) (own_priority order)
+    IsOrderFrom source text (order_tasks order) × IsOwnPriority source text (order_tasks order) (own_priority order)
 IsOrderRead source texts order = ⊥
 
 -- the file of a source is refused, after any others

@@ -80,7 +80,10 @@ is_second first second (Some word) = if bytes_eq word first then Some false else
 
 -- a permutation file, the natural order or minimum degree; the natural order, where nothing is given
 abbrev pub ordering_named : List ℕ → Option Ordering
-ordering_named word = if bytes_eq word (codes "natural") then Some natural else if bytes_eq word (codes "mindeg") then Some min_degree else None
+ordering_named word =
+    if bytes_eq word (codes "natural") then Some natural
+    else if bytes_eq word (codes "mindeg") then Some min_degree
+    else None
 
 abbrev pub ordering_of : Option (List ℕ) → Option (List ℕ) → Option Ordering
 ordering_of None None = Some natural

@@ -7,7 +7,7 @@ ghost use Rattle.mp_system.specs.Traversal.{IsTraversal};
 ghost use Rattle.plan_text.specs.Plan.{IsPlan};
 ghost use Rattle.memplan.specs.Files.{IsOrderOf, IsMatrixTree, IsTreeOf, IsFirstRefusal};
 ghost use Rattle.memplan.specs.Simulate.{priority_or};
-ghost use Rattle.memplan.specs.Judged.{AreJudged, IsRefusingPage, IsRefusedOrder, IsProblemOf, IsOrderedOf, IsOrderRead, IsRefusedSource, tasks_in, own_priority};
+ghost use Rattle.memplan.specs.Judged.{AreJudged, IsRefusingPage, IsRefusedOrder, IsProblemOf, IsOrderedOf, IsOrderRead, IsRefusedSource, order_tasks, own_priority};
 ghost use Rattle.memplan.specs.Request.{matrix_files, min_degree, ordering_files, tree_input_files, input_files, source_file};
 ghost use Rattle.memplan.specs.RequestViews.{ordering_view, matrix_view, tree_input_view, input_view, source_view};
 
@@ -140,7 +140,7 @@ pub enum Order {
 impl Order {
     /// The tasks in the order in which they run.
     pub fn numbers(&self) -> &[u32]
-        ensures { result.now ≡ tasks_in self.now }
+        ensures { result.now ≡ order_tasks self.now }
     {
         match self {
             Order::Listed(numbers) => numbers,
@@ -151,7 +151,7 @@ impl Order {
     /// The tasks in the order in which they claim a worker: the priority of a plan that has one, else the order itself.
     pub fn priority(&self) -> &[u32]
         ensures value { result.now ≡ own_priority self.now }
-        ensures each { (system : TaskSystem) → IsTraversal system (tasks_in self.now) → HoldsEach system result.now }
+        ensures each { (system : TaskSystem) → IsTraversal system (order_tasks self.now) → HoldsEach system result.now }
     {
         traversal_law();
         match self {

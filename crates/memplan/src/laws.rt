@@ -31,7 +31,8 @@ use tree_input::laws as tree_laws;
 fn one_input()
     ensures tree { (input : TreeInput) (texts : List (List ℕ)) (one two : List Node) → IsTreeOf input texts one → IsTreeOf input texts two →
         (one ≡ two) × IsTree one × (length texts ≡ length (tree_input_files input)) }
-    ensures system { (input : Input) (texts : List (List ℕ)) (one two : TaskSystem) → IsSystemOf input texts one → IsSystemOf input texts two →
+    ensures system { (input : Input) (texts : List (List ℕ)) (one two : TaskSystem)
+        → IsSystemOf input texts one → IsSystemOf input texts two →
         (one ≡ two) × IsSystem one × (length texts ≡ length (input_files input)) }
     ensures term { (input : Input) (texts : List (List ℕ)) (system same : TaskSystem) (one two : List Position) →
         IsSystemWithTerm input texts system one → IsSystemWithTerm input texts same two → one ≡ two }

@@ -3,7 +3,7 @@ use Rattle.std.proofs.Common.{◌≡◌, ◌≢◌, ℕ, zero, suc, ◌+◌, ◌
 use Rattle.std.proofs.lemmas.Bool.{cases_eq, cases_lt, eq-eqb, ne_eqb, lt-leb, le-leb}
 use Rattle.std.proofs.lemmas.List.{take_more, take_all, take-append-le, get_or_append_left, get_or_push}
 use Rattle.std.specs.List.{All}
-use Rattle.elimination.specs.Elimination.{IsVertex, times, eliminated, degree_of, IsLeft, IsAhead, GoByLeastDegree}
+use Rattle.elimination.specs.Elimination.{IsVertex, times, eliminated, degree_of, IsRemaining, IsAhead, GoByLeastDegree}
 use Rattle.ordering.specs.MinimumDegree.{IsMinimumDegreeOrder, first_left, plain_more, plain_order}
 use Rattle.ordering.proofs.PermLemmas.{IsPart, part-none, part-push, perm_from_part, some_left, fresh_at}
 
@@ -46,20 +46,20 @@ module _ (joined : ℕ → ℕ → Bool) (n : ℕ) (one two : List ℕ) (p : IsM
 -- ---- the plain program
 
 record IsFirst (degree : ℕ → ℕ) (gone : List ℕ) (n v : ℕ) : Type 0 where
-  none : v ≡ 0 → (u : ℕ) → IsLeft n gone u → ⊥
-  left : v ≢ 0 → IsLeft n gone v
-  ahead : v ≢ 0 → (u : ℕ) → IsLeft n gone u → IsAhead degree v u
+  none : v ≡ 0 → (u : ℕ) → IsRemaining n gone u → ⊥
+  left : v ≢ 0 → IsRemaining n gone v
+  ahead : v ≢ 0 → (u : ℕ) → IsRemaining n gone u → IsAhead degree v u
 
-further : (n : ℕ) (gone : List ℕ) (u : ℕ) → IsLeft n gone u → IsLeft (suc n) gone u
+further : (n : ℕ) (gone : List ℕ) (u : ℕ) → IsRemaining n gone u → IsRemaining (suc n) gone u
 further n gone u l = let le = l.0.1 in ((l.0.0, omega arith), l.1)
 
-nearer : (n : ℕ) (gone : List ℕ) (u : ℕ) → IsLeft (suc n) gone u → u ≢ suc n → IsLeft n gone u
+nearer : (n : ℕ) (gone : List ℕ) (u : ℕ) → IsRemaining (suc n) gone u → u ≢ suc n → IsRemaining n gone u
 nearer n gone u l ne = let le = l.0.1 in ((l.0.0, omega arith), l.1)
 
 -- n + 1 is the first, where none was
 alone_first : (degree : ℕ → ℕ) (gone : List ℕ) (n : ℕ) → IsFirst degree gone n 0 → times gone (suc n) ≡ 0 → IsFirst degree gone (suc n) (suc n)
 alone_first degree gone n f fresh =
-    let is : (u : ℕ) → IsLeft (suc n) gone u → u ≡ suc n = λ u l. elim (cases_eq u (suc n)) [ inl e ↦ e | inr ne ↦ absurd (f.none refl u (nearer n gone u l ne)) ] in
+    let is : (u : ℕ) → IsRemaining (suc n) gone u → u ≡ suc n = λ u l. elim (cases_eq u (suc n)) [ inl e ↦ e | inr ne ↦ absurd (f.none refl u (nearer n gone u l ne)) ] in
     record {
       none = λ e u l. absurd (omega arith);
       left = λ ne. ((omega arith, omega arith), fresh);
@@ -95,7 +95,7 @@ later_first degree gone n v f some lt fresh = record {
 -- n + 1 is not left
 kept_first : (degree : ℕ → ℕ) (gone : List ℕ) (n v : ℕ) → IsFirst degree gone n v → times gone (suc n) ≢ 0 → IsFirst degree gone (suc n) v
 kept_first degree gone n v f gone' =
-    let other : (u : ℕ) → IsLeft (suc n) gone u → IsLeft n gone u = λ u l. nearer n gone u l (λ e. gone' (subst (λ z. times gone z ≡ 0) e l.1)) in
+    let other : (u : ℕ) → IsRemaining (suc n) gone u → IsRemaining n gone u = λ u l. nearer n gone u l (λ e. gone' (subst (λ z. times gone z ≡ 0) e l.1)) in
     record {
       none = λ e u l. f.none e u (other u l);
       left = λ ne. further n gone v (f.left ne);
@@ -125,11 +125,11 @@ is_first degree gone (suc n) =
 -- ---- a vertex more
 
 begun_push : (joined : ℕ → ℕ → Bool) (n : ℕ) (gone : List ℕ) (v : ℕ) → GoByLeastDegree joined n gone
-    → ((u : ℕ) → IsLeft n gone u → IsAhead (degree_of (eliminated joined gone) n) v u) → GoByLeastDegree joined n (gone ++ v ∷ [])
+    → ((u : ℕ) → IsRemaining n gone u → IsAhead (degree_of (eliminated joined gone) n) v u) → GoByLeastDegree joined n (gone ++ v ∷ [])
 begun_push joined n gone v begun first k u lt left =
     let len = length-append gone (v ∷ []) in
     let take_is : take k (gone ++ v ∷ []) ≡ take k gone = take-append-le k gone (v ∷ []) (omega arith) in
-    let left' : IsLeft n (take k gone) u = subst (λ z. IsLeft n z u) take_is left in
+    let left' : IsRemaining n (take k gone) u = subst (λ z. IsRemaining n z u) take_is left in
     let goal : List ℕ → ℕ → Type 0 = λ xs w. IsAhead (degree_of (eliminated joined xs) n) w u in
     elim (cases_lt k (length gone)) [
       | inl before ↦ (

@@ -20,14 +20,15 @@ IsMindegRefusal n refusals.NoMemory = n ≤ most_mindeg
 -- ---- the same order, made the plain and slow way
 
 -- of two vertices the one that comes first, the one with the lower number written first
-abbrev pub first_of : (ℕ → ℕ) → ℕ → ℕ → ℕ
-first_of degree v u = if nat_le (degree v) (degree u) then v else u
+abbrev pub earlier_of : (ℕ → ℕ) → ℕ → ℕ → ℕ
+earlier_of degree v u = if nat_le (degree v) (degree u) then v else u
 
 -- of the vertices up to n that are not among these, the first by degree and number; 0 where there is none
 abbrev pub first_left : (ℕ → ℕ) → List ℕ → ℕ → ℕ
 first_left degree gone zero = 0
 first_left degree gone (suc n) =
-    if nat_eq (times gone (suc n)) 0 then (if nat_eq (first_left degree gone n) 0 then suc n else first_of degree (first_left degree gone n) (suc n))
+    if nat_eq (times gone (suc n)) 0
+    then (if nat_eq (first_left degree gone n) 0 then suc n else earlier_of degree (first_left degree gone n) (suc n))
     else first_left degree gone n
 
 -- k vertices more

@@ -48,5 +48,5 @@ abbrev pub RefusesOrder : List ℕ → Refusal OrderFileKind → Type 0
 RefusesOrder bytes refusal = Refuses order_format (rows_of_bytes Commented bytes) (past_of_bytes bytes) refusal
 
 -- an answer that is no order: a refusal of the file, or memory ran out
-abbrev pub IsOrderRefusal : List ℕ → Refusal OrderFileKind → Type 0
-IsOrderRefusal bytes refusal = IsRefusal order_format (rows_of_bytes Commented bytes) (past_of_bytes bytes) refusal
+abbrev pub IsOrderFileRefusal : List ℕ → Refusal OrderFileKind → Type 0
+IsOrderFileRefusal bytes refusal = IsRefusal order_format (rows_of_bytes Commented bytes) (past_of_bytes bytes) refusal

@@ -2,7 +2,7 @@ ghost use Rattle.std.specs.Prelude.{◌≡◌, ℕ, List, [], MatchResult};
 ghost use Rattle.mp_text.specs.Ahead.{row};
 ghost use Rattle.mp_text.specs.Reading.{Steps};
 ghost use Rattle.ordering.specs.Kinds.{order_file_word};
-ghost use Rattle.ordering.specs.OrderFile.{order_format, ReadsOrder, IsOrderRefusal};
+ghost use Rattle.ordering.specs.OrderFile.{order_format, ReadsOrder, IsOrderFileRefusal};
 ghost use Rattle.ordering.specs.Reader.{number_step, order_step, took_order};
 
 use limits::{LimitName, MOST_TASKS};
@@ -91,7 +91,7 @@ impl Reader for OrderReader {
 
 /// The task numbers of an order file, or why it is refused. Whether they are a traversal is judged by the replay.
 pub fn read_order(alloc: Global, bytes: &[u8]) -> Result<Vec<u32>, Refusal<OrderFileKind>>
-    ensures { MatchResult result (λ numbers. ReadsOrder bytes.now numbers.items) (IsOrderRefusal bytes.now) }
+    ensures { MatchResult result (λ numbers. ReadsOrder bytes.now numbers.items) (IsOrderFileRefusal bytes.now) }
 {
     let numbers = Vec::new(alloc);
     let reader = read_with(bytes, Layout::Commented, OrderReader { numbers })?;

@@ -6,7 +6,7 @@ ghost use Rattle.least_peak.specs.Problem.{system_of};
 ghost use Rattle.mp_system.specs.Traversal.{IsTraversal};
 ghost use Rattle.mp_text.specs.Report.{is_token, is_line_start, line_text, text_of_lines};
 ghost use Rattle.memplan.specs.Simulate.{simulate_of, IsSimulation, IsPrintedRun, event_word as event_text, event_line, report_lines};
-ghost use Rattle.memplan.specs.Judged.{AreJudged, IsReported, IsPriorityOf, IsRefusedRanking, IsRanking, priority_beside, tasks_in};
+ghost use Rattle.memplan.specs.Judged.{AreJudged, IsReported, IsPriorityOf, IsRefusedRanking, IsRanking, priority_beside, order_tasks};
 ghost use Rattle.memplan.specs.Pages.{answer_of};
 ghost use Rattle.memplan.specs.Request.{AreWorkers, IsInRange, Input as AnyInput, simulate as simulation, priority_files};
 ghost use Rattle.memplan.specs.RequestViews.{input_view, source_view, simulation_view, request_view};
@@ -165,7 +165,7 @@ fn judge_priority<F: Files>(
 fn chosen<'a>(ordered: &'a OrderedProblem, priority: &'a Priority) -> &'a [u32]
     requires { IsRanking (length (system_of ordered.now.problem).tasks) priority.now }
     ensures value { result.now ≡ priority_beside ordered.now.order priority.now }
-    ensures each { IsTraversal (system_of ordered.now.problem) (tasks_in ordered.now.order) →
+    ensures each { IsTraversal (system_of ordered.now.problem) (order_tasks ordered.now.order) →
         HoldsEach (system_of ordered.now.problem) result.now }
 {
     match priority {
@@ -183,10 +183,10 @@ fn simulation_page(
     workers: u32,
 ) -> Result<Page, AllocError>
     requires workers { AreWorkers workers }
-    requires priority { IsTraversal (system_of ordered.now.problem) (tasks_in ordered.now.order) →
+    requires priority { IsTraversal (system_of ordered.now.problem) (order_tasks ordered.now.order) →
         HoldsEach (system_of ordered.now.problem) priority.now }
     ensures { IfOk result (λ page. IsSimulation
-        (record { system = system_of ordered.now.problem; order = tasks_in ordered.now.order; bound = bound; workers = workers })
+        (record { system = system_of ordered.now.problem; order = order_tasks ordered.now.order; bound = bound; workers = workers })
         priority.now (answer_of page)) }
 {
     let order = ordered.order.numbers();

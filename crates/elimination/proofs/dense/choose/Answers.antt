@@ -1,10 +1,10 @@
 use Rattle.std.proofs.Common.{◌≡◌, ◌-◌, ◌<◌, length, arith, sym, ap, ◌∙◌, subst}
-use Rattle.elimination.specs.Quotients.{list_at}
+use Rattle.elimination.specs.Quotients.{inner_at}
 use Rattle.std.specs.List.{sum_by}
 use Rattle.std.specs.Vec.{with_items}
 use Rattle.min_tree.specs.Least.{greatest}
 use Rattle.std.proofs.lemmas.List.{with_items_is}
-use Rattle.elimination.specs.Dense.{Stage, IsStanding, AreRows, AreLowBounds, IsLookedAt, IsDense}
+use Rattle.elimination.specs.Dense.{Stage, IsStanding, AreBitRows, AreLowBounds, IsLookedAt, IsDense}
 use Rattle.elimination.proofs.Degrees.{degree_le}
 use Rattle.elimination.proofs.DenseSteps.{least_stands, first_of_all, raising_falls, counted_bound}
 use Rattle.elimination.proofs.dense.choose.Goals as goal
@@ -20,12 +20,12 @@ here c stage init =
 
 -- the rows that are looked at stand for what is left
 rows_now : (c : After-deref-in-search) (stage : Stage) → IsDense stage c.args.search.now
-    → AreRows stage (list_at c.deref_mut.result.now) c.deref.result.now c.deref-in-search.result.now
+    → AreBitRows stage (inner_at c.deref_mut.result.now) c.deref.result.now c.deref-in-search.result.now
 rows_now c stage init =
     let d = c.search.invariant.stands stage init in
-    subst (λ z. AreRows stage (list_at z) c.deref.result.now c.deref-in-search.result.now) (sym c.deref_mut.ensures.value)
-    (subst (λ z. AreRows stage (list_at c.search.search.rows.items) z c.deref-in-search.result.now) (sym c.deref.ensures.value)
-    (subst (λ z. AreRows stage (list_at c.search.search.rows.items) c.search.search.pivots.items z)
+    subst (λ z. AreBitRows stage (inner_at z) c.deref.result.now c.deref-in-search.result.now) (sym c.deref_mut.ensures.value)
+    (subst (λ z. AreBitRows stage (inner_at c.search.search.rows.items) z c.deref-in-search.result.now) (sym c.deref.ensures.value)
+    (subst (λ z. AreBitRows stage (inner_at c.search.search.rows.items) c.search.search.pivots.items z)
     (sym c.deref-in-search.ensures.value) d.rows))
 
 pub look-requires-clause-few : goal.look-requires-clause-few
@@ -47,17 +47,17 @@ look-requires-clause-stand c = (
 items_are : (c : After-look) → (with_items c.search.search.rows c.look.new.rows).items ≡ c.look.new.rows
 items_are c = let l = c.look.ensures.len in let m = c.deref_mut.ensures.len in with_items_is c.search.search.rows c.look.new.rows (l ∙ m)
 
-looked : (c : After-look) (stage : Stage) → AreRows stage (list_at c.deref_mut.result.now) c.deref.result.now c.deref-in-search.result.now
+looked : (c : After-look) (stage : Stage) → AreBitRows stage (inner_at c.deref_mut.result.now) c.deref.result.now c.deref-in-search.result.now
     → IsStanding stage c.first_least-v.result
-    → IsLookedAt stage (list_at (with_items c.search.search.rows c.look.new.rows).items) c.search.search.pivots.items
+    → IsLookedAt stage (inner_at (with_items c.search.search.rows c.look.new.rows).items) c.search.search.pivots.items
     c.search.search.alive.items c.first_least-v.result c.look.result
 looked c stage rows stands =
     let made = c.look.ensures.looked stage rows stands in
     let v = c.first_least-v.result in
     let d = c.look.result in
-    subst (λ z. IsLookedAt stage (list_at z) c.search.search.pivots.items c.search.search.alive.items v d) (sym (items_are c))
-    (subst (λ z. IsLookedAt stage (list_at c.look.new.rows) z c.search.search.alive.items v d) c.deref.ensures.value
-    (subst (λ z. IsLookedAt stage (list_at c.look.new.rows) c.deref.result.now z v d) c.deref-in-search.ensures.value made))
+    subst (λ z. IsLookedAt stage (inner_at z) c.search.search.pivots.items c.search.search.alive.items v d) (sym (items_are c))
+    (subst (λ z. IsLookedAt stage (inner_at c.look.new.rows) z c.search.search.alive.items v d) c.deref.ensures.value
+    (subst (λ z. IsLookedAt stage (inner_at c.look.new.rows) c.deref.result.now z v d) c.deref-in-search.ensures.value made))
 
 pub returns-then-degree-at-clause-chosen : goal.returns-then-degree-at-clause-chosen
 returns-then-degree-at-clause-chosen c = λ stage init.

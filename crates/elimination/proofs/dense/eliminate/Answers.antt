@@ -1,10 +1,10 @@
 use Rattle.std.proofs.Common.{◌≡◌, ◌≢◌, ◌∷◌, [], ◌++◌, ◌&&◌, ◌-◌, false, ℕ, get_or, take, length, length-set, arith, sym, ap, ◌∙◌, subst}
-use Rattle.elimination.specs.Quotients.{list_at}
+use Rattle.elimination.specs.Quotients.{inner_at}
 use Rattle.std.specs.List.{filter}
 use Rattle.std.specs.Vec.{with_items}
 use Rattle.std.proofs.lemmas.List.{with_items_is}
 use Rattle.min_tree.specs.Least.{greatest}
-use Rattle.elimination.specs.Dense.{AreRows, bit_in, stage_after, width_of, lacks}
+use Rattle.elimination.specs.Dense.{AreBitRows, bit_in, stage_after, width_of, lacks}
 use Rattle.elimination.proofs.VertexLists.{has_at}
 use Rattle.elimination.proofs.ListWrites.{list_get}
 use Rattle.elimination.proofs.DenseSteps.{eliminated_rows, eliminated_bounds}
@@ -12,7 +12,7 @@ use Rattle.elimination.proofs.dense.eliminate.Goals as goal
 use Rattle.elimination.proofs.dense.eliminate.Goals.{After-deref, After-deref-2}
 
 -- the row of the vertex
-row_is : (c : After-deref) → c.deref.result.now ≡ list_at c.args.search.now.rows.items c.args.v
+row_is : (c : After-deref) → c.deref.result.now ≡ inner_at c.args.search.now.rows.items c.args.v
 row_is c =
     let d = c.requires.1.dense in
     let len = d.rows_len in
@@ -57,7 +57,7 @@ returns-clause-eliminated c = λ stage choice.
     let d = choice.dense in
     let v = c.args.v in
     let search = c.args.search.now in
-    let row = list_at c.args.search.now.rows.items in
+    let row = inner_at c.args.search.now.rows.items in
     let opened = c.args.search.now.pivots.items in
     let alive = c.args.search.now.alive.items in
     let c' = (goal.at.returns-clause-eliminated c).After-deref-2 in
@@ -73,8 +73,8 @@ returns-clause-eliminated c = λ stage choice.
     ∙ ap (take c.keep_apart-kept.result)
     (with_items_is c.args.search.now.pivots c.keep_apart-kept.new.pivots (c.keep_apart-kept.auto.pivots ∙ c.deref_mut-2.ensures.len))
     ∙ c.keep_apart-kept.ensures
-    ∙ ap (filter (lacks (list_at c.deref-3.result.now) v)) c.deref_mut-2.ensures.value
-    ∙ ap (λ z. filter (lacks (list_at z) v) opened) c.deref-3.ensures.value
+    ∙ ap (filter (lacks (inner_at c.deref-3.result.now) v)) c.deref_mut-2.ensures.value
+    ∙ ap (λ z. filter (lacks (inner_at z) v) opened) c.deref-3.ensures.value
     ) in
     let own = row_is (goal.at.returns-clause-eliminated c).After-deref in
     let both : (x : ℕ) → (bit_in c.deref.result.now x && bit_in c.deref-2.result.now x) ≡ (bit_in (row v) x && bit_in alive' x) = λ x.
@@ -83,7 +83,7 @@ returns-clause-eliminated c = λ stage choice.
       order_is = d.order_is;
       few = d.few;
       rows_len = d.rows_len;
-      rows = subst (λ z. AreRows (stage_after stage v) row z alive') (sym opened_is)
+      rows = subst (λ z. AreBitRows (stage_after stage v) row z alive') (sym opened_is)
           (eliminated_rows stage row opened alive d.rows v choice.here choice.exact alive' len cleared others);
       bounds = eliminated_bounds stage row opened alive d.rows v choice.here choice.exact alive' len cleared others
           c.args.search.now.bounds c.lower_common.new.bounds d.bounds

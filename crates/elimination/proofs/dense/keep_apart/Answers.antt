@@ -1,5 +1,5 @@
 use Rattle.std.proofs.Common.{◌≡◌, ℕ, ◌+◌, Bool, true, false, List, get_or, length, arith, sym, ap, ◌∙◌}
-use Rattle.elimination.specs.Quotients.{list_at}
+use Rattle.elimination.specs.Quotients.{inner_at}
 use Rattle.std.proofs.lemmas.Bool.{not_from_true, not_from_false}
 use Rattle.std.proofs.lemmas.List.{get_or_default, get_or-drop}
 use Rattle.std.proofs.lemmas.List.Filters.{FiltersInPlace, FiltersInPlace-all, FiltersInPlace-more_no, FiltersInPlace-more_set}
@@ -18,29 +18,29 @@ still p xs ys k i f =
 pub bounds-rows-p : goal.bounds-rows-p
 bounds-rows-p c =
     let lt = c.requires.within c.loop-i.i (omega arith) in
-    let e = still (lacks (list_at c.args.rows.now) c.args.v) c.args.pivots.now c.loop-i.pivots c.loop-i.kept c.loop-i.i c.loop-i.invariant in
+    let e = still (lacks (inner_at c.args.rows.now) c.args.v) c.args.pivots.now c.loop-i.pivots c.loop-i.kept c.loop-i.i c.loop-i.invariant in
     omega arith
 
 -- the row that is looked at
-other_is : (c : After-deref) → c.deref.result.now ≡ list_at c.args.rows.now (get_or c.loop-i.pivots c.loop-i.i 0)
+other_is : (c : After-deref) → c.deref.result.now ≡ inner_at c.args.rows.now (get_or c.loop-i.pivots c.loop-i.i 0)
 other_is c =
     let lt = c.requires.within c.loop-i.i (omega arith) in
-    let e = still (lacks (list_at c.args.rows.now) c.args.v) c.args.pivots.now c.loop-i.pivots c.loop-i.kept c.loop-i.i c.loop-i.invariant in
+    let e = still (lacks (inner_at c.args.rows.now) c.args.v) c.args.pivots.now c.loop-i.pivots c.loop-i.kept c.loop-i.i c.loop-i.invariant in
     c.deref.ensures.value ∙ ap (λ v. v.items) c.index-rows-p.is
     ∙ list_get c.args.rows.now (get_or c.loop-i.pivots c.loop-i.i 0) c.index-rows-p.result (omega arith)
 
 pub has_bit-requires : goal.has_bit-requires
 has_bit-requires c =
     let w = c.requires.widths c.loop-i.i (omega arith) in
-    let e = still (lacks (list_at c.args.rows.now) c.args.v) c.args.pivots.now c.loop-i.pivots c.loop-i.kept c.loop-i.i c.loop-i.invariant in
+    let e = still (lacks (inner_at c.args.rows.now) c.args.v) c.args.pivots.now c.loop-i.pivots c.loop-i.kept c.loop-i.i c.loop-i.invariant in
     let l = ap length (other_is (goal.at.has_bit-requires c).After-deref) in
-    let m = ap (λ z. length (list_at c.args.rows.now z)) e in
+    let m = ap (λ z. length (inner_at c.args.rows.now z)) e in
     omega arith
 
 pub loop-i-preserved-then-has_bit : goal.loop-i-preserved-then-has_bit
 loop-i-preserved-then-has_bit c =
     let x = get_or c.loop-i.pivots c.loop-i.i 0 in
-    let has_v : bit_in (list_at c.args.rows.now (get_or c.loop-i.pivots c.loop-i.i 0)) c.args.v ≡ true =
+    let has_v : bit_in (inner_at c.args.rows.now (get_or c.loop-i.pivots c.loop-i.i 0)) c.args.v ≡ true =
     sym (ap (λ z. bit_in z c.args.v) (other_is (goal.at.loop-i-preserved-then-has_bit c).After-deref)) ∙ sym c.has_bit.ensures
     ∙ c.if-has_bit.true in
     FiltersInPlace-more_no {x = get_or c.loop-i.pivots c.loop-i.i 0} c.loop-i.invariant (omega arith) (not_from_true _ has_v)
@@ -49,7 +49,7 @@ loop-i-preserved-then-has_bit c =
 pub loop-i-preserved : goal.loop-i-preserved
 loop-i-preserved c =
     let x = get_or c.loop-i.pivots c.loop-i.i 0 in
-    let has_v : bit_in (list_at c.args.rows.now (get_or c.loop-i.pivots c.loop-i.i 0)) c.args.v ≡ false =
+    let has_v : bit_in (inner_at c.args.rows.now (get_or c.loop-i.pivots c.loop-i.i 0)) c.args.v ≡ false =
     sym (ap (λ z. bit_in z c.args.v) (other_is (goal.at.loop-i-preserved c).After-deref)) ∙ sym c.has_bit.ensures ∙ c.if-has_bit.false in
     FiltersInPlace-more_set {x = get_or c.loop-i.pivots c.loop-i.i 0} c.loop-i.invariant (omega arith) (not_from_false _ has_v)
     (get_or_default c.loop-i.pivots c.loop-i.i 0 x (omega arith))

@@ -1,5 +1,5 @@
 use Rattle.std.proofs.Common.{◌≡◌, ◌≢◌, ◌&&◌, inl, inr, ℕ, ◌-◌, ◌<◌, get_or, set, length, length-set, arith, subst, sym, ap, ◌∙◌, IsTrue}
-use Rattle.elimination.specs.Quotients.{list_at}
+use Rattle.elimination.specs.Quotients.{inner_at}
 use Rattle.std.specs.List.{count_by, range_with_len}
 use Rattle.std.proofs.lemmas.List.{with_items_is}
 use Rattle.std.specs.Vec.{with_items}
@@ -14,7 +14,7 @@ inside : (c : After-deref_mut) → c.args.v < length c.args.rows.now
 inside c = let le = c.requires.stand.2.0.1 in let len = c.requires.stand.3 in omega arith
 
 -- the row that was taken out
-taken : (c : After-deref_mut) → c.deref_mut.result.now ≡ list_at c.args.rows.now c.args.v
+taken : (c : After-deref_mut) → c.deref_mut.result.now ≡ inner_at c.args.rows.now c.args.v
 taken c = c.deref_mut.ensures.value ∙ ap (λ v. v.items) c.replace-row.ensures.value
     ∙ list_get c.args.rows.now c.args.v c.index-rows-v.result (inside c)
 
@@ -23,7 +23,7 @@ width c = let stand = c.requires.stand in ap length (taken c) ∙ stand.1.row_wi
 
 -- the other rows stay
 others : (c : After-deref_mut) (y : ℕ) → y ≢ c.args.v
-    → list_at (set c.args.rows.now c.args.v c.replace-row.new.dest) y ≡ list_at c.args.rows.now y
+    → inner_at (set c.args.rows.now c.args.v c.replace-row.new.dest) y ≡ inner_at c.args.rows.now y
 others c y ne = list_other c.args.rows.now c.args.v y c.replace-row.new.dest ne
 
 pub unite_open-requires-clause-within : goal.unite_open-requires-clause-within
@@ -40,7 +40,7 @@ unite_open-requires-clause-widths c = λ j lt.
     let p = get_or c.args.pivots.now j 0 in
     let h = has_at c.args.pivots.now j lt in
     let c' = (goal.at.unite_open-requires-clause-widths c).After-deref_mut in
-    let ne = open_apart stand.0 (list_at c.args.rows.now) c.args.pivots.now c.args.alive.now stand.1 c.args.v stand.2 p h in
+    let ne = open_apart stand.0 (inner_at c.args.rows.now) c.args.pivots.now c.args.alive.now stand.1 c.args.v stand.2 p h in
     ap length (others c' p ne) ∙ stand.1.open_width p h ∙ sym (width c')
 
 pub unite_open-requires-clause-v : goal.unite_open-requires-clause-v
@@ -84,10 +84,10 @@ returns-clause-looked c = λ stage s here.
     let rows1 = set c.args.rows.now c.args.v c.replace-row.new.dest in
     let back = with_items c.replace-row.result c.unite_open.new.row in
     let len = length-set rows v c.replace-row.new.dest in
-    let own : list_at (set rows1 v back) v ≡ c.unite_open.new.row = list_here rows1 v back (let lt = inside c' in omega arith) ∙ made c2 in
-    let apart = open_apart stage (list_at rows) opened c.args.alive.now s v here in
+    let own : inner_at (set rows1 v back) v ≡ c.unite_open.new.row = list_here rows1 v back (let lt = inside c' in omega arith) ∙ made c2 in
+    let apart = open_apart stage (inner_at rows) opened c.args.alive.now s v here in
     let is = taken c' in
-    looked stage (list_at rows) (list_at (set rows1 v back)) opened c.args.alive.now s v here
+    looked stage (inner_at rows) (inner_at (set rows1 v back)) opened c.args.alive.now s v here
     (λ y ne. list_other rows1 v y back ne ∙ others c' y ne)
     (ap length own ∙ c.unite_open.auto.row ∙ ap length is)
     (λ x t. subst (λ z. IsTrue (bit_in z x)) (sym own) (c.unite_open.ensures.kept x (subst (λ z. IsTrue (bit_in z x)) (sym is) t)))

@@ -1,5 +1,5 @@
 use Rattle.std.proofs.Common.{◌≡◌, inl, inr, ℕ, ◌||◌, get_or, length, arith, subst, sym, ap, ◌∙◌, IsTrue}
-use Rattle.elimination.specs.Quotients.{list_at}
+use Rattle.elimination.specs.Quotients.{inner_at}
 use Rattle.std.proofs.lemmas.Bool.{cases_eq, or_cases, or_left, or_right, both_ways}
 use Rattle.elimination.specs.Dense.{bit_in}
 use Rattle.elimination.proofs.VertexLists.{has_at, place_of}
@@ -11,7 +11,7 @@ pub loop-p-init : goal.loop-p-init
 loop-p-init c = record { kept = λ x t. t; from = λ x t. inl t; to = λ j x lt. absurd (omega arith) }
 
 -- the row that is looked at
-other_is : (c : After-deref) → c.deref.result.now ≡ list_at c.args.rows.now (get_or c.args.pivots.now c.loop-p.p-index 0)
+other_is : (c : After-deref) → c.deref.result.now ≡ inner_at c.args.rows.now (get_or c.args.pivots.now c.loop-p.p-index 0)
 other_is c =
     let p = get_or c.args.pivots.now c.loop-p.p-index 0 in
     c.deref.ensures.value ∙ ap (λ v. v.items) c.index-rows-p.is
@@ -34,15 +34,15 @@ pub loop-p-preserved : goal.loop-p-preserved
 loop-p-preserved c =
     let i = c.loop-p.p-index in
     let p = get_or c.args.pivots.now c.loop-p.p-index 0 in
-    let rows = list_at c.args.rows.now in
+    let rows = inner_at c.args.rows.now in
     let is = other_is (goal.at.loop-p-preserved c).After-deref in
     let inv = c.loop-p.invariant in
     elim c.if-has_bit.branch [
       | then-has_bit w ↦ (
-          let has_v : IsTrue (bit_in (list_at c.args.rows.now (get_or c.args.pivots.now c.loop-p.p-index 0)) c.args.v) =
+          let has_v : IsTrue (bit_in (inner_at c.args.rows.now (get_or c.args.pivots.now c.loop-p.p-index 0)) c.args.v) =
           subst (λ z. IsTrue (bit_in z c.args.v)) is (sym c.has_bit.ensures ∙ w.if-has_bit.true) in
           let more : (x : ℕ) → bit_in c.if-has_bit.row x ≡
-          (bit_in c.loop-p.row x || bit_in (list_at c.args.rows.now (get_or c.args.pivots.now c.loop-p.p-index 0)) x) = λ x.
+          (bit_in c.loop-p.row x || bit_in (inner_at c.args.rows.now (get_or c.args.pivots.now c.loop-p.p-index 0)) x) = λ x.
           ap (λ z. bit_in z x) w.row-is ∙ w.unite.ensures x ∙ ap (λ z. bit_in c.loop-p.row x || bit_in z x)
           (w.deref-then-has_bit.ensures.value ∙ sym c.deref.ensures.value ∙ is) in
           record {
@@ -81,5 +81,5 @@ pub returns-clause-to : goal.returns-clause-to
 returns-clause-to c = λ x (p, h, u, t).
     let at = place_of c.args.pivots.now p h in
     let lt = at.1 in
-    c.loop-p.invariant.to at.0 x (omega arith) (subst (λ z. IsTrue (bit_in (list_at c.args.rows.now z) c.args.v)) (sym at.2) u)
-    (subst (λ z. IsTrue (bit_in (list_at c.args.rows.now z) x)) (sym at.2) t)
+    c.loop-p.invariant.to at.0 x (omega arith) (subst (λ z. IsTrue (bit_in (inner_at c.args.rows.now z) c.args.v)) (sym at.2) u)
+    (subst (λ z. IsTrue (bit_in (inner_at c.args.rows.now z) x)) (sym at.2) t)

@@ -1,5 +1,5 @@
 use Rattle.std.proofs.Common.{◌⊎◌, ℕ, ◌<◌, get_or, IsTrue}
-use Rattle.elimination.specs.Quotients.{list_at}
+use Rattle.elimination.specs.Quotients.{inner_at}
 use Rattle.matrix_market.specs.Pattern.{has}
 use Rattle.elimination.specs.Dense.{bit_in}
 use Rattle.elimination.proofs.dense.unite_open.Given as goal
@@ -8,8 +8,8 @@ abbrev pub invariant-loop-p : goal.invariant-loop-p
 invariant-loop-p l = record {
   kept : (x : ℕ) → IsTrue (bit_in l.fn.row x) → IsTrue (bit_in l.row x);
   from : (x : ℕ) → IsTrue (bit_in l.row x) → IsTrue (bit_in l.fn.row x)
-      ⊎ ((p : ℕ) × IsTrue (has l.pivots p) × IsTrue (bit_in (list_at l.rows p) l.v) × IsTrue (bit_in (list_at l.rows p) x));
-  to : (j x : ℕ) → j < l.p-index → IsTrue (bit_in (list_at l.rows (get_or l.pivots j 0)) l.v)
-      → IsTrue (bit_in (list_at l.rows (get_or l.pivots j 0)) x)
+      ⊎ ((p : ℕ) × IsTrue (has l.pivots p) × IsTrue (bit_in (inner_at l.rows p) l.v) × IsTrue (bit_in (inner_at l.rows p) x));
+  to : (j x : ℕ) → j < l.p-index → IsTrue (bit_in (inner_at l.rows (get_or l.pivots j 0)) l.v)
+      → IsTrue (bit_in (inner_at l.rows (get_or l.pivots j 0)) x)
       → IsTrue (bit_in l.row x);
 }

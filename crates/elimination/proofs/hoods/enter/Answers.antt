@@ -1,7 +1,7 @@
 use Rattle.std.proofs.Common.{◌≡◌, ◌+◌, Bool, arith, subst, sym, ap, ◌∙◌, get_or, true, set, length-set}
 use Rattle.matrix_market.specs.Pattern.{has}
 use Rattle.elimination.proofs.VertexLists.{has_at}
-use Rattle.elimination.specs.Quotients.{list_at}
+use Rattle.elimination.specs.Quotients.{inner_at}
 use Rattle.elimination.specs.Hoods.{IsScanned, Visits}
 use Rattle.elimination.proofs.ListWrites.{list_get}
 use Rattle.elimination.proofs.Scans.{again_step, rim_list, mark_part, enter_step}
@@ -9,7 +9,7 @@ use Rattle.elimination.proofs.hoods.enter.Goals as goal
 
 pub visit-requires : goal.visit-requires
 visit-requires c = λ j lt.
-    let e : c.deref.result.now ≡ list_at c.args.rims.now c.args.part = c.deref.ensures.value ∙ ap (λ v. v.items) c.index-rims-part.is
+    let e : c.deref.result.now ≡ inner_at c.args.rims.now c.args.part = c.deref.ensures.value ∙ ap (λ v. v.items) c.index-rims-part.is
     ∙ list_get c.args.rims.now c.args.part c.index-rims-part.result c.requires.part.0 in
     let k = c.requires.rim (get_or c.deref.result.now j 0) (ap (λ z. has z (get_or c.deref.result.now j 0)) (sym e)
     ∙ has_at c.deref.result.now j lt) in
@@ -18,12 +18,12 @@ visit-requires c = λ j lt.
 
 pub returns-else-not-seen-part : goal.returns-else-not-seen-part
 returns-else-not-seen-part c = λ q turn u row i can s. again_step q turn
-    (list_at c.args.rims.now) u row i c.args.part c.args.hood.now.near.items c.args.hood.now.touched.items c.args.seen.now can s
+    (inner_at c.args.rims.now) u row i c.args.part c.args.hood.now.near.items c.args.hood.now.touched.items c.args.seen.now can s
     c.if-not-seen-part.false
 
 pub returns-in_ok-visit : goal.returns-in_ok-visit
 returns-in_ok-visit c = λ q turn u row i can s.
-    let rim = list_at c.args.rims.now in
+    let rim = inner_at c.args.rims.now in
     let part = c.args.part in
     let near = c.args.hood.now.near.items in
     let touched = c.args.hood.now.touched.items in

@@ -1,7 +1,7 @@
 use Rattle.std.proofs.Common.{◌≡◌, ◌<◌, ◌∷◌, [], length, ℕ, List, arith, subst, sym, ◌∙◌, IsTrue}
 use Rattle.elimination.proofs.VertexLists.{has_at}
 use Rattle.elimination.specs.Elimination.{IsVertex}
-use Rattle.elimination.specs.Quotients.{Quotient, IsQuotient, at, list_at}
+use Rattle.elimination.specs.Quotients.{Quotient, IsQuotient, at, inner_at}
 use Rattle.elimination.specs.Hoods.{IsScanned, IsRowOf, CanEnter, AreLeft}
 use Rattle.elimination.proofs.ListFacts.{has_one}
 use Rattle.elimination.proofs.LinkLemmas.{relinked}
@@ -27,7 +27,7 @@ loop-b-preserved-then-turns-b-eq0 c = record {
       let v = c.in_ok-note.ensures q.order u turn q.rep so.1.tracked (alone q.order turn (at row i)
       (so.0.within u (at row i) joined) c.if-turns-b-eq0.true) in (
         so.0,
-        beside_step q turn (list_at c.args.rims.now) u row i c.loop-b.hood.near.items c.note.new.near.items c.loop-b.hood.touched.items
+        beside_step q turn (inner_at c.args.rims.now) u row i c.loop-b.hood.near.items c.note.new.near.items c.loop-b.hood.touched.items
             c.loop-b.seen c.note.new.seen
             so.0.parted so.0.pattern r.here c.if-turns-b-eq0.true joined so.1 v,
       );
@@ -40,7 +40,7 @@ loop-b-preserved c = record {
       let row = c.args.row.now in
       let i = c.loop-b.b-index in
       let turn = at c.args.turns.now in
-      let rim = list_at c.args.rims.now in
+      let rim = inner_at c.args.rims.now in
       let so = c.loop-b.invariant.scanned q u quotient r start in
       let now : IsQuotient q turn c.last_of-part.new.links rim = relinked so.0 (c.last_of-part.auto.links) c.last_of-part.ensures.linked
       (c.last_of-part.ensures.leads q.part so.0.leads) in
@@ -61,6 +61,6 @@ returns-clause-scanned c = λ q u quotient r start.
     let so = c.loop-b.invariant.scanned q u quotient r start in
     let e : c.loop-b.b-index ≡ length c.args.row.now = omega arith in (
       so.0,
-      subst (λ z. IsScanned q (at c.args.turns.now) (list_at c.args.rims.now) u c.args.row.now z c.loop-b.hood.near.items
+      subst (λ z. IsScanned q (at c.args.turns.now) (inner_at c.args.rims.now) u c.args.row.now z c.loop-b.hood.near.items
           c.loop-b.hood.touched.items c.loop-b.seen) e so.1,
     )

@@ -1,7 +1,7 @@
 use Rattle.std.proofs.Common.{◌≡◌, ◌≢◌, ◌<◌, length, ℕ, arith, subst, sym, ◌∙◌, ap, [], get_or, inl, inr, set, length-set, List, ◌+◌}
 use Rattle.std.proofs.lemmas.Bool.{cases_eq}
 use Rattle.elimination.proofs.VertexLists.{place_of}
-use Rattle.elimination.specs.Quotients.{at, list_at}
+use Rattle.elimination.specs.Quotients.{at, inner_at}
 use Rattle.elimination.proofs.ListWrites.{list_here, list_other}
 use Rattle.elimination.proofs.BoundSteps.{at_other, at_here}
 use Rattle.elimination.proofs.parts.put_under.Goals as goal
@@ -26,7 +26,7 @@ loop-part-preserved c =
         | inr ne ↦ at_other links part c.args.v (get_or list j 0) ne ∙ inv.under j (earlier list i j l ne)
       ];
       emptied = λ j l. elim (cases_eq (get_or list j 0) part) [
-        | inl e ↦ ap (list_at (set rims part c.new.result)) e ∙ list_here rims part c.new.result ltr ∙ c.new.ensures.items
+        | inl e ↦ ap (inner_at (set rims part c.new.result)) e ∙ list_here rims part c.new.result ltr ∙ c.new.ensures.items
         | inr ne ↦ list_other rims part (get_or list j 0) c.new.result ne ∙ inv.emptied j (earlier list i j l ne)
       ];
       others = λ p far. at_other links part c.args.v p (λ e. far i (omega arith) (sym e)) ∙ inv.others p (λ j l. far j (omega arith));
@@ -46,4 +46,4 @@ pub returns-clause-emptied : goal.returns-clause-emptied
 returns-clause-emptied c = λ p h.
     let f = place_of c.args.parts.now p h in
     let lt = f.1 in
-    subst (λ z. list_at c.loop-part.rims z ≡ []) f.2 (c.loop-part.invariant.emptied f.0 (omega arith))
+    subst (λ z. inner_at c.loop-part.rims z ≡ []) f.2 (c.loop-part.invariant.emptied f.0 (omega arith))

@@ -1,7 +1,7 @@
 use Rattle.std.proofs.Common.{◌≡◌, inl, inr, ℕ, ◌||◌, get_or, arith, subst, sym, ap, ◌∙◌, IsTrue}
 use Rattle.std.proofs.lemmas.Bool.{cases_eq, or_cases, or_left, or_right}
 use Rattle.matrix_market.specs.Pattern.{has}
-use Rattle.elimination.specs.Quotients.{list_at}
+use Rattle.elimination.specs.Quotients.{inner_at}
 use Rattle.elimination.specs.Dense.{bit_in}
 use Rattle.elimination.proofs.VertexLists.{has_at, place_of}
 use Rattle.elimination.proofs.ListWrites.{list_get}
@@ -9,7 +9,7 @@ use Rattle.elimination.proofs.switch.set_groups.Goals as goal
 use Rattle.elimination.proofs.switch.set_groups.Goals.{After-deref}
 
 -- the group that is looked at
-group_is : (c : After-deref) → c.deref.result.now ≡ list_at c.args.groups.now (get_or c.args.list.now c.loop-r.r-index 0)
+group_is : (c : After-deref) → c.deref.result.now ≡ inner_at c.args.groups.now (get_or c.args.list.now c.loop-r.r-index 0)
 group_is c =
     let r = get_or c.args.list.now c.loop-r.r-index 0 in
     c.deref.ensures.value ∙ ap (λ v. v.items) c.index-groups-r.is
@@ -32,7 +32,7 @@ pub loop-r-preserved : goal.loop-r-preserved
 loop-r-preserved c =
     let i = c.loop-r.r-index in
     let r = get_or c.args.list.now c.loop-r.r-index 0 in
-    let groups = list_at c.args.groups.now in
+    let groups = inner_at c.args.groups.now in
     let inv = c.loop-r.invariant in
     let is = group_is (goal.at.loop-r-preserved c).After-deref in
     let more : (x : ℕ) → bit_in c.set_bits.new.row x ≡ (bit_in c.loop-r.row x || has (groups r) x) = λ x.
@@ -53,4 +53,4 @@ pub returns-clause-to : goal.returns-clause-to
 returns-clause-to c = λ x (r, h, u).
     let at = place_of c.args.list.now r h in
     let lt = at.1 in
-    c.loop-r.invariant.to at.0 x (omega arith) (subst (λ z. IsTrue (has (list_at c.args.groups.now z) x)) (sym at.2) u)
+    c.loop-r.invariant.to at.0 x (omega arith) (subst (λ z. IsTrue (has (inner_at c.args.groups.now z) x)) (sym at.2) u)

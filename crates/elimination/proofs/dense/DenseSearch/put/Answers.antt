@@ -1,5 +1,5 @@
 use Rattle.std.proofs.Common.{◌≡◌, ◌≢◌, ◌≤◌, ℕ, true, length, get_or, set, length-set, arith, inl, inr, sym, ap, ◌∙◌, subst}
-use Rattle.elimination.specs.Quotients.{list_at}
+use Rattle.elimination.specs.Quotients.{inner_at}
 use Rattle.std.specs.Vec.{with_items}
 use Rattle.std.proofs.lemmas.Bool.{cases_eq, both_ways}
 use Rattle.std.proofs.lemmas.List.{with_items_is}
@@ -37,7 +37,7 @@ returns-clause-filled c = λ stage s here full bound.
         | inr ne ↦ s.alive_from x (sym (other x ne) ∙ t)
       ];
       full = λ x t. elim (cases_eq x v) [
-        | inl e ↦ subst (λ z. IsFullRow stage z (list_at (set c.args.self.now.rows.items v c.args.row) z)) (sym e)
+        | inl e ↦ subst (λ z. IsFullRow stage z (inner_at (set c.args.self.now.rows.items v c.args.row) z)) (sym e)
             (subst (IsFullRow stage v) (sym (list_here c.args.self.now.rows.items v c.args.row (omega arith))) full)
         | inr ne ↦ subst (IsFullRow stage x) (sym (list_other c.args.self.now.rows.items v x c.args.row ne))
             (s.full x (sym (other x ne) ∙ t))

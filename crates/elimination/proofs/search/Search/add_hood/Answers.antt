@@ -1,7 +1,7 @@
 use Rattle.std.proofs.Common.{◌≡◌, inl, inr, ℕ, ◌≤◌, ◌||◌, eqb, get_or, length, arith, refl, subst, sym, ap, ◌∙◌, IsTrue}
 use Rattle.std.proofs.lemmas.Bool.{or_cases, or_left, or_right, eq-eqb, eqb-true}
 use Rattle.matrix_market.specs.Pattern.{has}
-use Rattle.elimination.specs.Quotients.{list_at}
+use Rattle.elimination.specs.Quotients.{inner_at}
 use Rattle.elimination.specs.Tables.{tables}
 use Rattle.elimination.specs.Dense.{bit_in}
 use Rattle.elimination.proofs.VertexLists.{has_at, place_of}
@@ -11,7 +11,7 @@ use Rattle.elimination.proofs.search.Search.add_hood.Goals as goal
 use Rattle.elimination.proofs.search.Search.add_hood.Goals.{After-deref}
 
 -- the group of v
-group_is : (c : After-deref) → c.deref.result.now ≡ list_at c.args.self.now.groups.items c.args.v
+group_is : (c : After-deref) → c.deref.result.now ≡ inner_at c.args.self.now.groups.items c.args.v
 group_is c =
     let s = c.requires.start.1 in
     let n = s.vertex.1 in
@@ -57,7 +57,7 @@ set_groups-requires-clause-within c = λ j lt.
 
 pub set_groups-requires-clause-fit : goal.set_groups-requires-clause-fit
 set_groups-requires-clause-fit c = λ r x near h.
-    let group = subst (λ z. IsTrue (has (list_at z r) x)) c.deref-4.ensures.value h in
+    let group = subst (λ z. IsTrue (has (inner_at z r) x)) c.deref-4.ensures.value h in
     let le = (group_vertex c.requires.start.0 (tables c.args.self.now) c.args.v c.requires.start.1 r x group).1 in
     let room = c.requires.start.2 in
     let one = c.set_bits.auto.row in
@@ -67,7 +67,7 @@ set_groups-requires-clause-fit c = λ r x near h.
 pub returns : goal.returns
 returns c = λ q gone s a.
     let v = c.args.v in
-    let groups = list_at c.args.self.now.groups.items in
+    let groups = inner_at c.args.self.now.groups.items in
     let list = c.args.self.now.hood.near.items in
     let is = group_is (goal.at.returns c).After-deref in
     let one : (x : ℕ) → bit_in c.set_bits.new.row x ≡ (eqb v x || has (groups v) x) = λ x.
@@ -83,7 +83,7 @@ returns c = λ q gone s a.
     (λ x (r, h, g). c.set_groups.ensures.to x (
       r,
       subst (λ z. IsTrue (has z r)) (sym c.deref-3.ensures.value) h,
-      subst (λ z. IsTrue (has (list_at z r) x))
+      subst (λ z. IsTrue (has (inner_at z r) x))
           (sym c.deref-4.ensures.value) g,
     ))
     (λ x h. elim (c.set_groups.ensures.from x h) [
@@ -98,7 +98,7 @@ returns c = λ q gone s a.
         i.0,
         subst (λ z. IsTrue (has z i.0)) c.deref-3.ensures.value i.1,
         subst
-            (λ z. IsTrue (has (list_at z i.0) x)) c.deref-4.ensures.value i.2,
+            (λ z. IsTrue (has (inner_at z i.0) x)) c.deref-4.ensures.value i.2,
       )))
     ])
     gone a

@@ -6,7 +6,7 @@ use Rattle.matrix_market.specs.Pattern.{has}
 use Rattle.elimination.specs.Elimination.{IsVertex}
 use Rattle.elimination.specs.Quotients.{Quotient, at}
 use Rattle.elimination.specs.Tables.{Tables, tables}
-use Rattle.elimination.specs.Turns.{StandFor, IsMarked, CanJoin, IsSearch, quotient_of}
+use Rattle.elimination.specs.Turns.{StandFor, HasMarks, CanPair, IsSearch, quotient_of}
 use Rattle.elimination.proofs.Lengths.{have_length, with_bounds}
 use Rattle.elimination.proofs.Degrees.{degree_le}
 use Rattle.elimination.proofs.Choices.{the_first, can_gather, the_twin, the_choice, raised, can_join, falls, falls_on}
@@ -44,7 +44,7 @@ gather-requires-clause-start c =
 
 -- the neighbours are gathered, whatever is left
 marked : (c : In_ok-gather) (left : ℕ → ℕ → Bool) (s : IsSearch c.args.pattern.now left (tables c.search.self))
-    → IsMarked (elimination c.args.pattern.now left (tables c.search.self) s) (tables c.gather.new.self) c.first_least-vertex.result
+    → HasMarks (elimination c.args.pattern.now left (tables c.search.self) s) (tables c.gather.new.self) c.first_least-vertex.result
 marked c left s =
     let w = c.requires.some in
     let here : at c.search.self.turns.items w.0 ≡ 0 = ap (λ z. at z.items w.0) c.search.invariant.turns ∙ w.2 in
@@ -53,7 +53,7 @@ marked c left s =
     (can_gather q (tables c.search.self) s.stand c.requires.few w.0 w.1 here c.first_least-vertex.result c.first_least-vertex.ensures
     c.neighbours.result.now (λ x. ap (λ z. has z x) c.neighbours.ensures))
 
-some_marked : (c : In_ok-gather) → (q : Quotient) × IsMarked q (tables c.gather.new.self) c.first_least-vertex.result
+some_marked : (c : In_ok-gather) → (q : Quotient) × HasMarks q (tables c.gather.new.self) c.first_least-vertex.result
 some_marked c =
     let left = c.requires.start.0 in
     let s = c.search.invariant.stands left c.requires.start.1 in
@@ -97,7 +97,7 @@ release-requires-in-search-clause-start c =
 
 -- the bound of the vertex is raised
 still : (c : After-put) (left : ℕ → ℕ → Bool) (s : IsSearch c.args.pattern.now left (tables c.search.self))
-    → IsMarked (elimination c.args.pattern.now left (tables c.search.self) s) (tables c.gather.new.self) c.first_least-vertex.result
+    → HasMarks (elimination c.args.pattern.now left (tables c.search.self) s) (tables c.gather.new.self) c.first_least-vertex.result
     → StandFor (elimination c.args.pattern.now left (tables c.search.self) s)
     (record (tables c.release-in-search.new.self) { bounds = c.put.new.self })
 still c left s m =
@@ -125,8 +125,8 @@ search-preserved-in_default c = record {
 
 -- the lesser of the vertex and its twin can come to stand for the other
 joinable : (c : In-Some) (left : ℕ → ℕ → Bool) (s : IsSearch c.args.pattern.now left (tables c.search.self))
-    → IsMarked (elimination c.args.pattern.now left (tables c.search.self) s) (tables c.gather.new.self) c.first_least-vertex.result
-    → CanJoin (elimination c.args.pattern.now left (tables c.search.self) s)
+    → HasMarks (elimination c.args.pattern.now left (tables c.search.self) s) (tables c.gather.new.self) c.first_least-vertex.result
+    → CanPair (elimination c.args.pattern.now left (tables c.search.self) s)
     (record (tables c.release-in-search.new.self) { bounds = c.put.new.self })
     (min c.first_least-vertex.result c.in-Some.twin) (max c.first_least-vertex.result c.in-Some.twin)
 joinable c left s m =
@@ -138,7 +138,7 @@ joinable c left s m =
     let is = c.degree-degree.ensures q m in
     let r = c.release-in-search.ensures.released q (c.find_twin-twin.ensures.marked q v m) in
     let found = the_twin q (tables c.gather.new.self) v m rows c.degree-degree.result twin (λ x. refl) is c.in-Some.ensures.twin in
-    subst (λ z. CanJoin q (record t { bounds = z }) (min v twin) (max v twin)) (sym c.put.ensures)
+    subst (λ z. CanPair q (record t { bounds = z }) (min v twin) (max v twin)) (sym c.put.ensures)
     (can_join q t v r c.degree-degree.result is twin c.requires.few found)
 
 pub join-requires-clause-can : goal.join-requires-clause-can
@@ -150,8 +150,8 @@ join-requires-clause-can c =
     let m = marked (goal.at.join-requires-clause-can c).In_ok-gather left s in
     let can = joinable (goal.at.join-requires-clause-can c).In-Some left s m in (
       q,
-      subst (λ z. CanJoin q t z c.max.result) (sym c.min.ensures) (subst
-          (λ z. CanJoin q t (min c.first_least-vertex.result c.in-Some.twin) z) (sym c.max.ensures) can),
+      subst (λ z. CanPair q t z c.max.result) (sym c.min.ensures) (subst
+          (λ z. CanPair q t (min c.first_least-vertex.result c.in-Some.twin) z) (sym c.max.ensures) can),
     )
 
 pub search-smaller : goal.search-smaller
@@ -200,7 +200,7 @@ search-preserved c = record {
       let m = marked (goal.at.search-preserved c).In_ok-gather left s in
       let can = joinable (goal.at.search-preserved c).In-Some left s m in
       let joined = c.in_ok-join.ensures.joined q
-      (subst (λ z. CanJoin q t z c.max.result) (sym c.min.ensures) (subst
-      (λ z. CanJoin q t (min c.first_least-vertex.result c.in-Some.twin) z) (sym c.max.ensures) can)) in
+      (subst (λ z. CanPair q t z c.max.result) (sym c.min.ensures) (subst
+      (λ z. CanPair q t (min c.first_least-vertex.result c.in-Some.twin) z) (sym c.max.ensures) can)) in
       record { part = s.part; rim = s.rim; rep = joined.rep; stand = joined.stand };
 }

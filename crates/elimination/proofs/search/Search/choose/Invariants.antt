@@ -1,13 +1,13 @@
 use Rattle.std.proofs.Common.{◌≡◌, ◌+◌, ◌-◌, ℕ, Bool, length}
 use Rattle.std.specs.List.{sum_by}
 use Rattle.min_tree.specs.Least.{greatest}
-use Rattle.elimination.specs.Tables.{tables, HaveLength}
+use Rattle.elimination.specs.Tables.{tables, AllHaveLength}
 use Rattle.elimination.specs.Turns.{IsSearch}
 use Rattle.elimination.proofs.search.Search.choose.Given as goal
 
 abbrev pub invariant-search : goal.invariant-search
 invariant-search l = record {
-  lengths : HaveLength (length l.pattern + 1) l.self;
+  lengths : AllHaveLength (length l.pattern + 1) l.self;
   turns : l.self.turns ≡ l.fn.self.turns;
   stands : (left : ℕ → ℕ → Bool) → IsSearch l.pattern left (tables l.fn.self) → IsSearch l.pattern left (tables l.self);
 }

@@ -2,7 +2,7 @@ use Rattle.std.proofs.Common.{◌≡◌, ◌<◌, ◌+◌, length, ℕ, arith, s
 use Rattle.std.specs.Vec.{with_items}
 use Rattle.std.proofs.lemmas.List.{with_items_is}
 use Rattle.matrix_market.specs.Pattern.{has}
-use Rattle.elimination.specs.Quotients.{at, list_at}
+use Rattle.elimination.specs.Quotients.{at, inner_at}
 use Rattle.elimination.specs.Tables.{tables}
 use Rattle.elimination.specs.Turns.{IsChosen, IsAbsorbed, IsEliminated, quotient_of}
 use Rattle.elimination.proofs.BoundSteps.{at_other, at_here}
@@ -73,7 +73,7 @@ merged_len c =
 
 absorbed : (c : In_ok-absorb) → IsAbsorbed c.in_ok-vertex.vertex c.choose.new.self.hood.near.items c.choose.new.self.hood.touched.items
     c.choose.new.self.links.items (with_items c.choose.new.self.links c.absorb.new.links).items
-    (list_at c.choose.new.self.rims.items) (list_at (with_items c.choose.new.self.rims c.absorb.new.rims).items)
+    (inner_at c.choose.new.self.rims.items) (inner_at (with_items c.choose.new.self.rims c.absorb.new.rims).items)
 absorbed c =
     let s = c.choose.new.self in
     let v = c.in_ok-vertex.vertex in
@@ -85,10 +85,10 @@ absorbed c =
     let e2 = c.deref_mut-2.ensures.value in
     let w1 : (with_items s.links links').items ≡ links' = with_items_is s.links links' (omega (arith, s.links.ok.0)) in
     let w2 : (with_items s.rims rims').items ≡ rims' = with_items_is s.rims rims' (omega (arith, s.rims.ok.0)) in
-    subst (λ z. IsAbsorbed v near touched s.links.items z (list_at s.rims.items) (list_at (with_items s.rims rims').items)) (sym w1)
-    (subst (λ z. IsAbsorbed v near touched s.links.items links' (list_at s.rims.items) (list_at z)) (sym w2)
-    (subst (λ z. IsAbsorbed v near touched z links' (list_at s.rims.items) (list_at rims')) e1
-    (subst (λ z. IsAbsorbed v near touched c.deref_mut.result.now links' (list_at z) (list_at rims')) e2 c.in_ok-absorb.ensures)))
+    subst (λ z. IsAbsorbed v near touched s.links.items z (inner_at s.rims.items) (inner_at (with_items s.rims rims').items)) (sym w1)
+    (subst (λ z. IsAbsorbed v near touched s.links.items links' (inner_at s.rims.items) (inner_at z)) (sym w2)
+    (subst (λ z. IsAbsorbed v near touched z links' (inner_at s.rims.items) (inner_at rims')) e1
+    (subst (λ z. IsAbsorbed v near touched c.deref_mut.result.now links' (inner_at z) (inner_at rims')) e2 c.in_ok-absorb.ensures)))
 
 latest : (c : In_ok-absorb) (x : ℕ) → at c.choose.new.self.turns.items x < c.args.place
 latest c x = subst (λ z. at z.items x < c.args.place) (sym c.in_ok-vertex.ensures.turns) (c.requires.latest x)
@@ -104,7 +104,7 @@ give_back-requires-clause-linked c =
     merged_linked (quotient_of c.args.pattern.now c.requires.start.0 ch.part ch.rim ch.rep) (tables s) v ch.released
     (at (set s.turns.items v c.args.place)) c.args.place (latest now) (at_here s.turns.items v c.args.place (omega arith))
     (at_other s.turns.items v c.args.place)
-    (with_items s.links c.absorb.new.links).items (list_at (with_items s.rims c.absorb.new.rims).items) (merged_len now) (absorbed now)
+    (with_items s.links c.absorb.new.links).items (inner_at (with_items s.rims c.absorb.new.rims).items) (merged_len now) (absorbed now)
 
 pub returns-clause-eliminated : goal.returns-clause-eliminated
 returns-clause-eliminated c = λ left init.
@@ -122,7 +122,7 @@ returns-clause-eliminated c = λ left init.
     let end_len = c.in_ok-give_back.ensures.lengths.links in
     let now = (goal.at.returns-clause-eliminated c).In_ok-absorb in
     let links1 = (with_items s.links c.absorb.new.links).items in
-    let lists1 = list_at (with_items s.rims c.absorb.new.rims).items in
+    let lists1 = inner_at (with_items s.rims c.absorb.new.rims).items in
     let len1 = merged_len now in
     let e = c.deref.ensures.value in
     let low = c.saturating_sub-bound.ensures in

@@ -4,10 +4,10 @@ use Rattle.std.proofs.lemmas.List.{with_items_is}
 use Rattle.std.proofs.lemmas.Grind.{get_or_default_zero}
 use Rattle.matrix_market.specs.Pattern.{has, neighbours_of}
 use Rattle.elimination.specs.declared.search.Search.{Search}
-use Rattle.elimination.specs.Quotients.{IsLinked, LeadsTo, at}
+use Rattle.elimination.specs.Quotients.{AreLinks, LeadsTo, at}
 use Rattle.elimination.specs.Twins.{AreRowsMarked}
 use Rattle.elimination.specs.Tables.{tables}
-use Rattle.elimination.specs.Turns.{IsMarked}
+use Rattle.elimination.specs.Turns.{HasMarks}
 use Rattle.elimination.proofs.VertexLists.{has_at, row_within}
 use Rattle.elimination.proofs.Choices.{marked_still}
 use Rattle.elimination.proofs.search.Search.find_twin.Goals as goal
@@ -15,7 +15,7 @@ use Rattle.elimination.proofs.search.Search.find_twin.Goals.{After-all_marked, A
 
 pub all_marked-requires-clause-row : goal.all_marked-requires-clause-row
 all_marked-requires-clause-row c = λ j lt.
-    let k = row_within c.args.pattern.now c.index-u.result.now c.neighbours-row.result.now c.order-order.ensures.pattern
+    let k = row_within c.args.pattern.now c.index-u.result.now c.neighbours-row.result.now c.keeps.ensures
     c.neighbours-row.ensures j lt in
     let e = ap length c.deref.ensures.value in
     let same = ap (λ (z : Search). length z.turns.items) c.loop-i.invariant.same in
@@ -25,13 +25,13 @@ all_marked-requires-clause-row c = λ j lt.
 pub returns-then-tries-ge-MOST_TRIES-clause-marked : goal.returns-then-tries-ge-MOST_TRIES-clause-marked
 returns-then-tries-ge-MOST_TRIES-clause-marked c = λ q u m.
     let i = c.loop-i.invariant in
-    subst (λ z. IsMarked q (tables z) u) (sym i.same)
+    subst (λ z. HasMarks q (tables z) u) (sym i.same)
     (marked_still q (tables c.args.self.now) u m c.loop-i.self.links.items i.len i.linked (i.leads q.part m.gathered.quotient.leads))
 
 pub returns-clause-marked : goal.returns-clause-marked
 returns-clause-marked c = λ q u m.
     let i = c.loop-i.invariant in
-    subst (λ z. IsMarked q (tables z) u) (sym i.same)
+    subst (λ z. HasMarks q (tables z) u) (sym i.same)
     (marked_still q (tables c.args.self.now) u m c.loop-i.self.links.items i.len i.linked (i.leads q.part m.gathered.quotient.leads))
 
 turns_are : (c : After-all_marked) → c.deref.result.now ≡ c.args.self.now.turns.items
@@ -48,14 +48,14 @@ returns-then-all_marked-clause-marked c = λ q u m.
     let before = c.deref_mut.ensures.value in
     let w : now.items ≡ links' = with_items_is links links' (omega (arith, links.ok.0)) in
     let turns = turns_are (goal.at.returns-then-all_marked-clause-marked c).After-all_marked in
-    let linked : IsLinked turn now.items = subst (IsLinked turn) (sym w)
-    (subst (λ z. IsLinked (at z) links') turns c.if-all_marked.ensures.linked) in
+    let linked : AreLinks turn now.items = subst (AreLinks turn) (sym w)
+    (subst (λ z. AreLinks (at z) links') turns c.if-all_marked.ensures.linked) in
     let from : LeadsTo (at c.deref.result.now) q.part c.deref_mut.result.now =
     subst (λ z. LeadsTo (at c.deref.result.now) q.part z) (sym before) (subst (λ z. LeadsTo (at z) q.part links.items) (sym turns)
     (i.leads q.part m.gathered.quotient.leads)) in
     let leads : LeadsTo turn q.part now.items =
     subst (LeadsTo turn q.part) (sym w) (subst (λ z. LeadsTo (at z) q.part links') turns (c.if-all_marked.ensures.leads q.part from)) in
-    subst (λ (z : Search). IsMarked q (tables (record z { links = now })) u) (sym i.same)
+    subst (λ (z : Search). HasMarks q (tables (record z { links = now })) u) (sym i.same)
     (marked_still q (tables s) u m now.items (let l = ap length w in let k = i.len in let b = ap length before in omega arith) linked leads)
 
 pub returns-then-all_marked-clause-twin : goal.returns-then-all_marked-clause-twin

@@ -1,7 +1,7 @@
 use Rattle.std.proofs.Common.{◌≡◌, ◌<◌, [], length, ℕ, List, arith, subst, sym, ap, ◌∙◌, get_or, true, set}
 use Rattle.std.specs.Vec.{with_item, with_items}
 use Rattle.std.proofs.lemmas.List.{with_items_is}
-use Rattle.elimination.specs.Quotients.{Quotient, IsQuotient, at, list_at}
+use Rattle.elimination.specs.Quotients.{Quotient, IsQuotient, at, inner_at}
 use Rattle.elimination.specs.Hoods.{Scans, IsRowOf, IsGathered}
 use Rattle.elimination.proofs.VertexLists.{has_at}
 use Rattle.elimination.proofs.Gatherings.{start, gathered}
@@ -23,7 +23,7 @@ pub scan-requires-clause-row : goal.scan-requires-clause-row
 scan-requires-clause-row c = λ j lt.
     let s = c.args.self.now in
     let can = c.requires.start.1 in
-    let k = row_within c.requires.start.0 (at s.turns.items) s.links.items (list_at s.rims.items) c.args.u c.args.row.now
+    let k = row_within c.requires.start.0 (at s.turns.items) s.links.items (inner_at s.rims.items) c.args.u c.args.row.now
     can.stand.quotient can.listed j lt in
     let links_len = c.requires.lengths.links in
     let e = ap length c.deref.ensures.value in
@@ -33,7 +33,7 @@ pub returns-clause-marked : goal.returns-clause-marked
 returns-clause-marked c = λ q can.
     let s = c.args.self.now in
     let turn = at s.turns.items in
-    let rim = list_at s.rims.items in
+    let rim = inner_at s.rims.items in
     let u = c.args.u in
     let row = c.args.row.now in
     let links' = c.scan.new.links in
@@ -54,8 +54,8 @@ returns-clause-marked c = λ q can.
     (subst (λ z. Scans turn rim row s.links.items links' [] near' z touched' seen0 seen') c.clear-2.ensures.items
     (subst (λ z. Scans turn rim row s.links.items links' z near' touched0 touched' seen0 seen') c.clear.ensures.items
     (subst (λ z. Scans turn rim row z links' near0 near' touched0 touched' seen0 seen') c.deref_mut.ensures.value
-    (subst (λ z. Scans turn (list_at z) row links0 links' near0 near' touched0 touched' seen0 seen') c.deref-2.ensures.value
-    (subst (λ z. Scans (at z) (list_at c.deref-2.result.now) row links0 links' near0 near' touched0 touched' seen0 seen')
+    (subst (λ z. Scans turn (inner_at z) row links0 links' near0 near' touched0 touched' seen0 seen') c.deref-2.ensures.value
+    (subst (λ z. Scans (at z) (inner_at c.deref-2.result.now) row links0 links' near0 near' touched0 touched' seen0 seen')
     c.deref.ensures.value
     c.in_ok-scan.ensures.scanned))))) in
     let w = scans q u can.stand.quotient can.listed begun in

@@ -2,7 +2,7 @@ use Rattle.std.proofs.Common.{◌≡◌, ℕ, List, ◌<◌, get_or, ◌+◌, �
 use Rattle.std.specs.Vec.{with_items}
 use Rattle.std.proofs.lemmas.List.{with_items_is}
 use Rattle.std.proofs.lemmas.Grind.{get_or_default_zero}
-use Rattle.elimination.specs.Quotients.{at, list_at}
+use Rattle.elimination.specs.Quotients.{at, inner_at}
 use Rattle.elimination.specs.Tables.{tables}
 use Rattle.elimination.specs.Turns.{StandForOthers}
 use Rattle.elimination.specs.Twins.{IsJoinedTo}
@@ -48,21 +48,21 @@ returns-clause-joined c = λ q can.
     let a = read_is s.sizes.items least c.index_mut.result.now (omega arith) c.index_mut.ensures.value in
     let b = read_is s.sizes.items other c.index.result.now (omega arith) c.index.ensures in
     let sum = c.index_mut.result.now + c.index.result.now in
-    let j : IsJoinedTo least other (list_at s.groups.items) (list_at groups) s.sizes.items (set s.sizes.items least sum) s.seen.items
+    let j : IsJoinedTo least other (inner_at s.groups.items) (inner_at groups) s.sizes.items (set s.sizes.items least sum) s.seen.items
     (set s.seen.items other true) = record {
-      taken = ap (λ z. list_at z least) w ∙ c.in_ok-join_groups.ensures.taken ∙ ap (λ z. list_at z least ++ (other ∷ list_at z other)) e;
-      empty = ap (λ z. list_at z other) w ∙ c.in_ok-join_groups.ensures.empty;
-      others = λ r nl no. ap (λ z. list_at z r) w ∙ c.in_ok-join_groups.ensures.others r nl no ∙ ap (λ z. list_at z r) e;
+      taken = ap (λ z. inner_at z least) w ∙ c.in_ok-join_groups.ensures.taken ∙ ap (λ z. inner_at z least ++ (other ∷ inner_at z other)) e;
+      empty = ap (λ z. inner_at z other) w ∙ c.in_ok-join_groups.ensures.empty;
+      others = λ r nl no. ap (λ z. inner_at z r) w ∙ c.in_ok-join_groups.ensures.others r nl no ∙ ap (λ z. inner_at z r) e;
       size = let h = at_here s.sizes.items least sum (omega arith) in omega arith;
       sizes_same = λ r nl. at_other s.sizes.items least sum r nl;
       marked = mark_here s.seen.items other true (omega arith);
       marks = λ x no. mark_other s.seen.items other x true no;
     } in
     subst (λ z. StandForOthers q (record (tables s) {
-      groups = list_at groups;
+      groups = inner_at groups;
       sizes = set s.sizes.items least sum;
       seen = set s.seen.items other true;
       bounds = z;
     }))
-    (sym c.put.ensures) (joined_stand q (tables s) least other can (list_at groups) (set s.sizes.items least sum)
+    (sym c.put.ensures) (joined_stand q (tables s) least other can (inner_at groups) (set s.sizes.items least sum)
     (set s.seen.items other true) j)

@@ -2,7 +2,7 @@ use Rattle.std.proofs.Common.{◌≡◌, inl, inr, ℕ, ◌<◌, get_or, length,
 use Rattle.std.proofs.lemmas.Bool.{cases_eq}
 use Rattle.std.proofs.lemmas.List.Elements.{same_from_all_zip}
 use Rattle.matrix_market.specs.Pattern.{has}
-use Rattle.elimination.specs.Quotients.{list_at}
+use Rattle.elimination.specs.Quotients.{inner_at}
 use Rattle.elimination.specs.Tables.{tables}
 use Rattle.elimination.specs.Dense.{bit_in, IsFullRow}
 use Rattle.elimination.specs.Switch.{stage_at}
@@ -16,7 +16,7 @@ pub loop-x-init : goal.loop-x-init
 loop-x-init c = record { order = refl; filling = λ q gone s a f r. f; kept = λ x t. t; group = λ j lt. absurd (omega arith) }
 
 -- the group of v
-group_is : (c : After-deref-x-items) → c.deref-x-items.result.now ≡ list_at c.args.self.now.groups.items c.args.v
+group_is : (c : After-deref-x-items) → c.deref-x-items.result.now ≡ inner_at c.args.self.now.groups.items c.args.v
 group_is c =
     let s = c.requires.start.2 in
     let n = s.vertex.1 in
@@ -27,7 +27,7 @@ group_is c =
     ∙ list_get c.args.self.now.groups.items c.args.v c.index.result.now (omega arith)
 
 in_group : (c : After-deref-x-items) (j : ℕ) → j < length c.deref-x-items.result.now
-    → IsTrue (has (list_at c.args.self.now.groups.items c.args.v) (get_or c.deref-x-items.result.now j 0))
+    → IsTrue (has (inner_at c.args.self.now.groups.items c.args.v) (get_or c.deref-x-items.result.now j 0))
 in_group c j lt = subst (λ z. IsTrue (has z (get_or c.deref-x-items.result.now j 0))) (group_is c) (has_at c.deref-x-items.result.now j lt)
 
 pub put-requires : goal.put-requires

@@ -2,7 +2,7 @@ use Rattle.std.proofs.Common.{◌≡◌, inl, inr, ℕ, List, subst, sym, ap, �
 use Rattle.std.proofs.lemmas.Bool.{cases_eq, both_ways}
 use Rattle.matrix_market.specs.Pattern.{has}
 use Rattle.elimination.specs.Elimination.{IsVertex}
-use Rattle.elimination.specs.Quotients.{Quotient, at, list_at}
+use Rattle.elimination.specs.Quotients.{Quotient, at, inner_at}
 use Rattle.elimination.specs.Tables.{tables}
 use Rattle.elimination.specs.Turns.{CanGather, IsReleased}
 use Rattle.elimination.specs.Dense.{bit_in}
@@ -88,5 +88,5 @@ returns-clause-put c = λ q gone f x e.
     elim (cases_eq (q.rep x) x) [
       | inl same ↦ subst (λ z. IsTrue (bit_in c.put_group.new.dense.alive.items z)) (sym e ∙ same) c.in_ok-put_group.ensures.own
       | inr ne ↦ c.in_ok-put_group.ensures.group x
-          (subst (λ z. IsTrue (has (list_at c.release.new.self.groups.items z) x)) e (r.stand.grouped.listed x ne))
+          (subst (λ z. IsTrue (has (inner_at c.release.new.self.groups.items z) x)) e (r.stand.grouped.listed x ne))
     ]

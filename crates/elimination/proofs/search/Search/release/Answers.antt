@@ -2,7 +2,7 @@ use Rattle.std.proofs.Common.{◌≡◌, ◌<◌, length, subst, sym, ap, ◌∙
 use Rattle.std.specs.Vec.{with_items}
 use Rattle.std.proofs.lemmas.List.{with_items_is}
 use Rattle.matrix_market.specs.Pattern.{has}
-use Rattle.elimination.specs.Quotients.{at, list_at}
+use Rattle.elimination.specs.Quotients.{at, inner_at}
 use Rattle.elimination.specs.Hoods.{mark_at}
 use Rattle.elimination.proofs.Gatherings.{released, touched_within, own_within}
 use Rattle.elimination.proofs.search.Search.release.Goals as goal
@@ -12,7 +12,7 @@ unmark-requires-2 c = λ j lt.
     let s = c.args.self.now in
     let e = c.deref-2.ensures.value in
     let start = c.requires.start in
-    let k = touched_within start.0 (at s.turns.items) s.links.items (list_at s.rims.items) c.args.u s.hood.near.items s.hood.touched.items
+    let k = touched_within start.0 (at s.turns.items) s.links.items (inner_at s.rims.items) c.args.u s.hood.near.items s.hood.touched.items
     s.seen.items
     start.1.gathered j (subst (λ z. j < length z) e lt) in
     let len = c.requires.lengths in
@@ -28,7 +28,7 @@ returns-clause-released c = λ q m.
     let seen1 = c.unmark.new.seen in
     let seen2 = c.unmark-2.new.seen in
     let g = m.gathered in
-    let own = own_within q (at s.turns.items) s.links.items (list_at s.rims.items) c.args.u near touched s.seen.items g in
+    let own = own_within q (at s.turns.items) s.links.items (inner_at s.rims.items) c.args.u near touched s.seen.items g in
     let len = c.requires.lengths in
     let links = len.links in
     let seen_len = len.seen in
@@ -42,7 +42,7 @@ returns-clause-released c = λ q m.
     record {
       stand = record {
         quotient = g.quotient;
-        hidden = released q (at s.turns.items) s.links.items (list_at s.rims.items) c.args.u near touched s.seen.items g seen1
+        hidden = released q (at s.turns.items) s.links.items (inner_at s.rims.items) c.args.u near touched s.seen.items g seen1
             (with_items (with_items s.seen seen1) seen2).items
             (λ x h. c.unmark.ensures.gone x (subst (λ z. IsTrue (has z x)) (sym e) h))
             (λ x h. c.unmark.ensures.others x (subst (λ z. has z x ≡ false) (sym e) h) ∙ ap (λ z. mark_at z x) before)

@@ -1,5 +1,5 @@
 use Rattle.least_peak.specs.Problem.{system_of}
-use Rattle.memplan.specs.Judged.{tasks_in}
+use Rattle.memplan.specs.Judged.{order_tasks}
 use Rattle.memplan.specs.RequestViews.{input_view}
 use Rattle.memplan.proofs.StepLemmas.{passed}
 use Rattle.memplan.proofs.InputLemmas.{problem_has_system}
@@ -13,4 +13,4 @@ returns-clause-told g c = λ texts are.
     let is = c.in_ok-ordered.ensures.judged texts are in
     let ordered = c.in_ok-ordered.ordered in
     let is_system = problem_has_system (input_view c.args.asked.input) is.mine ordered.problem is.is_problem in
-    (is.mine, is.text, system_of ordered.problem, tasks_in ordered.order, is.texts_are, is_system, is.is_order.0, rw (← c.numbers.ensures) c.in_ok-replay_page.ensures)
+    (is.mine, is.text, system_of ordered.problem, order_tasks ordered.order, is.texts_are, is_system, is.is_order.0, rw (← c.numbers.ensures) c.in_ok-replay_page.ensures)
