@@ -291,7 +291,7 @@ pub fn eliminate_dense(
 {
     let order = search.order as usize;
     for gone in vertices.len()..order {
-        let bound = search.bounds.at(search.bounds.first_least());
+        let bound = search.bounds.least();
         if bound >= (order - gone - 1) as u64 {
             finish(search.order, &search.alive, vertices)?;
             return Ok(());

@@ -98,7 +98,7 @@ fn eliminate_all(
     let n = pattern.order();
     let mut effort = Effort { left: n, dear: 0 };
     for place in 1..=n {
-        if u64::from(n - place) <= search.bounds.at(search.bounds.first_least()) {
+        if u64::from(n - place) <= search.bounds.least() {
             finish(n, vertices, &search.turns)?;
             return Ok(());
         }

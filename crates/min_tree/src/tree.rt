@@ -1,5 +1,5 @@
-ghost use Rattle.std.specs.Prelude.{◌≡◌, ◌+◌, ◌*◌, ◌<◌, ◌≤◌, ◌^◌, min, length, slice_index, slice_set, replicate, IfOk};
-ghost use Rattle.min_tree.specs.Least.{IsFirstLeast, greatest};
+ghost use Rattle.std.specs.Prelude.{◌≡◌, ◌+◌, ◌*◌, ◌<◌, ◌≤◌, ◌^◌, min, length, slice_index, slice_set, replicate, IfOk, MatchOption, ℕ};
+ghost use Rattle.min_tree.specs.Least.{IsFirstLeast, IsFirstAtMost, IsChildTowards, greatest};
 
 use crate::NoMemory;
 use std::alloc::Global;
@@ -34,14 +34,24 @@ fn least_of_children(nodes: &[u64], at: usize) -> u64
     nodes[2 * at].min(nodes[2 * at + 1])
 }
 
-// The child that has the lesser number, the left one where they are equal. Found without a branch, since which it is can't be foreseen.
+// The child on the way down to the first number that is at most `bound`. Found without a branch, since which it is can't be foreseen.
 #[inline]
-fn lesser_child(nodes: &[u64], at: usize) -> usize
-    requires { 2 * at + 1 < length nodes.now }
-    ensures left { slice_index nodes.now (2 * at) ≤ slice_index nodes.now (2 * at + 1) → result ≡ 2 * at }
-    ensures right { slice_index nodes.now (2 * at + 1) < slice_index nodes.now (2 * at) → result ≡ 2 * at + 1 }
+fn child_towards(nodes: &[u64], at: usize, bound: u64) -> usize
+    requires { 2 * at < length nodes.now }
+    ensures { IsChildTowards nodes.now bound at result }
 {
-    2 * at + usize::from(nodes[2 * at + 1] < nodes[2 * at])
+    2 * at + usize::from(nodes[2 * at] > bound)
+}
+
+// The child of that child. The numbers of both levels are read at once, so that no read waits for the one before.
+#[inline]
+fn grandchild_towards(nodes: &[u64], at: usize, bound: u64) -> usize
+    requires { 4 * at + 2 < length nodes.now }
+    ensures { (child : ℕ) × IsChildTowards nodes.now bound at child × IsChildTowards nodes.now bound child result }
+{
+    let left = child_towards(nodes, 2 * at, bound);
+    let right = child_towards(nodes, 2 * at + 1, bound);
+    if nodes[2 * at] > bound { right } else { left }
 }
 
 impl MinTree {
@@ -130,14 +140,46 @@ impl MinTree {
         }
     }
 
+    /// The least number. Takes constant time.
+    pub fn least(&self) -> u64
+        requires { 0 < length self.now }
+        ensures { (place : ℕ) × IsFirstLeast self.now place × (slice_index self.now place ≡ result) }
+    {
+        self.nodes[1]
+    }
+
     /// The place of the first least number.
     pub fn first_least(&self) -> usize
         requires { 0 < length self.now }
         ensures { IsFirstLeast self.now result }
     {
+        self.place_towards(self.least())
+    }
+
+    /// The first place whose number is at most `bound`.
+    pub fn first_at_most(&self, bound: u64) -> Option<usize>
+        requires { 0 < length self.now }
+        ensures { MatchOption result ((k : ℕ) → k < length self.now → bound < slice_index self.now k)
+            (λ place. IsFirstAtMost self.now bound place) }
+    {
+        if self.least() > bound {
+            return None;
+        }
+        Some(self.place_towards(bound))
+    }
+
+    // The first place whose number is at most `bound`, where there is one.
+    #[inline(never)]
+    fn place_towards(&self, bound: u64) -> usize
+        requires { (k : ℕ) × (k < length self.now) × (slice_index self.now k ≤ bound) }
+        ensures { IsFirstAtMost self.now bound result }
+    {
         let mut at = 1;
-        while at < self.leaves {
-            at = lesser_child(&self.nodes, at);
+        while 2 * at < self.leaves {
+            at = grandchild_towards(&self.nodes, at, bound);
+        }
+        if at < self.leaves {
+            at = child_towards(&self.nodes, at, bound);
         }
         at - self.leaves
     }

@@ -35,10 +35,11 @@ loop-gone-preserved c = record {
 pub returns-then-bound-order : goal.returns-then-bound-order
 returns-then-bound-order c = λ joined start.
     let s = c.loop-gone.invariant.under_way joined start in
-    let at = c.at-bound.ensures in
+    let least = c.least-bound.ensures in
     let here = c.loop-gone.invariant.here in
     let order = c.loop-gone.invariant.order in
-    let rest = rest_first joined c.loop-gone.vertices.items c.loop-gone.search s c.first_least.result c.first_least.ensures (omega arith) in
+    let rest = rest_first joined c.loop-gone.vertices.items c.loop-gone.search s least.0 least.1
+    (omega (arith, least.2)) in
     subst (λ n. IsLeastDegreeOrder joined n c.finish.new.vertices.items) order
     (c.in_ok-finish.ensures joined
     (subst (λ z. IsDenseRest joined c.loop-gone.search.order z c.loop-gone.vertices.items 1) (sym c.deref.ensures.value) rest))

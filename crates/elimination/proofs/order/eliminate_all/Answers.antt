@@ -33,17 +33,17 @@ finished : (c : In_ok-finish) → IsFinishing c.args.pattern.now c.finish.new.ve
 finished c =
     let rows = c.args.pattern.now in
     let l = c.loop-place in
-    let start = finishing_first rows l.vertices.items (tables l.search) l.place l.invariant.stands c.first_least.result
-    c.first_least.ensures (omega arith) in
+    let start = finishing_first rows l.vertices.items (tables l.search) l.place l.invariant.stands c.least.ensures.0
+    c.least.ensures.1 (omega (arith, c.least.ensures.2)) in
     let start' : IsFinishing rows l.vertices.items (at c.deref.result.now) 1 = subst (λ z. IsFinishing rows l.vertices.items (at z) 1)
     (sym c.deref.ensures.value) start in
     subst (λ n. IsFinishing rows c.finish.new.vertices.items (at c.deref.result.now) (n + 1)) c.order-n.ensures.value
     (c.in_ok-finish.ensures rows (sym c.order-n.ensures.value) start')
 
-pub returns-then-from-at-clause-len : goal.returns-then-from-at-clause-len
-returns-then-from-at-clause-len c =
+pub returns-then-from-least-clause-len : goal.returns-then-from-least-clause-len
+returns-then-from-least-clause-len c =
     finishing_last c.args.pattern.now c.finish.new.vertices.items (at c.deref.result.now)
-    (finished (goal.at.returns-then-from-at-clause-len c).In_ok-finish)
+    (finished (goal.at.returns-then-from-least-clause-len c).In_ok-finish)
 
-pub returns-then-from-at-clause-begun : goal.returns-then-from-at-clause-begun
-returns-then-from-at-clause-begun c = (finished (goal.at.returns-then-from-at-clause-begun c).In_ok-finish).begun
+pub returns-then-from-least-clause-begun : goal.returns-then-from-least-clause-begun
+returns-then-from-least-clause-begun c = (finished (goal.at.returns-then-from-least-clause-begun c).In_ok-finish).begun
