@@ -67,8 +67,10 @@ invariant_of-self c =
     let h : c.args.place < length (take s.count (drop s.leaves s.nodes.items)) = rw (← c.self.view_is) at c.requires.within in
     omega (arith, length-take s.count (drop s.leaves s.nodes.items)) in
     let t : IsMinTreeBut (c.loop-at.at / 2) s.depth s.leaves s.count f.nodes.items = rw (i.depth, i.width, i.count) at i.tree in
-    let e : drop s.leaves f.nodes.items ≡ set (drop s.leaves s.nodes.items) c.args.place c.args.number = rw i.width at (i.leaves ∙ drop-set-add s.leaves s.nodes.items c.args.place c.args.number) in
-    rw (i.depth, i.width, i.count) (all_right s.depth s.leaves s.count c.loop-at.at f.nodes.items s.nodes.items t c.loop-at-test.false c.args.place c.args.number w c.self.invariant.rest e)
+    let e : drop s.leaves f.nodes.items ≡ set (drop s.leaves s.nodes.items) c.args.place c.args.number =
+    rw i.width at (i.leaves ∙ drop-set-add s.leaves s.nodes.items c.args.place c.args.number) in
+    rw (i.depth, i.width, i.count) (all_right s.depth s.leaves s.count c.loop-at.at f.nodes.items s.nodes.items t c.loop-at-test.false
+    c.args.place c.args.number w c.self.invariant.rest e)
 
 pub returns : goal.returns
 returns c =
@@ -78,5 +80,7 @@ returns c =
     let w : c.args.place < s.count =
     let h : c.args.place < length (take s.count (drop s.leaves s.nodes.items)) = rw (← c.self.view_is) at c.requires.within in
     omega (arith, length-take s.count (drop s.leaves s.nodes.items)) in
-    let e : drop s.leaves f.nodes.items ≡ set (drop s.leaves s.nodes.items) c.args.place c.args.number = rw i.width at (i.leaves ∙ drop-set-add s.leaves s.nodes.items c.args.place c.args.number) in
-    rw (← c.self.view_is, i.width, i.count) (ap (take s.count) e ∙ take-set-lt s.count (drop s.leaves s.nodes.items) c.args.place c.args.number w)
+    let e : drop s.leaves f.nodes.items ≡ set (drop s.leaves s.nodes.items) c.args.place c.args.number =
+    rw i.width at (i.leaves ∙ drop-set-add s.leaves s.nodes.items c.args.place c.args.number) in
+    rw (← c.self.view_is, i.width, i.count) (ap (take s.count) e
+    ∙ take-set-lt s.count (drop s.leaves s.nodes.items) c.args.place c.args.number w)
