@@ -1,5 +1,5 @@
-ghost use Rattle.std.specs.Prelude.{◌≡◌, MatchResult};
-ghost use Rattle.plan_text.specs.Plan.{PlanText, IsPlan};
+ghost use Rattle.std.specs.Prelude.{◌≡◌, length, MatchResult};
+ghost use Rattle.plan_text.specs.Plan.{PlanText, IsPriority, IsPlan};
 ghost use Rattle.plan_text.specs.PlanFile.{ReadsPlan, IsPlanRefusal};
 
 use crate::claim::{Claim, PlanKind};
@@ -39,6 +39,20 @@ impl PlanFile {
             claims,
             priority,
         }
+    }
+
+    /// The plan with this priority in place of its own: each task of the order once, or none.
+    pub fn with_priority(self, priority: Vec<u32>) -> PlanFile
+        requires { IsPriority (length self.order) priority.items }
+        ensures { result ≡ record { order = self.order; peak = self.peak; claims = self.claims; priority = priority.items } }
+    {
+        let PlanFile {
+            order,
+            peak,
+            claims,
+            ..
+        } = self;
+        PlanFile::new(order, peak, claims, priority)
     }
 
     /// What every plan keeps; a proof that needs it calls it. It does nothing.

@@ -6,5 +6,6 @@ pub mod BuilderLemmas
 pub mod ReadLemmas
 pub mod Standing
 pub mod PrintedLemmas
+pub mod LengthLemmas
 pub mod Positions
 pub mod ReaderLaws

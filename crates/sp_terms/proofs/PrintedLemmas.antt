@@ -108,7 +108,7 @@ module _ (ps first : List Position) (p : Position) (terms : IsTerms ps) (stands 
       go p stack after (beside ts st e) before allowed within total tasks =
           let few = stands.few in let all = ap length (ap stack_from before) in let parts = onto-length ts st in grind arith
 
-  small_numbers : (version : Version) → AreSmall (position_numbers version p)
+  pub small_numbers : (version : Version) → AreSmall (position_numbers version p)
   small_numbers version = go version p stands.stack stands.after stands.step stands.before stands.allowed stands.within stands.total
     where
       go : (version : Version) (p : Position) (stack after : List Term) → Pushed p stack after → push_all first [] ≡ Some stack → AllAllowed after → IsWithinLimits p → sum_by added_size first + added_size p ≤ most_total → AreSmall (position_numbers version p)

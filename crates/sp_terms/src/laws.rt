@@ -1,6 +1,6 @@
 //! Laws over the definitions: each contract is a law, and each body is empty or names the laws that it stands on.
 ghost use Rattle.std.specs.Prelude.{◌≡◌, ◌⊎◌, ℕ, ◌+◌, ◌-◌, ◌<◌, ◌≤◌, All, List, length, map, slice_index_or};
-ghost use Rattle.limits.specs.Limits.{most_total};
+ghost use Rattle.limits.specs.Limits.{most_bytes, most_total};
 ghost use Rattle.mp_text.specs.declared.refusals.Refusal.{Refusal};
 ghost use Rattle.mp_system.specs.System.{IsSystem};
 ghost use Rattle.mp_system.specs.declared.system.Task.{Task};
@@ -44,6 +44,12 @@ pub fn printed_workflow()
     text_laws::printed_number();
     text_laws::printed_file();
 }
+
+/// The text of a workflow, and its text in version 2, are within the limit of bytes, so that a file of it can be read whole.
+pub fn printed_length()
+    ensures text { (positions : List Position) → IsTerms positions → length (text_of positions) ≤ most_bytes }
+    ensures text_2 { (positions : List Position) → IsTerms positions → length (text2_of positions) ≤ most_bytes }
+{}
 
 /// Positions within the limits denote a term whose shares are allowed, and whose system is within the limits of systems. A list of
 /// positions denotes a term exactly where it is its postfix form.

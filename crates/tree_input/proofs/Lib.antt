@@ -7,6 +7,7 @@ pub mod FileLemmas
 pub mod ItemLemmas
 pub mod SystemLemmas
 pub mod PrintedLemmas
+pub mod LengthLemmas
 pub mod CountLemmas
 pub mod ForestLemmas
 pub mod RangeLemmas

@@ -245,19 +245,25 @@ module _ (header counted last : Row) (rows : List Row) (whole : length rows ≡ 
 
 -- ---- the whole file
 
+-- a node's share is at most its extra and its out
+pub fitting-share : (nodes : List Node) → IsTree nodes → (i : ℕ) (d : Node) → i < length nodes
+    → (get_or nodes i d).share ≤ (get_or nodes i d).extra + (get_or nodes i d).out
+fitting-share nodes tree i d lt =
+    let e : Node = record { parent = 0; out = 0; extra = 0; share = 0; time = 0 } in
+    let place : i + 1 - 1 ≡ i = omega arith in
+    let share = (tree.shares (i + 1) (omega arith, omega arith)).1 in
+    let at : node_at nodes (i + 1) ≡ get_or nodes i d = ap (λ (k : ℕ). get_or nodes k e) place ∙ get_or_default nodes i e d lt in
+    subst (λ (n : Node). n.share ≤ n.extra + n.out) at share
+
 module _ (laws : AreLaws) (version : Version) (nodes : List Node) (tree : IsTree nodes) (unshared : version ≡ One → All (λ node. node.share ≡ 0) nodes) where
   printable : All (IsPrintable version) nodes
   printable i d lt =
       let within = tree.each i d lt in
-      let e : Node = record { parent = 0; out = 0; extra = 0; share = 0; time = 0 } in
       let node = get_or nodes i d in
-      let place : i + 1 - 1 ≡ i = omega arith in
-      let share = (tree.shares (i + 1) (omega arith, omega arith)).1 in
-      let at : node_at nodes (i + 1) ≡ node = ap (λ (k : ℕ). get_or nodes k e) place ∙ get_or_default nodes i e d lt in
-      let small : node.share ≤ node.extra + node.out = subst (λ (n : Node). n.share ≤ n.extra + n.out) at share in
+      let share = fitting-share nodes tree i d lt in
       record {
         numbers = small_numbers version node (omega (arith, within.parent, tree.few)) (omega (arith, within.out)) (omega (arith, within.extra))
-            (omega (arith, small, within.out, within.extra)) (omega (arith, within.time.1));
+            (omega (arith, share, within.out, within.extra)) (omega (arith, within.time.1));
         unshared = λ e. unshared e i d lt;
       }
 

@@ -2,6 +2,7 @@
 
 ghost use Rattle.std.specs.Prelude.{◌≡◌, ◌⊎◌, ◌+◌, ◌-◌, ◌≤◌, ℕ, All, List, length, IsPermutation};
 ghost use Rattle.std.specs.List.{range_with_len};
+ghost use Rattle.limits.specs.Limits.{most_bytes};
 ghost use Rattle.mp_text.specs.declared.refusals.Refusal.{Refusal};
 ghost use Rattle.mp_system.specs.System.{IsSystem, inputs_of, outputs_of, need_of};
 ghost use Rattle.mp_system.specs.Renaming.{IsRenamed};
@@ -40,6 +41,12 @@ pub fn printed_tree()
     text_laws::printed_number();
     text_laws::printed_file();
 }
+
+/// The text of a tree, and its text in version 2, are within the limit of bytes, so that a file of it can be read whole.
+pub fn printed_length()
+    ensures text { (nodes : List Node) → IsTree nodes → length (text_of nodes) ≤ most_bytes }
+    ensures text_2 { (nodes : List Node) → IsTree nodes → length (text2_of nodes) ≤ most_bytes }
+{}
 
 /// What a file is read as is a tree within the limits.
 pub fn read_is_tree()
