@@ -258,6 +258,6 @@ impl Effort {
 
     /// Whether rows of bits are worth their making, and have room: half a gigabyte at most.
     pub fn calls_for_rows(&self) -> bool {
-        self.left > 64 && self.left <= 1 << 16 && self.dear >= self.left / 8
+        self.left > 64 && self.left <= 1 << 16 && self.dear >= self.left / 16
     }
 }
