@@ -27,3 +27,4 @@ pub mod DenseSteps
 pub mod DenseOrders
 pub mod DenseFilling
 pub mod Switches
+pub mod Renumberings

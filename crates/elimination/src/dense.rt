@@ -39,9 +39,9 @@ fn has_bit(row: &[u64], x: u32) -> bool
     row[x as usize / 64] >> (x % 64) & 1 == 1
 }
 
-// Adds the bit of x to a row.
+/// Adds the bit of x to a row.
 #[inline]
-fn set_bit(row: &mut [u64], x: u32)
+pub fn set_bit(row: &mut [u64], x: u32)
     requires { x / 64 < length row.old }
     ensures set { bit_in row.new x ≡ true }
     ensures others { (y : ℕ) → y ≢ x → bit_in row.new y ≡ bit_in row.old y }
@@ -94,16 +94,6 @@ pub fn row_with(alloc: Global, order: u32, v: u32) -> Result<Vec<u64>, NoMemory>
     Ok(row)
 }
 
-/// Adds the bits of a list to a row.
-pub fn set_bits(row: &mut [u64], list: &[u32])
-    requires { (j : ℕ) → j < length list.now → slice_index list.now j / 64 < length row.old }
-    ensures { (x : ℕ) → bit_in row.new x ≡ (bit_in row.old x || has list.now x) }
-{
-    for x in list {
-        set_bit(row, *x);
-    }
-}
-
 // So many rows without a word.
 fn empty_rows(alloc: Global, count: usize) -> Result<Vec<Vec<u64>>, NoMemory>
     ensures { IfOk result (λ rows. length rows.items ≡ count) }
@@ -131,6 +121,13 @@ impl DenseSearch {
             alive: vec![in alloc; 0; order as usize / 64 + 1]?,
             bounds: MinTree::new(alloc, count)?,
         })
+    }
+
+    /// How many vertices the search has.
+    pub fn order(&self) -> u32
+        ensures { result ≡ self.now.order }
+    {
+        self.order
     }
 
     /// Puts in a vertex that is left, with its row and a number that is not above its degree.

@@ -1,15 +1,25 @@
 //! The dense search alone, on orders worked by hand.
 
-ghost use Rattle.std.specs.Prelude.{◌≡◌, ◌≤◌, length, IfOk, []};
-ghost use Rattle.matrix_market.specs.Pattern.{is_joined};
-ghost use Rattle.elimination.specs.Dense.{IsDenseUnderWay, IsLeastDegreeOrder};
+ghost use Rattle.std.specs.Prelude.{◌≡◌, ◌<◌, ◌/◌, ◌||◌, ℕ, length, slice_index, IfOk, []};
+ghost use Rattle.matrix_market.specs.Pattern.{has, is_joined};
+ghost use Rattle.elimination.specs.Dense.{bit_in, IsDenseUnderWay, IsLeastDegreeOrder};
 
 use crate::NoMemory;
-use crate::dense::{DenseSearch, eliminate_dense, row_with, set_bits};
+use crate::dense::{DenseSearch, eliminate_dense, row_with, set_bit};
 use matrix_market::{Pattern, read_pattern};
 use std::alloc::Global;
 use std::process::Abort;
 use std::test::Fail;
+
+// Adds the bits of a list to a row.
+fn set_bits(row: &mut [u64], list: &[u32])
+    requires { (j : ℕ) → j < length list.now → slice_index list.now j / 64 < length row.old }
+    ensures { (x : ℕ) → bit_in row.new x ≡ (bit_in row.old x || has list.now x) }
+{
+    for x in list {
+        set_bit(row, *x);
+    }
+}
 
 // The search before any vertex is gone.
 fn full_search(alloc: Global, pattern: &Pattern) -> Result<DenseSearch, NoMemory>

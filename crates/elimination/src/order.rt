@@ -10,7 +10,6 @@ ghost use Rattle.elimination.specs.Turns.{IsSearch, IsEliminated};
 ghost use Rattle.elimination.specs.Progress.{IsBegun, IsUnderWay, IsFinishing};
 
 use crate::bounds::lower;
-use crate::dense::eliminate_dense;
 use crate::hoods::NoMemory;
 use crate::parts::absorb;
 use crate::search::Search;
@@ -78,8 +77,8 @@ fn eliminate_rest(
     ensures len { OnOk result (length vertices.new.items ≡ length pattern.now) }
     ensures begun { OnOk result (IsBegun (is_joined pattern.now) (length pattern.now) vertices.new.items) }
 {
-    let dense = search.to_dense(alloc, pattern)?;
-    eliminate_dense(alloc, vertices, dense)?;
+    let rest = search.to_dense(alloc, pattern)?;
+    rest.eliminate(alloc, vertices)?;
     Ok(())
 }
 
@@ -103,7 +102,7 @@ fn eliminate_all(
             return Ok(());
         }
         effort.left = n - place + 1;
-        if effort.calls_for_rows(n) {
+        if effort.calls_for_rows() {
             eliminate_rest(alloc, pattern, search, vertices)?;
             return Ok(());
         }

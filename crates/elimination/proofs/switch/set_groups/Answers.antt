@@ -1,8 +1,7 @@
-use Rattle.std.proofs.Common.{◌≡◌, inl, inr, ℕ, ◌||◌, get_or, arith, subst, sym, ap, ◌∙◌, IsTrue}
-use Rattle.std.proofs.lemmas.Bool.{cases_eq, or_cases, or_left, or_right}
+use Rattle.std.proofs.Common.{◌≡◌, inl, inr, get_or, arith, subst, sym, ap, ◌∙◌, IsTrue}
+use Rattle.std.proofs.lemmas.Bool.{cases_eq}
 use Rattle.matrix_market.specs.Pattern.{has}
 use Rattle.elimination.specs.Quotients.{inner_at}
-use Rattle.elimination.specs.Dense.{bit_in}
 use Rattle.elimination.proofs.VertexLists.{has_at, place_of}
 use Rattle.elimination.proofs.ListWrites.{list_get}
 use Rattle.elimination.proofs.switch.set_groups.Goals as goal
@@ -16,15 +15,19 @@ group_is c =
     ∙ list_get c.args.groups.now r c.index-groups-r.result (c.requires.within c.loop-r.r-index (omega arith))
 
 pub loop-r-init : goal.loop-r-init
-loop-r-init c = record { kept = λ x t. t; from = λ x t. inl t; to = λ j x lt. absurd (omega arith) }
+loop-r-init c = record { kept = λ y t. t; from = λ y t. inl t; to = λ j x lt. absurd (omega arith) }
 
-pub set_bits-requires : goal.set_bits-requires
-set_bits-requires c = λ j lt.
-    let is = group_is (goal.at.set_bits-requires c).After-deref in
+pub set_numbers-requires-clause-within : goal.set_numbers-requires-clause-within
+set_numbers-requires-clause-within c = λ j lt.
+    let is = group_is (goal.at.set_numbers-requires-clause-within c).After-deref in
     let r = get_or c.args.list.now c.loop-r.r-index 0 in
     let x = get_or c.deref.result.now j 0 in
-    let fit = c.requires.fit r x (has_at c.args.list.now c.loop-r.r-index (omega arith))
-    (subst (λ z. IsTrue (has z x)) is (has_at c.deref.result.now j lt)) in
+    c.requires.inner r x (has_at c.args.list.now c.loop-r.r-index (omega arith))
+    (subst (λ z. IsTrue (has z x)) is (has_at c.deref.result.now j lt))
+
+pub set_numbers-requires-clause-fit : goal.set_numbers-requires-clause-fit
+set_numbers-requires-clause-fit c = λ x.
+    let fit = c.requires.fit x in
     let len = c.loop-r.auto.row in
     omega arith
 
@@ -35,22 +38,21 @@ loop-r-preserved c =
     let groups = inner_at c.args.groups.now in
     let inv = c.loop-r.invariant in
     let is = group_is (goal.at.loop-r-preserved c).After-deref in
-    let more : (x : ℕ) → bit_in c.set_bits.new.row x ≡ (bit_in c.loop-r.row x || has (groups r) x) = λ x.
-    c.set_bits.ensures x ∙ ap (λ z. bit_in c.loop-r.row x || has z x) is in
     record {
-      kept = λ x t. more x ∙ or_left _ _ (inv.kept x t);
-      from = λ x t. elim (or_cases _ _ (sym (more x) ∙ t)) [
-        | inl t ↦ inv.from x t
-        | inr u ↦ inr (r, has_at c.args.list.now i (omega arith), u)
+      kept = λ y t. c.set_numbers.ensures.kept y (inv.kept y t);
+      from = λ y t. elim (c.set_numbers.ensures.from y t) [
+        | inl t ↦ inv.from y t
+        | inr u ↦ inr (r, has_at c.args.list.now i (omega arith), (u.0, subst (λ z. IsTrue (has z u.0)) is u.1, u.2))
       ];
       to = λ j x lt u. elim (cases_eq j i) [
-        | inl e ↦ more x ∙ or_right (bit_in c.loop-r.row x) _ (subst (λ z. IsTrue (has (groups (get_or c.args.list.now z 0)) x)) e u)
-        | inr ne ↦ more x ∙ or_left _ _ (inv.to j x (omega arith) u)
+        | inl e ↦ c.set_numbers.ensures.to x (subst (λ z. IsTrue (has z x)) (sym is)
+            (subst (λ z. IsTrue (has (groups (get_or c.args.list.now z 0)) x)) e u))
+        | inr ne ↦ c.set_numbers.ensures.kept (get_or c.args.numbers.now x 0) (inv.to j x (omega arith) u)
       ];
     }
 
 pub returns-clause-to : goal.returns-clause-to
-returns-clause-to c = λ x (r, h, u).
+returns-clause-to c = λ r x h u.
     let at = place_of c.args.list.now r h in
     let lt = at.1 in
     c.loop-r.invariant.to at.0 x (omega arith) (subst (λ z. IsTrue (has (inner_at c.args.groups.now z) x)) (sym at.2) u)

@@ -1,7 +1,7 @@
 use Rattle.std.proofs.Common.{◌≡◌, ◌||◌, ℕ, take}
 use Rattle.matrix_market.specs.Pattern.{has}
 use Rattle.elimination.specs.Dense.{bit_in}
-use Rattle.elimination.proofs.dense.set_bits.Given as goal
+use Rattle.elimination.proofs.dense_tests.set_bits.Given as goal
 
 abbrev pub invariant-loop-x : goal.invariant-loop-x
 invariant-loop-x l = (y : ℕ) → bit_in l.row y ≡ (bit_in l.fn.row y || has (take l.x-index l.list) y)

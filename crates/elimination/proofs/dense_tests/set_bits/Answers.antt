@@ -5,7 +5,7 @@ use Rattle.std.proofs.Math.Bool.{or-false}
 use Rattle.matrix_market.specs.Pattern.{has}
 use Rattle.elimination.specs.Dense.{bit_in}
 use Rattle.elimination.proofs.VertexLists.{has_more}
-use Rattle.elimination.proofs.dense.set_bits.Goals as goal
+use Rattle.elimination.proofs.dense_tests.set_bits.Goals as goal
 
 pub loop-x-init : goal.loop-x-init
 loop-x-init c = λ y. sym (or-false (bit_in c.args.row.now y))

@@ -1,0 +1,43 @@
+use Rattle.std.proofs.Common.{inl, inr, ℕ, get_or, arith, subst, sym, ap, ◌∙◌, IsTrue}
+use Rattle.std.proofs.lemmas.Bool.{cases_eq}
+use Rattle.elimination.specs.Dense.{bit_in}
+use Rattle.elimination.proofs.VertexLists.{has_at, place_of}
+use Rattle.elimination.proofs.switch.set_numbers.Goals as goal
+
+pub loop-x-init : goal.loop-x-init
+loop-x-init c = record { kept = λ y t. t; from = λ y t. inl t; to = λ j lt. absurd (omega arith) }
+
+pub set_bit-requires : goal.set_bit-requires
+set_bit-requires c =
+    let x = get_or c.args.list.now c.loop-x.x-index 0 in
+    let fit = c.requires.fit x in
+    let len = c.loop-x.auto.row in
+    omega arith
+
+pub loop-x-preserved : goal.loop-x-preserved
+loop-x-preserved c =
+    let i = c.loop-x.x-index in
+    let x = get_or c.args.list.now c.loop-x.x-index 0 in
+    let k = get_or c.args.numbers.now x 0 in
+    let inv = c.loop-x.invariant in
+    let kept : (y : ℕ) → IsTrue (bit_in c.loop-x.row y) → IsTrue (bit_in c.set_bit.new.row y) = λ y t. elim (cases_eq y k) [
+      | inl e ↦ ap (bit_in c.set_bit.new.row) e ∙ c.set_bit.ensures.set
+      | inr ne ↦ c.set_bit.ensures.others y ne ∙ t
+    ] in
+    record {
+      kept = λ y t. kept y (inv.kept y t);
+      from = λ y t. elim (cases_eq y k) [
+        | inl e ↦ inr (x, has_at c.args.list.now i (omega arith), sym e)
+        | inr ne ↦ inv.from y (sym (c.set_bit.ensures.others y ne) ∙ t)
+      ];
+      to = λ j lt. elim (cases_eq j i) [
+        | inl e ↦ ap (λ z. bit_in c.set_bit.new.row (get_or c.args.numbers.now (get_or c.args.list.now z 0) 0)) e ∙ c.set_bit.ensures.set
+        | inr ne ↦ kept (get_or c.args.numbers.now (get_or c.args.list.now j 0) 0) (inv.to j (omega arith))
+      ];
+    }
+
+pub returns-clause-to : goal.returns-clause-to
+returns-clause-to c = λ x h.
+    let at = place_of c.args.list.now x h in
+    let lt = at.1 in
+    subst (λ z. IsTrue (bit_in c.loop-x.row (get_or c.args.numbers.now z 0))) at.2 (c.loop-x.invariant.to at.0 (omega arith))
