@@ -1,0 +1,6 @@
+pub mod Leads
+pub mod Raisings
+pub mod Running
+pub mod OrderSteps
+pub mod ItemSpans
+pub mod LeastAmounts

@@ -1,0 +1,256 @@
+-- One item is raised: which it is, and what stays right.
+use Rattle.std.proofs.Common.{◌≡◌, ◌≢◌, ℕ, zero, suc, ◌+◌, ◌-◌, ◌^◌, ◌<◌, ◌≤◌, ◌⊎◌, inl, inr, Bool, true, false, cond, refl, sym, subst, ap, arith, ◌∙◌, List, [], ◌∷◌, length, get_or, set}
+use Rattle.std.specs.Prelude.{nat_eq, slice_index}
+use Rattle.std.proofs.lemmas.Bool.{cases_eq, ne_eqb}
+use Rattle.std.proofs.lemmas.List.{get_or-set_same, get_or-set_other, length-set}
+use Rattle.spill_plan.specs.declared.span.Span.{Span}
+use Rattle.spill_plan.specs.SpillPlans.{sum_from}
+use Rattle.spill_plan.specs.Spans.{no_span, span_at, AreItemSpans, is_across, kept_at}
+use Rattle.spill_plan.specs.Spilled.{IsEndRanking, AreStarts, left_at, AreLeft, IsRaising}
+use Rattle.min_tree.specs.Least.{greatest}
+use Rattle.spill_plan.specs.Spilled.{IsFirstAtMost}
+use Rattle.spill_plan.proofs.Leads.{split, sum-le-all, cond-yes, cond-no}
+
+pub record Across (k : ℕ) (x : Span) : Type 0 where
+  pub start : x.start ≤ k
+  pub end : k < x.end
+
+pub across-is : (k : ℕ) (x : Span) → is_across k x ≡ true → Across k x
+across-is k x e = record { start = grind arith; end = grind arith }
+
+pub is-across : (k : ℕ) (x : Span) → x.start ≤ k → k < x.end → is_across k x ≡ true
+is-across k x h l = grind arith
+
+two_ways : (b : Bool) → (b ≡ true) ⊎ (b ≡ false)
+two_ways true = inl refl
+two_ways false = inr refl
+
+-- ---- sums that differ at one place
+
+sum-change-from : (f g : ℕ → Span → ℕ) (base : ℕ) (xs : List Span) (i : ℕ) → i < length xs → ((j : ℕ) → j < length xs → j ≢ i → f (base + j) (get_or xs j no_span) ≡ g (base + j) (get_or xs j no_span))
+    → sum_from base f xs + g (base + i) (get_or xs i no_span) ≡ sum_from base g xs + f (base + i) (get_or xs i no_span)
+sum-change-from f g base [] i h same = absurd (omega arith)
+sum-change-from f g base (x ∷ xs) zero h same =
+    let e : base + 0 ≡ base = omega arith in
+    let rest = tails f g (suc base) xs (λ j l. subst (λ n. f n (get_or xs j no_span) ≡ g n (get_or xs j no_span)) (omega arith) (same (suc j) (omega arith) (omega arith))) in
+    rw e (omega (arith, rest))
+  where
+    tails : (f g : ℕ → Span → ℕ) (base : ℕ) (xs : List Span) → ((j : ℕ) → j < length xs → f (base + j) (get_or xs j no_span) ≡ g (base + j) (get_or xs j no_span)) → sum_from base f xs ≡ sum_from base g xs
+    tails f g base [] each = refl
+    tails f g base (x ∷ xs) each =
+        let here : f base x ≡ g base x = subst (λ n. f n x ≡ g n x) (omega arith) (each 0 (omega arith)) in
+        omega (arith, here, tails f g (suc base) xs (λ j l. subst (λ n. f n (get_or xs j no_span) ≡ g n (get_or xs j no_span)) (omega arith) (each (suc j) (omega arith))))
+sum-change-from f g base (x ∷ xs) (suc i) h same =
+    let here : f base x ≡ g base x = subst (λ n. f n x ≡ g n x) (omega arith) (same 0 (omega arith) (omega arith)) in
+    let e : base + suc i ≡ suc base + i = omega arith in
+    let rest = sum-change-from f g (suc base) xs i (omega arith) (λ j l ne. subst (λ n. f n (get_or xs j no_span) ≡ g n (get_or xs j no_span)) (omega arith) (same (suc j) (omega arith) (omega arith))) in
+    rw e (omega (arith, rest, here))
+
+pub sum-change : (f g : ℕ → Span → ℕ) (xs : List Span) (i : ℕ) → i < length xs → ((j : ℕ) → j < length xs → j ≢ i → f j (get_or xs j no_span) ≡ g j (get_or xs j no_span))
+    → sum_from 0 f xs + g i (get_or xs i no_span) ≡ sum_from 0 g xs + f i (get_or xs i no_span)
+sum-change f g xs i h same =
+    let e : 0 + i ≡ i = omega arith in
+    let whole = sum-change-from f g 0 xs i h (λ j l ne. subst (λ n. f n (get_or xs j no_span) ≡ g n (get_or xs j no_span)) (omega arith) (same j l ne)) in
+    subst (λ n. sum_from 0 f xs + g n (get_or xs i no_span) ≡ sum_from 0 g xs + f n (get_or xs i no_span)) e whole
+
+pub sum-none : (f : ℕ → Span → ℕ) (xs : List Span) → ((j : ℕ) → j < length xs → f j (get_or xs j no_span) ≡ 0) → sum_from 0 f xs ≡ 0
+sum-none f xs each = omega (arith, sum-le-all f (λ i x. 0) xs (λ i h. omega (arith, each i h)), zeros 0 xs)
+  where
+    zeros : (base : ℕ) (xs : List Span) → sum_from base (λ i x. 0) xs ≡ 0
+    zeros base [] = refl
+    zeros base (x ∷ xs) = omega (arith, zeros (suc base) xs)
+
+pub term-le : (f : ℕ → Span → ℕ) (xs : List Span) (i : ℕ) → i < length xs → f i (get_or xs i no_span) ≤ sum_from 0 f xs
+term-le f xs i h = let e : 0 + i ≡ i = omega arith in subst (λ n. f n (get_or xs i no_span) ≤ sum_from 0 f xs) e (go 0 xs i h refl)
+  where
+    go : (base : ℕ) (ys : List Span) (j : ℕ) → j < length ys → base + j ≡ base + j → f (base + j) (get_or ys j no_span) ≤ sum_from base f ys
+    go base [] j l e = absurd (omega arith)
+    go base (y ∷ ys) zero l e = let e0 : base + 0 ≡ base = omega arith in rw e0 (omega arith)
+    go base (y ∷ ys) (suc j) l e = let e1 : base + suc j ≡ suc base + j = omega arith in rw e1 (omega (arith, go (suc base) ys j (omega arith) (omega arith)))
+
+-- ---- which item is raised
+
+module _ (xs : List Span) (steps : ℕ) (ranks amounts values : List ℕ) (k missing : ℕ) (spans : AreItemSpans xs steps) (ranking : IsEndRanking xs ranks)
+    (starts : AreStarts xs ranks amounts values) (some : 0 < missing) (room : missing ≤ kept_at k (slice_index amounts) xs) (small : k < 1000000) where
+  -- not all that is held has been spilled whole
+  not_all : ((j : ℕ) → j < length xs → is_across k (span_at xs j) ≡ true → (span_at xs j).size ≤ get_or amounts j 0) → ⊥
+  not_all full =
+      let e = sum-none (λ i x. cond (is_across k x) (x.size - get_or amounts i 0) 0) xs
+      (λ j h. elim (two_ways (is_across k (get_or xs j no_span))) [
+        | inl held ↦ (let c = cond-yes (is_across k (get_or xs j no_span)) ((get_or xs j no_span).size - get_or amounts j 0) held in omega (arith, c, full j h held))
+        | inr away ↦ cond-no (is_across k (get_or xs j no_span)) ((get_or xs j no_span).size - get_or amounts j 0) away
+      ]) in
+      omega (arith, e, room, some)
+
+  full_at : (s : ℕ) → s < length xs → k < get_or values s 0 → is_across k (span_at xs (get_or ranks s 0)) ≡ true → (span_at xs (get_or ranks s 0)).size ≤ get_or amounts (get_or ranks s 0) 0
+  full_at s h great held = split (span_at xs (get_or ranks s 0)).size (get_or amounts (get_or ranks s 0) 0) (λ l. l)
+      (λ l. absurd (omega (arith, great, starts.left s h l, (across-is k (span_at xs (get_or ranks s 0)) held).start)))
+
+  pub none_found : ((r : ℕ) → r < length values → k < get_or values r 0) → ⊥
+  none_found great = not_all (λ j h held.
+      let (s, l, e) = ranking.onto j h in
+      subst (λ z. (span_at xs z).size ≤ get_or amounts z 0) e (full_at s l (great s (omega (arith, starts.len))) (subst (λ z. is_across k (span_at xs z) ≡ true) (sym e) held)))
+
+  module _ (r : ℕ) (within : r < length values) (low : get_or values r 0 ≤ k) (first : (s : ℕ) → s < r → k < get_or values s 0) where
+    pub rank_in : r < length xs
+    rank_in = omega (arith, starts.len)
+
+    i : ℕ
+    i = get_or ranks r 0
+
+    pub item_in : get_or ranks r 0 < length xs
+    item_in = ranking.within r rank_in
+
+    pub has_room : get_or amounts (get_or ranks r 0) 0 < (span_at xs (get_or ranks r 0)).size
+    has_room = split (span_at xs (get_or ranks r 0)).size (get_or amounts (get_or ranks r 0) 0) (λ l. absurd (omega (arith, starts.full r rank_in l))) (λ l. l)
+
+    pub late_full : (j : ℕ) → j < length xs → is_across k (span_at xs j) ≡ true → (span_at xs (get_or ranks r 0)).end < (span_at xs j).end → (span_at xs j).size ≤ get_or amounts j 0
+    late_full j h held later =
+        let (s, l, e) = ranking.onto j h in
+        let early : s < r = split r s (λ m. absurd (omega (arith, ranking.falling r s m l, ap (λ z. (span_at xs z).end) e))) (λ m. m) in
+        subst (λ z. (span_at xs z).size ≤ get_or amounts z 0) e (full_at s l (first s early) (subst (λ z. is_across k (span_at xs z) ≡ true) (sym e) held))
+
+    pub held_now : is_across k (span_at xs (get_or ranks r 0)) ≡ true
+    held_now = is-across k (span_at xs (get_or ranks r 0)) (omega (arith, starts.left r rank_in has_room))
+        (split (span_at xs (get_or ranks r 0)).end k
+        (λ ended. absurd (not_all (λ j h held. late_full j h held (omega (arith, (across-is k (span_at xs j) held).end)))))
+        (λ m. m))
+
+-- ---- what stays right
+
+module _ (xs : List Span) (amounts : List ℕ) (i part : ℕ) (len : length amounts ≡ length xs) (inside : i < length xs) (fits : part + get_or amounts i 0 ≤ (span_at xs i).size) where
+  here : get_or (set amounts i (get_or amounts i 0 + part)) i 0 ≡ get_or amounts i 0 + part
+  here = get_or-set_same amounts i (get_or amounts i 0 + part) 0 (omega (arith, len, inside))
+
+  there : (j : ℕ) → j ≢ i → get_or (set amounts i (get_or amounts i 0 + part)) j 0 ≡ get_or amounts j 0
+  there j ne = get_or-set_other amounts i j (get_or amounts i 0 + part) 0 ne
+
+  pub raised_kept : (k : ℕ) → is_across k (span_at xs i) ≡ true
+      → kept_at k (slice_index (set amounts i (get_or amounts i 0 + part))) xs + part ≡ kept_at k (slice_index amounts) xs
+  raised_kept k held =
+      let is = set amounts i (get_or amounts i 0 + part) in
+      let f : ℕ → Span → ℕ = λ j x. cond (is_across k x) (x.size - get_or is j 0) 0 in
+      let g : ℕ → Span → ℕ = λ j x. cond (is_across k x) (x.size - get_or amounts j 0) 0 in
+      let e = sum-change f g xs i inside (λ j h ne. ap (λ n. cond (is_across k (get_or xs j no_span)) ((get_or xs j no_span).size - n) 0) (there j ne)) in
+      omega (arith, e, here, fits, cond-yes (is_across k (get_or xs i no_span)) ((get_or xs i no_span).size - get_or is i 0) held, cond-yes (is_across k (get_or xs i no_span)) ((get_or xs i no_span).size - get_or amounts i 0) held)
+
+  pub left_fits : (leaving : List ℕ) → AreLeft xs amounts leaving → (span_at xs i).end < length leaving → part ≤ get_or leaving (span_at xs i).end 0
+  left_fits leaving left w =
+      let e = (span_at xs i).end in
+      let g : ℕ → Span → ℕ = λ j x. cond (nat_eq x.end e) (x.size - get_or amounts j 0) 0 in
+      let same : nat_eq e e ≡ true = grind arith in
+      omega (arith, left e w, term-le g xs i inside, cond-yes (nat_eq e e) ((get_or xs i no_span).size - get_or amounts i 0) same, fits)
+
+  pub raised_left : (leaving : List ℕ) → AreLeft xs amounts leaving → (span_at xs i).end < length leaving
+      → AreLeft xs (set amounts i (get_or amounts i 0 + part)) (set leaving (span_at xs i).end (get_or leaving (span_at xs i).end 0 - part))
+  raised_left leaving left w e h =
+      let is = set amounts i (get_or amounts i 0 + part) in
+      let end = (span_at xs i).end in
+      let f : ℕ → Span → ℕ = λ j x. cond (nat_eq x.end e) (x.size - get_or is j 0) 0 in
+      let g : ℕ → Span → ℕ = λ j x. cond (nat_eq x.end e) (x.size - get_or amounts j 0) 0 in
+      let changed = sum-change f g xs i inside (λ j l ne. ap (λ n. cond (nat_eq (get_or xs j no_span).end e) ((get_or xs j no_span).size - n) 0) (there j ne)) in
+      let room : e < length leaving = omega (arith, length-set leaving end (get_or leaving end 0 - part)) in
+      elim (cases_eq e end) [
+        | inl same ↦ (
+            let yes : nat_eq end e ≡ true = rw same (grind arith) in
+            let written : get_or (set leaving end (get_or leaving end 0 - part)) e 0 ≡ get_or leaving end 0 - part = rw same (get_or-set_same leaving end (get_or leaving end 0 - part) 0 w) in
+            let was : get_or leaving end 0 ≡ left_at e (slice_index amounts) xs = subst (λ z. get_or leaving z 0 ≡ left_at e (slice_index amounts) xs) same (left e room) in
+            omega (arith, written, was, changed, here, fits, cond-yes (nat_eq end e) ((get_or xs i no_span).size - get_or is i 0) yes, cond-yes (nat_eq end e) ((get_or xs i no_span).size - get_or amounts i 0) yes)
+            )
+        | inr other ↦ (
+            let no : nat_eq end e ≡ false = ne_eqb end e (λ z. other (sym z)) in
+            let kept = get_or-set_other leaving end e (get_or leaving end 0 - part) 0 other in
+            omega (arith, kept, left e room, changed, cond-no (nat_eq end e) ((get_or xs i no_span).size - get_or is i 0) no, cond-no (nat_eq end e) ((get_or xs i no_span).size - get_or amounts i 0) no)
+            )
+      ]
+
+  pub raised_more : (k spilled turn : ℕ) (was : ℕ → ℕ) → is_across k (span_at xs i) ≡ true → get_or amounts i 0 < (span_at xs i).size
+      → ((j : ℕ) → j < length xs → is_across k (span_at xs j) ≡ true → (span_at xs i).end < (span_at xs j).end → (span_at xs j).size ≤ get_or amounts j 0)
+      → IsRaising xs k was (slice_index amounts) spilled turn → IsRaising xs k was (slice_index (set amounts i (get_or amounts i 0 + part))) (spilled + part) (span_at xs i).end
+  raised_more k spilled turn was held room late r =
+      let is = set amounts i (get_or amounts i 0 + part) in
+      let f : ℕ → Span → ℕ = λ j x. cond (is_across k x) (get_or is j 0) 0 in
+      let g : ℕ → Span → ℕ = λ j x. cond (is_across k x) (get_or amounts j 0) 0 in
+      let changed = sum-change f g xs i inside (λ j h ne. ap (λ n. cond (is_across k (get_or xs j no_span)) n 0) (there j ne)) in
+      let turns : (span_at xs i).end ≤ turn = split (span_at xs i).end turn (λ l. l) (λ l. absurd (omega (arith, r.after i inside held l))) in
+      record {
+        within = λ j h. elim (cases_eq j i) [
+          | inl same ↦ subst (λ z. get_or is z 0 ≤ (span_at xs z).size) (sym same) (omega (arith, here, fits))
+          | inr other ↦ omega (arith, there j other, r.within j h)
+        ];
+        more = λ j h. elim (cases_eq j i) [
+          | inl same ↦ subst (λ z. was z ≤ get_or is z 0) (sym same) (omega (arith, here, r.more i inside))
+          | inr other ↦ omega (arith, there j other, r.more j h)
+        ];
+        others = λ j h not_held. elim (cases_eq j i) [
+          | inl same ↦ absurd (clash (sym held ∙ subst (λ z. is_across k (span_at xs z) ≡ false) same not_held))
+          | inr other ↦ there j other ∙ r.others j h not_held
+        ];
+        sum_is = omega (arith, changed, here, r.sum_is, cond-yes (is_across k (get_or xs i no_span)) (get_or is i 0) held, cond-yes (is_across k (get_or xs i no_span)) (get_or amounts i 0) held);
+        before = λ j h early. elim (cases_eq j i) [
+          | inl same ↦ absurd (omega (arith, ap (λ z. (span_at xs z).end) same))
+          | inr other ↦ there j other ∙ r.before j h (omega (arith, turns))
+        ];
+        after = λ j h held_j later. elim (cases_eq j i) [
+          | inl same ↦ absurd (omega (arith, ap (λ z. (span_at xs z).end) same))
+          | inr other ↦ omega (arith, there j other, late j h held_j later, r.within j h)
+        ];
+      }
+    where
+      clash : true ≡ false → ⊥
+      clash e = cc
+
+  module _ (ranks values : List ℕ) (r : ℕ) (ranking : IsEndRanking xs ranks) (starts : AreStarts xs ranks amounts values) (rank_in : r < length xs) (at : get_or ranks r 0 ≡ i) where
+    apart : (s : ℕ) → s < length xs → s ≢ r → get_or ranks s 0 ≢ i
+    apart s h ne e = ne (ranking.one s r h rank_in (e ∙ sym at))
+
+    pub raised_starts : part + get_or amounts i 0 < (span_at xs i).size → AreStarts xs ranks (set amounts i (get_or amounts i 0 + part)) values
+    raised_starts more_left = record {
+      len = starts.len;
+      left = λ s h less. elim (cases_eq s r) [
+        | inl same ↦ starts.left s h (subst (λ z. get_or amounts (get_or ranks z 0) 0 < (span_at xs (get_or ranks z 0)).size) (sym same) (subst (λ z. get_or amounts z 0 < (span_at xs z).size) (sym at) (omega arith)))
+        | inr other ↦ starts.left s h (omega (arith, there (get_or ranks s 0) (apart s h other)))
+      ];
+      full = λ s h full. elim (cases_eq s r) [
+        | inl same ↦ absurd (let e : get_or ranks s 0 ≡ i = ap (λ z. get_or ranks z 0) same ∙ at in
+            let bad = subst (λ z. (span_at xs z).size ≤ get_or (set amounts i (get_or amounts i 0 + part)) z 0) e full in omega (arith, bad, here))
+        | inr other ↦ starts.full s h (omega (arith, there (get_or ranks s 0) (apart s h other)))
+      ];
+    }
+
+    pub closed_starts : (span_at xs i).size ≤ part + get_or amounts i 0 → AreStarts xs ranks (set amounts i (get_or amounts i 0 + part)) (set values r greatest)
+    closed_starts none_left =
+        let len_v = length-set values r greatest in
+        record {
+          len = omega (arith, len_v, starts.len);
+          left = λ s h less. elim (cases_eq s r) [
+            | inl same ↦ absurd (let e : get_or ranks s 0 ≡ i = ap (λ z. get_or ranks z 0) same ∙ at in
+                let bad = subst (λ z. get_or (set amounts i (get_or amounts i 0 + part)) z 0 < (span_at xs z).size) e less in omega (arith, bad, here))
+            | inr other ↦ get_or-set_other values r s greatest 0 other ∙ starts.left s h (omega (arith, there (get_or ranks s 0) (apart s h other)))
+          ];
+          full = λ s h full. elim (cases_eq s r) [
+            | inl same ↦ subst (λ z. get_or (set values r greatest) z 0 ≡ greatest) (sym same) (get_or-set_same values r greatest 0 (omega (arith, starts.len)))
+            | inr other ↦ get_or-set_other values r s greatest 0 other ∙ starts.full s h (omega (arith, there (get_or ranks s 0) (apart s h other)))
+          ];
+        }
+
+-- the item that is raised, all that is known of it
+pub record Picked (xs : List Span) (ranks amounts : List ℕ) (k r : ℕ) : Type 0 where
+  pub rank_in : r < length xs
+  pub item_in : get_or ranks r 0 < length xs
+  pub room : get_or amounts (get_or ranks r 0) 0 < (span_at xs (get_or ranks r 0)).size
+  pub held : is_across k (span_at xs (get_or ranks r 0)) ≡ true
+  pub late : (j : ℕ) → j < length xs → is_across k (span_at xs j) ≡ true → (span_at xs (get_or ranks r 0)).end < (span_at xs j).end → (span_at xs j).size ≤ get_or amounts j 0
+
+pub picked : (xs : List Span) (steps : ℕ) (ranks amounts values : List ℕ) (k missing x r : ℕ) → AreItemSpans xs steps → IsEndRanking xs ranks → AreStarts xs ranks amounts values → 0 < missing
+    → missing ≤ kept_at k (slice_index amounts) xs → k < 1000000 → x ≡ k → IsFirstAtMost values x r → Picked xs ranks amounts k r
+picked xs steps ranks amounts values k missing x r spans ranking starts some room small is f =
+    let low : get_or values r 0 ≤ k = omega (arith, f.small) in
+    let first : (s : ℕ) → s < r → k < get_or values s 0 = λ s h. omega (arith, f.first s h) in
+    record {
+      rank_in = rank_in xs steps ranks amounts values k missing spans ranking starts some room small r f.within low first;
+      item_in = item_in xs steps ranks amounts values k missing spans ranking starts some room small r f.within low first;
+      room = has_room xs steps ranks amounts values k missing spans ranking starts some room small r f.within low first;
+      held = held_now xs steps ranks amounts values k missing spans ranking starts some room small r f.within low first;
+      late = late_full xs steps ranks amounts values k missing spans ranking starts some room small r f.within low first;
+    }

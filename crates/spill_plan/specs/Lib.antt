@@ -1,0 +1,4 @@
+pub mod SpillPlans
+pub mod Refusal
+pub mod Spans
+pub mod Spilled
