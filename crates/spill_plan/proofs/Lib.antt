@@ -4,3 +4,5 @@ pub mod Running
 pub mod OrderSteps
 pub mod ItemSpans
 pub mod LeastAmounts
+pub mod StepNeeds
+pub mod Rankings

@@ -1,5 +1,5 @@
 -- One item is raised: which it is, and what stays right.
-use Rattle.std.proofs.Common.{◌≡◌, ◌≢◌, ℕ, zero, suc, ◌+◌, ◌-◌, ◌^◌, ◌<◌, ◌≤◌, ◌⊎◌, inl, inr, Bool, true, false, cond, refl, sym, subst, ap, arith, ◌∙◌, List, [], ◌∷◌, length, get_or, set}
+use Rattle.std.proofs.Common.{◌≡◌, ◌≢◌, ℕ, zero, suc, ◌+◌, ◌-◌, ◌^◌, ◌<◌, ◌≤◌, ◌⊎◌, inl, inr, Bool, true, false, cond, refl, sym, subst, ap, arith, ◌∙◌, List, [], ◌∷◌, length, get_or, set, min}
 use Rattle.std.specs.Prelude.{nat_eq, slice_index}
 use Rattle.std.proofs.lemmas.Bool.{cases_eq, ne_eqb}
 use Rattle.std.proofs.lemmas.List.{get_or-set_same, get_or-set_other, length-set}
@@ -253,4 +253,28 @@ picked xs steps ranks amounts values k missing x r spans ranking starts some roo
       room = has_room xs steps ranks amounts values k missing spans ranking starts some room small r f.within low first;
       held = held_now xs steps ranks amounts values k missing spans ranking starts some room small r f.within low first;
       late = late_full xs steps ranks amounts values k missing spans ranking starts some room small r f.within low first;
+    }
+
+-- ---- all that stays right when it is raised by the lesser of what is left of it and what is missing
+
+pub record IsNext (xs : List Span) (amounts leaving : List ℕ) (k part missing over i : ℕ) (was : ℕ → ℕ) : Type 0 where
+  pub raising : (turn : ℕ) × IsRaising xs k was (slice_index (set amounts i (get_or amounts i 0 + part))) (over - (missing - part)) turn
+  pub left : AreLeft xs (set amounts i (get_or amounts i 0 + part)) (set leaving (span_at xs i).end (get_or leaving (span_at xs i).end 0 - part))
+  pub room : missing - part ≤ kept_at k (slice_index (set amounts i (get_or amounts i 0 + part))) xs
+  pub enough : part ≤ get_or leaving (span_at xs i).end 0
+
+pub next_raised : (xs : List Span) (ranks amounts leaving : List ℕ) (k part missing over r : ℕ) (was : ℕ → ℕ) → Picked xs ranks amounts k r → length amounts ≡ length xs
+    → (span_at xs (get_or ranks r 0)).end < length leaving → part ≡ min ((span_at xs (get_or ranks r 0)).size - get_or amounts (get_or ranks r 0) 0) missing → missing ≤ over
+    → AreLeft xs amounts leaving → missing ≤ kept_at k (slice_index amounts) xs → (turn : ℕ) × IsRaising xs k was (slice_index amounts) (over - missing) turn
+    → IsNext xs amounts leaving k part missing over (get_or ranks r 0) was
+next_raised xs ranks amounts leaving k part missing over r was p len end_in part_is below left room raising =
+    let i = get_or ranks r 0 in
+    let fits : part + get_or amounts i 0 ≤ (span_at xs i).size = omega (arith, p.room) in
+    let more = raised_more xs amounts i part len p.item_in fits k (over - missing) raising.0 was p.held p.room p.late raising.1 in
+    let spilled : over - missing + part ≡ over - (missing - part) = omega arith in
+    record {
+      raising = ((span_at xs i).end, subst (λ n. IsRaising xs k was (slice_index (set amounts i (get_or amounts i 0 + part))) n (span_at xs i).end) spilled more);
+      left = raised_left xs amounts i part len p.item_in fits leaving left end_in;
+      room = omega (arith, raised_kept xs amounts i part len p.item_in fits k p.held);
+      enough = left_fits xs amounts i part len p.item_in fits leaving left end_in;
     }

@@ -37,16 +37,18 @@ raised_some xs need bound k over turn was is fits total some r =
       last = inr (record { exact = omega (arith, e, r.sum_is, total); turn = turn; before = r.before; after = r.after });
     }
 
--- one step that spilled nothing
-pub raised_none : (xs : List Span) (need : ℕ → ℕ) (bound k : ℕ) (was : ℕ → ℕ) → ((i : ℕ) → i < length xs → was i ≤ (get_or xs i no_span).size)
-    → need k + kept_at k was xs ≤ bound → IsRaised xs k (demand xs need bound k) was was
-raised_none xs need bound k was fits total = record {
-  within = fits;
-  more = λ i h. omega arith;
-  others = λ i h e. refl;
-  enough = omega (arith, held_parts xs k was fits);
-  last = inl (λ i h. refl);
-}
+-- one step, whatever it spilled
+pub raised_over : (xs : List Span) (need : ℕ → ℕ) (bound k over : ℕ) (was is : ℕ → ℕ) → ((i : ℕ) → i < length xs → was i ≤ (get_or xs i no_span).size)
+    → over ≡ need k + kept_at k was xs - bound → (turn : ℕ) → IsRaising xs k was is over turn → (over ≡ 0 → (i : ℕ) → is i ≡ was i) → IsRaised xs k (demand xs need bound k) was is
+raised_over xs need bound k over was is fits over_is turn r none = split over 0
+    (λ nothing. record {
+      within = r.within;
+      more = r.more;
+      others = r.others;
+      enough = omega (arith, held_parts xs k was fits, r.sum_is);
+      last = inl (λ i h. none (omega arith) i);
+    })
+    (λ some. raised_some xs need bound k over turn was is fits (omega arith) some r)
 
 not_across : (k : ℕ) (x : Span) → x.end ≤ x.start → is_across k x ≡ false
 not_across k x h = grind arith

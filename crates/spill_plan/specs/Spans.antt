@@ -15,7 +15,8 @@ step_of (u ∷ order) task = if u == task then 0 else suc (step_of order task)
 
 -- the table of these steps
 pub record AreSteps (system : TaskSystem) (order steps : List ℕ) : Type 0 where
-  pub len : length steps ≡ length order
+  pub few : length order ≤ most_tasks
+  pub len : length steps ≡ length system.tasks
   pub each : (task : ℕ) → IsTask system task → slice_index steps (task - 1) ≡ step_of order task
 
 -- the first step across which an item is held, and the first from there on across which it is not

@@ -1,4 +1,4 @@
-ghost use Rattle.std.specs.Prelude.{◌≡◌, ◌≤◌, ◌<◌, ◌+◌, ℕ, length, map, slice_index, IfOk, vec_len};
+ghost use Rattle.std.specs.Prelude.{◌≡◌, ◌≤◌, ◌<◌, ◌+◌, ◌^◌, ℕ, length, map, slice_index, IfOk, vec_len};
 ghost use Rattle.mp_system.specs.Traversal.{IsTraversal};
 ghost use Rattle.spill_plan.specs.SpillPlans.{own_need};
 ghost use Rattle.spill_plan.specs.Spans.{span_of, start_sum, end_sum};
@@ -24,6 +24,7 @@ pub fn own_needs(
     ensures len { IfOk result (λ needs. vec_len needs ≡ length order.now) }
     ensures needs { IfOk result (λ needs. (step : ℕ) → step < length order.now →
         slice_index needs.items step ≡ own_need system.now order.now step) }
+    ensures small { IfOk result (λ needs. (step : ℕ) → step < length order.now → slice_index needs.items step ≤ 2 ^ 62) }
 {
     traversal_law();
     let tasks = system.tasks();

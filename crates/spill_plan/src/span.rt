@@ -2,7 +2,7 @@ ghost use Rattle.std.specs.Prelude.{◌≡◌, length, map, IfOk};
 ghost use Rattle.std.specs.Option.{ForSome};
 ghost use Rattle.mp_system.specs.System.{IsTask};
 ghost use Rattle.mp_system.specs.Traversal.{IsTraversal};
-ghost use Rattle.spill_plan.specs.Spans.{AreSteps, start_of_item, end_of_item, span_of};
+ghost use Rattle.spill_plan.specs.Spans.{AreItemSpans, AreSteps, start_of_item, end_of_item, span_of};
 
 use crate::NoMemory;
 use crate::steps::steps_by_task;
@@ -24,7 +24,6 @@ fn start_of_item(system: &System, order: &[u32], steps: &[u32], producer: Option
     requires task { ForSome producer (IsTask system.now) }
     ensures { result ≡ start_of_item order.now producer }
 {
-    system.keeps();
     match producer {
         None => 0,
         Some(task) => steps[task as usize - 1] + 1,
@@ -38,7 +37,6 @@ fn end_of_item(system: &System, order: &[u32], steps: &[u32], consumer: Option<u
     requires task { ForSome consumer (IsTask system.now) }
     ensures { result ≡ end_of_item order.now consumer }
 {
-    system.keeps();
     match consumer {
         None => order.len() as u32,
         Some(task) => steps[task as usize - 1],
@@ -48,7 +46,8 @@ fn end_of_item(system: &System, order: &[u32], steps: &[u32], consumer: Option<u
 /// The items of a system as spans along a traversal.
 pub fn spans_of(alloc: Global, system: &System, order: &[u32]) -> Result<Vec<Span>, NoMemory>
     requires { IsTraversal system.now order.now }
-    ensures { IfOk result (λ spans. spans.items ≡ map (span_of order.now) system.now.items) }
+    ensures spans { IfOk result (λ spans. spans.items ≡ map (span_of order.now) system.now.items) }
+    ensures within { IfOk result (λ spans. AreItemSpans spans.items (length order.now)) }
 {
     let steps = steps_by_task(alloc, system, order)?;
     let items = system.items();

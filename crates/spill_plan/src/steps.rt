@@ -18,7 +18,7 @@ pub fn steps_by_task(
 {
     traversal_law();
     system.keeps();
-    let mut steps: Vec<u32> = vec![in alloc; 0; order.len()]?;
+    let mut steps: Vec<u32> = vec![in alloc; 0; system.tasks().len()]?;
     for step in 0..order.len() {
         steps[order[step] as usize - 1] = step as u32;
     }
