@@ -8,6 +8,10 @@ use Rattle.mp_system.specs.System.{TaskSystem, IsSystem}
 use Rattle.mp_system.specs.Traversal.{IsTraversal}
 use Rattle.spill_plan.specs.declared.span.Span.{Span}
 use Rattle.spill_plan.specs.SpillPlans.{is_held, own_need, nth_item, sum_from, IsSpillPlan, most_among, plan_volume, plan_by_amounts, IsLeastSpill}
+use Rattle.spill_plan.specs.declared.refusal.SpillRefusal.{SpillRefusal}
+use Rattle.spill_plan.specs.declared.refusal.SpillRefusal.TheVariants.{Order, WorkingSet, NoMemory}
+use Rattle.spill_plan.specs.Refusal.{IsSpillRefusal}
+use Rattle.spill_plan.specs.Spilled.{IsOverNeed}
 use Rattle.spill_plan.specs.Spans.{span_of, no_span, span_at, AreItemSpans, is_across, amount_sum, IsSpanPlan, span_plan, IsSpilledAfter}
 use Rattle.spill_plan.proofs.Leads.{split, sum-le-all, sum-same-all, cond-yes, cond-no, most_among-within}
 use Rattle.spill_plan.proofs.Running.{run_plan, run_least, sum_from-sum_by}
@@ -93,6 +97,33 @@ module _ (system : TaskSystem) (order : List ℕ) (within : IsSystem system) (tr
     idle = stays_idle;
     least = λ other p. omega (arith, is, no_less other p);
   }
+
+-- the same of lists that are equal to these
+pub least_of_run : (system : TaskSystem) (order : List ℕ) → IsSystem system → IsTraversal system order → length order ≤ most_tasks → (bound : ℕ) (xs : List Span) (needs amounts : List ℕ)
+    → xs ≡ map (span_of order) system.items → length needs ≡ length order → ((k : ℕ) → k < length order → get_or needs k 0 ≡ own_need system order k)
+    → ((k : ℕ) → k < length needs → get_or needs k 0 ≤ bound) → length amounts ≡ length xs
+    → IsSpilledAfter xs (length needs) (slice_index needs) bound (length needs) (slice_index amounts) → (volume : ℕ) → volume ≡ sum amounts → IsLeastSpill system order bound amounts volume
+least_of_run system order within traversal few bound xs needs amounts same long needs_are fit len after volume is =
+    let now = subst (λ n. IsSpilledAfter (map (span_of order) system.items) n (slice_index needs) bound n (slice_index amounts)) long
+    (subst (λ (ys : List Span). IsSpilledAfter ys (length needs) (slice_index needs) bound (length needs) (slice_index amounts)) same after) in
+    least_spill system order within traversal few needs amounts bound needs_are (λ k h. fit k (omega arith)) (omega (arith, len, ap length same, spans-length system order)) now volume is
+
+-- a step that needs more for itself than the bound is refused as such
+pub over_need : (system : TaskSystem) (order : List ℕ) → IsTraversal system order → (bound : ℕ) (needs : List ℕ) → length needs ≡ length order
+    → ((k : ℕ) → k < length order → get_or needs k 0 ≡ own_need system order k) → (refusal : SpillRefusal) → IsOverNeed needs bound refusal → IsSpillRefusal system order bound refusal
+over_need system order traversal bound needs long needs_are (Order fault) over = absurd over
+over_need system order traversal bound needs long needs_are (WorkingSet step need stated) over = (
+  traversal,
+  record {
+    positive = over.0;
+    within = omega (arith, over.1);
+    need_is = omega (arith, over.2, needs_are (step - 1) (omega (arith, over.0, over.1)));
+    passes = over.3;
+    first = λ earlier h. omega (arith, over.4 earlier h, needs_are earlier (omega (arith, over.1)));
+  },
+  over.5,
+)
+over_need system order traversal bound needs long needs_are NoMemory over = absurd over
 
 -- ---- two least spills have one volume
 

@@ -7,8 +7,7 @@ use Rattle.spill_plan.specs.declared.span.Span.{Span}
 use Rattle.spill_plan.specs.SpillPlans.{sum_from}
 use Rattle.spill_plan.specs.Spans.{no_span, span_at, AreItemSpans, is_across, kept_at}
 use Rattle.spill_plan.specs.Spilled.{IsEndRanking, AreStarts, left_at, AreLeft, IsRaising}
-use Rattle.min_tree.specs.Least.{greatest}
-use Rattle.spill_plan.specs.Spilled.{IsFirstAtMost}
+use Rattle.min_tree.specs.Least.{greatest, IsFirstAtMost}
 use Rattle.spill_plan.proofs.Leads.{split, sum-le-all, cond-yes, cond-no}
 
 pub record Across (k : ℕ) (x : Span) : Type 0 where

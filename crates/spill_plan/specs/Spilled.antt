@@ -62,9 +62,3 @@ IsOverNeed needs bound (refusals.WorkingSet step need stated) =
     (1 ≤ step) × (step ≤ length needs) × (need ≡ slice_index needs (step - 1)) × (bound < need)
     × ((j : ℕ) → j < step - 1 → slice_index needs j ≤ bound) × (stated ≡ bound)
 IsOverNeed needs bound refusals.NoMemory = ⊥
-
--- TEMPORARY
-pub record IsFirstAtMost (xs : List ℕ) (bound i : ℕ) : Type 0 where
-  pub within : i < length xs
-  pub small : slice_index xs i ≤ bound
-  pub first : (k : ℕ) → k < i → bound < slice_index xs k

@@ -33,21 +33,6 @@ fn start_tree(alloc: Global, spans: &[Span], ranks: &[u32]) -> Result<MinTree, N
     Ok(starts)
 }
 
-// TEMPORARY
-ghost use Rattle.std.specs.Prelude.{MatchOption};
-ghost use Rattle.spill_plan.specs.Spilled.{IsFirstAtMost};
-fn first_at_most(tree: &MinTree, bound: u64) -> Option<usize>
-    requires { 0 < length tree.now }
-    ensures { MatchOption result ((k : ℕ) → k < length tree.now → bound < slice_index tree.now k) (λ place. IsFirstAtMost tree.now bound place) }
-{
-    for i in 0..tree.len() {
-        if tree.at(i) <= bound {
-            return Some(i);
-        }
-    }
-    None
-}
-
 impl Spilled {
     /// Nothing is spilled. The sizes of what ends at each step are known.
     pub fn new(
@@ -86,7 +71,7 @@ impl Spilled {
     {
         let mut missing = over;
         while missing > 0 {
-            let Some(rank) = first_at_most(&self.starts, u64::from(step)) else {
+            let Some(rank) = self.starts.first_at_most(u64::from(step)) else {
                 return;
             };
             let i = ranks[rank] as usize;

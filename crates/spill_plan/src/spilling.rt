@@ -1,4 +1,5 @@
-ghost use Rattle.std.specs.Prelude.{◌≡◌, ◌≤◌, ◌<◌, ◌-◌, ℕ, length, slice_index, IfOk, IfErr, OnOk};
+ghost use Rattle.std.specs.Prelude.{◌≡◌, ◌≤◌, ◌<◌, ◌-◌, ℕ, length, slice_index, sum, IfOk, IfErr, OnOk};
+ghost use Rattle.limits.specs.Limits.{most_total};
 ghost use Rattle.mp_system.specs.Traversal.{IsTraversal};
 ghost use Rattle.spill_plan.specs.SpillPlans.{IsLeastSpill};
 ghost use Rattle.spill_plan.specs.Refusal.{IsSpillRefusal};
@@ -32,6 +33,14 @@ fn check_needs(needs: &[u64], bound: u64) -> Result<(), SpillRefusal>
     Ok(())
 }
 
+// The amounts together.
+fn volume_of(amounts: &[u64]) -> u64
+    requires { sum amounts.now ≤ most_total }
+    ensures { result ≡ sum amounts.now }
+{
+    amounts.iter().sum()
+}
+
 /// The least that has to go to disk where a traversal runs within a bound: amounts of the items, those that are consumed last first
 /// (Jacquelin et al. 2011). Near linear: a logarithmic step for each item and each step.
 ///
@@ -47,6 +56,7 @@ pub fn spill(
     ensures refused { IfErr result (IsSpillRefusal system.now order.now bound) }
 {
     traversal_law();
+    system.keeps();
     replay(alloc, system, order)?;
     let spans = spans_of(alloc, system, order)?;
     let joining = start_sums(alloc, &spans, order.len())?;
@@ -58,7 +68,7 @@ pub fn spill(
     spilled.run(&spans, &ranks, &joining, &needs, bound);
     let amounts = spilled.amounts;
     Ok(Spill {
-        volume: amounts.iter().sum(),
+        volume: volume_of(&amounts),
         amounts,
     })
 }
