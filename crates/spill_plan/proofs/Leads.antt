@@ -4,65 +4,9 @@ use Rattle.std.specs.Prelude.{nat_lt}
 use Rattle.spill_plan.specs.declared.span.Span.{Span}
 use Rattle.spill_plan.specs.SpillPlans.{sum_from, most_among}
 use Rattle.spill_plan.specs.Spans.{no_span, is_across, spilled_at, amount_sum, IsSpanPlan, demand, IsLast, IsRaised, IsBest}
-
-cases_le : (m n : ℕ) → (m ≤ n) ⊎ (n < m)
-cases_le m n = grind arith
-
-pub split : {A : Type 0} (m n : ℕ) → (m ≤ n → A) → (n < m → A) → A
-split m n f g = elim (cases_le m n) [ inl h ↦ f h | inr h ↦ g h ]
-
--- ---- tests
-
-lt-yes : (m n x : ℕ) → m < n → cond (nat_lt m n) x 0 ≡ x
-lt-yes m n x h = grind arith
-
-lt-no : (m n x : ℕ) → n ≤ m → cond (nat_lt m n) x 0 ≡ 0
-lt-no m n x h = grind arith
-
-across-yes : (k : ℕ) (s : Span) → s.start ≤ k → k < s.end → is_across k s ≡ true
-across-yes k s h l = grind arith
-
-across-early : (k : ℕ) (s : Span) → k < s.start → is_across k s ≡ false
-across-early k s h = grind arith
-
-across-late : (k : ℕ) (s : Span) → s.end ≤ k → is_across k s ≡ false
-across-late k s h = grind arith
-
--- ---- sums
-
-pub sum-le : (f g : ℕ → Span → ℕ) (base : ℕ) (xs : List Span) → ((i : ℕ) → i < length xs → f (base + i) (get_or xs i no_span) ≤ g (base + i) (get_or xs i no_span)) → sum_from base f xs ≤ sum_from base g xs
-sum-le f g base [] each = omega arith
-sum-le f g base (x ∷ xs) each =
-    let here : f base x ≤ g base x = subst (λ n. f n x ≤ g n x) (omega arith) (each 0 (omega arith)) in
-    let rest = sum-le f g (suc base) xs (λ i h. subst (λ n. f n (get_or xs i no_span) ≤ g n (get_or xs i no_span)) (omega arith) (each (suc i) (omega arith))) in
-    omega (arith, here, rest)
-
-pub sum-add : (f g : ℕ → Span → ℕ) (base : ℕ) (xs : List Span) → sum_from base (λ i x. f i x + g i x) xs ≡ sum_from base f xs + sum_from base g xs
-sum-add f g base [] = refl
-sum-add f g base (x ∷ xs) = omega (arith, sum-add f g (suc base) xs)
-
-pub sum-same : (f g : ℕ → Span → ℕ) (base : ℕ) (xs : List Span) → ((i : ℕ) → i < length xs → f (base + i) (get_or xs i no_span) ≡ g (base + i) (get_or xs i no_span)) → sum_from base f xs ≡ sum_from base g xs
-sum-same f g base xs each = omega (arith, sum-le f g base xs (λ i h. omega (arith, each i h)), sum-le g f base xs (λ i h. omega (arith, each i h)))
-
-pub sum-le-all : (f g : ℕ → Span → ℕ) (xs : List Span) → ((i : ℕ) → i < length xs → f i (get_or xs i no_span) ≤ g i (get_or xs i no_span)) → sum_from 0 f xs ≤ sum_from 0 g xs
-sum-le-all f g xs each = sum-le f g 0 xs (λ i h. subst (λ n. f n (get_or xs i no_span) ≤ g n (get_or xs i no_span)) (omega arith) (each i h))
-
-pub sum-same-all : (f g : ℕ → Span → ℕ) (xs : List Span) → ((i : ℕ) → i < length xs → f i (get_or xs i no_span) ≡ g i (get_or xs i no_span)) → sum_from 0 f xs ≡ sum_from 0 g xs
-sum-same-all f g xs each = sum-same f g 0 xs (λ i h. subst (λ n. f n (get_or xs i no_span) ≡ g n (get_or xs i no_span)) (omega arith) (each i h))
+use Rattle.spill_plan.proofs.SpanSums.{split, lt-yes, lt-no, across-yes, across-early, across-late, cond-yes, cond-no, cond-le, parts, sum-add, sum-le-all, sum-same-all}
 
 -- ---- one step keeps the greedy's lead
-
-pub cond-yes : (b : Bool) (x : ℕ) → b ≡ true → cond b x 0 ≡ x
-cond-yes true x e = refl
-cond-yes false x e = absurd cc
-
-pub cond-no : (b : Bool) (x : ℕ) → b ≡ false → cond b x 0 ≡ 0
-cond-no true x e = absurd cc
-cond-no false x e = refl
-
-pub cond-le : (b : Bool) (x y : ℕ) → x ≤ y → cond b x 0 ≤ cond b y 0
-cond-le true x y h = h
-cond-le false x y h = omega arith
 
 -- one item's part: what ends below q, the plan's part of what is held, and what has ended
 one_item : (k q turn : ℕ) (x : Span) (was is other : ℕ) → turn < q → k < q → other ≤ x.size
@@ -160,16 +104,12 @@ pub plan-within : (xs : List Span) (steps : ℕ) (need : ℕ → ℕ) (bound : �
     → (i : ℕ) → i < length xs → most_among steps (λ k. plan k i) ≤ (get_or xs i no_span).size
 plan-within xs steps need bound plan p i h = most_among-within steps (get_or xs i no_span).size (λ k. plan k i) (λ k l. p.within k i l h)
 
-parts : (b : Bool) (s a : ℕ) → a ≤ s → cond b s 0 ≡ cond b (s - a) 0 + cond b a 0
-parts true s a h = omega arith
-parts false s a h = refl
-
 pub plan-meets : (xs : List Span) (steps : ℕ) (need : ℕ → ℕ) (bound : ℕ) (plan : ℕ → ℕ → ℕ) → IsSpanPlan xs steps need bound plan
     → (k : ℕ) → k < steps → demand xs need bound k ≤ spilled_at k (λ i. most_among steps (λ j. plan j i)) xs
 plan-meets xs steps need bound plan p k h =
     let f : ℕ → Span → ℕ = λ i x. cond (is_across k x) (x.size - plan k i) 0 in
     let g : ℕ → Span → ℕ = λ i x. cond (is_across k x) (plan k i) 0 in
-    let a = sum-same-all (λ i x. cond (is_across k x) x.size 0) (λ i x. f i x + g i x) xs (λ i l. parts (is_across k (get_or xs i no_span)) (get_or xs i no_span).size (plan k i) (p.within k i h l)) in
+    let a = sum-same-all (λ i x. cond (is_across k x) x.size 0) (λ i x. g i x + f i x) xs (λ i l. parts (is_across k (get_or xs i no_span)) (get_or xs i no_span).size (plan k i) (p.within k i h l)) in
     let b = sum-le-all g (λ i x. cond (is_across k x) (most_among steps (λ j. plan j i)) 0) xs
     (λ i l. cond-le (is_across k (get_or xs i no_span)) (plan k i) (most_among steps (λ j. plan j i)) (most_among-le steps k (λ j. plan j i) h)) in
-    omega (arith, a, b, sum-add f g 0 xs, p.fits k h)
+    omega (arith, a, b, sum-add g f 0 xs, p.fits k h)

@@ -1,6 +1,7 @@
 -- The amounts after the last step are those of a least spill.
 use Rattle.std.proofs.Common.{◌≡◌, ℕ, zero, suc, ◌+◌, ◌-◌, ◌*◌, ◌^◌, ◌<◌, ◌≤◌, Bool, true, false, cond, refl, sym, subst, ap, arith, ◌∙◌, List, [], ◌∷◌, length, map, get_or, None}
 use Rattle.std.specs.Prelude.{sum, slice_index}
+use Rattle.std.proofs.lemmas.Bool.{true≢false}
 use Rattle.std.proofs.lemmas.List.Sums.{sum_by-cons}
 use Rattle.limits.specs.Limits.{most_tasks, most_total}
 use Rattle.mp_system.specs.declared.system.Item.{Item}
@@ -13,8 +14,9 @@ use Rattle.spill_plan.specs.declared.refusal.SpillRefusal.TheVariants.{Order, Wo
 use Rattle.spill_plan.specs.Refusal.{IsSpillRefusal}
 use Rattle.spill_plan.specs.Spilled.{IsOverNeed}
 use Rattle.spill_plan.specs.Spans.{span_of, no_span, span_at, AreItemSpans, is_across, amount_sum, IsSpanPlan, span_plan, IsSpilledAfter}
-use Rattle.spill_plan.proofs.Leads.{split, sum-le-all, sum-same-all, cond-yes, cond-no, most_among-within}
-use Rattle.spill_plan.proofs.Running.{run_plan, run_least, sum_from-sum_by}
+use Rattle.spill_plan.proofs.SpanSums.{split, across-yes, sum-le-all, sum-same-all, sum_from-sum_by}
+use Rattle.spill_plan.proofs.Leads.{most_among-within}
+use Rattle.spill_plan.proofs.Running.{run_plan, run_least}
 use Rattle.spill_plan.proofs.ItemSpans.{held-across, get-map, spans-length, volume-same, to_spans, from_spans, item_spans}
 
 -- a plan that says the same is one
@@ -50,12 +52,6 @@ amounts_fit xs steps amounts spans len within =
     let less = sum-le-all (λ i x. get_or amounts i 0) (λ i x. x.size) xs within in
     omega (arith, less, sum_from-list-all xs amounts len, sum_from-sum_by (λ x. x.size) 0 xs, spans.total)
 
-across-yes : (k : ℕ) (x : Span) → x.start ≤ k → k < x.end → is_across k x ≡ true
-across-yes k x h l = grind arith
-
-clash : true ≡ false → ⊥
-clash e = cc
-
 module _ (system : TaskSystem) (order : List ℕ) (within : IsSystem system) (traversal : IsTraversal system order) (few : length order ≤ most_tasks)
     (needs amounts : List ℕ) (bound : ℕ) (needs_are : (k : ℕ) → k < length order → get_or needs k 0 ≡ own_need system order k)
     (fit : (k : ℕ) → k < length order → get_or needs k 0 ≤ bound) (len : length amounts ≡ length system.items)
@@ -86,8 +82,8 @@ module _ (system : TaskSystem) (order : List ℕ) (within : IsSystem system) (tr
       split x.end x.start
       (λ none. after.idle i w none)
       (λ some. absurd (
-        let k : x.start < length order = omega (arith, (item_spans system order within traversal few).ends i w) in
-        clash (sym (across-yes x.start x (omega arith) some) ∙ ap (is_across x.start) is ∙ sym (held-across order x.start (nth_item system i) k) ∙ nowhere x.start k)))
+      let k : x.start < length order = omega (arith, (item_spans system order within traversal few).ends i w) in
+      true≢false (sym (across-yes x.start x (omega arith) some) ∙ ap (is_across x.start) is ∙ sym (held-across order x.start (nth_item system i) k) ∙ nowhere x.start k)))
 
   pub least_spill : (volume : ℕ) → volume ≡ sum amounts → IsLeastSpill system order bound amounts volume
   least_spill volume is = record {
@@ -146,5 +142,12 @@ plan_volume-le system order amounts len =
 pub one_volume : (system : TaskSystem) (order : List ℕ) (bound : ℕ) (amounts others : List ℕ) (volume other : ℕ)
     → IsLeastSpill system order bound amounts volume → IsLeastSpill system order bound others other → volume ≡ other
 one_volume system order bound amounts others volume other one two =
-    omega (arith, one.least (plan_by_amounts system order others) two.plan, plan_volume-le system order others two.len, two.volume_is,
-    two.least (plan_by_amounts system order amounts) one.plan, plan_volume-le system order amounts one.len, one.volume_is)
+    omega (
+      arith,
+      one.least (plan_by_amounts system order others) two.plan,
+      plan_volume-le system order others two.len,
+      two.volume_is,
+      two.least (plan_by_amounts system order amounts) one.plan,
+      plan_volume-le system order amounts one.len,
+      one.volume_is,
+    )

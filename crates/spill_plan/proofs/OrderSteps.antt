@@ -2,7 +2,7 @@
 use Rattle.std.proofs.Common.{◌≡◌, ℕ, zero, suc, ◌+◌, ◌<◌, ◌≤◌, ◌⊎◌, inl, inr, Bool, true, false, cond, not, refl, sym, subst, ap, arith, ◌∙◌, List, [], ◌∷◌, ◌++◌, length, take, drop, get_or, Option, Some, None, add-one, drop-cons}
 use Rattle.std.specs.Prelude.{◌==◌, ◌||◌, nat_lt, count_by}
 use Rattle.std.specs.List.{list_all}
-use Rattle.std.proofs.lemmas.Bool.{cases_eq, eq-eqb, ne_eqb}
+use Rattle.std.proofs.lemmas.Bool.{cases_Bool, cases_eq, eq-eqb, ne_eqb, true≢false}
 use Rattle.std.proofs.lemmas.List.{take-append-drop}
 use Rattle.std.proofs.lemmas.List.Folds.{list_all_at}
 use Rattle.std.proofs.lemmas.List.Elements.{All-get_or}
@@ -13,7 +13,7 @@ use Rattle.mp_system.specs.Memory.{stands_in, is_produced, is_done_or, is_ready}
 use Rattle.mp_system.specs.Traversal.{IsTraversal}
 use Rattle.spill_plan.specs.Spans.{step_of}
 
-count-cons : (v u : ℕ) (order : List ℕ) → count_by (λ x. x == v) (u ∷ order) ≡ cond (u == v) 1 0 + count_by (λ x. x == v) order
+pub count-cons : (v u : ℕ) (order : List ℕ) → count_by (λ x. x == v) (u ∷ order) ≡ cond (u == v) 1 0 + count_by (λ x. x == v) order
 count-cons v u order = sum_by-cons (λ x. cond (x == v) 1 0) u order
 
 -- what is counted stands at its step
@@ -97,7 +97,7 @@ module _ (system : TaskSystem) (order : List ℕ) (traversal : IsTraversal syste
       let ready : is_ready system (stands_in (take k order)) (get_or order k 0) ≡ true = traversal.after_suppliers (take k order) (drop (suc k) order) (get_or order k 0) (split_at k at.0) in
       let ready_w : is_ready system (stands_in (take k order)) w ≡ true = subst (λ v. is_ready system (stands_in (take k order)) v ≡ true) at.1 ready in
       let stands : stands_in (take k order) u ≡ nat_lt (step_of order u) k = stands-take order u k (omega (arith, at.0)) in
-      elim (two_ways (nat_lt (step_of order u) k)) [
+      elim (cases_Bool (nat_lt (step_of order u) k)) [
         | inl ahead ↦ before (step_of order u) k ahead
         | inr behind ↦ absurd (
             let item = get_or system.items i d in
@@ -105,15 +105,8 @@ module _ (system : TaskSystem) (order : List ℕ) (traversal : IsTraversal syste
             let lacks : is_produced (stands_in (take k order)) item ≡ false = ap (λ (o : Option ℕ). is_done_or true (stands_in (take k order)) o) from ∙ (stands ∙ behind) in
             let fails : (not (is_input w item) || is_produced (stands_in (take k order)) item) ≡ false = rw (consumes, lacks) refl in
             let all_fails = list_all_at (λ item. not (is_input w item) || is_produced (stands_in (take k order)) item) system.items i d h fails in
-            clash (sym ready_w ∙ all_fails))
+            true≢false (sym ready_w ∙ all_fails))
       ]
     where
-      two_ways : (b : Bool) → (b ≡ true) ⊎ (b ≡ false)
-      two_ways true = inl refl
-      two_ways false = inr refl
-
       before : (m n : ℕ) → nat_lt m n ≡ true → m < n
       before m n h = grind arith
-
-      clash : true ≡ false → ⊥
-      clash e = cc

@@ -1,81 +1,24 @@
 -- One item is raised: which it is, and what stays right.
 use Rattle.std.proofs.Common.{◌≡◌, ◌≢◌, ℕ, zero, suc, ◌+◌, ◌-◌, ◌^◌, ◌<◌, ◌≤◌, ◌⊎◌, inl, inr, Bool, true, false, cond, refl, sym, subst, ap, arith, ◌∙◌, List, [], ◌∷◌, length, get_or, set, min}
 use Rattle.std.specs.Prelude.{nat_eq, slice_index}
-use Rattle.std.proofs.lemmas.Bool.{cases_eq, ne_eqb}
+use Rattle.std.proofs.lemmas.Bool.{cases_Bool, cases_eq, ne_eqb, true≢false}
 use Rattle.std.proofs.lemmas.List.{get_or-set_same, get_or-set_other, length-set}
 use Rattle.spill_plan.specs.declared.span.Span.{Span}
 use Rattle.spill_plan.specs.SpillPlans.{sum_from}
 use Rattle.spill_plan.specs.Spans.{no_span, span_at, AreItemSpans, is_across, kept_at}
 use Rattle.spill_plan.specs.Spilled.{IsEndRanking, AreStarts, left_at, AreLeft, IsRaising}
 use Rattle.min_tree.specs.Least.{greatest, IsFirstAtMost}
-use Rattle.spill_plan.proofs.Leads.{split, sum-le-all, cond-yes, cond-no}
-
-pub record Across (k : ℕ) (x : Span) : Type 0 where
-  pub start : x.start ≤ k
-  pub end : k < x.end
-
-pub across-is : (k : ℕ) (x : Span) → is_across k x ≡ true → Across k x
-across-is k x e = record { start = grind arith; end = grind arith }
-
-pub is-across : (k : ℕ) (x : Span) → x.start ≤ k → k < x.end → is_across k x ≡ true
-is-across k x h l = grind arith
-
-two_ways : (b : Bool) → (b ≡ true) ⊎ (b ≡ false)
-two_ways true = inl refl
-two_ways false = inr refl
-
--- ---- sums that differ at one place
-
-sum-change-from : (f g : ℕ → Span → ℕ) (base : ℕ) (xs : List Span) (i : ℕ) → i < length xs → ((j : ℕ) → j < length xs → j ≢ i → f (base + j) (get_or xs j no_span) ≡ g (base + j) (get_or xs j no_span))
-    → sum_from base f xs + g (base + i) (get_or xs i no_span) ≡ sum_from base g xs + f (base + i) (get_or xs i no_span)
-sum-change-from f g base [] i h same = absurd (omega arith)
-sum-change-from f g base (x ∷ xs) zero h same =
-    let e : base + 0 ≡ base = omega arith in
-    let rest = tails f g (suc base) xs (λ j l. subst (λ n. f n (get_or xs j no_span) ≡ g n (get_or xs j no_span)) (omega arith) (same (suc j) (omega arith) (omega arith))) in
-    rw e (omega (arith, rest))
-  where
-    tails : (f g : ℕ → Span → ℕ) (base : ℕ) (xs : List Span) → ((j : ℕ) → j < length xs → f (base + j) (get_or xs j no_span) ≡ g (base + j) (get_or xs j no_span)) → sum_from base f xs ≡ sum_from base g xs
-    tails f g base [] each = refl
-    tails f g base (x ∷ xs) each =
-        let here : f base x ≡ g base x = subst (λ n. f n x ≡ g n x) (omega arith) (each 0 (omega arith)) in
-        omega (arith, here, tails f g (suc base) xs (λ j l. subst (λ n. f n (get_or xs j no_span) ≡ g n (get_or xs j no_span)) (omega arith) (each (suc j) (omega arith))))
-sum-change-from f g base (x ∷ xs) (suc i) h same =
-    let here : f base x ≡ g base x = subst (λ n. f n x ≡ g n x) (omega arith) (same 0 (omega arith) (omega arith)) in
-    let e : base + suc i ≡ suc base + i = omega arith in
-    let rest = sum-change-from f g (suc base) xs i (omega arith) (λ j l ne. subst (λ n. f n (get_or xs j no_span) ≡ g n (get_or xs j no_span)) (omega arith) (same (suc j) (omega arith) (omega arith))) in
-    rw e (omega (arith, rest, here))
-
-pub sum-change : (f g : ℕ → Span → ℕ) (xs : List Span) (i : ℕ) → i < length xs → ((j : ℕ) → j < length xs → j ≢ i → f j (get_or xs j no_span) ≡ g j (get_or xs j no_span))
-    → sum_from 0 f xs + g i (get_or xs i no_span) ≡ sum_from 0 g xs + f i (get_or xs i no_span)
-sum-change f g xs i h same =
-    let e : 0 + i ≡ i = omega arith in
-    let whole = sum-change-from f g 0 xs i h (λ j l ne. subst (λ n. f n (get_or xs j no_span) ≡ g n (get_or xs j no_span)) (omega arith) (same j l ne)) in
-    subst (λ n. sum_from 0 f xs + g n (get_or xs i no_span) ≡ sum_from 0 g xs + f n (get_or xs i no_span)) e whole
-
-pub sum-none : (f : ℕ → Span → ℕ) (xs : List Span) → ((j : ℕ) → j < length xs → f j (get_or xs j no_span) ≡ 0) → sum_from 0 f xs ≡ 0
-sum-none f xs each = omega (arith, sum-le-all f (λ i x. 0) xs (λ i h. omega (arith, each i h)), zeros 0 xs)
-  where
-    zeros : (base : ℕ) (xs : List Span) → sum_from base (λ i x. 0) xs ≡ 0
-    zeros base [] = refl
-    zeros base (x ∷ xs) = omega (arith, zeros (suc base) xs)
-
-pub term-le : (f : ℕ → Span → ℕ) (xs : List Span) (i : ℕ) → i < length xs → f i (get_or xs i no_span) ≤ sum_from 0 f xs
-term-le f xs i h = let e : 0 + i ≡ i = omega arith in subst (λ n. f n (get_or xs i no_span) ≤ sum_from 0 f xs) e (go 0 xs i h refl)
-  where
-    go : (base : ℕ) (ys : List Span) (j : ℕ) → j < length ys → base + j ≡ base + j → f (base + j) (get_or ys j no_span) ≤ sum_from base f ys
-    go base [] j l e = absurd (omega arith)
-    go base (y ∷ ys) zero l e = let e0 : base + 0 ≡ base = omega arith in rw e0 (omega arith)
-    go base (y ∷ ys) (suc j) l e = let e1 : base + suc j ≡ suc base + j = omega arith in rw e1 (omega (arith, go (suc base) ys j (omega arith) (omega arith)))
+use Rattle.spill_plan.proofs.SpanSums.{split, Across, across-is, across-yes, cond-yes, cond-no, sum-change, sum-none, term-le}
 
 -- ---- which item is raised
 
 module _ (xs : List Span) (steps : ℕ) (ranks amounts values : List ℕ) (k missing : ℕ) (spans : AreItemSpans xs steps) (ranking : IsEndRanking xs ranks)
-    (starts : AreStarts xs ranks amounts values) (some : 0 < missing) (room : missing ≤ kept_at k (slice_index amounts) xs) (small : k < 1000000) where
+    (starts : AreStarts xs ranks amounts values) (some : 0 < missing) (room : missing ≤ kept_at k (slice_index amounts) xs) (small : k < greatest) where
   -- not all that is held has been spilled whole
   not_all : ((j : ℕ) → j < length xs → is_across k (span_at xs j) ≡ true → (span_at xs j).size ≤ get_or amounts j 0) → ⊥
   not_all full =
       let e = sum-none (λ i x. cond (is_across k x) (x.size - get_or amounts i 0) 0) xs
-      (λ j h. elim (two_ways (is_across k (get_or xs j no_span))) [
+      (λ j h. elim (cases_Bool (is_across k (get_or xs j no_span))) [
         | inl held ↦ (let c = cond-yes (is_across k (get_or xs j no_span)) ((get_or xs j no_span).size - get_or amounts j 0) held in omega (arith, c, full j h held))
         | inr away ↦ cond-no (is_across k (get_or xs j no_span)) ((get_or xs j no_span).size - get_or amounts j 0) away
       ]) in
@@ -110,7 +53,7 @@ module _ (xs : List Span) (steps : ℕ) (ranks amounts values : List ℕ) (k mis
         subst (λ z. (span_at xs z).size ≤ get_or amounts z 0) e (full_at s l (first s early) (subst (λ z. is_across k (span_at xs z) ≡ true) (sym e) held))
 
     pub held_now : is_across k (span_at xs (get_or ranks r 0)) ≡ true
-    held_now = is-across k (span_at xs (get_or ranks r 0)) (omega (arith, starts.left r rank_in has_room))
+    held_now = across-yes k (span_at xs (get_or ranks r 0)) (omega (arith, starts.left r rank_in has_room))
         (split (span_at xs (get_or ranks r 0)).end k
         (λ ended. absurd (not_all (λ j h held. late_full j h held (omega (arith, (across-is k (span_at xs j) held).end)))))
         (λ m. m))
@@ -182,7 +125,7 @@ module _ (xs : List Span) (amounts : List ℕ) (i part : ℕ) (len : length amou
           | inr other ↦ omega (arith, there j other, r.more j h)
         ];
         others = λ j h not_held. elim (cases_eq j i) [
-          | inl same ↦ absurd (clash (sym held ∙ subst (λ z. is_across k (span_at xs z) ≡ false) same not_held))
+          | inl same ↦ absurd (true≢false (sym held ∙ subst (λ z. is_across k (span_at xs z) ≡ false) same not_held))
           | inr other ↦ there j other ∙ r.others j h not_held
         ];
         sum_is = omega (arith, changed, here, r.sum_is, cond-yes (is_across k (get_or xs i no_span)) (get_or is i 0) held, cond-yes (is_across k (get_or xs i no_span)) (get_or amounts i 0) held);
@@ -195,9 +138,6 @@ module _ (xs : List Span) (amounts : List ℕ) (i part : ℕ) (len : length amou
           | inr other ↦ omega (arith, there j other, late j h held_j later, r.within j h)
         ];
       }
-    where
-      clash : true ≡ false → ⊥
-      clash e = cc
 
   module _ (ranks values : List ℕ) (r : ℕ) (ranking : IsEndRanking xs ranks) (starts : AreStarts xs ranks amounts values) (rank_in : r < length xs) (at : get_or ranks r 0 ≡ i) where
     apart : (s : ℕ) → s < length xs → s ≢ r → get_or ranks s 0 ≢ i
@@ -242,7 +182,7 @@ pub record Picked (xs : List Span) (ranks amounts : List ℕ) (k r : ℕ) : Type
   pub late : (j : ℕ) → j < length xs → is_across k (span_at xs j) ≡ true → (span_at xs (get_or ranks r 0)).end < (span_at xs j).end → (span_at xs j).size ≤ get_or amounts j 0
 
 pub picked : (xs : List Span) (steps : ℕ) (ranks amounts values : List ℕ) (k missing x r : ℕ) → AreItemSpans xs steps → IsEndRanking xs ranks → AreStarts xs ranks amounts values → 0 < missing
-    → missing ≤ kept_at k (slice_index amounts) xs → k < 1000000 → x ≡ k → IsFirstAtMost values x r → Picked xs ranks amounts k r
+    → missing ≤ kept_at k (slice_index amounts) xs → k < greatest → x ≡ k → IsFirstAtMost values x r → Picked xs ranks amounts k r
 picked xs steps ranks amounts values k missing x r spans ranking starts some room small is f =
     let low : get_or values r 0 ≤ k = omega (arith, f.small) in
     let first : (s : ℕ) → s < r → k < get_or values s 0 = λ s h. omega (arith, f.first s h) in

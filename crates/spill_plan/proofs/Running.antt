@@ -9,12 +9,8 @@ use Rattle.spill_plan.specs.declared.span.Span.{Span}
 use Rattle.spill_plan.specs.Spans.{no_span, AreItemSpans, is_across, start_sum, end_sum, spilled_at, kept_at, amount_sum, demand, IsSpanPlan, span_volume, span_plan, IsRaised, IsSpilledAfter}
 use Rattle.spill_plan.specs.Spilled.{left_at, AreZero, between_at, IsRaising}
 use Rattle.spill_plan.specs.SpillPlans.{sum_from, most_among}
-use Rattle.spill_plan.proofs.Raisings.{sum-none}
-use Rattle.spill_plan.proofs.Leads.{split, sum-add, sum-le-all, sum-same-all, cond-yes, cond-no, cond-le, raised-best, none-best, best-volume, plan-within, plan-meets}
-
-pub parts : (b : Bool) (s a : ℕ) → a ≤ s → cond b s 0 ≡ cond b a 0 + cond b (s - a) 0
-parts true s a h = omega arith
-parts false s a h = refl
+use Rattle.spill_plan.proofs.SpanSums.{split, across-yes, across-early, across-late, cond-yes, cond-no, cond-le, parts, sum-add, sum-le-all, sum-same-all, sum_from-sum_by, sum-none}
+use Rattle.spill_plan.proofs.Leads.{raised-best, none-best, best-volume, plan-within, plan-meets}
 
 pub held_parts : (xs : List Span) (k : ℕ) (amount : ℕ → ℕ) → ((i : ℕ) → i < length xs → amount i ≤ (get_or xs i no_span).size)
     → sum_from 0 (λ i x. cond (is_across k x) x.size 0) xs ≡ spilled_at k amount xs + kept_at k amount xs
@@ -50,11 +46,9 @@ raised_over xs need bound k over was is fits over_is turn r none = split over 0
     })
     (λ some. raised_some xs need bound k over turn was is fits (omega arith) some r)
 
-not_across : (k : ℕ) (x : Span) → x.end ≤ x.start → is_across k x ≡ false
-not_across k x h = grind arith
-
-early : (k : ℕ) (x : Span) → k < x.start → is_across k x ≡ false
-early k x h = grind arith
+-- what ends where it starts is held nowhere
+empty_across : (k : ℕ) (x : Span) → x.end ≤ x.start → is_across k x ≡ false
+empty_across k x h = grind arith
 
 pub run_next : (xs : List Span) (steps : ℕ) (need : ℕ → ℕ) (bound k : ℕ) (was is : ℕ → ℕ) → k < steps → IsSpilledAfter xs steps need bound k was → IsRaised xs k (demand xs need bound k) was is → IsSpilledAfter xs steps need bound (suc k) is
 run_next xs steps need bound k was is inside run r = record {
@@ -62,8 +56,8 @@ run_next xs steps need bound k was is inside run r = record {
   meets = λ j h. split k j
       (λ late. let e : k ≡ j = omega arith in subst (λ z. demand xs need bound z ≤ spilled_at z is xs) e r.enough)
       (λ sooner. omega (arith, run.meets j sooner, sum-le-all (λ i x. cond (is_across j x) (was i) 0) (λ i x. cond (is_across j x) (is i) 0) xs (λ i l. cond-le (is_across j (get_or xs i no_span)) (was i) (is i) (r.more i l))));
-  fresh = λ i h l. r.others i h (early k (get_or xs i no_span) (omega arith)) ∙ run.fresh i h (omega arith);
-  idle = λ i h l. r.others i h (not_across k (get_or xs i no_span) l) ∙ run.idle i h l;
+  fresh = λ i h l. r.others i h (across-early k (get_or xs i no_span) (omega arith)) ∙ run.fresh i h (omega arith);
+  idle = λ i h l. r.others i h (empty_across k (get_or xs i no_span) l) ∙ run.idle i h l;
   best = λ other rival. raised-best xs k (demand xs need bound k) was is other rival.within (rival.meets k inside) r (run.best other rival);
 }
 
@@ -104,10 +98,6 @@ run_plan xs steps need bound amount fit run = record {
 
 -- ---- the running sum
 
-pub sum_from-sum_by : (f : Span → ℕ) (base : ℕ) (xs : List Span) → sum_from base (λ i x. f x) xs ≡ sum_by f xs
-sum_from-sum_by f base [] = refl
-sum_from-sum_by f base (x ∷ xs) = omega (arith, sum_by-cons f x xs, sum_from-sum_by f (suc base) xs)
-
 between-yes : (k : ℕ) (x : Span) → x.start < k → k ≤ x.end → (nat_lt x.start k && nat_le k x.end) ≡ true
 between-yes k x h l = grind arith
 
@@ -123,12 +113,6 @@ eq-yes m n h = grind arith
 eq-no : (m n : ℕ) → m ≢ n → nat_eq m n ≡ false
 eq-no m n h = grind arith
 
-across-yes : (k : ℕ) (s : Span) → s.start ≤ k → k < s.end → is_across k s ≡ true
-across-yes k s h l = grind arith
-
-across-late : (k : ℕ) (s : Span) → s.end ≤ k → is_across k s ≡ false
-across-late k s h = grind arith
-
 one_place : (k : ℕ) (x : Span) (a : ℕ) → x.start ≤ x.end → (k ≤ x.start → a ≡ 0)
     → cond (nat_lt x.start k && nat_le k x.end) (x.size - a) 0 + cond (nat_eq x.start k) x.size 0 ≡ cond (is_across k x) (x.size - a) 0 + cond (nat_eq x.end k) (x.size - a) 0
 one_place k x a ordered fresh =
@@ -139,7 +123,7 @@ one_place k x a ordered fresh =
     split x.end k
     (λ ends. omega (arith, b1, b2, e, cond-no (is_across k x) (x.size - a) (across-late k x ends), cond-yes (nat_eq x.end k) (x.size - a) (eq-yes x.end k (omega arith))))
     (λ later. omega (arith, b1, b2, e, cond-yes (is_across k x) (x.size - a) (across-yes k x same later), cond-no (nat_eq x.end k) (x.size - a) (eq-no x.end k (omega arith)))))
-    (λ after. omega (arith, b1, cond-no (nat_eq x.start k) x.size (eq-no x.start k (omega arith)), cond-no (is_across k x) (x.size - a) (early k x after), cond-no (nat_eq x.end k) (x.size - a) (eq-no x.end k (omega arith)))))
+    (λ after. omega (arith, b1, cond-no (nat_eq x.start k) x.size (eq-no x.start k (omega arith)), cond-no (is_across k x) (x.size - a) (across-early k x after), cond-no (nat_eq x.end k) (x.size - a) (eq-no x.end k (omega arith)))))
     (λ before. let b2 = cond-no (nat_eq x.start k) x.size (eq-no x.start k (omega arith)) in
     split k x.end
     (λ there. let b1 = cond-yes (nat_lt x.start k && nat_le k x.end) (x.size - a) (between-yes k x before there) in
@@ -199,6 +183,3 @@ pub zeros : (n : ℕ) → AreZero (replicate n 0)
 zeros zero i = refl
 zeros (suc n) zero = refl
 zeros (suc n) (suc i) = zeros n i
-
-pub take_whole : (n : ℕ) (xs ys : List ℕ) → length xs ≡ n → length ys ≡ n → take n (xs ++ drop (length xs) ys) ≡ xs
-take_whole n xs ys e f = ap (λ (zs : List ℕ). take n (xs ++ zs)) (drop_all (length xs) ys (omega arith)) ∙ rw append-nil (take_all n xs (omega arith))

@@ -11,7 +11,7 @@ use Rattle.mp_system.specs.declared.system.Task.{Task}
 use Rattle.mp_system.specs.System.{TaskSystem, IsSystem, IsTask, IsTaskWithin, HasShare, task_at, is_input, is_output, inputs_of, outputs_of, size_if, size_where, item_size}
 use Rattle.mp_system.specs.Traversal.{IsTraversal}
 use Rattle.spill_plan.specs.SpillPlans.{own_need}
-use Rattle.spill_plan.proofs.Leads.{split}
+use Rattle.spill_plan.proofs.SpanSums.{split}
 use Rattle.spill_plan.proofs.OrderSteps.{task_at_step}
 
 size_if-le : (test : Item → Bool) (item : Item) → size_if test item ≤ item_size item

@@ -2,3 +2,4 @@ pub mod SpillPlans
 pub mod Refusal
 pub mod Spans
 pub mod Spilled
+pub mod Samples

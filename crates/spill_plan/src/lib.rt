@@ -11,7 +11,6 @@ mod needs;
 mod ranking;
 mod refusal;
 mod span;
-
 mod spilled;
 mod spilling;
 mod steps;
@@ -19,8 +18,8 @@ mod sums;
 #[cfg(test)]
 mod tests;
 
-pub use refusal::SpillRefusal;
 pub use amounts::Spill;
+pub use refusal::SpillRefusal;
 pub use spilling::spill;
 use std::alloc::AllocError;
 

@@ -5,11 +5,11 @@ ghost use Rattle.spill_plan.specs.SpillPlans.{IsLeastSpill};
 ghost use Rattle.spill_plan.specs.Refusal.{IsSpillRefusal};
 ghost use Rattle.spill_plan.specs.Spilled.{IsOverNeed};
 
+use crate::amounts::Spill;
 use crate::needs::own_needs;
 use crate::ranking::rank_by_end;
 use crate::refusal::SpillRefusal;
 use crate::span::spans_of;
-use crate::amounts::Spill;
 use crate::spilled::Spilled;
 use crate::sums::{end_sums, start_sums};
 use mp_system::laws::traversal_law;

@@ -8,11 +8,7 @@ use mp_system::laws::traversal_law;
 use std::alloc::Global;
 
 /// For each task the step of a traversal at which it runs, counted from 0.
-pub fn steps_by_task(
-    alloc: Global,
-    system: &System,
-    order: &[u32],
-) -> Result<Vec<u32>, NoMemory>
+pub fn steps_by_task(alloc: Global, system: &System, order: &[u32]) -> Result<Vec<u32>, NoMemory>
     requires { IsTraversal system.now order.now }
     ensures { IfOk result (λ steps. AreSteps system.now order.now steps.items) }
 {

@@ -1,10 +1,14 @@
+ghost use Rattle.std.specs.Prelude.{◌≡◌};
+
+mod plain;
+
 use crate::{NoMemory, SpillRefusal, spill};
 use mp_system::{Item, OrderFault, OrderKind, System, Task};
 use std::alloc::Global;
 use std::rt::HostRuntime;
 use std::test::Fail;
 
-fn task(extra: u64, share: u64) -> Task
+pub fn task(extra: u64, share: u64) -> Task
     ensures { result ≡ record { extra = extra; share = share; time = 1 } }
 {
     Task {
@@ -14,7 +18,7 @@ fn task(extra: u64, share: u64) -> Task
     }
 }
 
-fn item(size: u64, from: Option<u32>, to: Option<u32>) -> Item
+pub fn item(size: u64, from: Option<u32>, to: Option<u32>) -> Item
     ensures { result ≡ record { size = size; from = from; to = to } }
 {
     Item { size, from, to }
@@ -96,21 +100,84 @@ fn refusals(rt: HostRuntime) -> Result<(), Fail> {
     let alloc = rt.alloc();
     let (tree, stocked, still) = (tree(alloc)?, stocked(alloc)?, still(alloc)?);
     let rows: [(&System, &[u32], u64, SpillRefusal, &str); 10] = [
-        (&tree, &[1, 2, 3, 4, 5], 9, working_set(1, 10, 9), "working-set 1 10 9"),
-        (&tree, &[1, 3, 2, 4, 5], 0, working_set(1, 10, 0), "working-set 1 10 0"),
-        (&stocked, &[1, 2], 14, working_set(1, 15, 14), "working-set 1 15 14"),
-        (&still, &[1, 2], 6, working_set(2, 7, 6), "working-set 2 7 6"),
-        (&still, &[1, 2], 1, working_set(1, 2, 1), "working-set 1 2 1"),
-        (&tree, &[1, 1], 0, order_fault(2, OrderKind::Repeated), "repeated at place 2"),
-        (&tree, &[2, 1, 3, 4, 5], 0, order_fault(1, OrderKind::TooEarly), "too-early at place 1"),
-        (&tree, &[1, 2, 3, 4], 0, order_fault(5, OrderKind::Missing), "missing at place 5"),
-        (&tree, &[9], 99, order_fault(1, OrderKind::Unknown), "unknown at place 1"),
-        (&still, &[], 0, order_fault(1, OrderKind::Missing), "missing at place 1"),
+        (
+            &tree,
+            &[1, 2, 3, 4, 5],
+            9,
+            working_set(1, 10, 9),
+            "working-set 1 10 9",
+        ),
+        (
+            &tree,
+            &[1, 3, 2, 4, 5],
+            0,
+            working_set(1, 10, 0),
+            "working-set 1 10 0",
+        ),
+        (
+            &stocked,
+            &[1, 2],
+            14,
+            working_set(1, 15, 14),
+            "working-set 1 15 14",
+        ),
+        (
+            &still,
+            &[1, 2],
+            6,
+            working_set(2, 7, 6),
+            "working-set 2 7 6",
+        ),
+        (
+            &still,
+            &[1, 2],
+            1,
+            working_set(1, 2, 1),
+            "working-set 1 2 1",
+        ),
+        (
+            &tree,
+            &[1, 1],
+            0,
+            order_fault(2, OrderKind::Repeated),
+            "repeated at place 2",
+        ),
+        (
+            &tree,
+            &[2, 1, 3, 4, 5],
+            0,
+            order_fault(1, OrderKind::TooEarly),
+            "too-early at place 1",
+        ),
+        (
+            &tree,
+            &[1, 2, 3, 4],
+            0,
+            order_fault(5, OrderKind::Missing),
+            "missing at place 5",
+        ),
+        (
+            &tree,
+            &[9],
+            99,
+            order_fault(1, OrderKind::Unknown),
+            "unknown at place 1",
+        ),
+        (
+            &still,
+            &[],
+            0,
+            order_fault(1, OrderKind::Missing),
+            "missing at place 1",
+        ),
     ];
     for (system, order, bound, refusal, text) in rows {
         assert_eq!(rt; spill(alloc, system, order, bound).err(), Some(refusal));
         assert_eq!(rt; format!(in alloc; "{refusal}")?.as_str(), text);
     }
-    assert_eq!(rt; format!(in alloc; "{}", SpillRefusal::NoMemory)?.as_str(), "no memory");
+    assert_eq!(rt;
+        format!(in alloc; "{}", SpillRefusal::NoMemory)?.as_str(),
+        "no memory"
+    );
     Ok(())
 }
