@@ -1,5 +1,5 @@
 -- The amounts after the last step are those of a least spill.
-use Rattle.std.proofs.Common.{◌≡◌, ℕ, zero, suc, ◌+◌, ◌-◌, ◌*◌, ◌^◌, ◌<◌, ◌≤◌, Bool, true, false, cond, refl, sym, subst, ap, arith, ◌∙◌, List, [], ◌∷◌, length, map, get_or, None}
+use Rattle.std.proofs.Common.{◌≡◌, ℕ, suc, ◌+◌, ◌-◌, ◌<◌, ◌≤◌, Bool, true, false, cond, refl, sym, subst, ap, arith, ◌∙◌, List, [], ◌∷◌, length, map, get_or, None}
 use Rattle.std.specs.Prelude.{sum, slice_index}
 use Rattle.std.proofs.lemmas.Bool.{true≢false}
 use Rattle.std.proofs.lemmas.List.Sums.{sum_by-cons}
@@ -13,7 +13,7 @@ use Rattle.spill_plan.specs.declared.refusal.SpillRefusal.{SpillRefusal}
 use Rattle.spill_plan.specs.declared.refusal.SpillRefusal.TheVariants.{Order, WorkingSet, NoMemory}
 use Rattle.spill_plan.specs.Refusal.{IsSpillRefusal}
 use Rattle.spill_plan.specs.Spilled.{IsOverNeed}
-use Rattle.spill_plan.specs.Spans.{span_of, no_span, span_at, AreItemSpans, is_across, amount_sum, IsSpanPlan, span_plan, IsSpilledAfter}
+use Rattle.spill_plan.specs.Spans.{span_of, no_span, span_at, AreItemSpans, is_across, IsSpanPlan, span_plan, IsSpilledAfter}
 use Rattle.spill_plan.proofs.SpanSums.{split, across-yes, sum-le-all, sum-same-all, sum_from-sum_by}
 use Rattle.spill_plan.proofs.Leads.{most_among-within}
 use Rattle.spill_plan.proofs.Running.{run_plan, run_least}

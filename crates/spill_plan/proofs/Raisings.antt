@@ -1,14 +1,13 @@
 -- One item is raised: which it is, and what stays right.
-use Rattle.std.proofs.Common.{◌≡◌, ◌≢◌, ℕ, zero, suc, ◌+◌, ◌-◌, ◌^◌, ◌<◌, ◌≤◌, ◌⊎◌, inl, inr, Bool, true, false, cond, refl, sym, subst, ap, arith, ◌∙◌, List, [], ◌∷◌, length, get_or, set, min}
+use Rattle.std.proofs.Common.{◌≡◌, ◌≢◌, ℕ, ◌+◌, ◌-◌, ◌<◌, ◌≤◌, inl, inr, true, false, cond, sym, subst, ap, arith, ◌∙◌, List, length, get_or, set, min}
 use Rattle.std.specs.Prelude.{nat_eq, slice_index}
 use Rattle.std.proofs.lemmas.Bool.{cases_Bool, cases_eq, ne_eqb, true≢false}
 use Rattle.std.proofs.lemmas.List.{get_or-set_same, get_or-set_other, length-set}
 use Rattle.spill_plan.specs.declared.span.Span.{Span}
-use Rattle.spill_plan.specs.SpillPlans.{sum_from}
 use Rattle.spill_plan.specs.Spans.{no_span, span_at, AreItemSpans, is_across, kept_at}
 use Rattle.spill_plan.specs.Spilled.{IsEndRanking, AreStarts, left_at, AreLeft, IsRaising}
 use Rattle.min_tree.specs.Least.{greatest, IsFirstAtMost}
-use Rattle.spill_plan.proofs.SpanSums.{split, Across, across-is, across-yes, cond-yes, cond-no, sum-change, sum-none, term-le}
+use Rattle.spill_plan.proofs.SpanSums.{split, across-is, across-yes, cond-yes, cond-no, sum-change, sum-none, term-le}
 
 -- ---- which item is raised
 

@@ -1,10 +1,9 @@
 -- From step to step.
-use Rattle.std.proofs.Common.{◌≡◌, ◌≢◌, ℕ, zero, suc, ◌+◌, ◌-◌, ◌^◌, ◌<◌, ◌≤◌, inl, inr, Bool, true, false, cond, refl, subst, ap, arith, ◌∙◌, List, [], ◌∷◌, length, get_or, take, drop, ◌++◌}
+use Rattle.std.proofs.Common.{◌≡◌, ◌≢◌, ℕ, zero, suc, ◌+◌, ◌-◌, ◌^◌, ◌<◌, ◌≤◌, inl, inr, Bool, true, false, cond, refl, subst, ap, arith, ◌∙◌, List, length, get_or, take}
 use Rattle.std.specs.Prelude.{nat_lt, nat_le, nat_eq, ◌&&◌, slice_index}
 use Rattle.std.specs.List.{sum_by}
 use Rattle.std.specs.Prelude.{replicate}
-use Rattle.std.proofs.lemmas.List.{drop_all, take_all, append-nil}
-use Rattle.std.proofs.lemmas.List.Sums.{sum_by-cons, sum_by_more_le_part}
+use Rattle.std.proofs.lemmas.List.Sums.{sum_by_more_le_part}
 use Rattle.spill_plan.specs.declared.span.Span.{Span}
 use Rattle.spill_plan.specs.Spans.{no_span, AreItemSpans, is_across, start_sum, end_sum, spilled_at, kept_at, amount_sum, demand, IsSpanPlan, span_volume, span_plan, IsRaised, IsSpilledAfter}
 use Rattle.spill_plan.specs.Spilled.{left_at, AreZero, between_at, IsRaising}

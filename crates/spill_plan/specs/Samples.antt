@@ -1,11 +1,11 @@
 -- No public clause names this.
 -- Worked examples: a tree of five nodes whose leaves run first, with less memory than its peak of 15.
-use Rattle.std.specs.Prelude.{◌≡◌, ℕ, ◌-◌, Option, Some, None, List, [], ◌∷◌, length, map, sum, slice_index, refl}
+use Rattle.std.specs.Prelude.{◌≡◌, ℕ, Option, Some, None, List, [], ◌∷◌, map, refl}
 use Rattle.mp_system.specs.declared.system.Task.{Task}
 use Rattle.mp_system.specs.declared.system.Item.{Item}
 use Rattle.mp_system.specs.System.{TaskSystem}
 use Rattle.mp_system.specs.Memory.{peak_of}
-use Rattle.spill_plan.specs.SpillPlans.{is_held, own_need, kept_across, plan_by_amounts, plan_volume}
+use Rattle.spill_plan.specs.SpillPlans.{own_need, kept_across, plan_by_amounts, plan_volume}
 
 abbrev pub task : ℕ → Task
 task extra = record { extra = extra; share = 0; time = 1 }

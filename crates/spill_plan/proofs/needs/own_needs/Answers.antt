@@ -1,4 +1,4 @@
-use Rattle.std.proofs.Common.{◌≡◌, ℕ, ◌+◌, ◌-◌, ◌<◌, length, get_or, arith, ◌∙◌}
+use Rattle.std.proofs.Common.{◌≡◌, ◌+◌, arith, ◌∙◌}
 use Rattle.spill_plan.specs.SpillPlans.{own_need}
 use Rattle.spill_plan.proofs.StepNeeds.{step_task, own_need-small, pushed}
 use Rattle.spill_plan.proofs.ItemSpans.{end_sum-inputs, start_sum-outputs}

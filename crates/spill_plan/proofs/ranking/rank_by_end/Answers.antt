@@ -1,4 +1,4 @@
-use Rattle.std.proofs.Common.{rules, ◌≡◌, ◌≤◌, ◌<◌, ◌+◌, ◌-◌, ℕ, List, length, map, get_or, arith, ap, sym, subst, ◌∙◌}
+use Rattle.std.proofs.Common.{rules, ◌≡◌, ◌+◌, ◌-◌, ℕ, List, map, arith, ap, sym, subst, ◌∙◌}
 use Rattle.row_table.specs.Rows.{numbers_with}
 use Rattle.spill_plan.specs.declared.span.Span.{Span}
 use Rattle.spill_plan.proofs.Rankings.{AreRanked, ranked-first, ranked-next, ranked-all, row_members}

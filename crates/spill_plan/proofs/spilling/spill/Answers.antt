@@ -1,9 +1,8 @@
 use Rattle.std.proofs.Common.{◌≡◌, ◌≤◌, ◌<◌, ℕ, List, length, get_or, arith, ap, sym, subst, ◌∙◌}
-use Rattle.std.specs.Prelude.{sum, slice_index}
+use Rattle.std.specs.Prelude.{sum}
 use Rattle.std.proofs.lemmas.Result.{err_from_is_err_and}
 use Rattle.limits.specs.Limits.{most_tasks}
 use Rattle.spill_plan.specs.declared.span.Span.{Span}
-use Rattle.spill_plan.specs.SpillPlans.{own_need}
 use Rattle.spill_plan.specs.Spans.{AreItemSpans}
 use Rattle.spill_plan.proofs.LeastAmounts.{amounts_fit, least_of_run, over_need}
 use Rattle.spill_plan.proofs.spilling.spill.Goals as goal

@@ -1,4 +1,4 @@
-use Rattle.std.proofs.Common.{◌≡◌, ◌≢◌, ℕ, ◌-◌, ◌<◌, ◌≤◌, below_more, length, get_or, length-set, arith, ap, sym, subst, ◌∙◌}
+use Rattle.std.proofs.Common.{◌≡◌, ◌≢◌, ◌-◌, below_more, get_or, length-set, arith, subst, ◌∙◌}
 use Rattle.std.proofs.lemmas.List.{get_or-set_same, get_or-set_other}
 use Rattle.spill_plan.specs.Spans.{step_of}
 use Rattle.spill_plan.proofs.OrderSteps.{task_step, task_at_step, one_step}
