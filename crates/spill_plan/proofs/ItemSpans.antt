@@ -29,22 +29,26 @@ lt-true m n h = grind arith
 le-zero : (n : ℕ) → true ≡ nat_le 0 n
 le-zero n = grind arith
 
-from-same : (order : List ℕ) (k : ℕ) (o : Option ℕ) → k < length order → is_done_or true (stands_in (take k order)) o ≡ nat_le (start_of_item order o) k
+from-same : (order : List ℕ) (k : ℕ) (o : Option ℕ) → k < length order → is_done_or true (stands_in (take k order)) o
+    ≡ nat_le (start_of_item order o) k
 from-same order k None h = le-zero k
 from-same order k (Some u) h = stands-take order u k (omega arith) ∙ lt-le (step_of order u) k
 
-to-same : (order : List ℕ) (k : ℕ) (o : Option ℕ) → k < length order → not (is_done_or false (stands_in (take (suc k) order)) o) ≡ nat_lt k (end_of_item order o)
+to-same : (order : List ℕ) (k : ℕ) (o : Option ℕ) → k < length order → not (is_done_or false (stands_in (take (suc k) order)) o)
+    ≡ nat_lt k (end_of_item order o)
 to-same order k None h = lt-true k (length order) h
 to-same order k (Some w) h = ap not (stands-take order w (suc k) (omega arith)) ∙ not-lt (step_of order w) k
 
 pub held-across : (order : List ℕ) (k : ℕ) (item : Item) → k < length order → is_held order k item ≡ is_across k (span_of order item)
 held-across order k item h = λ i. from-same order k item.from h i && to-same order k item.to h i
 
-pub sum_from-map : (f : ℕ → Item → ℕ) (g : ℕ → Span → ℕ) (to : Item → Span) → ((i : ℕ) (x : Item) → f i x ≡ g i (to x)) → (base : ℕ) (items : List Item) → sum_from base f items ≡ sum_from base g (map to items)
+pub sum_from-map : (f : ℕ → Item → ℕ) (g : ℕ → Span → ℕ) (to : Item → Span) → ((i : ℕ) (x : Item) → f i x ≡ g i (to x))
+    → (base : ℕ) (items : List Item) → sum_from base f items ≡ sum_from base g (map to items)
 sum_from-map f g to each base [] = refl
 sum_from-map f g to each base (x ∷ items) = omega (arith, each base x, sum_from-map f g to each (suc base) items)
 
-pub get-map : (order : List ℕ) (items : List Item) (i : ℕ) (d : Item) → i < length items → get_or (map (span_of order) items) i no_span ≡ span_of order (get_or items i d)
+pub get-map : (order : List ℕ) (items : List Item) (i : ℕ) (d : Item) → i < length items → get_or (map (span_of order) items) i no_span
+    ≡ span_of order (get_or items i d)
 get-map order [] i d h = absurd (omega arith)
 get-map order (x ∷ items) zero d h = refl
 get-map order (x ∷ items) (suc i) d h = get-map order items i d (omega arith)
@@ -61,34 +65,51 @@ module _ (system : TaskSystem) (order : List ℕ) where
 
   pub kept-same : (k : ℕ) (amount : ℕ → ℕ) → k < length order → kept_across system order k amount ≡ kept_at k amount spans
   kept-same k amount h =
-      sum_from-map (λ i x. cond (is_held order k x) (x.size - amount i) 0) (λ i x. cond (is_across k x) (x.size - amount i) 0) (span_of order)
+      sum_from-map (λ i x. cond (is_held order k x) (x.size - amount i) 0) (λ i x. cond (is_across k x) (x.size - amount i) 0)
+      (span_of order)
       (λ i x. ap (λ b. cond b (x.size - amount i) 0) (held-across order k x h)) 0 system.items
 
   pub volume-same : (plan : ℕ → ℕ → ℕ) → plan_volume system order plan ≡ span_volume (length order) plan spans
-  volume-same plan = sum_from-map (λ i x. most_among (length order) (λ k. plan k i)) (λ i x. most_among (length order) (λ k. plan k i)) (span_of order) (λ i x. refl) 0 system.items
+  volume-same plan = sum_from-map (λ i x. most_among (length order) (λ k. plan k i)) (λ i x. most_among (length order) (λ k. plan k i))
+      (span_of order) (λ i x. refl) 0 system.items
 
-  pub to_spans : (bound : ℕ) (plan : ℕ → ℕ → ℕ) → IsSpillPlan system order bound plan → IsSpanPlan spans (length order) (own_need system order) bound plan
+  pub to_spans : (bound : ℕ) (plan : ℕ → ℕ → ℕ) → IsSpillPlan system order bound plan
+      → IsSpanPlan spans (length order) (own_need system order) bound plan
   to_spans bound plan p = record {
-    within = λ k i h l. let l' : i < length system.items = omega (arith, spans-length) in subst (λ (s : Span). plan k i ≤ s.size) (sym (get-map order system.items i no_item l')) (p.within k i h l');
+    within = λ k i h l. let l' : i < length system.items = omega (arith, spans-length) in subst (λ (s : Span). plan k i ≤ s.size)
+        (sym (get-map order system.items i no_item l')) (p.within k i h l');
     absent = λ k i h l e. let l' : i < length system.items = omega (arith, spans-length) in
-        p.absent k i h l' (held-across order k (get_or system.items i no_item) h ∙ subst (λ (s : Span). is_across k s ≡ false) (get-map order system.items i no_item l') e);
+        p.absent k i h l' (held-across order k (get_or system.items i no_item) h
+        ∙ subst (λ (s : Span). is_across k s ≡ false) (get-map order system.items i no_item l') e);
     fits = λ k h. omega (arith, kept-same k (plan k) h, p.fits k h);
   }
 
-  pub from_spans : (bound : ℕ) (plan : ℕ → ℕ → ℕ) → IsSpanPlan spans (length order) (own_need system order) bound plan → IsSpillPlan system order bound plan
+  pub from_spans : (bound : ℕ) (plan : ℕ → ℕ → ℕ) → IsSpanPlan spans (length order) (own_need system order) bound plan
+      → IsSpillPlan system order bound plan
   from_spans bound plan p = record {
-    within = λ k i h l. let l' : i < length spans = omega (arith, spans-length) in subst (λ (s : Span). plan k i ≤ s.size) (get-map order system.items i no_item l) (p.within k i h l');
+    within = λ k i h l. let l' : i < length spans = omega (arith, spans-length) in subst (λ (s : Span). plan k i ≤ s.size)
+        (get-map order system.items i no_item l) (p.within k i h l');
     absent = λ k i h l e. let l' : i < length spans = omega (arith, spans-length) in
-        p.absent k i h l' (subst (λ (s : Span). is_across k s ≡ false) (sym (get-map order system.items i no_item l)) (sym (held-across order k (get_or system.items i no_item) h) ∙ e));
+        p.absent k i h l' (subst (λ (s : Span). is_across k s ≡ false) (sym (get-map order system.items i no_item l))
+        (sym (held-across order k (get_or system.items i no_item) h) ∙ e));
     fits = λ k h. omega (arith, kept-same k (plan k) h, p.fits k h);
   }
 
 -- ---- in a traversal
 
-sum_by-map : (f : Span → ℕ) (g : Item → ℕ) (to : Item → Span) (items : List Item) → ((i : ℕ) (d : Item) → i < length items → f (to (get_or items i d)) ≡ g (get_or items i d)) → sum_by f (map to items) ≡ sum_by g items
+sum_by-map : (f : Span → ℕ) (g : Item → ℕ) (to : Item → Span) (items : List Item)
+    → ((i : ℕ) (d : Item) → i < length items → f (to (get_or items i d)) ≡ g (get_or items i d)) → sum_by f (map to items)
+    ≡ sum_by g items
 sum_by-map f g to [] each = refl
 sum_by-map f g to (x ∷ items) each =
-    omega (arith, sum_by-cons f (to x) (map to items), sum_by-cons g x items, each 0 x (omega arith), sum_by-map f g to items (λ i d h. each (suc i) d (omega arith)))
+    omega (
+      arith,
+      sum_by-cons f (to x) (map to items),
+      sum_by-cons g x items,
+      each 0 x (omega arith),
+      sum_by-map f g to items
+          (λ i d h. each (suc i) d (omega arith)),
+    )
 
 module _ (system : TaskSystem) (order : List ℕ) (within : IsSystem system) (traversal : IsTraversal system order) where
   producer : (i : ℕ) (d : Item) → i < length system.items → ForSome (get_or system.items i d).from (IsTask system)
@@ -98,20 +119,27 @@ module _ (system : TaskSystem) (order : List ℕ) (within : IsSystem system) (tr
   consumer i d h = (All-get_or (IsItemWithin system) system.items i d h within.items).consumer
 
   -- an item that a task consumes ends at the task's step
-  ends_at_step : (k : ℕ) (o : Option ℕ) → k < length order → ForSome o (IsTask system) → (end_of_item order o == k) ≡ is_named o (get_or order k 0)
+  ends_at_step : (k : ℕ) (o : Option ℕ) → k < length order → ForSome o (IsTask system) → (end_of_item order o == k)
+      ≡ is_named o (get_or order k 0)
   ends_at_step k None h task = ne_eqb (length order) k (λ e. omega arith)
   ends_at_step k (Some w) h task = elim (cases_eq w (get_or order k 0)) [
-    | inl same ↦ eq-eqb (step_of order w) k (step_of_task system order traversal w k (task w refl) h (sym same)) ∙ sym (eq-eqb w (get_or order k 0) same)
-    | inr other ↦ ne_eqb (step_of order w) k (λ e. other (sym (task_step system order traversal w (task w refl)).1 ∙ ap (λ j. get_or order j 0) e)) ∙ sym (ne_eqb w (get_or order k 0) other)
+    | inl same ↦ eq-eqb (step_of order w) k (step_of_task system order traversal w k (task w refl) h (sym same))
+        ∙ sym (eq-eqb w (get_or order k 0) same)
+    | inr other ↦ ne_eqb (step_of order w) k
+        (λ e. other (sym (task_step system order traversal w (task w refl)).1 ∙ ap (λ j. get_or order j 0) e))
+        ∙ sym (ne_eqb w (get_or order k 0) other)
   ]
 
   -- one that it produces starts a step later
-  starts_after_step : (k : ℕ) (o : Option ℕ) → k < length order → ForSome o (IsTask system) → (start_of_item order o == k + 1) ≡ is_named o (get_or order k 0)
+  starts_after_step : (k : ℕ) (o : Option ℕ) → k < length order → ForSome o (IsTask system) → (start_of_item order o == k + 1)
+      ≡ is_named o (get_or order k 0)
   starts_after_step k None h task = ne_eqb 0 (k + 1) (λ e. omega arith)
   starts_after_step k (Some u) h task = elim (cases_eq u (get_or order k 0)) [
-    | inl same ↦ eq-eqb (suc (step_of order u)) (k + 1) (omega (arith, step_of_task system order traversal u k (task u refl) h (sym same))) ∙ sym (eq-eqb u (get_or order k 0) same)
+    | inl same ↦ eq-eqb (suc (step_of order u)) (k + 1)
+        (omega (arith, step_of_task system order traversal u k (task u refl) h (sym same))) ∙ sym (eq-eqb u (get_or order k 0) same)
     | inr other ↦ ne_eqb (suc (step_of order u)) (k + 1)
-        (λ e. let same : step_of order u ≡ k = omega arith in other (sym (task_step system order traversal u (task u refl)).1 ∙ ap (λ j. get_or order j 0) same))
+        (λ e. let same : step_of order u ≡ k = omega arith in other
+        (sym (task_step system order traversal u (task u refl)).1 ∙ ap (λ j. get_or order j 0) same))
         ∙ sym (ne_eqb u (get_or order k 0) other)
   ]
 
@@ -119,8 +147,10 @@ module _ (system : TaskSystem) (order : List ℕ) (within : IsSystem system) (tr
   end_sum-inputs k h = sum_by-map (λ x. cond (x.end == k) x.size 0) (size_if (is_input (get_or order k 0))) (span_of order) system.items
       (λ i d l. ap (λ b. cond b (get_or system.items i d).size 0) (ends_at_step k (get_or system.items i d).to h (consumer i d l)))
 
-  pub start_sum-outputs : (k : ℕ) → k < length order → start_sum (k + 1) (map (span_of order) system.items) ≡ outputs_of system (get_or order k 0)
-  start_sum-outputs k h = sum_by-map (λ x. cond (x.start == k + 1) x.size 0) (size_if (is_output (get_or order k 0))) (span_of order) system.items
+  pub start_sum-outputs : (k : ℕ) → k < length order → start_sum (k + 1) (map (span_of order) system.items)
+      ≡ outputs_of system (get_or order k 0)
+  start_sum-outputs k h = sum_by-map (λ x. cond (x.start == k + 1) x.size 0) (size_if (is_output (get_or order k 0)))
+      (span_of order) system.items
       (λ i d l. ap (λ b. cond b (get_or system.items i d).size 0) (starts_after_step k (get_or system.items i d).from h (producer i d l)))
 
   pub end_within : (o : Option ℕ) → ForSome o (IsTask system) → end_of_item order o ≤ length order
@@ -131,13 +161,19 @@ module _ (system : TaskSystem) (order : List ℕ) (within : IsSystem system) (tr
   start_within None task = omega arith
   start_within (Some u) task = omega (arith, (task_step system order traversal u (task u refl)).0)
 
-  rises : (i : ℕ) (d : Item) → i < length system.items → start_of_item order (get_or system.items i d).from ≤ end_of_item order (get_or system.items i d).to
+  rises : (i : ℕ) (d : Item) → i < length system.items → start_of_item order (get_or system.items i d).from
+      ≤ end_of_item order (get_or system.items i d).to
   rises i d h = go (get_or system.items i d).from (get_or system.items i d).to refl refl
     where
-      go : (from to : Option ℕ) → (get_or system.items i d).from ≡ from → (get_or system.items i d).to ≡ to → start_of_item order from ≤ end_of_item order to
+      go : (from to : Option ℕ) → (get_or system.items i d).from ≡ from → (get_or system.items i d).to ≡ to → start_of_item order from
+          ≤ end_of_item order to
       go None to e f = omega arith
       go (Some u) None e f = start_within (Some u) (subst (λ o. ForSome o (IsTask system)) e (producer i d h))
-      go (Some u) (Some w) e f = omega (arith, produced_before system order traversal i d u w h e f (subst (λ o. ForSome o (IsTask system)) f (consumer i d h) w refl))
+      go (Some u) (Some w) e f = omega (
+        arith,
+        produced_before system order traversal i d u w h e f
+            (subst (λ o. ForSome o (IsTask system)) f (consumer i d h) w refl),
+      )
 
   pub item_spans : length order ≤ most_tasks → AreItemSpans (map (span_of order) system.items) (length order)
   item_spans few =
@@ -145,7 +181,9 @@ module _ (system : TaskSystem) (order : List ℕ) (within : IsSystem system) (tr
       record {
         few = omega (arith, long, within.few_items);
         steps_few = few;
-        ordered = λ i h. let l : i < length system.items = omega (arith, long) in rw (get-map order system.items i no_item l) (rises i no_item l);
-        ends = λ i h. let l : i < length system.items = omega (arith, long) in rw (get-map order system.items i no_item l) (end_within (get_or system.items i no_item).to (consumer i no_item l));
+        ordered = λ i h. let l : i < length system.items = omega (arith, long) in rw (get-map order system.items i no_item l)
+            (rises i no_item l);
+        ends = λ i h. let l : i < length system.items = omega (arith, long) in rw (get-map order system.items i no_item l)
+            (end_within (get_or system.items i no_item).to (consumer i no_item l));
         total = omega (arith, within.total, sum_by-map (λ x. x.size) item_size (span_of order) system.items (λ i d h. refl));
       }

@@ -25,7 +25,14 @@ one_item k q turn x was is other turn_q k_q fits others full fresh =
     (λ sooner. omega (arith, h1, h2, h3, lt-yes x.end q is sooner, lt-yes x.end q other sooner)))
     (λ unborn. let a = across-early k x unborn in
     let e = fresh (omega arith) in
-    omega (arith, cond-no (is_across k x) other a, lt-no x.end (suc k) other ends_late, e, cond-le (nat_lt x.end q) is other (omega arith))))
+    omega (
+      arith,
+      cond-no (is_across k x) other a,
+      lt-no x.end (suc k) other ends_late,
+      e,
+      cond-le (nat_lt x.end q) is other
+          (omega arith),
+    )))
     (λ ended. let a = across-late k x (omega arith) in
     let e = others a in
     let h1 = cond-no (is_across k x) other a in
@@ -57,8 +64,20 @@ module _ (xs : List Span) (k least : ℕ) (was is other : ℕ → ℕ) where
         let g2 : ℕ → Span → ℕ = λ i x. cond (is_across k x) (is i) 0 in
         let g3 : ℕ → Span → ℕ = λ i x. cond (nat_lt x.end (suc k)) (was i) 0 in
         let all = sum-le-all (λ i x. f1 i x + (f2 i x + f3 i x)) (λ i x. g1 i x + (g2 i x + g3 i x)) xs
-        (λ i h. one_item k q last.turn (get_or xs i no_span) (was i) (is i) (other i) turn_q k_q (fits i h) (raised.others i h) (last.after i h) (fresh i h)) in
-        omega (arith, all, sum-add f1 (λ i x. f2 i x + f3 i x) 0 xs, sum-add f2 f3 0 xs, sum-add g1 (λ i x. g2 i x + g3 i x) 0 xs, sum-add g2 g3 0 xs, meets, last.exact, best.low (suc k))
+        (λ i h. one_item k q last.turn (get_or xs i no_span) (was i) (is i) (other i) turn_q k_q (fits i h) (raised.others i h)
+        (last.after i h) (fresh i h)) in
+        omega (
+          arith,
+          all,
+          sum-add f1 (λ i x. f2 i x + f3 i x) 0 xs,
+          sum-add f2 f3 0 xs,
+          sum-add g1
+              (λ i x. g2 i x + g3 i x) 0 xs,
+          sum-add g2 g3 0 xs,
+          meets,
+          last.exact,
+          best.low (suc k),
+        )
 
     pub raised-best : IsBest xs (suc k) is other
     raised-best = record {
@@ -84,17 +103,20 @@ none-best xs amount other none = record {
 }
 
 -- the lead at a place that nothing ends behind is one on the amount_sum
-pub best-volume : (xs : List Span) (k n : ℕ) (amount other : ℕ → ℕ) → ((i : ℕ) → i < length xs → (get_or xs i no_span).end ≤ n) → IsBest xs k amount other → amount_sum amount xs ≤ amount_sum other xs
+pub best-volume : (xs : List Span) (k n : ℕ) (amount other : ℕ → ℕ) → ((i : ℕ) → i < length xs → (get_or xs i no_span).end ≤ n)
+    → IsBest xs k amount other → amount_sum amount xs ≤ amount_sum other xs
 best-volume xs k n amount other ends best =
     let whole : (a : ℕ → ℕ) → sum_from 0 (λ i x. cond (nat_lt x.end (suc n)) (a i) 0) xs ≡ amount_sum a xs =
-    λ a. sum-same-all (λ i x. cond (nat_lt x.end (suc n)) (a i) 0) (λ i x. a i) xs (λ i h. lt-yes (get_or xs i no_span).end (suc n) (a i) (omega (arith, ends i h))) in
+    λ a. sum-same-all (λ i x. cond (nat_lt x.end (suc n)) (a i) 0) (λ i x. a i) xs
+    (λ i h. lt-yes (get_or xs i no_span).end (suc n) (a i) (omega (arith, ends i h))) in
     omega (arith, whole amount, whole other, best.low (suc n))
 
 -- ---- any plan, by the most_among amounts of its items
 
 pub most_among-le : (n k : ℕ) (f : ℕ → ℕ) → k < n → f k ≤ most_among n f
 most_among-le zero k f h = absurd (omega arith)
-most_among-le (suc n) k f h = split n k (λ l. let e : k ≡ n = omega arith in omega (arith, ap f e)) (λ l. omega (arith, most_among-le n k f l))
+most_among-le (suc n) k f h = split n k (λ l. let e : k ≡ n = omega arith in omega (arith, ap f e))
+    (λ l. omega (arith, most_among-le n k f l))
 
 pub most_among-within : (n m : ℕ) (f : ℕ → ℕ) → ((k : ℕ) → k < n → f k ≤ m) → most_among n f ≤ m
 most_among-within zero m f h = omega arith
@@ -109,7 +131,9 @@ pub plan-meets : (xs : List Span) (steps : ℕ) (need : ℕ → ℕ) (bound : �
 plan-meets xs steps need bound plan p k h =
     let f : ℕ → Span → ℕ = λ i x. cond (is_across k x) (x.size - plan k i) 0 in
     let g : ℕ → Span → ℕ = λ i x. cond (is_across k x) (plan k i) 0 in
-    let a = sum-same-all (λ i x. cond (is_across k x) x.size 0) (λ i x. g i x + f i x) xs (λ i l. parts (is_across k (get_or xs i no_span)) (get_or xs i no_span).size (plan k i) (p.within k i h l)) in
+    let a = sum-same-all (λ i x. cond (is_across k x) x.size 0) (λ i x. g i x + f i x) xs
+    (λ i l. parts (is_across k (get_or xs i no_span)) (get_or xs i no_span).size (plan k i) (p.within k i h l)) in
     let b = sum-le-all g (λ i x. cond (is_across k x) (most_among steps (λ j. plan j i)) 0) xs
-    (λ i l. cond-le (is_across k (get_or xs i no_span)) (plan k i) (most_among steps (λ j. plan j i)) (most_among-le steps k (λ j. plan j i) h)) in
+    (λ i l. cond-le (is_across k (get_or xs i no_span)) (plan k i) (most_among steps (λ j. plan j i))
+    (most_among-le steps k (λ j. plan j i) h)) in
     omega (arith, a, b, sum-add g f 0 xs, p.fits k h)

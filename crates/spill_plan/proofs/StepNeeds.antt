@@ -27,18 +27,22 @@ pub record IsStepTask (system : TaskSystem) (order : List ℕ) (k : ℕ) (task :
   pub whole : task.share ≤ task.extra + outputs_of system (get_or order k 0)
   pub few_inputs : inputs_of system (get_or order k 0) ≤ most_total
   pub few_outputs : outputs_of system (get_or order k 0) ≤ most_total
-  pub need_is : own_need system order k ≡ inputs_of system (get_or order k 0) + (task.extra + outputs_of system (get_or order k 0) - task.share)
+  pub need_is : own_need system order k ≡ inputs_of system (get_or order k 0) +
+      (task.extra + outputs_of system (get_or order k 0) - task.share)
 
 module _ (system : TaskSystem) (order : List ℕ) (within : IsSystem system) (traversal : IsTraversal system order) where
-  pub step_task : (tasks : List Task) → tasks ≡ system.tasks → (k : ℕ) (d : Task) → k < length order → IsStepTask system order k (get_or tasks (get_or order k 0 - 1) d)
+  pub step_task : (tasks : List Task) → tasks ≡ system.tasks → (k : ℕ) (d : Task) → k < length order
+      → IsStepTask system order k (get_or tasks (get_or order k 0 - 1) d)
   step_task tasks same k d h =
       let v = get_or order k 0 in
       let number : IsTask system v = task_at_step system order traversal k h in
       let w : v - 1 < length system.tasks = omega (arith, number.0, number.1) in
-      let is : task_at system v ≡ get_or tasks (v - 1) d = get_or_default system.tasks (v - 1) (record { extra = 0; share = 0; time = 0 }) d w ∙ ap (λ ts. get_or ts (v - 1) d) (sym same) in
+      let is : task_at system v ≡ get_or tasks (v - 1) d = get_or_default system.tasks (v - 1)
+      (record { extra = 0; share = 0; time = 0 }) d w ∙ ap (λ ts. get_or ts (v - 1) d) (sym same) in
       let less : (task_at system v).share ≡ (get_or tasks (v - 1) d).share = ap (λ t. t.share) is in
       let more : (task_at system v).extra ≡ (get_or tasks (v - 1) d).extra = ap (λ t. t.extra) is in
-      let kept : IsTaskWithin (task_at system v) = All-get_or IsTaskWithin system.tasks (v - 1) (record { extra = 0; share = 0; time = 0 }) w within.tasks in
+      let kept : IsTaskWithin (task_at system v) = All-get_or IsTaskWithin system.tasks (v - 1)
+      (record { extra = 0; share = 0; time = 0 }) w within.tasks in
       let share : HasShare system v = within.shares v number in
       record {
         number = number;
@@ -55,7 +59,8 @@ module _ (system : TaskSystem) (order : List ℕ) (within : IsSystem system) (tr
       omega (arith, f.need_is, f.few_inputs, f.few_outputs, f.extra)
 
 -- one more in a list, of which each keeps to its place
-pub pushed : (P : ℕ → ℕ → Type 0) (xs ys : List ℕ) (x n : ℕ) → length xs ≡ n → ys ≡ xs ++ x ∷ [] → ((k : ℕ) → k < n → P k (get_or xs k 0)) → P n x
+pub pushed : (P : ℕ → ℕ → Type 0) (xs ys : List ℕ) (x n : ℕ) → length xs ≡ n → ys ≡ xs ++ x ∷ [] → ((k : ℕ) → k < n → P k (get_or xs k 0))
+    → P n x
     → (k : ℕ) → k < n + 1 → P k (get_or ys k 0)
 pushed P xs ys x n len is each last k h =
     split n k

@@ -9,8 +9,8 @@ use Rattle.spill_plan.specs.declared.refusal.SpillRefusal.{SpillRefusal}
 use Rattle.spill_plan.specs.declared.refusal.SpillRefusal.TheVariants as refusals
 use Rattle.spill_plan.specs.SpillPlans.{IsWorkingSet}
 
--- the order is no traversal, and the refusal has its first fault; or it is one, and the refusal has the first step that needs more for itself
--- than the bound; want of memory tells nothing
+-- the order is no traversal, and the refusal has its first fault; or it is one, and the refusal has the first step that needs more for
+-- itself than the bound; want of memory tells nothing
 abbrev pub IsSpillRefusal : TaskSystem → List ℕ → ℕ → SpillRefusal → Type 0
 IsSpillRefusal system order bound (refusals.Order fault) = IsOrderRefusal system order (replays.Order fault)
 IsSpillRefusal system order bound (refusals.WorkingSet step need stated) =

@@ -106,7 +106,8 @@ pub record IsRaised (xs : List Span) (k least : ℕ) (was is : ℕ → ℕ) : Ty
 
 -- amounts after k steps beside others: on what ends before any place no more
 pub record IsBest (xs : List Span) (k : ℕ) (amount other : ℕ → ℕ) : Type 0 where
-  pub low : (q : ℕ) → sum_from 0 (λ i x. if nat_lt x.end q then amount i else 0) xs ≤ sum_from 0 (λ i x. if nat_lt x.end q then other i else 0) xs
+  pub low : (q : ℕ) →
+      sum_from 0 (λ i x. if nat_lt x.end q then amount i else 0) xs ≤ sum_from 0 (λ i x. if nat_lt x.end q then other i else 0) xs
   pub fresh : (i : ℕ) → i < length xs → k ≤ (span_at xs i).start → amount i ≡ 0
 
 -- amounts that suffice at each step

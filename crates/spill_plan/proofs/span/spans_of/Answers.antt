@@ -8,5 +8,7 @@ use Rattle.spill_plan.proofs.span.spans_of.Goals as goal
 pub returns-clause-within : goal.returns-clause-within
 returns-clause-within c =
     let all : c.loop-item.spans.items ≡ map (span_of c.args.order.now) c.args.system.now.items =
-    c.loop-item.invariant ∙ ap (map (span_of c.args.order.now)) (take_all c.loop-item.item-index c.items-items.result.now (omega arith) ∙ c.items-items.ensures.value) in
-    subst (λ (xs : List Span). AreItemSpans xs (length c.args.order.now)) (sym all) (item_spans c.args.system.now c.args.order.now c.items-items.ensures.system c.requires c.in_ok-steps.ensures.few)
+    c.loop-item.invariant ∙ ap (map (span_of c.args.order.now))
+    (take_all c.loop-item.item-index c.items-items.result.now (omega arith) ∙ c.items-items.ensures.value) in
+    subst (λ (xs : List Span). AreItemSpans xs (length c.args.order.now)) (sym all)
+    (item_spans c.args.system.now c.args.order.now c.items-items.ensures.system c.requires c.in_ok-steps.ensures.few)

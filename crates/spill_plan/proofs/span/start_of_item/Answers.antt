@@ -11,4 +11,9 @@ pub overflow_add-result : goal.overflow_add-result
 overflow_add-result c =
     let v = c.in-Some.task in
     let task = c.requires.task v c.in-Some.is in
-    omega (arith, c.requires.steps.each v task, (task_step c.args.system.now c.args.order.now c.requires.traversal v task).0, c.requires.steps.few)
+    omega (
+      arith,
+      c.requires.steps.each v task,
+      (task_step c.args.system.now c.args.order.now c.requires.traversal v task).0,
+      c.requires.steps.few,
+    )

@@ -16,7 +16,8 @@ loop-step-preserved c =
           (λ j h.
           let before = task_at_step c.args.system.now order c.requires j (omega arith) in
           let other : get_or order j 0 - 1 ≢ get_or order k 0 - 1 = λ e.
-          let same = one_step c.args.system.now order c.requires j k (omega arith) c.loop-step-test.true (omega (arith, before.0, task.0)) in
+          let same = one_step c.args.system.now order c.requires j k (omega arith) c.loop-step-test.true
+          (omega (arith, before.0, task.0)) in
           omega (arith, same) in
           get_or-set_other steps (get_or order k 0 - 1) (get_or order j 0 - 1) k 0 other ∙ c.loop-step.invariant.each j h)
           (get_or-set_same steps (get_or order k 0 - 1) k 0 (omega (arith, task.0, task.1, c.loop-step.invariant.len)));
@@ -31,5 +32,6 @@ returns c =
       len = c.loop-step.invariant.len;
       each = λ task is.
           let at = task_step c.args.system.now order c.requires task is in
-          subst (λ v. get_or c.loop-step.steps.items (v - 1) 0 ≡ step_of order task) at.1 (c.loop-step.invariant.each (step_of order task) (omega (arith, at.0)));
+          subst (λ v. get_or c.loop-step.steps.items (v - 1) 0 ≡ step_of order task) at.1
+          (c.loop-step.invariant.each (step_of order task) (omega (arith, at.0)));
     }

@@ -12,5 +12,10 @@ overflow_add-index_mut c =
     let e = (span_at xs i).end in
     let lt : i < length xs = omega arith in
     let in_range : e ≤ c.args.steps = omega (arith, c.requires.ends i lt, c.requires.ordered i lt) in
-    let was = get_or_read c.loop-span.sums.items e c.index_mut.result.now (omega (arith, c.loop-span.invariant.len)) c.index_mut.ensures.value 0 in
-    omega (arith, place_fits xs c.args.steps (λ x. x.end == e) i c.index_mut.result.now c.requires lt (was ∙ c.loop-span.invariant.sums e in_range))
+    let was = get_or_read c.loop-span.sums.items e c.index_mut.result.now
+    (omega (arith, c.loop-span.invariant.len)) c.index_mut.ensures.value 0 in
+    omega (
+      arith,
+      place_fits xs c.args.steps (λ x. x.end == e) i c.index_mut.result.now c.requires lt
+          (was ∙ c.loop-span.invariant.sums e in_range),
+    )

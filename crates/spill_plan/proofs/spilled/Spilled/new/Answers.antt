@@ -6,7 +6,8 @@ use Rattle.spill_plan.proofs.spilled.Spilled.new.Goals as goal
 
 pub returns-clause-state : goal.returns-clause-state
 returns-clause-state c =
-    let zero_now : AreZero c.in_ok-amounts.amounts.items = subst AreZero (sym (c.in_ok-amounts.ensures.items_if_clones_equal (λ y e. e))) (zeros (length c.args.spans.now)) in
+    let zero_now : AreZero c.in_ok-amounts.amounts.items = subst AreZero (sym (c.in_ok-amounts.ensures.items_if_clones_equal (λ y e. e)))
+    (zeros (length c.args.spans.now)) in
     record {
       len = ap length (c.in_ok-amounts.ensures.items_if_clones_equal (λ y e. e)) ∙ length-replicate (length c.args.spans.now) 0;
       within = λ i h. omega (arith, zero_now i);

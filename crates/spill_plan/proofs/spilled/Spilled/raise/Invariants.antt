@@ -8,7 +8,8 @@ abbrev pub invariant-loop-missing : goal.invariant-loop-missing
 invariant-loop-missing l = record {
   below : l.missing ≤ l.over;
   none : l.missing ≡ l.over → l.self.amounts.items ≡ l.fn.self.amounts.items;
-  raising : (turn : ℕ) × IsRaising l.spans l.step (slice_index l.fn.self.amounts.items) (slice_index l.self.amounts.items) (l.over - l.missing) turn;
+  raising : (turn : ℕ) × IsRaising l.spans l.step (slice_index l.fn.self.amounts.items) (slice_index l.self.amounts.items)
+      (l.over - l.missing) turn;
   len : length l.self.amounts.items ≡ length l.spans;
   len_leaving : length l.self.leaving.items ≡ length l.fn.self.leaving.items;
   starts : AreStarts l.spans l.ranks l.self.amounts.items l.self.starts;
