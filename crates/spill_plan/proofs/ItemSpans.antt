@@ -2,7 +2,7 @@
 use Rattle.std.proofs.Common.{◌≡◌, ℕ, zero, suc, ◌+◌, ◌-◌, ◌<◌, ◌≤◌, inl, inr, true, false, cond, not, refl, sym, subst, ap, arith, ◌∙◌, List, [], ◌∷◌, length, take, map, get_or, Option, Some, None}
 use Rattle.std.specs.Prelude.{◌==◌, nat_lt, nat_le, ◌&&◌}
 use Rattle.std.specs.List.{sum_by}
-use Rattle.std.specs.Option.{ForSome}
+use Rattle.std.specs.Option.{ForSome, option_map_or}
 use Rattle.std.proofs.lemmas.Bool.{cases_eq, eq-eqb, ne_eqb}
 use Rattle.std.proofs.lemmas.List.{length-map}
 use Rattle.std.proofs.lemmas.List.Elements.{All-get_or}
@@ -14,7 +14,7 @@ use Rattle.mp_system.specs.Memory.{stands_in, is_done_or}
 use Rattle.mp_system.specs.Traversal.{IsTraversal}
 use Rattle.spill_plan.specs.declared.span.Span.{Span}
 use Rattle.spill_plan.specs.SpillPlans.{is_held, own_need, sum_from, kept_across, IsSpillPlan, most_among, plan_volume}
-use Rattle.spill_plan.specs.Spans.{step_of, start_of_item, end_of_item, span_of, no_span, AreItemSpans, is_across, start_sum, end_sum, kept_at, IsSpanPlan, span_volume}
+use Rattle.spill_plan.specs.Spans.{step_of, AreSteps, IsInTable, start_of_item, end_of_item, span_of, no_span, AreItemSpans, is_across, start_sum, end_sum, kept_at, IsSpanPlan, span_volume}
 use Rattle.spill_plan.proofs.OrderSteps.{stands-take, task_step, step_of_task, produced_before}
 
 lt-le : (m n : ℕ) → nat_lt m n ≡ nat_le (suc m) n
@@ -112,10 +112,10 @@ sum_by-map f g to (x ∷ items) each =
     )
 
 module _ (system : TaskSystem) (order : List ℕ) (within : IsSystem system) (traversal : IsTraversal system order) where
-  producer : (i : ℕ) (d : Item) → i < length system.items → ForSome (get_or system.items i d).from (IsTask system)
+  pub producer : (i : ℕ) (d : Item) → i < length system.items → ForSome (get_or system.items i d).from (IsTask system)
   producer i d h = (All-get_or (IsItemWithin system) system.items i d h within.items).producer
 
-  consumer : (i : ℕ) (d : Item) → i < length system.items → ForSome (get_or system.items i d).to (IsTask system)
+  pub consumer : (i : ℕ) (d : Item) → i < length system.items → ForSome (get_or system.items i d).to (IsTask system)
   consumer i d h = (All-get_or (IsItemWithin system) system.items i d h within.items).consumer
 
   -- an item that a task consumes ends at the task's step
@@ -152,6 +152,23 @@ module _ (system : TaskSystem) (order : List ℕ) (within : IsSystem system) (tr
   start_sum-outputs k h = sum_by-map (λ x. cond (x.start == k + 1) x.size 0) (size_if (is_output (get_or order k 0)))
       (span_of order) system.items
       (λ i d l. ap (λ b. cond b (get_or system.items i d).size 0) (starts_after_step k (get_or system.items i d).from h (producer i d l)))
+
+  -- an item's span by the table of steps
+  module _ (steps : List ℕ) (are : AreSteps system order steps) where
+    pub in_table : (o : Option ℕ) → ForSome o (IsTask system) → ForSome o (IsInTable steps)
+    in_table o tasks task is =
+        let t = tasks task is in
+        (t.0, omega (arith, t.1, are.len), omega (arith, are.each task t, (task_step system order traversal task t).0, are.few))
+
+    pub start_read : (o : Option ℕ) → ForSome o (IsTask system) → option_map_or (λ task. get_or steps (task - 1) 0 + 1) o 0
+        ≡ start_of_item order o
+    start_read None tasks = refl
+    start_read (Some u) tasks = omega (arith, are.each u (tasks u refl))
+
+    pub end_read : (o : Option ℕ) → ForSome o (IsTask system) → option_map_or (λ task. get_or steps (task - 1) 0) o (length order)
+        ≡ end_of_item order o
+    end_read None tasks = refl
+    end_read (Some w) tasks = are.each w (tasks w refl)
 
   pub end_within : (o : Option ℕ) → ForSome o (IsTask system) → end_of_item order o ≤ length order
   end_within None task = omega arith

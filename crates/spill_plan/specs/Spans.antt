@@ -19,6 +19,10 @@ pub record AreSteps (system : TaskSystem) (order steps : List ℕ) : Type 0 wher
   pub len : length steps ≡ length system.tasks
   pub each : (task : ℕ) → IsTask system task → slice_index steps (task - 1) ≡ step_of order task
 
+-- a task whose step is at hand, and low
+abbrev pub IsInTable : List ℕ → ℕ → Type 0
+IsInTable steps task = (1 ≤ task) × (task ≤ length steps) × (slice_index steps (task - 1) < most_tasks)
+
 -- the first step across which an item is held, and the first from there on across which it is not
 abbrev pub start_of_item : List ℕ → Option ℕ → ℕ
 start_of_item order None = 0

@@ -1,8 +1,7 @@
-ghost use Rattle.std.specs.Prelude.{◌≡◌, length, map, IfOk};
-ghost use Rattle.std.specs.Option.{ForSome};
-ghost use Rattle.mp_system.specs.System.{IsTask};
+ghost use Rattle.std.specs.Prelude.{◌≡◌, ◌+◌, ◌-◌, length, map, slice_index, IfOk};
+ghost use Rattle.std.specs.Option.{ForSome, option_map_or};
 ghost use Rattle.mp_system.specs.Traversal.{IsTraversal};
-ghost use Rattle.spill_plan.specs.Spans.{AreItemSpans, AreSteps, start_of_item, end_of_item, span_of};
+ghost use Rattle.spill_plan.specs.Spans.{AreItemSpans, IsInTable, span_of};
 
 use crate::NoMemory;
 use crate::steps::steps_by_task;
@@ -18,11 +17,9 @@ pub struct Span {
 }
 
 // The step after that of the producer, or the first.
-fn start_of_item(system: &System, order: &[u32], steps: &[u32], producer: Option<u32>) -> u32
-    requires traversal { IsTraversal system.now order.now }
-    requires steps { AreSteps system.now order.now steps.now }
-    requires task { ForSome producer (IsTask system.now) }
-    ensures { result ≡ start_of_item order.now producer }
+fn start_of_item(steps: &[u32], producer: Option<u32>) -> u32
+    requires { ForSome producer (IsInTable steps.now) }
+    ensures { result ≡ option_map_or (λ task. slice_index steps.now (task - 1) + 1) producer 0 }
 {
     match producer {
         None => 0,
@@ -31,14 +28,12 @@ fn start_of_item(system: &System, order: &[u32], steps: &[u32], producer: Option
 }
 
 // The step of the consumer, or the end.
-fn end_of_item(system: &System, order: &[u32], steps: &[u32], consumer: Option<u32>) -> u32
-    requires traversal { IsTraversal system.now order.now }
-    requires steps { AreSteps system.now order.now steps.now }
-    requires task { ForSome consumer (IsTask system.now) }
-    ensures { result ≡ end_of_item order.now consumer }
+fn end_of_item(steps: &[u32], consumer: Option<u32>, end: u32) -> u32
+    requires { ForSome consumer (IsInTable steps.now) }
+    ensures { result ≡ option_map_or (λ task. slice_index steps.now (task - 1)) consumer end }
 {
     match consumer {
-        None => order.len() as u32,
+        None => end,
         Some(task) => steps[task as usize - 1],
     }
 }
@@ -55,8 +50,8 @@ pub fn spans_of(alloc: Global, system: &System, order: &[u32]) -> Result<Vec<Spa
     for item in items {
         spans.push(Span {
             size: item.size,
-            start: start_of_item(system, order, &steps, item.from),
-            end: end_of_item(system, order, &steps, item.to),
+            start: start_of_item(&steps, item.from),
+            end: end_of_item(&steps, item.to, order.len() as u32),
         })?;
     }
     Ok(spans)
