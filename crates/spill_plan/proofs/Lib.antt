@@ -1,0 +1,9 @@
+pub mod SpanSums
+pub mod Leads
+pub mod Raisings
+pub mod Running
+pub mod OrderSteps
+pub mod ItemSpans
+pub mod StepNeeds
+pub mod Rankings
+pub mod LeastAmounts
