@@ -23,6 +23,7 @@ EXAMPLES = Path(__file__).resolve().parent.parent.parent / "examples"
 
 Options = list[tuple[str, str]]
 
+
 class Case(NamedTuple):
     """A line of words and the files that it may name."""
 
@@ -52,6 +53,7 @@ def matrix_options(draw: random.Random) -> Options:
         ("--inplace", draw.choice(["yes", "no"])),
     ]
     chosen = [option for option in options if draw.random() < 0.4]
+    # a permutation and an ordering
     if len(chosen) > 1 and chosen[1][0] == "--ordering" and draw.random() < 0.95:
         del chosen[1]
     return chosen
@@ -76,13 +78,12 @@ def random_setting(draw: random.Random, bench: Bench, inputs: tuple[str, ...]) -
 
 
 def known_order(draw: random.Random, text: bytes, system_of: Callable[[bytes], System]) -> list[int]:
-    """A traversal of what this text reads as, or numbers where it has none, as one example."""
+    """A traversal of what this text reads as, or its numbers where it has none, as the example with a cycle."""
     system = system_of(text)
-    plain = list(range(1, system.count + 1))
     try:
         return random_traversal(draw, system)
     except IndexError:
-        return plain
+        return list(range(1, system.count + 1))
 
 
 def order_text(draw: random.Random, order: list[int]) -> bytes:

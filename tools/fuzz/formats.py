@@ -337,7 +337,6 @@ def read_claim(page: Page, before: int) -> int:
     return position
 
 
-
 def refusal_of(read: Callable[[], int]) -> tuple[int, Optional[str]]:
     """What a reader counts, and the rest of the line after `refused` where it refuses."""
     try:

@@ -4,7 +4,6 @@ from collections.abc import Iterator
 from typing import NamedTuple, Optional
 
 
-
 class System:
     """Tasks with what they need, and the items between them."""
 
@@ -203,7 +202,6 @@ def plan_of(text: bytes) -> Plan:
     claims = [[int(claim[0]), claim[1], int(claim[2]), int(claim[3])] for claim in sections["claims"][1:]]
     order, priority = ([int(line[0]) for line in sections.get(word, [[]])[1:]] for word in ("order", "priority"))
     return Plan(order, priority, int(sections["peak"][0][0]), claims)
-
 
 
 # ---- terms, and what a checker objects to in a plan

@@ -5,7 +5,6 @@ import re
 from models import System
 
 
-
 def small(draw: random.Random) -> int:
     """A size: mostly small, now and then 0 or large."""
     return draw.choice([0, 0, 1, 2, 3, draw.randrange(10), draw.randrange(10), draw.randrange(1000), draw.randrange(2**36)])
@@ -104,7 +103,9 @@ def random_plan(draw: random.Random, order: list[int], peak: int) -> bytes:
 # ---- changes
 
 # Numbers at the limits of files and options.
-NEAR_LIMITS = [str(limit + more) for limit in (50_000, 1_000_000, 4_000_001, 10_000_000, 2**32 - 1, 2**40, 2**60, 2**64 - 1) for more in (0, 1)]
+LIMITS = (50_000, 1_000_000, 4_000_001, 10_000_000, 2**32 - 1, 2**40, 2**60, 2**64 - 1)
+
+NEAR_LIMITS = [str(limit + more) for limit in LIMITS for more in (0, 1)]
 
 WORDS = "0 1 2 3 7 00 007 -0 -1 +1 1.5 1e3 x end F R % # data par task \0 \u00e9".split(" ")
 
@@ -178,4 +179,3 @@ def changed_words(draw: random.Random, words: list[str]) -> list[str]:
     else:
         words[place] = words[place].replace("=", "", 1) + draw.choice(["", "=", "x", "=1"])
     return words
-
