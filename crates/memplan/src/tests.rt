@@ -1,6 +1,7 @@
 //! The top call over files and a sink in memory.
 
 mod checks;
+mod cuts;
 mod demos;
 mod faults;
 mod large;

@@ -6,6 +6,7 @@ use crate::Status::{self, Done, Format, ReadFault, WriteFault};
 use mp_outside::MemSink;
 use std::alloc::{AllocError, Global};
 use std::process::Abort;
+use std::str;
 use std::test::Fail;
 use std::thread::Threads;
 
@@ -13,22 +14,36 @@ const FILES: Texts = &[("t", FIVE), ("o", ORDER), ("p", "5 4 3 2 1\n")];
 
 const REPLAY: &str = "replay --tree t --order o";
 
+const PLAN: &str = "plan --tree t";
+
 const SIMULATE: &str = "simulate --tree t --order o --priority p --bound 11 --workers 2";
+
+// What a run without faults prints. A plan may be any of least peak: whether it is one is tested elsewhere.
+fn printed(
+    rt: &(impl Threads + Sync + Abort),
+    alloc: Global,
+    run: &str,
+) -> Result<MemSink, AllocError> {
+    let mut files = files_of(alloc, FILES)?;
+    let mut sink = MemSink::new(alloc, 1000)?;
+    let ended = run_into(rt, alloc, run, &mut files, &mut sink)?;
+    assert_eq!(rt; ended, Done, "{run}");
+    Ok(sink)
+}
 
 // ---- loads
 
-// Each load of so many, in pieces of so many bytes, fails in turn; a load after them is never made.
+// Each load of so many, in pieces of 3 bytes, fails in turn; a load after them is never made.
 fn check_loads<R: Threads + Sync + Abort>(
     rt: &R,
     alloc: Global,
     run: &str,
-    piece: u64,
     loads: u64,
     text: &str,
 ) -> Result<(), AllocError> {
     for load in 1..=loads.saturating_add(1) {
         let mut files = files_of(alloc, FILES)?;
-        files.piece(piece.max(1));
+        files.piece(3);
         files.fail_at(load)?;
         let (status, said) = if load <= loads {
             (ReadFault, "")
@@ -43,8 +58,12 @@ fn check_loads<R: Threads + Sync + Abort>(
 #[test]
 fn each_load_fails_in_turn(rt: HostRuntime) -> Result<(), Fail> {
     // the tree has 59 bytes, the order and the priority 10 each, and each file ends with a load that gives nothing
-    check_loads(&rt, rt.alloc(), REPLAY, 3, 20 + 1 + 4 + 1, "peak 11\n")?;
-    check_loads(&rt, rt.alloc(), SIMULATE, 5, 12 + 1 + 2 + 1 + 2 + 1, TIGHT)?;
+    let (alloc, tree, numbers) = (rt.alloc(), 20 + 1, 4 + 1);
+    check_loads(&rt, alloc, REPLAY, tree + numbers, "peak 11\n")?;
+    let plan = printed(&rt, alloc, PLAN)?;
+    let text = str::from_utf8(plan.written()).expect(&rt, "a plan is text");
+    check_loads(&rt, alloc, PLAN, tree, text)?;
+    check_loads(&rt, alloc, SIMULATE, tree + numbers + numbers, TIGHT)?;
     Ok(())
 }
 
@@ -106,37 +125,43 @@ fn check_writes<R: Threads + Sync + Abort>(
     Ok(())
 }
 
-#[test]
-fn each_write_fails_in_turn(rt: HostRuntime) -> Result<(), Fail> {
-    check_writes(&rt, rt.alloc(), REPLAY, 1, b"peak 11\n")?;
-    check_writes(&rt, rt.alloc(), REPLAY, 5, b"peak 11\n")?;
-    check_writes(&rt, rt.alloc(), SIMULATE, 10, TIGHT.as_bytes())?;
-    // a plan may be any of least peak: whether it is one is tested elsewhere
-    let mut files = files_of(rt.alloc(), FILES)?;
-    let mut plan = MemSink::new(rt.alloc(), 1000)?;
-    let ended = run_into(&rt, rt.alloc(), "plan --tree t", &mut files, &mut plan)?;
-    assert_eq!(rt; ended, Done);
-    check_writes(&rt, rt.alloc(), "plan --tree t", 1, plan.written())?;
+// Of a text a sink takes as much as it has room for, in pieces of so many bytes.
+fn check_rooms<R: Threads + Sync + Abort>(
+    rt: &R,
+    alloc: Global,
+    run: &str,
+    piece: u64,
+    text: &[u8],
+) -> Result<(), AllocError> {
+    for room in 0..=text.len() {
+        let mut files = files_of(alloc, FILES)?;
+        let mut sink = MemSink::new(alloc, room as u64)?;
+        sink.piece(piece.max(1));
+        let status = if room < text.len() { WriteFault } else { Done };
+        let ended = run_into(rt, alloc, run, &mut files, &mut sink)?;
+        assert_eq!(rt; ended, status, "{run}: room {room}");
+        assert_eq!(rt;
+            Some(sink.written()),
+            text.get(..room),
+            "{run}: room {room}"
+        );
+    }
     Ok(())
 }
 
-// The room of a sink, the bytes that a write takes, the status and what the sink then holds.
-const FULL: [(u64, u64, Status, &str); 4] = [
-    (0, 1000, WriteFault, ""),
-    (5, 1000, WriteFault, "peak "),
-    (7, 3, WriteFault, "peak 11"),
-    (8, 3, Done, "peak 11\n"),
-];
-
 #[test]
-fn sinks_that_are_full(rt: HostRuntime) -> Result<(), Fail> {
-    for (room, piece, status, text) in FULL {
-        let mut files = files_of(rt.alloc(), FILES)?;
-        let mut sink = MemSink::new(rt.alloc(), room)?;
-        sink.piece(piece);
-        let ended = run_into(&rt, rt.alloc(), REPLAY, &mut files, &mut sink)?;
-        assert_eq!(rt; ended, status, "room {room}");
-        assert_eq!(rt; sink.written(), text.as_bytes(), "room {room}");
+fn sinks_that_fail_and_that_are_full(rt: HostRuntime) -> Result<(), Fail> {
+    let plan = printed(&rt, rt.alloc(), PLAN)?;
+    let texts = [
+        (REPLAY, b"peak 11\n".as_slice()),
+        (PLAN, plan.written()),
+        (SIMULATE, TIGHT.as_bytes()),
+    ];
+    for (run, text) in texts {
+        check_writes(&rt, rt.alloc(), run, 1, text)?;
+        check_writes(&rt, rt.alloc(), run, 5, text)?;
+        check_rooms(&rt, rt.alloc(), run, 1000, text)?;
+        check_rooms(&rt, rt.alloc(), run, 3, text)?;
     }
     Ok(())
 }

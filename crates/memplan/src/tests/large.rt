@@ -1,5 +1,6 @@
 //! Limits, and inputs near them, which are generated.
 
+use super::plans::check_plan;
 use super::{FIVE, check_run};
 use crate::Status::{self, Done, Limit, No};
 use mp_outside::{Failed, Files, MemFiles};
@@ -84,7 +85,7 @@ const TREES: &[Row] = &[
     // sizes of 2^60 together, and one more
     (OF_TREE, &[("t", Lines { head: STAR, first: None, line: LEAF, count: 524_288, tail: "0 0 0 1\nend\n" }), ("o", ALL)],
         Done, "peak 576461851815051264\n"),
-    (OF_TREE, &[("t", Lines { head: STAR, first: None, line: LEAF, count: 524_288, tail: "0 0 1 1\nend\n" }), ("o", ALL)],
+    (OF_TREE, &[("t", Lines { head: STAR, first: None, line: LEAF, count: 524_288, tail: "0 1 0 1\nend\n" }), ("o", ALL)],
         Limit, "refused limit tree total\n"),
     // the most numbers of an order, and one more
     (OF_TREE, &[("t", FIVE_NODES), ("o", Lines { head: "", first: None, line: "1\n", count: 1_000_000, tail: "" })],
@@ -110,12 +111,18 @@ const WORKFLOWS: &[Row] = &[
         Limit, "refused limit workflow positions\n"),
 ];
 
+// Files of these lines.
+fn files_of(alloc: Global, texts: &[(&str, Lines)]) -> Result<MemFiles, AllocError> {
+    let mut files = MemFiles::new(alloc)?;
+    for (name, lines) in texts {
+        files.put(name, text_of(alloc, lines)?.as_bytes())?;
+    }
+    Ok(files)
+}
+
 fn check_rows(rt: &(impl Threads + Sync + Abort), alloc: Global, rows: &[Row]) -> Result<(), Fail> {
     for (run, texts, status, text) in rows {
-        let mut files = MemFiles::new(alloc)?;
-        for (name, lines) in *texts {
-            files.put(name, text_of(alloc, lines)?.as_bytes())?;
-        }
+        let mut files = files_of(alloc, texts)?;
         check_run(rt, alloc, run, &mut files, *status, text)?;
     }
     Ok(())
@@ -129,4 +136,30 @@ fn trees_at_the_limits(rt: HostRuntime) -> Result<(), Fail> {
 #[test]
 fn workflows_at_the_limits(rt: HostRuntime) -> Result<(), Fail> {
     check_rows(&rt, rt.alloc(), WORKFLOWS)
+}
+
+// The most nodes, each the parent of the one before, and the least peak: a block, an extra, and the block that comes.
+#[rattlefmt::skip]
+const CHAIN: (&str, Texts) = ("3", &[("t", Lines { head: "tree 1\nnodes 1000000\n", first: Some(2), line: " 1 1 1\n", count: 999_999,
+    tail: "0 1 1 1\nend\n" })]);
+
+// The most nodes, all but one of them leaves below it: the last leaf runs when the blocks of all others are there.
+#[rattlefmt::skip]
+const WIDEST: (&str, Texts) = ("1000000", &[("t", Lines { head: "tree 1\nnodes 1000000\n", first: None, line: "1000000 1 1 1\n",
+    count: 999_999, tail: "0 0 0 1\nend\n" })]);
+
+#[test]
+fn plans_of_a_million_nodes(rt: HostRuntime) -> Result<(), Fail> {
+    for (peak, texts) in [CHAIN, WIDEST] {
+        let mut files = files_of(rt.alloc(), texts)?;
+        check_plan(
+            &rt,
+            rt.alloc(),
+            "--tree t",
+            &mut files,
+            200_000_000,
+            Some(peak),
+        )?;
+    }
+    Ok(())
 }

@@ -23,16 +23,17 @@ fn peak_of(plan: &[u8]) -> Option<&str> {
     Some(peak)
 }
 
-// The plan of an input is accepted, and its order has the peak that it states: this one, where one is given.
-fn check_plan<R: Threads + Sync + Abort>(
+// The plan of an input, of so many bytes at most, is accepted, and its order has the peak that it states: this one, where one is given.
+pub fn check_plan<R: Threads + Sync + Abort>(
     rt: &R,
     alloc: Global,
     input: &str,
     files: &mut MemFiles,
+    most: u64,
     expected: Option<&str>,
 ) -> Result<(), AllocError> {
     let run = format!(in alloc; "plan {input}")?;
-    let mut plan = MemSink::new(alloc, 100_000)?;
+    let mut plan = MemSink::new(alloc, most)?;
     let ended = run_into(rt, alloc, &run, files, &mut plan)?;
     assert_eq!(rt; ended, Done, "{input}");
     let peak = peak_of(plan.written()).expect(rt, "a plan states its peak");
@@ -45,6 +46,9 @@ fn check_plan<R: Threads + Sync + Abort>(
     let text = format!(in alloc; "peak {peak}\n")?;
     check_run(rt, alloc, &run, files, Done, &text)
 }
+
+// The most bytes of a plan of these inputs.
+const MOST: u64 = 100_000;
 
 // ---- the worked rows
 
@@ -77,7 +81,7 @@ const PEAKS: &[(&str, Texts, &str)] = &[
 fn plans_of_least_peak(rt: HostRuntime) -> Result<(), Fail> {
     for (input, texts, peak) in PEAKS {
         let mut files = files_of(rt.alloc(), texts)?;
-        check_plan(&rt, rt.alloc(), input, &mut files, Some(peak))?;
+        check_plan(&rt, rt.alloc(), input, &mut files, MOST, Some(peak))?;
     }
     Ok(())
 }
@@ -114,8 +118,8 @@ fn made_files(alloc: Global, seed: u64) -> Result<MemFiles, Fail> {
 fn plans_of_random_trees_and_workflows(rt: HostRuntime) -> Result<(), Fail> {
     for seed in 0..20 {
         let mut files = made_files(rt.alloc(), seed)?;
-        check_plan(&rt, rt.alloc(), "--tree t", &mut files, None)?;
-        check_plan(&rt, rt.alloc(), "--workflow w", &mut files, None)?;
+        check_plan(&rt, rt.alloc(), "--tree t", &mut files, MOST, None)?;
+        check_plan(&rt, rt.alloc(), "--workflow w", &mut files, MOST, None)?;
     }
     Ok(())
 }

@@ -1,14 +1,8 @@
 //! Orders replayed over trees and workflows, and the refusals of their files.
 
-use super::{
-    BRANCHES, CHECK_TREE, Case, FIVE, FOUR, NO_TASKS, NOTHING, ORDER, PLAN, SHARE, check_cases,
-    check_run, files_of,
-};
+use super::{BRANCHES, Case, FIVE, FOUR, NO_TASKS, NOTHING, ORDER, PLAN, SHARE, check_cases};
 use crate::Status::{Done, Format, Limit, No};
-use std::alloc::{AllocError, Global};
-use std::process::Abort;
 use std::test::Fail;
-use std::thread::Threads;
 
 const TREE: &[&str] = &["replay --tree t --order o"];
 
@@ -31,7 +25,6 @@ const TREES: &[Case] = &[
     // other spellings; the last line feed may be missing
     (TREE, &[("t", "\r\ntree\t1\r\n# a comment\n% another\n  nodes 005\n2 1 9 1\n5 5 0 1\n\n4 1 9 1\n5 5 0 1\n0 0 0 1\nend"),
         ("o", " 1 3\n% comment\n2\n# comment\n4 5")], Done, "peak 11\n"),
-    (TREE, &[("t", "tree 1\nnodes 5\n2 1 9 1\n5 5 0 1\n4 1 9 1\n5 5 0 1\n0 0 0 1\nend"), ("o", ORDER)], Done, "peak 11\n"),
     // orders that are no traversal
     (TREE, &[("t", FIVE), ("o", "1 1\n")], No, "no order 2 repeated\n"),
     (TREE, &[("t", FIVE), ("o", "9\n")], No, "no order 1 unknown\n"),
@@ -53,8 +46,6 @@ const REFUSED: &[Case] = &[
     (TREE, &[("t", "tree 1\nnodes 1\n0 18446744073709551616 0 1\nend\n"), ("o", "1")], Format, "refused format tree number 3\n"),
     (TREE, &[("t", "tree 1\nnodes 1\n0 18446744073709551615 0 1\nend\n"), ("o", "1")], Limit, "refused limit tree size\n"),
     (TREE, &[("t", "tree 1\nnodes 1\n0 \0 0 1\nend\n"), ("o", "1")], Format, "refused format tree number 3\n"),
-    (TREE, &[("t", "tree 1\nnodes 5\n2 1 9 1\n5 5 0 1\n4 1 9 1\n5 5 0 1\n0 0 0 1\nen"), ("o", ORDER)], Format,
-        "refused format tree count 8\n"),
 ];
 
 #[rattlefmt::skip]
@@ -86,54 +77,6 @@ const WORKFLOWS: &[Case] = &[
 fn replays(rt: HostRuntime) -> Result<(), Fail> {
     for cases in [TREES, REFUSED, WORKFLOWS] {
         check_cases(&rt, rt.alloc(), cases)?;
-    }
-    Ok(())
-}
-
-// A file that ends early, by its name, its kind and its whole text, and another file.
-struct Cut {
-    runs: &'static [&'static str],
-    name: &'static str,
-    kind: &'static str,
-    text: &'static str,
-    other: (&'static str, &'static str),
-}
-
-#[rattlefmt::skip]
-const CUT: &[Cut] = &[
-    Cut { runs: TREE, name: "t", kind: "tree", text: FIVE, other: ("o", ORDER) },
-    Cut { runs: FLOW, name: "t", kind: "workflow", text: BRANCHES, other: ("o", "1 3 2 4\n") },
-    Cut { runs: CHECK_TREE, name: "p", kind: "plan", text: PLAN, other: ("t", FIVE) },
-];
-
-// A text that ends before one of its lines has no end, at the number of that line.
-fn check_cuts<R: Threads + Sync + Abort>(
-    rt: &R,
-    alloc: Global,
-    cut: &Cut,
-    run: &str,
-) -> Result<(), AllocError> {
-    let mut line = 0u32;
-    let mut begins = true;
-    for (place, byte) in cut.text.as_bytes().iter().enumerate() {
-        if begins {
-            line = line.saturating_add(1);
-            let mut files = files_of(alloc, &[cut.other])?;
-            files.put(cut.name, cut.text.get(..place).unwrap_or("").as_bytes())?;
-            let text = format!(in alloc; "refused format {} no-end {line}\n", cut.kind)?;
-            check_run(rt, alloc, run, &mut files, Format, &text)?;
-        }
-        begins = *byte == b'\n';
-    }
-    Ok(())
-}
-
-#[test]
-fn files_that_end_early(rt: HostRuntime) -> Result<(), Fail> {
-    for cut in CUT {
-        for run in cut.runs {
-            check_cuts(&rt, rt.alloc(), cut, run)?;
-        }
     }
     Ok(())
 }

@@ -1,0 +1,215 @@
+"""Random cases: lines of words and the files that they name."""
+import random
+from collections.abc import Callable
+from pathlib import Path
+from typing import NamedTuple
+
+from bench import USAGE, Bench
+from models import System, rows, system_of_tree, system_of_workflow
+from random_files import (
+    changed,
+    changed_tokens,
+    changed_words,
+    listed,
+    random_matrix,
+    random_permutation,
+    random_plan,
+    random_traversal,
+    random_tree,
+    random_workflow,
+)
+
+EXAMPLES = Path(__file__).resolve().parent.parent.parent / "examples"
+
+Options = list[tuple[str, str]]
+
+
+class Case(NamedTuple):
+    """A line of words and the files that it may name."""
+
+    words: list[str]
+    files: dict[str, bytes]
+
+
+class Setting(NamedTuple):
+    """An input as options, its files, and where it is accepted a traversal of it."""
+
+    options: Options
+    files: dict[str, bytes]
+    order: list[int]
+
+
+def example(draw: random.Random, suffix: str) -> bytes:
+    return draw.choice(sorted(EXAMPLES.glob(f"*.{suffix}"))).read_bytes()
+
+
+def matrix_options(draw: random.Random) -> Options:
+    """Options of a matrix in any number, of which some do not go together now and then."""
+    options = [
+        ("--perm", "q"),
+        ("--ordering", draw.choice(["natural", "mindeg", "mindeg"])),
+        ("--shape", draw.choice(["triangle", "square"])),
+        ("--amalgamate", draw.choice(["0", "1", "3", "1000", "1099511627776"])),
+        ("--inplace", draw.choice(["yes", "no"])),
+    ]
+    chosen = [option for option in options if draw.random() < 0.4]
+    # a permutation and an ordering
+    if len(chosen) > 1 and chosen[1][0] == "--ordering" and draw.random() < 0.95:
+        del chosen[1]
+    return chosen
+
+
+def random_setting(draw: random.Random, bench: Bench, inputs: tuple[str, ...]) -> Setting:
+    """A random input of one of these kinds."""
+    kind = draw.choice(inputs)
+    if kind == "tree":
+        text = random_tree(draw) if draw.random() < 0.85 else example(draw, "tree")
+        return Setting([("--tree", "t")], {"t": text}, known_order(draw, text, system_of_tree))
+    if kind == "workflow":
+        text = random_workflow(draw) if draw.random() < 0.85 else example(draw, "workflow")
+        return Setting([("--workflow", "w")], {"w": text}, known_order(draw, text, system_of_workflow))
+    text = random_matrix(draw) if draw.random() < 0.85 else example(draw, "mtx")
+    size = int(next(tokens for tokens in rows(text) if len(tokens) == 3)[0])
+    options = [("--matrix", "m"), *matrix_options(draw)]
+    files = {"m": text, "q": random_permutation(draw, size)}
+    bench.put(files)
+    tree = bench.printed(["tree", *(f"{name}={value}" for name, value in options)])
+    return Setting(options, files, known_order(draw, tree, system_of_tree) if tree else [1])
+
+
+def known_order(draw: random.Random, text: bytes, system_of: Callable[[bytes], System]) -> list[int]:
+    """A traversal of what this text reads as, or its numbers where it has none, as the example with a cycle."""
+    system = system_of(text)
+    try:
+        return random_traversal(draw, system)
+    except IndexError:
+        return list(range(1, system.count + 1))
+
+
+def order_text(draw: random.Random, order: list[int]) -> bytes:
+    """Mostly the order, else another one of the same numbers, or one of an example."""
+    if draw.random() < 0.1:
+        return example(draw, "order")
+    return listed(draw, order if draw.random() < 0.85 else draw.sample(order, len(order)))
+
+
+def plan_text(draw: random.Random, bench: Bench, setting: Setting) -> bytes:
+    """The plan that the program makes of an input, in part with other numbers; or a random one, or one of an example."""
+    if draw.random() < 0.15:
+        return example(draw, "plan")
+    bench.put(setting.files)
+    made = bench.printed(["plan", *(f"{name}={value}" for name, value in setting.options)])
+    if made is None or draw.random() < 0.2:
+        return random_plan(draw, setting.order, draw.randrange(20))
+    return made if draw.random() < 0.6 else changed_tokens(draw, made)
+
+
+def replay_options(draw: random.Random, bench: Bench, setting: Setting) -> Options:
+    if draw.random() < 0.3:
+        setting.files["p"] = plan_text(draw, bench, setting)
+        return [("--plan", "p")]
+    setting.files["o"] = order_text(draw, setting.order)
+    return [("--order", "o")]
+
+
+def simulate_options(draw: random.Random, bench: Bench, setting: Setting) -> Options:
+    options = replay_options(draw, bench, setting)
+    bound = draw.choice([0, 5, 11, 22, 1000, 2**40, 2**60, 2**64 - 1, draw.randrange(2000)])
+    options.append(("--bound", str(near_peak(draw, bench, setting, options) if draw.random() < 0.6 else bound)))
+    options.append(("--workers", draw.choice(["1", "2", "3", "16", "4096"])))
+    if draw.random() < 0.4:
+        setting.files["r"] = random_permutation(draw, max(len(setting.order), 1))
+        options.append(("--priority", "r"))
+    return options
+
+
+def near_peak(draw: random.Random, bench: Bench, setting: Setting, options: Options) -> int:
+    """A number at or round the peak of the order."""
+    bench.put(setting.files)
+    told = bench.printed(["replay", *(f"{name}={value}" for name, value in setting.options + options)])
+    peak = int(told.split()[1]) if told else 10
+    return max(0, peak + draw.choice([-1, 0, 0, 0, 1, 2, 10, peak]))
+
+
+def check_options(draw: random.Random, bench: Bench, setting: Setting) -> Options:
+    setting.files["p"] = plan_text(draw, bench, setting)
+    return [("--plan", "p")] + ([("--workers", draw.choice(["1", "2", "3", "13", "4096"]))] if draw.random() < 0.5 else [])
+
+
+def plan_options(draw: random.Random, _bench: Bench, _setting: Setting) -> Options:
+    return [("--print", draw.choice(["text", "json"]))] if draw.random() < 0.3 else []
+
+
+def no_options(_draw: random.Random, _bench: Bench, _setting: Setting) -> Options:
+    return []
+
+
+def demo_options(draw: random.Random, _bench: Bench, _setting: Setting) -> Options:
+    if draw.random() < 0.4:
+        sides = [("--rows", str(draw.randrange(1, 30))), ("--cols", str(draw.randrange(1, 30)))]
+        return [("--kind", "grid"), *sides]
+    kind = draw.choice([[], [("--kind", "tree")], [("--kind", "workflow")]])
+    return kind + [("--seed", str(draw.choice([0, 1, 2**64 - 1, draw.randrange(2**64)]))), ("--tasks", str(draw.randrange(1, 400)))]
+
+
+def upgrade_options(draw: random.Random, bench: Bench, setting: Setting) -> Options:
+    if draw.random() < 0.6:
+        return []
+    setting.files["p"] = plan_text(draw, bench, setting)
+    setting.options.clear()
+    if draw.random() < 0.5:
+        return [("--plan", "p")]
+    setting.files["r"] = random_permutation(draw, max(len(setting.order), 1))
+    return [("--plan", "p"), ("--priority", "r")]
+
+
+class Command(NamedTuple):
+    """A command: the kinds of input that it has, and its other options. What is asked of a run of it is Judge.NAME_ends."""
+
+    inputs: tuple[str, ...]
+    options: Callable[[random.Random, Bench, Setting], Options]
+
+
+ALL_INPUTS = ("tree", "tree", "workflow", "workflow", "matrix")
+
+# A further command is a further line, here and in formats.COMMANDS.
+COMMANDS = {
+    "replay": Command(ALL_INPUTS, replay_options),
+    "plan": Command(ALL_INPUTS, plan_options),
+    "check": Command(ALL_INPUTS, check_options),
+    "simulate": Command(ALL_INPUTS, simulate_options),
+    "tree": Command(("matrix",), no_options),
+    "post": Command(("tree", "tree", "matrix"), no_options),
+    "demo": Command((), demo_options),
+    "upgrade": Command(("tree", "workflow"), upgrade_options),
+}
+
+# Words of commands that the program may not know yet: it is then not asked for them.
+PROBES = {"upgrade": ["upgrade", "--tree=t"]}
+
+
+def known_commands(bench: Bench) -> list[str]:
+    """The commands that the program knows."""
+    bench.put({"t": (EXAMPLES / "five.tree").read_bytes()})
+    return [name for name in COMMANDS if name not in PROBES or bench.run(PROBES[name]).status != USAGE]
+
+
+def random_case(draw: random.Random, bench: Bench, commands: list[str]) -> Case:
+    """A case of one of these commands."""
+    command = COMMANDS[name := draw.choice(commands)]
+    setting = random_setting(draw, bench, command.inputs) if command.inputs else Setting([], {}, [])
+    more = command.options(draw, bench, setting)
+    options = setting.options + more
+    draw.shuffle(options)
+    words = [name]
+    for option, value in options:
+        if value in setting.files and draw.random() < 0.01:
+            value = draw.choice(["none", "d", "/dev/null"])
+        words += [f"{option}={value}"] if draw.random() < 0.3 else [option, value]
+    if draw.random() < 0.1:
+        words = changed_words(draw, words)
+    files = dict(setting.files)
+    if files and draw.random() < 0.5:
+        file = draw.choice(sorted(files))
+        files[file] = changed(draw, files[file])
+    return Case(words, files)

@@ -1,0 +1,429 @@
+"""Plain readers of each kind of file, and of words, written from docs/FORMATS.md alone: a second opinion on each refusal."""
+import re
+from collections.abc import Callable
+from typing import NamedTuple, Optional
+
+MOST_SIZE = MOST_TIME = 2**40
+MOST_TOTAL = 2**60
+MOST_TASKS = MOST_ROWS = 1_000_000
+MOST_ENTRIES = 10_000_000
+MOST_POSITIONS = 4_000_001
+MOST_MINDEG = 50_000
+
+
+class Refused(Exception):
+    """Why a file is refused."""
+
+
+class Page:
+    """A file's lines that count, one after the other."""
+
+    def __init__(self, file: str, text: bytes, early: str) -> None:
+        """`early` is the kind of a file that ends early."""
+        self.file, self.early = file, early
+        lines = text.split(b"\n")
+        if not lines[-1]:
+            lines.pop()
+        self.past = len(lines) + 1
+        comments = (b"%",) if file == "matrix" else (b"%", b"#")
+        split = [(number, re.findall(rb"[^ \t\r]+", line)) for number, line in enumerate(lines, 1)]
+        if file == "matrix":
+            split = split[:1] + [line for line in split[1:] if is_counted(line[1], comments)]
+        else:
+            split = [line for line in split if is_counted(line[1], comments)]
+        self.rest = iter(split)
+        self.number, self.tokens = 0, []
+
+    def go_on(self) -> list[bytes]:
+        """The tokens of the next line."""
+        self.number, self.tokens = next(self.rest, (self.past, []))
+        if self.number == self.past:
+            self.refuse(self.early)
+        return self.tokens
+
+    def refuse(self, kind: str) -> None:
+        raise Refused(f"format {self.file} {kind} {self.number}")
+
+    def test(self, holds: bool, kind: str) -> None:
+        if not holds:
+            self.refuse(kind)
+
+    def limit(self, holds: bool, name: str) -> None:
+        if not holds:
+            raise Refused(f"limit {self.file} {name}")
+
+    def number_at(self, place: int, kind: str = "number") -> int:
+        value = number(self.tokens[place])
+        self.test(value is not None, kind)
+        return value or 0
+
+    def header(self, word: bytes) -> int:
+        """The version, of the first line."""
+        self.go_on()
+        self.test(self.tokens in ([word, b"1"], [word, b"2"]), "header")
+        return int(self.tokens[1])
+
+    def section(self, word: bytes, kind: str) -> int:
+        """The number of a line of a word and a number."""
+        self.go_on()
+        self.test(len(self.tokens) == 2 and self.tokens[0] == word, kind)
+        return self.number_at(1)
+
+    def end(self, kind: str) -> None:
+        """No further line."""
+        for self.number, self.tokens in self.rest:
+            self.refuse(kind)
+
+
+def is_counted(tokens: list[bytes], comments: tuple[bytes, ...]) -> bool:
+    return bool(tokens) and not tokens[0].startswith(comments)
+
+
+def number(token: bytes) -> Optional[int]:
+    return int(token) if re.fullmatch(rb"[0-9]+", token) and int(token) < 2**64 else None
+
+
+def values_of(tokens: list[bytes]) -> Optional[list[int]]:
+    """The numbers of a line, where all are some."""
+    values = [number(token) for token in tokens]
+    return None if None in values else [value for value in values if value is not None]
+
+
+# ---- trees
+
+
+class Node(NamedTuple):
+    line: int
+    parent: int
+    out: int
+    extra: int
+    share: int
+
+
+def read_tree(text: bytes) -> int:
+    """The number of nodes."""
+    page = Page("tree", text, "no-end")
+    version = page.header(b"tree")
+    count = page.section(b"nodes", "header")
+    page.test(count != 0, "count")
+    page.limit(count <= MOST_TASKS, "tasks")
+    nodes: list[Node] = []
+    total = 0
+    while len(nodes) < count:
+        nodes.append(read_node(page, version, count))
+        total += nodes[-1].out + nodes[-1].extra
+        page.limit(total <= MOST_TOTAL, "total")
+    page.test(page.go_on() == [b"end"], "count")
+    page.end("count")
+    judge_nodes(page, nodes)
+    return count
+
+
+def read_node(page: Page, version: int, count: int) -> Node:
+    page.test(page.go_on() != [b"end"], "count")
+    values = values_of(page.tokens)
+    page.test(values is not None and len(values) == 3 + version and values[-1] != 0, "number")
+    parent, out, extra, *share, time = values or []
+    page.test(parent <= count, "parent")
+    page.limit(out <= MOST_SIZE and extra <= MOST_SIZE, "size")
+    page.limit(time <= MOST_TIME, "time")
+    return Node(page.number, parent, out, extra, *(share or [0]))
+
+
+def judge_nodes(page: Page, nodes: list[Node]) -> None:
+    """All parents lead to a root, and the shares fit."""
+    below = [0] * len(nodes)
+    leads = {0}
+    for place, node in enumerate(nodes, 1):
+        path = set()
+        while place not in leads and place not in path:
+            path.add(place)
+            place = nodes[place - 1].parent
+        page.number = node.line
+        page.test(place in leads, "cycle")
+        leads |= path
+        if node.parent:
+            below[node.parent - 1] += node.out
+    for node, outs in zip(nodes, below):
+        page.number = node.line
+        page.test(node.share <= min(outs, node.extra + node.out), "share")
+
+
+# ---- workflows
+
+
+class Stack:
+    """The terms so far, by what is there at the start and at the end of each, and what was counted."""
+
+    def __init__(self) -> None:
+        self.terms: list[tuple[int, int]] = []
+        self.positions = self.tasks = self.total = 0
+
+    def count(self, page: Page, size: int = 0) -> None:
+        self.positions += 1
+        page.limit(self.positions <= MOST_POSITIONS, "positions")
+        page.limit(size <= MOST_SIZE, "size")
+
+    def add(self, page: Page, size: int) -> None:
+        self.total += size
+        page.limit(self.total <= MOST_TOTAL, "total")
+
+
+def read_workflow(text: bytes) -> int:
+    """The number of tasks."""
+    page = Page("workflow", text, "no-end")
+    version = page.header(b"workflow")
+    tasks = page.section(b"tasks", "header")
+    page.limit(tasks <= MOST_TASKS, "tasks")
+    stack = Stack()
+    while page.go_on() and page.tokens[0] != b"end":
+        word = page.tokens[0]
+        page.test(word in (b"data", b"task", b"par"), "word")
+        values = values_of(page.tokens[1:]) or []
+        if word == b"data":
+            read_data(page, values, stack)
+        elif word == b"task":
+            read_task(page, values, stack, version, tasks)
+        else:
+            read_par(page, values, stack)
+    page.test(len(page.tokens) == 1, "number")
+    page.test(len(stack.terms) == 1, "not-one-term")
+    page.test(stack.tasks == tasks, "task-count")
+    page.end("word")
+    return tasks
+
+
+def read_data(page: Page, values: list[int], stack: Stack) -> None:
+    page.test(len(values) == 1, "number")
+    stack.count(page, values[0])
+    stack.add(page, values[0])
+    stack.terms.append((values[0], values[0]))
+
+
+def read_task(page: Page, values: list[int], stack: Stack, version: int, tasks: int) -> None:
+    page.test(len(values) == 1 + version and values[-1] != 0, "number")
+    page.test(len(stack.terms) >= 2, "stack-short")
+    stack.tasks += 1
+    page.test(stack.tasks <= tasks, "task-count")
+    extra, *share, time = values
+    stack.count(page, extra)
+    page.limit(time <= MOST_TIME, "time")
+    stack.add(page, extra)
+    (first, left), (needed, last) = stack.terms[-2:]
+    page.test(not share or share[0] <= min(left, extra + needed), "share")
+    stack.terms[-2:] = [(first, last)]
+
+
+def read_par(page: Page, values: list[int], stack: Stack) -> None:
+    page.test(len(values) == 1 and values[0] >= 2, "number")
+    page.test(len(stack.terms) >= values[0], "stack-short")
+    stack.count(page)
+    parts = stack.terms[-values[0] :]
+    stack.terms[-values[0] :] = [(sum(first for first, _ in parts), sum(last for _, last in parts))]
+
+
+# ---- matrices and lists of numbers
+
+VALUES = {b"pattern": 0, b"real": 1, b"double": 1, b"integer": 1, b"unsigned-integer": 1, b"complex": 2}
+
+SYMMETRIES = (b"general", b"symmetric", b"hermitian", b"skew-symmetric")
+
+
+def read_matrix(text: bytes) -> int:
+    """The number of rows."""
+    page = Page("matrix", text, "size-line")
+    values = read_banner(page)
+    page.go_on()
+    sizes = values_of(page.tokens) or []
+    page.test(len(sizes) == 3 and 0 not in sizes[:2], "size-line")
+    page.test(sizes[0] == sizes[1], "not-square")
+    page.limit(sizes[0] <= MOST_ROWS, "order")
+    page.limit(sizes[2] <= MOST_ENTRIES, "entries")
+    seen = 0
+    for page.number, page.tokens in page.rest:
+        seen += 1
+        page.test(seen <= sizes[2], "too-many")
+        pair = values_of(page.tokens[:2]) or []
+        page.test(len(page.tokens) == 2 + values and len(pair) == 2, "entry")
+        page.test(1 <= min(pair) and max(pair) <= sizes[0], "index")
+    page.number = page.past
+    page.test(seen == sizes[2], "too-few")
+    return sizes[0]
+
+
+def read_banner(page: Page) -> int:
+    """How many values an entry has."""
+    page.number, page.tokens = next(page.rest, (1, []))
+    words = [token.lower() for token in page.tokens]
+    page.test(len(words) >= 5 and words[0] == b"%%matrixmarket", "banner")
+    page.test(words[1] == b"matrix", "not-matrix")
+    page.test(words[2] != b"array", "array-format")
+    page.test(words[2] == b"coordinate", "banner")
+    page.test(words[3] in VALUES, "field")
+    page.test(words[4] in SYMMETRIES, "symmetry")
+    return VALUES[words[3]]
+
+
+def read_permutation(file: str, text: bytes, count: int) -> int:
+    page = Page(file, text, "count")
+    seen: set[int] = set()
+    for page.number, page.tokens in page.rest:
+        for place in range(len(page.tokens)):
+            value = page.number_at(place)
+            page.test(len(seen) < count, "count")
+            page.test(1 <= value <= count, "range")
+            page.test(value not in seen, "repeated")
+            seen.add(value)
+    page.number = page.past
+    page.test(len(seen) == count, "count")
+    return count
+
+
+def read_order(text: bytes) -> int:
+    page = Page("order", text, "")
+    seen = 0
+    for page.number, page.tokens in page.rest:
+        for place in range(len(page.tokens)):
+            page.test(page.number_at(place) < 2**32, "number")
+            seen += 1
+            page.limit(seen <= MOST_TASKS, "tasks")
+    return seen
+
+
+# ---- plans
+
+
+def read_plan(text: bytes) -> int:
+    """The length of the order."""
+    page = Page("plan", text, "no-end")
+    version = page.header(b"plan")
+    count = page.section(b"order", "section")
+    page.limit(count <= MOST_TASKS, "tasks")
+    for _ in range(count):
+        page.test(len(page.go_on()) == 1, "order")
+        page.test(page.number_at(0) < 2**32, "number")
+    if version == 2:
+        read_priority(page, count)
+    page.test(page.section(b"peak", "section") <= MOST_TOTAL, "number")
+    claims = page.section(b"claims", "section")
+    page.limit(claims <= MOST_POSITIONS, "positions")
+    before = 0
+    for _ in range(claims):
+        before = read_claim(page, before)
+    page.test(page.go_on() == [b"end"], "no-end")
+    page.end("no-end")
+    return count
+
+
+def read_priority(page: Page, count: int) -> None:
+    ranked = page.section(b"priority", "section")
+    page.test(ranked in (0, count), "priority")
+    seen: set[int] = set()
+    for _ in range(ranked):
+        page.test(len(page.go_on()) == 1, "priority")
+        value = page.number_at(0)
+        page.test(1 <= value <= count and value not in seen, "priority")
+        seen.add(value)
+
+
+def read_claim(page: Page, before: int) -> int:
+    """The position of a claim."""
+    page.go_on()
+    page.test(len(page.tokens) == 4 and page.tokens[1] in (b"F", b"R"), "claim")
+    position, rest = page.number_at(0), page.number_at(3)
+    page.test(re.fullmatch(rb"-?[0-9]+", page.tokens[2]) is not None and abs(int(page.tokens[2])) <= 2**60, "number")
+    page.test(position < 2**32 and rest <= 2**60, "number")
+    page.test(position > before, "claim")
+    return position
+
+
+def refusal_of(read: Callable[[], int]) -> tuple[int, Optional[str]]:
+    """What a reader counts, and the rest of the line after `refused` where it refuses."""
+    try:
+        return read(), None
+    except Refused as refused:
+        return 0, str(refused)
+
+
+# ---- words
+
+MATRIX_OPTIONS = {"perm", "ordering", "shape", "amalgamate", "inplace"}
+
+# The inputs of each command, the options that it must have, one of each group, and those that it may have.
+COMMANDS: dict[str, tuple[set[str], list[set[str]], set[str]]] = {
+    "replay": ({"tree", "workflow", "matrix"}, [{"order", "plan"}], set()),
+    "plan": ({"tree", "workflow", "matrix"}, [], {"print"}),
+    "check": ({"tree", "workflow", "matrix"}, [{"plan"}], {"workers"}),
+    "simulate": ({"tree", "workflow", "matrix"}, [{"order", "plan"}, {"bound"}, {"workers"}], {"priority"}),
+    "tree": ({"matrix"}, [], set()),
+    "post": ({"tree", "matrix"}, [], set()),
+    "demo": (set(), [], {"kind", "seed", "tasks", "rows", "cols"}),
+    "upgrade": ({"tree", "workflow", "plan"}, [], {"priority"}),
+}
+
+CHOICES = {
+    "ordering": {"natural", "mindeg"},
+    "shape": {"triangle", "square"},
+    "inplace": {"no", "yes"},
+    "print": {"text", "json"},
+    "kind": {"tree", "workflow", "grid"},
+}
+
+RANGES = {
+    "amalgamate": (0, 2**40),
+    "bound": (0, 2**64 - 1),
+    "workers": (1, 4096),
+    "seed": (0, 2**64 - 1),
+    "tasks": (1, 1_000_000),
+    "rows": (1, 50_000),
+    "cols": (1, 50_000),
+}
+
+
+def request_of(words: list[str]) -> Optional[dict[str, str]]:
+    """The options of words that ask for something."""
+    options = split_options(words[1:])
+    if not words or words[0] not in COMMANDS or options is None:
+        return None
+    inputs, needed, further = COMMANDS[words[0]]
+    names = set(options)
+    allowed = inputs.union(*needed, further, MATRIX_OPTIONS if "matrix" in names else ())
+    groups = ([inputs] if inputs else []) + needed
+    if names - allowed or any(len(names & group) != 1 for group in groups) or {"perm", "ordering"} <= names:
+        return None
+    if words[0] == "demo" and not is_demo(options):
+        return None
+    if words[0] == "upgrade" and "priority" in names and "plan" not in names:
+        return None
+    return options if all(is_value(name, value) for name, value in options.items()) else None
+
+
+def split_options(words: list[str]) -> Optional[dict[str, str]]:
+    """Options as two words or one, each once, with values."""
+    options: dict[str, str] = {}
+    rest = iter(words)
+    for word in rest:
+        name, sign, value = word.partition("=")
+        if not sign:
+            value = next(rest, "")
+        if not name.startswith("--") or name[2:] in options or not value or value.startswith("-"):
+            return None
+        options[name[2:]] = value
+    return options
+
+
+def is_value(name: str, value: str) -> bool:
+    if name in CHOICES:
+        return value in CHOICES[name]
+    if name in RANGES:
+        read = number(value.encode())
+        least, most = RANGES[name]
+        return read is not None and least <= read <= most
+    return True
+
+
+def is_demo(options: dict[str, str]) -> bool:
+    wanted = {"rows", "cols"} if options.get("kind") == "grid" else {"seed", "tasks"}
+    if set(options) - {"kind"} != wanted or not all(is_value(name, value) for name, value in options.items()):
+        return False
+    return "rows" not in wanted or int(options["rows"]) * int(options["cols"]) <= 50_000

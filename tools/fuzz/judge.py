@@ -1,0 +1,306 @@
+"""What is asked of a run: by docs/FORMATS.md, by the readers of formats.py and by the models of models.py."""
+import json
+import os
+import re
+from collections.abc import Iterator
+from functools import partial
+from typing import Optional
+
+import formats
+from bench import (
+    BOUND,
+    COMPLAINTS,
+    DONE,
+    FORMAT,
+    LIMIT,
+    NO,
+    NO_MEMORY,
+    READ_FAULT,
+    USAGE,
+    WRITE_FAULT,
+    Bench,
+    Ending,
+    failed,
+)
+from cases import Case
+from models import (
+    Simulation,
+    System,
+    numbers,
+    objection,
+    plan_of,
+    rows,
+    system_of_tree,
+    system_of_workflow,
+    term_of_tree,
+    term_of_workflow,
+    tree_parents,
+)
+
+KINDS = {
+    "tree": "header number count parent cycle share no-end",
+    "workflow": "header word number stack-short not-one-term task-count share no-end",
+    "matrix": "banner not-matrix array-format field symmetry size-line not-square entry index too-few too-many",
+    "perm": "number range repeated count",
+    "order": "number",
+    "plan": "header number section order priority claim no-end",
+    "priority": "number range repeated count",
+}
+
+LIMITS = {
+    "tree": "bytes tasks size total time",
+    "workflow": "bytes tasks positions size total time",
+    "matrix": "bytes order entries mindeg",
+    "perm": "bytes",
+    "order": "bytes tasks",
+    "plan": "bytes tasks positions",
+    "priority": "bytes",
+}
+
+# The options that make up an input.
+INPUT_OPTIONS = ("tree", "workflow", "matrix", "perm", "ordering", "shape", "amalgamate", "inplace")
+
+# No more tasks than this are planned by trying all orders.
+FEW = 10
+
+
+class Judge:
+    """What is asked of one case; each `..._ends` gives what is wrong with an ending of its command, where all files are accepted."""
+
+    def __init__(self, bench: Bench, case: Case, ending: Ending) -> None:
+        self.bench, self.words, self.ending = bench, case.words, ending
+        self.text = ending.report.decode("latin-1")
+        self.options = formats.request_of(case.words) or {}
+
+    def wrongs(self) -> Iterator[str]:
+        """All that is wrong with the case."""
+        status, report, complaint = self.ending
+        if status not in range(9):
+            yield f"the status is {status}"
+            return
+        if complaint != COMPLAINTS.get(status, b""):
+            yield f"standard error holds {complaint!r}"
+        if status in (USAGE, READ_FAULT, NO_MEMORY) and report:
+            yield "something is printed"
+        if status in (NO, FORMAT, LIMIT, BOUND) and not self.is_refusal():
+            yield "this is no refusal of the grammar"
+        if self.bench.run(self.words) != self.ending:
+            yield "the same words end otherwise"
+        refusal = self.refusal()
+        if refusal:
+            if refusal != self.ending:
+                yield f"expected {refusal}"
+        elif status not in (DONE, NO, BOUND):
+            yield "all words and files are accepted"
+        else:
+            yield from getattr(self, f"{self.words[0]}_ends")()
+
+    def is_refusal(self) -> bool:
+        """Whether the report is the one line that its status has."""
+        files = [file for file in KINDS if file in self.options]
+        count = "[0-9]+"
+        if self.ending.status in (FORMAT, LIMIT):
+            table, form, tail = (KINDS, "format", f" {count}") if self.ending.status == FORMAT else (LIMITS, "limit", "")
+            return any(re.fullmatch(f"refused {form} {file} ({'|'.join(table[file].split())}){tail}\n", self.text) for file in files)
+        order = f"no order {count} (unknown|repeated|too-early|missing)"
+        if self.ending.status == BOUND:
+            return self.words[0] == "simulate" and bool(re.fullmatch(f"refused bound {count} {count}\n", self.text))
+        claim = f"no peak {count} {count}|no root {count}|no claim {count} (data|series|par|outside)"
+        lines = {"replay": order, "simulate": order, "check": f"{order}|{claim}"}
+        return self.words[0] in lines and bool(re.fullmatch(f"({lines[self.words[0]]})\n", self.text))
+
+    # ---- refusals
+
+    def refusal(self) -> Optional[Ending]:
+        """How the run has to end where its words have no request, or one of its files cannot be read or is refused."""
+        if formats.request_of(self.words) is None:
+            return failed(USAGE)
+        count = 0
+        for file in ("tree", "workflow", "matrix", "perm", "order", "plan", "priority"):
+            if file not in self.options:
+                continue
+            text = self.bench.read(self.options[file])
+            if text is None:
+                return failed(READ_FAULT)
+            read, refusal = self.read(file, text, count)
+            if refusal:
+                return Ending(FORMAT if refusal.startswith("format") else LIMIT, f"refused {refusal}\n".encode(), b"")
+            if file not in ("perm", "order") and (file != "plan" or self.words[0] == "upgrade"):
+                count = read
+        return None
+
+    def read(self, file: str, text: bytes, count: int) -> tuple[int, Optional[str]]:
+        """What a file counts, and why it is refused; so many vertices or tasks are there by the files before it."""
+        if file == "matrix":
+            order, refusal = formats.refusal_of(partial(formats.read_matrix, text))
+            if self.options.get("ordering") == "mindeg" and order > formats.MOST_MINDEG:
+                refusal = "limit matrix mindeg"
+            return order, refusal
+        if file == "perm":
+            return formats.refusal_of(partial(formats.read_permutation, file, text, count))
+        if file == "priority":
+            count = system_of(self.bench, self.options).count if "matrix" in self.options else count
+            return formats.refusal_of(partial(formats.read_permutation, file, text, count))
+        readers = {"tree": formats.read_tree, "workflow": formats.read_workflow, "order": formats.read_order, "plan": formats.read_plan}
+        return formats.refusal_of(partial(readers[file], text))
+
+    # ---- reports
+
+    def expect(self, text: str) -> Iterator[str]:
+        """The text of the report, and the status that it has."""
+        begins = {"no ": NO, "refused bound": BOUND}
+        status = next((status for start, status in begins.items() if text.startswith(start)), DONE)
+        if (self.ending.status, self.text) != (status, text):
+            yield f"expected {status} {text!r}"
+
+    def file(self, option: str) -> bytes:
+        return self.bench.read(self.options[option]) or b""
+
+    def asked_order(self) -> list[int]:
+        return plan_of(self.file("plan")).order if "plan" in self.options else numbers(self.file("order"))
+
+    def replay_ends(self) -> Iterator[str]:
+        system, order = system_of(self.bench, self.options), self.asked_order()
+        yield from self.expect(system.fault(order) or f"peak {system.peak(order)}\n")
+
+    def simulate_ends(self) -> Iterator[str]:
+        system, order = system_of(self.bench, self.options), self.asked_order()
+        bound = int(self.options["bound"])
+        fault = system.fault(order)
+        if fault or system.peak(order) > bound:
+            yield from self.expect(fault or f"refused bound {bound} {system.peak(order)}\n")
+            return
+        priority = order
+        if "priority" in self.options:
+            priority = numbers(self.file("priority"))
+        elif "plan" in self.options:
+            priority = plan_of(self.file("plan")).priority or order
+        yield from self.expect(Simulation(system, order, priority, bound, int(self.options["workers"])).report())
+
+    def plan_ends(self) -> Iterator[str]:
+        words, text = input_words(self.options), self.ending.report
+        if self.options.get("print") == "json":
+            text = self.bench.run(["plan", *words]).report
+            plan = plan_of(text)
+            told = {"claims": plan.claims, "order": plan.order, "peak": plan.peak}
+            yield from self.expect(json.dumps(told, separators=(",", ":")) + "\n")
+        plan, system = plan_of(text), system_of(self.bench, self.options)
+        if formats.refusal_of(partial(formats.read_plan, text))[1] or not text.startswith(b"plan 1\n"):
+            yield "this is no plan of version 1"
+        if said := objection(system, term_of(self.bench, self.options), plan):
+            yield f"the plan has an objection: {said}"
+        if system.count <= FEW and system.least_peak() != plan.peak:
+            yield f"the least peak is {system.least_peak()}"
+        self.bench.write("made", text)
+        if self.bench.run(["check", *words, "--plan=made"]) != Ending(DONE, f"yes {plan.peak}\n".encode(), b""):
+            yield "check does not say yes to the plan"
+
+    def check_ends(self) -> Iterator[str]:
+        plan, system = plan_of(self.file("plan")), system_of(self.bench, self.options)
+        yield from self.expect(objection(system, term_of(self.bench, self.options), plan) or f"yes {plan.peak}\n")
+        if self.ending.status == DONE and plan.peak != plan_of(self.bench.run(["plan", *input_words(self.options)]).report).peak:
+            yield "plan finds another peak"
+
+    def tree_ends(self) -> Iterator[str]:
+        shared = any(len(tokens) == 5 and tokens[3] != "0" for tokens in rows(self.ending.report)[2:-1])
+        if not self.text.startswith(f"tree {2 if shared else 1}\n"):
+            yield "the tree is of the other version"
+        if refusal := formats.refusal_of(partial(formats.read_tree, self.ending.report))[1]:
+            yield f"the tree is refused: {refusal}"
+        self.bench.write("made", self.ending.report)
+        if self.bench.run(["plan", "--tree=made"]) != self.bench.run(["plan", *input_words(self.options)]):
+            yield "the tree has another plan than its matrix"
+
+    def post_ends(self) -> Iterator[str]:
+        found = re.fullmatch("peak ([0-9]+)\norder ([0-9]+)\n((?:[0-9]+\n)*)end\n", self.text)
+        if not found:
+            yield "this is no postorder of the grammar"
+            return
+        tree = tree_of(self.bench, self.options)
+        order, system = [int(line) for line in found[3].split()], system_of_tree(tree)
+        if len(order) != int(found[2]) or system.fault(order) or not is_postorder(tree_parents(tree), order):
+            yield "this is no postorder"
+        elif system.peak(order) != int(found[1]):
+            yield f"the postorder has the peak {system.peak(order)}"
+        elif system.count <= FEW and system.least_peak() > int(found[1]):
+            yield f"the least peak is {system.least_peak()}"
+
+    def demo_ends(self) -> Iterator[str]:
+        kind = self.options.get("kind", "tree")
+        post = "" if kind == "workflow" else "postorder ([0-9]+)\n"
+        found = re.fullmatch(f"demo {kind}\ntasks ([0-9]+)\npositions [0-9]+\npeak ([0-9]+)\n{post}check yes\nend\n", self.text)
+        if not found or (post and int(found[3]) < int(found[2])):
+            yield "this is no summary"
+        elif "tasks" in self.options and int(found[1]) != int(self.options["tasks"]):
+            yield "this is a summary of other tasks"
+
+    def upgrade_ends(self) -> Iterator[str]:
+        kind = next(name for name in ("tree", "workflow", "plan") if name in self.options)
+        if not self.text.startswith(f"{kind} 2\n"):
+            yield f"this is no {kind} of version 2"
+        self.bench.write("made", self.ending.report)
+        if self.bench.run(["upgrade", f"--{kind}=made"]) != self.ending:
+            yield "what was upgraded is not upgraded to the same"
+        if kind == "plan":
+            old, new = plan_of(self.file("plan")), plan_of(self.ending.report)
+            priority = numbers(self.file("priority")) if "priority" in self.options else old.priority
+            if new != old._replace(priority=priority):
+                yield "the plan is another one"
+        elif self.bench.run(["plan", f"--{kind}=made"]) != self.bench.run(["plan", *input_words(self.options)]):
+            yield "what was upgraded has another plan"
+
+
+# ---- inputs of runs that were accepted
+
+
+def input_words(options: dict[str, str]) -> list[str]:
+    return [f"--{name}={options[name]}" for name in INPUT_OPTIONS if name in options]
+
+
+def tree_of(bench: Bench, options: dict[str, str]) -> bytes:
+    """The text of a tree, or of the fronts of a matrix."""
+    if "tree" in options:
+        return bench.read(options["tree"]) or b""
+    return bench.run(["tree", *input_words(options)]).report
+
+
+def system_of(bench: Bench, options: dict[str, str]) -> System:
+    if "workflow" in options:
+        return system_of_workflow(bench.read(options["workflow"]) or b"")
+    return system_of_tree(tree_of(bench, options))
+
+
+def term_of(bench: Bench, options: dict[str, str]) -> list[tuple[str, list[int]]]:
+    if "workflow" in options:
+        return term_of_workflow(bench.read(options["workflow"]) or b"")
+    return term_of_tree(tree_of(bench, options))
+
+
+def is_postorder(parents: list[int], order: list[int]) -> bool:
+    """Whether the nodes below each node stand right before it."""
+    sizes = [1] * (len(parents) + 1)
+    place = {node: at for at, node in enumerate(order)}
+    first = dict(place)
+    for node in order:
+        if place[node] - first[node] + 1 != sizes[node]:
+            return False
+        if parent := parents[node - 1]:
+            sizes[parent] += sizes[node]
+            first[parent] = min(first[parent], first[node])
+    return True
+
+
+# ---- outputs that fail
+
+
+def output_faults(bench: Bench, case: Case, ending: Ending) -> Iterator[str]:
+    """Runs the case with a full output and with a closed one."""
+    wanted = failed(WRITE_FAULT) if ending.report else ending
+    with open("/dev/full", "wb") as full:
+        if bench.run(case.words, full.fileno()) != wanted:
+            yield "a full output is no write fault"
+    reader, writer = os.pipe()
+    os.close(reader)
+    if bench.run(case.words, writer) != wanted:
+        yield "a closed output is no write fault"
+    os.close(writer)

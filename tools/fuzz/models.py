@@ -1,0 +1,321 @@
+"""Plain models of what memplan computes: systems, their peaks, simulated runs; and the values of files that were accepted."""
+import re
+from collections.abc import Iterator
+from typing import NamedTuple, Optional
+
+
+class System:
+    """Tasks with what they need, and the items between them."""
+
+    def __init__(self, tasks: list[tuple[int, int, int]], items: list[list]) -> None:
+        """Tasks are their extra, share and time; items are their size, the task that makes them and the one that takes them, or None."""
+        self.count = len(tasks)
+        self.first = sum(size for size, maker, _ in items if maker is None)
+        self.times = [time for _, _, time in tasks]
+        self.suppliers: list[set[int]] = [set() for _ in tasks]
+        taken, made = [0] * self.count, [0] * self.count
+        for size, maker, taker in items:
+            if maker is not None:
+                made[maker] += size
+            if taker is not None:
+                taken[taker] += size
+            if maker is not None and taker is not None:
+                self.suppliers[taker].add(maker)
+        self.needs = [extra + out - share for (extra, share, _), out in zip(tasks, made)]
+        self.gains = [out - back for out, back in zip(made, taken)]
+
+    def fault(self, order: list[int]) -> Optional[str]:
+        """Where and why this order of numbers from 1 is no traversal."""
+        done: set[int] = set()
+        for place, number in enumerate(order, 1):
+            task = number - 1
+            if not 0 <= task < self.count:
+                return f"no order {place} unknown\n"
+            if task in done:
+                return f"no order {place} repeated\n"
+            if not self.suppliers[task] <= done:
+                return f"no order {place} too-early\n"
+            done.add(task)
+        return f"no order {len(order) + 1} missing\n" if len(done) < self.count else None
+
+    def peak(self, order: list[int]) -> int:
+        """The greatest memory along a traversal."""
+        memory = peak = self.first
+        for number in order:
+            peak = max(peak, memory + self.needs[number - 1])
+            memory += self.gains[number - 1]
+            peak = max(peak, memory)
+        return peak
+
+    def least_peak(self) -> int:
+        """The least peak of all traversals, by the sets of tasks that are done."""
+        best = {0: (self.first, self.first)}
+        for _ in range(self.count):
+            after: dict[int, tuple[int, int]] = {}
+            for done, (peak, memory) in best.items():
+                for task in self.ready(done):
+                    left = memory + self.gains[task]
+                    high = max(peak, memory + self.needs[task], left)
+                    key = done | 1 << task
+                    if key not in after or high < after[key][0]:
+                        after[key] = (high, left)
+            best = after
+        return min(peak for peak, _ in best.values())
+
+    def ready(self, done: int) -> Iterator[int]:
+        """The tasks that may come next."""
+        for task in range(self.count):
+            if not done >> task & 1 and all(done >> supplier & 1 for supplier in self.suppliers[task]):
+                yield task
+
+
+class Simulation:
+    """The run of a system on several workers within a bound."""
+
+    def __init__(self, system: System, order: list[int], priority: list[int], bound: int, workers: int) -> None:
+        self.system, self.order, self.bound, self.workers = system, order, bound, workers
+        self.rank = {number: place for place, number in enumerate(priority)}
+        self.place = {number: place for place, number in enumerate(order)}
+        self.memory = self.used = self.booked = self.most_used = self.most_booked = system.first
+        self.waiting: set[int] = set()
+        self.due: dict[int, int] = {}
+        self.done: set[int] = set()
+        self.events: list[str] = []
+
+    def report(self) -> str:
+        """What `simulate` prints of it."""
+        time = activated = 0
+        while True:
+            for number in sorted((task for task, end in self.due.items() if end == time), key=self.place.__getitem__):
+                self.finish(time, number)
+            while activated < len(self.order) and self.fits(self.order[activated]):
+                self.activate(time, self.order[activated])
+                activated += 1
+            while len(self.due) < self.workers and (startable := self.startable()):
+                self.start(time, min(startable, key=self.rank.__getitem__))
+            if not self.due:
+                break
+            time = min(self.due.values())
+        head = f"makespan {time}\nused {self.most_used}\nbooked {self.most_booked}\nevents {len(self.events)}\n"
+        return head + "".join(self.events) + "end\n"
+
+    def fits(self, number: int) -> bool:
+        return self.booked + self.system.needs[number - 1] <= self.bound
+
+    def startable(self) -> list[int]:
+        return [number for number in self.waiting if {task + 1 for task in self.system.suppliers[number - 1]} <= self.done]
+
+    def activate(self, time: int, number: int) -> None:
+        self.waiting.add(number)
+        self.note(time, "activate", number, 0, self.system.needs[number - 1])
+
+    def start(self, time: int, number: int) -> None:
+        self.waiting.remove(number)
+        self.due[number] = time + self.system.times[number - 1]
+        self.note(time, "start", number, self.system.needs[number - 1], 0)
+
+    def finish(self, time: int, number: int) -> None:
+        del self.due[number]
+        self.done.add(number)
+        change = self.system.gains[number - 1] - self.system.needs[number - 1]
+        self.note(time, "finish", number, change, change)
+
+    def note(self, time: int, word: str, number: int, used: int, booked: int) -> None:
+        self.used += used
+        self.booked += booked
+        self.most_used = max(self.most_used, self.used)
+        self.most_booked = max(self.most_booked, self.booked)
+        self.events.append(f"{time} {word} {number}\n")
+
+
+# ---- files that were accepted, as values
+
+
+def rows(text: bytes) -> list[list[str]]:
+    """The lines that count, as tokens."""
+    split = ([token.decode("latin-1") for token in re.split(rb"[ \t\r]+", line) if token] for line in text.split(b"\n"))
+    return [tokens for tokens in split if tokens and tokens[0][0] not in "%#"]
+
+
+def numbers(text: bytes) -> list[int]:
+    """All tokens of a file of numbers."""
+    return [int(token) for tokens in rows(text) for token in tokens]
+
+
+def tree_parents(text: bytes) -> list[int]:
+    """The parents of a tree's nodes; 0 is none."""
+    return [int(tokens[0]) for tokens in rows(text)[2:-1]]
+
+
+def system_of_tree(text: bytes) -> System:
+    tasks, items = [], []
+    for node, tokens in enumerate(rows(text)[2:-1]):
+        parent, out, extra, *share, time = map(int, tokens)
+        tasks.append((extra, *(share or [0]), time))
+        items.append([out, node, parent - 1 if parent else None])
+    return System(tasks, items)
+
+
+def system_of_workflow(text: bytes) -> System:
+    tasks: list[tuple[int, int, int]] = []
+    items: list[list] = []
+    # a term is the items that are there at its start, and those that are there at its end
+    stack: list[tuple[list[int], list[int]]] = []
+    for word, *tokens in rows(text)[2:-1]:
+        values = [int(token) for token in tokens]
+        if word == "data":
+            stack.append(([len(items)], [len(items)]))
+            items.append([values[0], None, None])
+        elif word == "task":
+            (first, taken), (made, last) = stack[-2:]
+            for item in taken:
+                items[item][2] = len(tasks)
+            for item in made:
+                items[item][1] = len(tasks)
+            tasks.append((values[0], values[1] if len(values) == 3 else 0, values[-1]))
+            stack[-2:] = [(first, last)]
+        else:
+            parts = stack[-values[0] :]
+            joined = ([item for part in parts for item in part[side]] for side in (0, 1))
+            stack[-values[0] :] = [tuple(joined)]
+    return System(tasks, items)
+
+
+class Plan(NamedTuple):
+    """A plan file."""
+
+    order: list[int]
+    priority: list[int]
+    peak: int
+    claims: list[list]
+
+
+def plan_of(text: bytes) -> Plan:
+    lines = rows(text)
+    sections: dict[str, list[list[str]]] = {}
+    place = 1
+    while place < len(lines) - 1:
+        word, number = lines[place]
+        count = 0 if word == "peak" else int(number)
+        sections[word] = [[number]] + lines[place + 1 : place + 1 + count]
+        place += 1 + count
+    claims = [[int(claim[0]), claim[1], int(claim[2]), int(claim[3])] for claim in sections["claims"][1:]]
+    order, priority = ([int(line[0]) for line in sections.get(word, [[]])[1:]] for word in ("order", "priority"))
+    return Plan(order, priority, int(sections["peak"][0][0]), claims)
+
+
+# ---- terms, and what a checker objects to in a plan
+
+
+def term_of_workflow(text: bytes) -> list[tuple[str, list[int]]]:
+    """The positions of a term, as words with their numbers; a task has its extra and its share."""
+    positions = []
+    for word, *tokens in rows(text)[2:-1]:
+        values = [int(token) for token in tokens]
+        if word == "task":
+            values = [values[0], values[1] if len(values) == 3 else 0]
+        positions.append((word, values))
+    return positions
+
+
+def term_of_tree(text: bytes) -> list[tuple[str, list[int]]]:
+    """The same of a tree's term: children before their node, in rising number."""
+    nodes = [[int(token) for token in tokens] for tokens in rows(text)[2:-1]]
+    below: list[list[int]] = [[] for _ in range(len(nodes) + 1)]
+    for number, (parent, *_) in enumerate(nodes, 1):
+        below[parent].append(number)
+    positions: list[tuple[str, list[int]]] = []
+    left = [(number, False) for number in reversed(below[0])]
+    while left:
+        number, are_children_done = left.pop()
+        if not are_children_done:
+            left.append((number, True))
+            left.extend((child, False) for child in reversed(below[number]))
+            continue
+        _, out, extra, *share, _ = nodes[number - 1]
+        if not below[number]:
+            positions.append(("data", [0]))
+        elif len(below[number]) > 1:
+            positions.append(("par", [len(below[number])]))
+        positions += [("data", [out]), ("task", [extra, *(share or [0])])]
+    return positions + ([("par", [len(below[0])])] if len(below[0]) > 1 else [])
+
+
+class Part(NamedTuple):
+    """A part of a term: where it ends, its own parts, its hill if it is a series, and its memory at the start, at the end and at least."""
+
+    position: int
+    parts: list["Part"]
+    word: str
+    hill: int
+    first: int
+    last: int
+    least: int
+
+
+def parts_of(term: list[tuple[str, list[int]]]) -> list[Part]:
+    """The part that ends at each position."""
+    parts: list[Part] = []
+    stack: list[Part] = []
+    for position, (word, values) in enumerate(term, 1):
+        if word == "data":
+            part = Part(position, [], word, 0, values[0], values[0], values[0])
+        elif word == "task":
+            before, after = stack[-2:]
+            hill = before.last + values[0] + after.first - values[1]
+            part = Part(position, [before, after], word, hill, before.first, after.last, min(before.least, after.least))
+            del stack[-2:]
+        else:
+            sides = stack[-values[0] :]
+            del stack[-values[0] :]
+            sums = [sum(numbers) for numbers in zip(*((side.first, side.last, side.least) for side in sides))]
+            part = Part(position, sides, word, 0, *sums)
+        parts.append(part)
+        stack.append(part)
+    return parts
+
+
+def meets_rule(part: Part, claims: dict[int, list], claim: list) -> bool:
+    """Whether a claim on a part follows from those on its own parts."""
+    _, direction, bound, rest = claim
+    if part.word == "data":
+        return part.first > bound and rest <= part.first
+    if part.word == "par":
+        return follows_beside(part, claims, direction, bound, rest)
+    before, after = part.parts if direction == "F" else part.parts[::-1]
+    lower, upper = (claims.get(side.position) for side in (before, after))
+    is_low = rest <= before.least
+    return (
+        (lower is not None and lower[1] == direction and lower[2] == bound and lower[3] >= rest)
+        or (lower is not None and lower[1] != direction and lower[2] == bound and is_low)
+        or (part.hill > bound and is_low)
+        or (upper is not None and upper[1] == direction and upper[2] == bound and upper[3] >= rest and is_low)
+    )
+
+
+def follows_beside(part: Part, claims: dict[int, list], direction: str, bound: int, rest: int) -> bool:
+    """The same where the parts stand side by side."""
+    found = [claims.get(side.position) for side in part.parts]
+    values = [claim[3] if claim and claim[1] == direction else side.least for side, claim in zip(part.parts, found)]
+    whole = sum(values)
+    fits = (claim[2] >= bound - (whole - value) for claim, value in zip(found, values) if claim)
+    return any(found) and all(fits) and rest <= whole
+
+
+def objection(system: System, term: list[tuple[str, list[int]]], plan: Plan) -> Optional[str]:
+    """The first objection to a plan."""
+    if fault := system.fault(plan.order):
+        return fault
+    if system.peak(plan.order) != plan.peak:
+        return f"no peak {system.peak(plan.order)} {plan.peak}\n"
+    claims = {claim[0]: claim for claim in plan.claims}
+    if len(term) not in claims or claims[len(term)][2] < plan.peak - 1:
+        return f"no root {len(term)}\n"
+    parts = parts_of(term)
+    for claim in plan.claims:
+        if claim[0] > len(term):
+            return f"no claim {claim[0]} outside\n"
+        part = parts[claim[0] - 1]
+        if not meets_rule(part, claims, claim):
+            return f"no claim {claim[0]} {'series' if part.word == 'task' else part.word}\n"
+    return None

@@ -1,0 +1,181 @@
+"""Random files of each kind and version, and small changes of files and words."""
+import random
+import re
+
+from models import System
+
+
+def small(draw: random.Random) -> int:
+    """A size: mostly small, now and then 0 or large."""
+    return draw.choice([0, 0, 1, 2, 3, draw.randrange(10), draw.randrange(10), draw.randrange(1000), draw.randrange(2**36)])
+
+
+def random_tree(draw: random.Random) -> bytes:
+    """A forest whose nodes have their numbers in any order."""
+    count = draw.choice([1, 2, 3, 4, 5, 6, 7, 8, 9, 10, draw.randrange(11, 60)])
+    names = draw.sample(range(1, count + 1), count)
+    reach = draw.choice([1, 2, 8, count])
+    version = draw.choice([1, 1, 2])
+    outs, extras = ([small(draw) for _ in names] for _ in range(2))
+    lines, below = {}, [0] * count
+    for place in range(count):
+        parent = place + 1 + draw.randrange(reach)
+        has_parent = parent < count and draw.random() < 0.95
+        if has_parent:
+            below[parent] += outs[place]
+        share = f"{draw.randint(0, min(below[place], outs[place] + extras[place]))} " if version == 2 else ""
+        upper = names[parent] if has_parent else 0
+        lines[names[place]] = f"{upper} {outs[place]} {extras[place]} {share}{draw.choice([1, 1, 2, 3, draw.randrange(1, 20)])}\n"
+    return (f"tree {version}\nnodes {count}\n" + "".join(lines[name] for name in sorted(lines)) + "end\n").encode()
+
+
+def random_workflow(draw: random.Random) -> bytes:
+    """A term of a few tasks, by a stack."""
+    wanted = draw.choice([0, 1, 2, 3, 4, 5, 6, 7, 8, 9, draw.randrange(10, 40)])
+    version = draw.choice([1, 1, 2])
+    lines: list[str] = []
+    stack: list[tuple[int, int]] = []
+
+    def hold() -> None:
+        size = small(draw)
+        lines.append(f"data {size}\n")
+        stack.append((size, size))
+
+    def join(count: int) -> None:
+        parts = stack[-count:]
+        lines.append(f"par {count}\n")
+        stack[-count:] = [(sum(first for first, _ in parts), sum(last for _, last in parts))]
+
+    hold()
+    for _ in range(wanted):
+        while len(stack) < 2 or draw.random() < 0.4:
+            hold()
+        (first, left), (needed, last) = stack[-2:]
+        extra = small(draw)
+        share = f"{draw.randint(0, min(left, extra + needed))} " if version == 2 else ""
+        lines.append(f"task {extra} {share}{draw.randrange(1, 9)}\n")
+        stack[-2:] = [(first, last)]
+        if len(stack) > 1 and draw.random() < 0.3:
+            join(draw.randint(2, len(stack)))
+    if len(stack) > 1:
+        join(len(stack))
+    return (f"workflow {version}\ntasks {wanted}\n" + "".join(lines) + "end\n").encode()
+
+
+def random_matrix(draw: random.Random) -> bytes:
+    order = draw.choice([1, 2, 3, 4, 5, 6, 7, 8, 9, draw.randrange(10, 40)])
+    field, values = draw.choice([("pattern", ""), ("pattern", ""), ("real", " 1.5"), ("complex", " 1 -2"), ("integer", " x")])
+    symmetry = draw.choice(["general", "symmetric", "hermitian", "skew-symmetric"])
+    entries = [f"{draw.randint(1, order)} {draw.randint(1, order)}{values}\n" for _ in range(draw.randrange(2 * order + 1))]
+    return f"%%MatrixMarket matrix coordinate {field} {symmetry}\n{order} {order} {len(entries)}\n{''.join(entries)}".encode()
+
+
+def random_permutation(draw: random.Random, count: int) -> bytes:
+    return listed(draw, draw.sample(range(1, count + 1), count))
+
+
+def listed(draw: random.Random, values: list[int]) -> bytes:
+    """Numbers on several lines."""
+    return "".join(f"{value}{draw.choice([' ', chr(10)])}" for value in values).encode() + b"\n"
+
+
+def random_traversal(draw: random.Random, system: System) -> list[int]:
+    done, order = 0, []
+    for _ in range(system.count):
+        task = draw.choice(list(system.ready(done)))
+        done |= 1 << task
+        order.append(task + 1)
+    return order
+
+
+def random_plan(draw: random.Random, order: list[int], peak: int) -> bytes:
+    """A plan with claims at random positions."""
+    positions = sorted(draw.sample(range(1, 4 * len(order) + 6), draw.randrange(1, 5)))
+    claims = "".join(f"{position} {draw.choice('FR')} {peak - 1 - draw.randrange(3)} {small(draw)}\n" for position in positions)
+    priority = ""
+    if draw.random() < 0.5:
+        ranked = draw.choice([[], draw.sample(order, len(order))])
+        priority = f"priority {len(ranked)}\n" + "".join(f"{number}\n" for number in ranked)
+    head = f"plan {2 if priority else 1}\norder {len(order)}\n" + "".join(f"{number}\n" for number in order)
+    return f"{head}{priority}peak {peak}\nclaims {len(positions)}\n{claims}end\n".encode()
+
+
+# ---- changes
+
+# Numbers at the limits of files and options.
+LIMITS = (50_000, 1_000_000, 4_000_001, 10_000_000, 2**32 - 1, 2**40, 2**60, 2**64 - 1)
+
+NEAR_LIMITS = [str(limit + more) for limit in LIMITS for more in (0, 1)]
+
+WORDS = "0 1 2 3 7 00 007 -0 -1 +1 1.5 1e3 x end F R % # data par task \0 \u00e9".split(" ")
+
+TOKENS = WORDS + NEAR_LIMITS + [str(2**16), str(2**31), str(2**63), str(-(2**60)), str(-(2**60) - 1), "9" * 40]
+
+
+def changed_bytes(draw: random.Random, text: bytes) -> bytes:
+    """One byte is turned, left out, put in; or the text ends, or goes on."""
+    place = draw.randrange(len(text) + 1)
+    before, after = text[:place], text[place:]
+    byte = bytes([draw.choice([0, 9, 10, 13, 32, 35, 37, 45, 48, 57, 128, 255, draw.randrange(256)])])
+    put_in, left_out, turned = before + byte + after, before + after[1:], before + byte + after[1:]
+    return draw.choice([put_in, left_out, turned, before, before + after[draw.randrange(9) :], text + text])
+
+
+def changed_tokens(draw: random.Random, text: bytes) -> bytes:
+    """One token becomes another one, is left out or stands twice."""
+    parts = re.split(rb"([ \t\r\n]+)", text)
+    place = 2 * draw.randrange((len(parts) + 1) // 2)
+    number = parts[place]
+    near = str(int(number) + draw.choice([-2, -1, 1, 2])).encode() if re.fullmatch(rb"-?[0-9]{1,25}", number) else b"1"
+    other, limit = draw.choice(TOKENS).encode(), draw.choice(NEAR_LIMITS).encode()
+    parts[place] = draw.choice([near, near, other, limit, b"", number + b" " + number, b"0" + number])
+    return b"".join(parts)
+
+
+def changed_lines(draw: random.Random, text: bytes) -> bytes:
+    """Lines are left out, put in, exchanged; or all end otherwise."""
+    lines = text.splitlines(keepends=True) or [b""]
+    here, there = draw.randrange(len(lines)), draw.randrange(len(lines))
+    more = draw.choice([b"\n", b"# x\n", b"% x\n", b" \t\r\n", b"end\n", lines[there], b"0\n", b"1 1 1 1\n"])
+    which = draw.randrange(6)
+    if which == 0:
+        del lines[here]
+    elif which == 1:
+        lines.insert(here, more)
+    elif which == 2:
+        lines[here], lines[there] = lines[there], lines[here]
+    elif which == 3:
+        lines = lines[:here]
+    elif which == 4:
+        lines = [line.replace(b"\n", b"\r\n").replace(b" ", b"\t ") for line in lines]
+    else:
+        lines[-1] = lines[-1].rstrip(b"\n")
+    return b"".join(lines)
+
+
+def changed(draw: random.Random, text: bytes) -> bytes:
+    """A file with a few changes."""
+    for _ in range(draw.choice([1, 1, 1, 2, 4])):
+        text = draw.choice([changed_bytes, changed_tokens, changed_tokens, changed_lines])(draw, text)
+    return text
+
+
+def changed_words(draw: random.Random, words: list[str]) -> list[str]:
+    """A line of words with one change."""
+    words = list(words)
+    place = draw.randrange(len(words)) if words else 0
+    value = draw.choice(TOKENS + ["", "-t", "--", "--help", "natural", "square", "json"]).replace("\0", "")
+    which = draw.randrange(6)
+    if which == 0 or not words:
+        words.insert(place, value)
+    elif which == 1:
+        del words[place]
+    elif which == 2:
+        words[place] = value
+    elif which == 3:
+        words.insert(draw.randrange(len(words) + 1), words[place])
+    elif which == 4:
+        words = words[:1] + words[1:][::-1]
+    else:
+        words[place] = words[place].replace("=", "", 1) + draw.choice(["", "=", "x", "=1"])
+    return words
