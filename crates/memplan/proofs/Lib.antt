@@ -8,5 +8,6 @@ pub mod PageLemmas
 pub mod DemoLemmas
 pub mod OneInput
 pub mod OneFile
+pub mod UpgradeLemmas
 pub mod OneReport
 pub mod SoundAnswer

@@ -10,13 +10,14 @@ use Rattle.ordering.specs.Kinds.{perm_word, order_file_word}
 use Rattle.ordering.specs.OrderFile.{ReadsOrder, RefusesOrder}
 use Rattle.ordering.specs.PermFile.{ReadsPerm, RefusesPerm}
 use Rattle.plan_text.specs.Kinds.{word_of as plan_word}
+use Rattle.plan_text.specs.Plan.{PlanText}
 use Rattle.plan_text.specs.PlanFile.{ReadsPlan, RefusesPlan}
 use Rattle.sp_terms.specs.Kinds.{word_of as workflow_word}
 use Rattle.sp_terms.specs.WorkflowFile.{ReadsWorkflow, RefusesWorkflow}
 use Rattle.tree_input.specs.Kinds.{word_of as tree_word}
 use Rattle.tree_input.specs.TreeFile.{ReadsTree, RefusesTree}
-use Rattle.memplan.specs.Files.{Answer, IsMatrixFile, CanBeOrdered, IsTooLarge, IsWithinBytes, IsRefusedAs, IsRefusedFile, HasValue, IsRefused, IsSystemOf}
-use Rattle.memplan.specs.Request.{Ordering, natural, min_degree, perm_named, Input, FileRole, tree_file, workflow_file, matrix_file, perm_file, order_file, plan_file, priority_file}
+use Rattle.memplan.specs.Files.{Answer, IsMatrixFile, CanBeOrdered, IsTooLarge, IsWithinBytes, IsRefusedAs, IsRefusedFile, HasValue, IsRefused, IsSystemOf, IsPlanFile}
+use Rattle.memplan.specs.Request.{Ordering, natural, min_degree, perm_named, Input, FileRole, tree_file, workflow_file, matrix_file, perm_file, order_file, plan_file, priority_file, plan_priority_file}
 use Rattle.memplan.proofs.OneInput.{Systems, same_texts}
 
 -- what is known of a format
@@ -50,6 +51,7 @@ pub record Formats : Type 0 where
   pub orders : IsFormat ReadsOrder RefusesOrder
   pub plans : IsFormat ReadsPlan RefusesPlan
   pub patterns : (bytes : List ℕ) (one two : List (List ℕ)) → ReadsPattern bytes one → ReadsPattern bytes two → one ≡ two
+  pub one_plan : (bytes : List ℕ) (one two : PlanText) → ReadsPlan bytes one → ReadsPlan bytes two → one ≡ two
   pub systems : Systems
 
 module _ (f : Formats) where
@@ -60,6 +62,10 @@ module _ (f : Formats) where
 
   abbrev perm_refused : List ℕ → ℕ → List ℕ → Answer → Type 0
   perm_refused file n text answer = IsRefusedFile file perm_word (RefusesPerm n text) text answer
+
+  -- and a plan file before it as many tasks of its order
+  same_ranks : (text : List ℕ) (a b : PlanText) → IsPlanFile text a → IsPlanFile text b → length a.order ≡ length b.order
+  same_ranks text a b is is' = ap (λ (p : PlanText). length p.order) (f.one_plan text a b is.1 is'.1)
 
   not_too_large : (o : Ordering) (text : List ℕ) (answer : Answer) (rows : List (List ℕ)) → IsMatrixFile text rows → CanBeOrdered o (length rows) → IsTooLarge o text answer → ⊥
   not_too_large natural text answer rows is fits large = large
@@ -92,6 +98,11 @@ module _ (f : Formats) where
       let n = length s.tasks in
       not_refused (codes "priority") perm_word (ReadsPerm n) (RefusesPerm n) (f.perms n) text answer order is
       (subst (λ (k : ℕ). perm_refused (codes "priority") k text answer) (same_tasks input mine' mine one' one t s (sym split' ∙ split) is_system' is_system) refused)
+  not_both plan_priority_file [] text answer is refused = absurd is
+  not_both plan_priority_file (first ∷ earlier) text answer (plan, order, is_plan, is) (plan', is_plan', refused) =
+      let n = length plan.order in
+      not_refused (codes "priority") perm_word (ReadsPerm n) (RefusesPerm n) (f.perms n) text answer order is
+      (subst (λ (k : ℕ). perm_refused (codes "priority") k text answer) (same_ranks first plan' plan is_plan' is_plan) refused)
 
   pub one_refusal : (role : FileRole) (earlier : List (List ℕ)) (text : List ℕ) (one two : Answer) → IsRefused role earlier text one → IsRefused role earlier text two → one ≡ two
   one_refusal tree_file earlier text one two is other = refused_once (codes "tree") tree_word ReadsTree RefusesTree f.trees text one two is other
@@ -110,3 +121,8 @@ module _ (f : Formats) where
       let n = length s.tasks in
       refused_once (codes "priority") perm_word (ReadsPerm n) (RefusesPerm n) (f.perms n) text one two is
       (subst (λ (k : ℕ). perm_refused (codes "priority") k text two) (same_tasks input mine' mine first' first t s (sym split' ∙ split) is_system' is_system) other)
+  one_refusal plan_priority_file [] text one two is other = absurd is
+  one_refusal plan_priority_file (first ∷ earlier) text one two (plan, is_plan, is) (plan', is_plan', other) =
+      let n = length plan.order in
+      refused_once (codes "priority") perm_word (ReadsPerm n) (RefusesPerm n) (f.perms n) text one two is
+      (subst (λ (k : ℕ). perm_refused (codes "priority") k text two) (same_ranks first plan' plan is_plan' is_plan) other)

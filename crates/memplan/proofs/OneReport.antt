@@ -25,12 +25,14 @@ use Rattle.memplan.specs.Files.{Answer, AreAccepted, HasValue, IsRefused, IsFirs
 use Rattle.memplan.specs.Demo.{IsDemoOf}
 use Rattle.memplan.specs.Post.{IsPost, post_answer}
 use Rattle.memplan.specs.Replay.{IsReplayAnswer, IsReplayOf}
-use Rattle.memplan.specs.Request.{Request, replay, tree, post, check, planning, simulate, demo, IsInRange, IsMakeable, TreeInput, matrix_named, Input, OrderSource, order_named, plan_named, PlanFormat, Simulation, FileRole, NamedFile, tree_input_files, input_files, source_file, priority_files, files_of}
+use Rattle.memplan.specs.Request.{Request, replay, tree, post, check, planning, simulate, demo, upgrade, Upgrade, IsInRange, IsMakeable, TreeInput, matrix_named, Input, OrderSource, order_named, plan_named, PlanFormat, Simulation, FileRole, NamedFile, tree_input_files, input_files, source_file, priority_file, priority_files, files_of}
 use Rattle.memplan.specs.Simulate.{IsOwnPriority, IsPriorityFrom, IsSimulation, IsSimulationOf, priority_or, setting_of, simulation_answer}
 use Rattle.memplan.specs.Tree.{tree_answer}
+use Rattle.memplan.specs.Upgrade.{Versioned, IsUpgradedFrom}
 use Rattle.memplan.specs.declared.commands.demo.Demo.{Demo}
 use Rattle.memplan.proofs.InputLemmas.{matrix_accepted, tree_accepted, input_accepted, source_accepted, work_has_system}
 use Rattle.memplan.proofs.OneInput.{Systems, same_texts}
+use Rattle.memplan.proofs.UpgradeLemmas.{upgrade_accepted, one_upgrade_answer}
 use Rattle.memplan.proofs.SimulationLemmas.{of_traversal, of_perm, of_own}
 
 -- what is known of the parts of a report
@@ -50,6 +52,7 @@ pub record Reports : Type 0 where
   pub verdict : (system : TaskSystem) (ps : List Position) (plan : PlanText) (a b : Verdict) → IsVerdict system ps plan a → IsVerdict system ps plan b → a ≡ b
   pub schedule : (c : Setting) → IsSetting c → (priority : List ℕ) → HoldsEach c.system priority → (a b : List Event) → IsSchedule c priority (first_moment c) a → IsSchedule c priority (first_moment c) b → a ≡ b
   pub demos : (made : Demo) (a b : Answer) → IsMakeable made → IsDemoOf made a → IsDemoOf made b → a ≡ b
+  pub upgrades : (u : Upgrade) (texts : List (List ℕ)) (a b : Versioned) → IsUpgradedFrom u texts a → IsUpgradedFrom u texts b → a ≡ b
 
 module _ (r : Reports) where
   -- ---- the parts
@@ -153,6 +156,7 @@ module _ (r : Reports) where
   one_report (planning input format) texts a b workers other is is' = absurd (other input format refl)
   one_report (simulate input source s) texts a b workers other is is' = simulated_once input source s texts a b workers.0 is is'
   one_report (demo made) texts a b within other is is' = r.demos made a b within is is'
+  one_report (upgrade u) texts a b within other is is' = one_upgrade_answer r.upgrades u texts a b is is'
 
   -- ---- files that have values
 
@@ -171,7 +175,7 @@ module _ (r : Reports) where
       subst (AreAccepted (input_files input ++ ys) []) (sym split) (both_accepted (input_files input) ys [] mine two (r.systems input mine s s is is).2 (input_accepted input mine s is) more)
 
   priority_accepted : (input : Input) (source : OrderSource) (name : Option (List ℕ)) (mine : List (List ℕ)) (text : List ℕ) (rest : List (List ℕ)) (system : TaskSystem) (order a : List ℕ)
-      → IsSystemOf input mine system → IsPriorityFrom source name (length system.tasks) text rest order a → AreAccepted (priority_files input name) (mine ++ text ∷ []) rest
+      → IsSystemOf input mine system → IsPriorityFrom source name (length system.tasks) text rest order a → AreAccepted (priority_files (priority_file input) name) (mine ++ text ∷ []) rest
   priority_accepted input source None mine text rest system order a is_system is = tt
   priority_accepted input source (Some name) mine text [] system order a is_system is = absurd is
   priority_accepted input source (Some name) mine text (f ∷ []) system order a is_system is = ((mine, text, system, a, refl, is_system, is), tt)
@@ -186,9 +190,10 @@ module _ (r : Reports) where
       with_input input (source_file (plan_named name) ∷ []) texts mine (text ∷ []) s split (work_has_system input mine s ps with_term) ((plan, is_plan), tt)
   report_accepted (planning input format) texts a is = input_accepted input texts is.system (work_has_system input texts is.system is.positions is.with_term)
   report_accepted (simulate input source s) texts a (mine, text, rest, system, order, priority, split, is_system, is_order, is_priority, is) =
-      with_input input (source_file source ∷ priority_files input s.priority) texts mine (text ∷ rest) system split is_system
+      with_input input (source_file source ∷ priority_files (priority_file input) s.priority) texts mine (text ∷ rest) system split is_system
       (source_accepted source mine text order is_order, priority_accepted input source s.priority mine text rest system order priority is_system is_priority)
   report_accepted (demo made) texts a is = tt
+  report_accepted (upgrade u) texts a (value, is, e) = upgrade_accepted u texts value is
 
 -- ---- refusals in turn
 

@@ -13,13 +13,13 @@ use Rattle.matrix_market.specs.Kinds.{word_of as matrix_word}
 use Rattle.matrix_market.specs.MatrixFile.{RefusesPattern}
 use Rattle.plan_text.specs.PlanFile.{RefusesPlan}
 use Rattle.memplan.specs.Commands.{IsAnswer, IsReport}
-use Rattle.memplan.specs.Files.{Answer, IsRefusedAs, IsRefusedFile, IsRefusedPerm, IsRefused, IsFirstRefusal, IsTooLarge}
+use Rattle.memplan.specs.Files.{Answer, IsRefusedAs, IsRefusedFile, IsRefusedPerm, IsRefusedPlanPriority, IsRefused, IsFirstRefusal, IsTooLarge}
 use Rattle.memplan.specs.Clauses.{AreTold, IsAnswered, IsCutShort}
 use Rattle.sp_terms.specs.Kinds.{word_of as workflow_word}
 use Rattle.ordering.specs.Kinds.{perm_word}
 use Rattle.ordering.specs.Kinds.{order_file_word}
 use Rattle.plan_text.specs.Kinds.{word_of as plan_word}
-use Rattle.memplan.specs.Request.{Ordering, natural, min_degree, perm_named, Request, replay, tree, post, check, planning, simulate, FileRole, NamedFile, tree_file, workflow_file, matrix_file, perm_file, order_file, plan_file, priority_file, files_of}
+use Rattle.memplan.specs.Request.{Ordering, natural, min_degree, perm_named, Request, replay, tree, post, check, planning, simulate, FileRole, NamedFile, tree_file, workflow_file, matrix_file, perm_file, order_file, plan_file, priority_file, plan_priority_file, files_of}
 use Rattle.memplan.specs.declared.status.Status.{Status}
 use Rattle.memplan.specs.declared.status.Status.TheVariants as status
 
@@ -39,6 +39,10 @@ refused_perm : (earlier : List (List ℕ)) (text : List ℕ) (answer : Answer) �
 refused_perm [] text answer refused done = refused
 refused_perm (matrix ∷ earlier) text answer (rows, is, refused) done = refused_file (codes "perm") perm_word (RefusesPerm (length rows) text) text answer refused done
 
+refused_plan_priority : (earlier : List (List ℕ)) (text : List ℕ) (answer : Answer) → IsRefusedPlanPriority earlier text answer → answer.status ≡ status.Done → ⊥
+refused_plan_priority [] text answer refused done = refused
+refused_plan_priority (first ∷ earlier) text answer (plan, is, refused) done = refused_file (codes "priority") perm_word (RefusesPerm (length plan.order) text) text answer refused done
+
 too_large : (o : Ordering) (text : List ℕ) (answer : Answer) → IsTooLarge o text answer → answer.status ≡ status.Done → ⊥
 too_large natural text answer large done = large
 too_large min_degree text answer (rows, is, more, line) done = absurd (cc (sym (ap (λ (a : Answer). a.status) line) ∙ done))
@@ -54,6 +58,7 @@ refused order_file earlier text answer r done = refused_file (codes "order") ord
 refused plan_file earlier text answer r done = refused_file (codes "plan") plan_word (RefusesPlan text) text answer r done
 refused (priority_file input) earlier text answer (mine, one, system, split, is, r) done =
     refused_file (codes "priority") perm_word (RefusesPerm (length system.tasks) text) text answer r done
+refused plan_priority_file earlier text answer r done = refused_plan_priority earlier text answer r done
 
 pub first_refusal : (files : List NamedFile) (earlier texts : List (List ℕ)) (answer : Answer) → IsFirstRefusal files earlier texts answer → answer.status ≡ status.Done → ⊥
 first_refusal [] earlier texts answer r done = r

@@ -6,9 +6,9 @@ use Rattle.memplan.specs.Files.{Answer, IsFirstRefusal}
 use Rattle.memplan.specs.Simulate.{IsOwnPriority, IsPriorityFrom, IsSimulation, setting_of, priority_or}
 use Rattle.memplan.specs.Clauses.{AreTold}
 use Rattle.memplan.specs.Judged.{IsStop, IsOrderedOf, IsPriorityOf, IsRefusedRanking, order_tasks, own_priority, priority_beside}
-use Rattle.memplan.specs.Request.{Input, OrderSource, Simulation, NamedFile, simulate, input_files, source_file, priority_files, files_of}
-use Rattle.memplan.specs.declared.commands.simulate.Priority.{Priority}
-use Rattle.memplan.specs.declared.commands.simulate.Priority.TheVariants as priorities
+use Rattle.memplan.specs.Request.{Input, OrderSource, Simulation, FileRole, NamedFile, simulate, input_files, source_file, priority_file, priority_files, files_of}
+use Rattle.memplan.specs.declared.inputs.Priority.{Priority}
+use Rattle.memplan.specs.declared.inputs.Priority.TheVariants as priorities
 use Rattle.memplan.specs.declared.inputs.Order.{Order}
 use Rattle.memplan.specs.declared.inputs.OrderedProblem.{OrderedProblem}
 use Rattle.memplan.specs.declared.stop.Stop.{Stop}
@@ -40,9 +40,9 @@ of_own system order (v ∷ vs) traversal long (inr ranks) = of_ranks system (v �
 
 -- ---- the priority
 
-pub few_priority : (input : Input) (name : Option (List ℕ)) → length (priority_files input name) ≤ 1
-few_priority input None = omega arith
-few_priority input (Some name) = omega arith
+pub few_priority : (role : FileRole) (name : Option (List ℕ)) → length (priority_files role name) ≤ 1
+few_priority role None = omega arith
+few_priority role (Some name) = omega arith
 
 -- a priority that was judged is the one that is meant
 priority_from : (source : OrderSource) (name : Option (List ℕ)) (n : ℕ) (text : List ℕ) (rest : List (List ℕ)) (order : Order) (priority : Priority)
@@ -63,7 +63,7 @@ module _ (told : List ℕ → Option (List ℕ)) (input : Input) (source : Order
   first = input_files input ++ source_file source ∷ []
 
   abbrev more : List NamedFile
-  more = priority_files input s.priority
+  more = priority_files (priority_file input) s.priority
 
   whole : first ++ more ≡ files_of (simulate input source s)
   whole = append_assoc (input_files input) (source_file source ∷ []) more
@@ -73,8 +73,8 @@ module _ (told : List ℕ → Option (List ℕ)) (input : Input) (source : Order
   stop_of_all before after e = subst (λ (fs : List NamedFile). IsStop told before after fs (IsFirstRefusal fs []) e) whole
 
   module _ (ordered : OrderedProblem) where
-    pub ranking_refused : (name : Option (List ℕ)) (one two : List (List ℕ)) (answer : Answer) → IsOrderedOf input source one ordered → AreTold told (priority_files input name) two
-        → IsRefusedRanking (length (system_of ordered.problem).tasks) two answer → IsFirstRefusal (priority_files input name) one two answer
+    pub ranking_refused : (name : Option (List ℕ)) (one two : List (List ℕ)) (answer : Answer) → IsOrderedOf input source one ordered → AreTold told (priority_files (priority_file input) name) two
+        → IsRefusedRanking (length (system_of ordered.problem).tasks) two answer → IsFirstRefusal (priority_files (priority_file input) name) one two answer
     ranking_refused None one [] answer is are refused = absurd refused
     ranking_refused None one (t ∷ two) answer is are refused = absurd are
     ranking_refused (Some name) one [] answer is are refused = absurd refused

@@ -25,7 +25,7 @@ use Rattle.plan_text.specs.Plan.{PlanText}
 use Rattle.plan_text.specs.PlanFile.{ReadsPlan, RefusesPlan}
 use Rattle.symbolic.specs.FrontTree.{IsFrontTree}
 use Rattle.memplan.specs.declared.status.Status.{Status}
-use Rattle.memplan.specs.Request.{Ordering, natural, min_degree, perm_named, Matrix, TreeInput, tree_named, matrix_named, Input, tree_input, workflow_named, OrderSource, order_named, plan_named, FileRole, tree_file, workflow_file, matrix_file, perm_file, order_file, plan_file, priority_file, NamedFile}
+use Rattle.memplan.specs.Request.{Ordering, natural, min_degree, perm_named, Matrix, TreeInput, tree_named, matrix_named, Input, tree_input, workflow_named, OrderSource, order_named, plan_named, FileRole, tree_file, workflow_file, matrix_file, perm_file, order_file, plan_file, priority_file, plan_priority_file, NamedFile}
 use Rattle.sp_terms.specs.Kinds.{word_of as workflow_word}
 use Rattle.ordering.specs.Kinds.{perm_word, order_file_word}
 use Rattle.plan_text.specs.Kinds.{word_of as plan_word}
@@ -172,6 +172,18 @@ IsAcceptedPriority input earlier text =
     (mine : List (List ℕ)) × (one : List ℕ) × (system : TaskSystem) × (priority : List ℕ) × (earlier ≡ mine ++ one ∷ [])
     × IsSystemOf input mine system × IsPermFile (length system.tasks) text priority
 
+-- or after the plan file whose tasks it ranks
+abbrev pub IsRefusedPlanPriority : List (List ℕ) → List ℕ → Answer → Type 0
+IsRefusedPlanPriority [] text answer = ⊥
+IsRefusedPlanPriority (first ∷ earlier) text answer =
+    (plan : PlanText) × IsPlanFile first plan
+    × IsRefusedFile (codes "priority") perm_word (RefusesPerm (length plan.order) text) text answer
+
+abbrev pub IsAcceptedPlanPriority : List (List ℕ) → List ℕ → Type 0
+IsAcceptedPlanPriority [] text = ⊥
+IsAcceptedPlanPriority (first ∷ earlier) text =
+    (plan : PlanText) × (priority : List ℕ) × IsPlanFile first plan × IsPermFile (length plan.order) text priority
+
 -- the file is refused with this answer, after these texts of earlier files
 abbrev pub IsRefused : FileRole → List (List ℕ) → List ℕ → Answer → Type 0
 IsRefused tree_file earlier text answer = IsRefusedFile (codes "tree") tree_word (RefusesTree text) text answer
@@ -182,6 +194,7 @@ IsRefused perm_file earlier text answer = IsRefusedPerm earlier text answer
 IsRefused order_file earlier text answer = IsRefusedFile (codes "order") order_file_word (RefusesOrder text) text answer
 IsRefused plan_file earlier text answer = IsRefusedFile (codes "plan") plan_word (RefusesPlan text) text answer
 IsRefused (priority_file input) earlier text answer = IsRefusedPriority input earlier text answer
+IsRefused plan_priority_file earlier text answer = IsRefusedPlanPriority earlier text answer
 
 -- the file has a value, after these texts of earlier files
 abbrev pub HasValue : FileRole → List (List ℕ) → List ℕ → Type 0
@@ -192,6 +205,7 @@ HasValue perm_file earlier text = IsAcceptedPerm earlier text
 HasValue order_file earlier text = (numbers : List ℕ) × IsOrderFile text numbers
 HasValue plan_file earlier text = (plan : PlanText) × IsPlanFile text plan
 HasValue (priority_file input) earlier text = IsAcceptedPriority input earlier text
+HasValue plan_priority_file earlier text = IsAcceptedPlanPriority earlier text
 
 -- some file is refused with this answer, and those before it have values; after earlier texts
 abbrev pub IsFirstRefusal : List NamedFile → List (List ℕ) → List (List ℕ) → Answer → Type 0

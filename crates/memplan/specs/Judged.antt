@@ -19,12 +19,12 @@ use Rattle.memplan.specs.Clauses.{AreTold, HasFailed}
 use Rattle.memplan.specs.Pages.{answer_of}
 use Rattle.ordering.specs.Kinds.{perm_word}
 use Rattle.memplan.specs.Request.{Ordering, natural, min_degree, perm_named, Input, tree_input, workflow_named, NamedFile, OrderSource, Request, input_files, source_file, files_of}
-use Rattle.memplan.specs.declared.commands.simulate.Priority.{Priority}
-use Rattle.memplan.specs.declared.commands.simulate.Priority.TheVariants as priorities
 use Rattle.memplan.specs.declared.files.Ranked.{Ranked}
 use Rattle.memplan.specs.declared.files.Ranked.TheVariants.{Vertices, Tasks}
 use Rattle.memplan.specs.declared.inputs.Order.{Order}
 use Rattle.memplan.specs.declared.inputs.Order.TheVariants as orders
+use Rattle.memplan.specs.declared.inputs.Priority.{Priority}
+use Rattle.memplan.specs.declared.inputs.Priority.TheVariants as priorities
 use Rattle.memplan.specs.declared.inputs.OrderedProblem.{OrderedProblem}
 use Rattle.memplan.specs.declared.page.Page.{Page}
 use Rattle.memplan.specs.declared.stop.Stop.{Stop}
@@ -131,7 +131,7 @@ pub record IsOrderedOf (input : Input) (source : OrderSource) (texts : List (Lis
   pub is_order : IsOrderRead source (text ∷ []) ordered.order
   pub accepted : AreAccepted (input_files input ++ source_file source ∷ []) [] texts
 
--- ---- simulated runs
+-- ---- priorities
 
 -- the priority of a file, where one is named
 abbrev pub IsPriorityOf : Option (List ℕ) → ℕ → List (List ℕ) → Priority → Type 0

@@ -10,6 +10,7 @@ pub mod Check
 pub mod Plan
 pub mod Simulate
 pub mod Demo
+pub mod Upgrade
 pub mod Commands
 pub mod Clauses
 pub mod Pages

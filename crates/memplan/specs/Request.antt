@@ -55,6 +55,13 @@ pub data PlanFormat : Type 0 where
   as_file : PlanFormat
   as_json : PlanFormat
 
+-- what is written as version 2: a tree, a workflow or a plan, by the name of its file
+pub data Upgrade : Type 0 where
+  tree_upgrade : List ℕ → Upgrade
+  workflow_upgrade : List ℕ → Upgrade
+  -- with the name of a priority file, whose priority stands in place of the plan's
+  plan_upgrade : List ℕ → Option (List ℕ) → Upgrade
+
 pub data Request : Type 0 where
   -- the peak of the input's system in an order
   replay : Input → OrderSource → Request
@@ -70,6 +77,8 @@ pub data Request : Type 0 where
   simulate : Input → OrderSource → Simulation → Request
   -- an input that is made, its plan, and whether the plan is accepted
   demo : Demo → Request
+  -- a file, as version 2
+  upgrade : Upgrade → Request
 
 -- ---- the options of a matrix
 
@@ -197,8 +206,9 @@ pub data FileRole : Type 0 where
   perm_file : FileRole
   order_file : FileRole
   plan_file : FileRole
-  -- a priority ranks the tasks of an input
+  -- a priority ranks the tasks of an input, or those of a plan
   priority_file : Input → FileRole
+  plan_priority_file : FileRole
 
 pub record NamedFile : Type 0 where
   pub role : FileRole
@@ -224,9 +234,15 @@ abbrev pub source_file : OrderSource → NamedFile
 source_file (order_named name) = record { role = order_file; name = name }
 source_file (plan_named name) = record { role = plan_file; name = name }
 
-abbrev pub priority_files : Input → Option (List ℕ) → List NamedFile
-priority_files input None = []
-priority_files input (Some name) = record { role = priority_file input; name = name } ∷ []
+-- a priority file of this role, if one is named
+abbrev pub priority_files : FileRole → Option (List ℕ) → List NamedFile
+priority_files role None = []
+priority_files role (Some name) = record { role = role; name = name } ∷ []
+
+abbrev pub upgrade_files : Upgrade → List NamedFile
+upgrade_files (tree_upgrade name) = record { role = tree_file; name = name } ∷ []
+upgrade_files (workflow_upgrade name) = record { role = workflow_file; name = name } ∷ []
+upgrade_files (plan_upgrade name priority) = record { role = plan_file; name = name } ∷ priority_files plan_priority_file priority
 
 -- the files of a request, in the order in which they are read and judged
 abbrev pub files_of : Request → List NamedFile
@@ -235,5 +251,6 @@ files_of (tree m) = matrix_files m
 files_of (post input) = tree_input_files input
 files_of (check input plan workers) = input_files input ++ source_file (plan_named plan) ∷ []
 files_of (planning input format) = input_files input
-files_of (simulate input source s) = input_files input ++ source_file source ∷ priority_files input s.priority
+files_of (simulate input source s) = input_files input ++ source_file source ∷ priority_files (priority_file input) s.priority
 files_of (demo made) = []
+files_of (upgrade u) = upgrade_files u

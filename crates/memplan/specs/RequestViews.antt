@@ -13,6 +13,8 @@ use Rattle.memplan.specs.declared.request.PlanFormat.TheVariants as formats
 use Rattle.memplan.specs.declared.request.Request.{Request}
 use Rattle.memplan.specs.declared.request.Request.TheVariants as commands
 use Rattle.memplan.specs.declared.commands.simulate.Simulation.{Simulation}
+use Rattle.memplan.specs.declared.commands.upgrade.Upgrade.{Upgrade}
+use Rattle.memplan.specs.declared.commands.upgrade.Upgrade.TheVariants as upgrades
 use Rattle.memplan.specs.declared.request.TreeInput.{TreeInput}
 use Rattle.memplan.specs.declared.request.TreeInput.TheVariants as trees
 
@@ -43,6 +45,11 @@ abbrev pub format_view : PlanFormat → requests.PlanFormat
 format_view formats.File = requests.as_file
 format_view formats.Json = requests.as_json
 
+abbrev pub upgrade_view : Upgrade → requests.Upgrade
+upgrade_view (upgrades.Tree name) = requests.tree_upgrade name.now
+upgrade_view (upgrades.Workflow name) = requests.workflow_upgrade name.now
+upgrade_view (upgrades.Plan name priority) = requests.plan_upgrade name.now (option_map (λ s. s.now) priority)
+
 abbrev pub request_view : Request → requests.Request
 request_view (commands.Replay r) = requests.replay (input_view r.input) (source_view r.source)
 request_view (commands.Tree m) = requests.tree (matrix_view m)
@@ -51,3 +58,4 @@ request_view (commands.Check c) = requests.check (input_view c.input) c.plan.now
 request_view (commands.Plan input format) = requests.planning (input_view input) (format_view format)
 request_view (commands.Simulate names) = requests.simulate (input_view names.input) (source_view names.source) (simulation_view names)
 request_view (commands.Demo made) = requests.demo made
+request_view (commands.Upgrade u) = requests.upgrade (upgrade_view u)

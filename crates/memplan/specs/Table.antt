@@ -28,4 +28,5 @@ commands =
       options = codes "order" ∷ codes "plan" ∷ codes "bound" ∷ codes "workers" ∷ codes "priority" ∷ input_names;
     }
     ∷ record { name = codes "demo"; options = codes "kind" ∷ codes "seed" ∷ codes "tasks" ∷ codes "rows" ∷ codes "cols" ∷ [] }
+    ∷ record { name = codes "upgrade"; options = codes "tree" ∷ codes "workflow" ∷ codes "plan" ∷ codes "priority" ∷ [] }
     ∷ []

@@ -7,6 +7,7 @@ pub mod post;
 pub mod replay;
 pub mod simulate;
 pub mod tree;
+pub mod upgrade;
 
 ghost use Rattle.std.specs.Prelude.{◌≡◌, ◌≤◌, ℕ, List, IfOk, IfSome, map, string_bytes, option_map};
 ghost use Rattle.memplan.specs.Commands.{command_of, request_of};
@@ -24,7 +25,7 @@ use std::thread::Threads;
 
 // Each command, with the names of its options.
 #[rattlefmt::skip]
-static COMMANDS: [Shape; 7] = [
+static COMMANDS: [Shape; 8] = [
     Shape {
         name: "replay",
         options: &["order", "plan", "workflow", "tree", "matrix", "perm", "ordering", "shape", "amalgamate", "inplace"],
@@ -56,6 +57,10 @@ static COMMANDS: [Shape; 7] = [
         name: "demo",
         options: &["kind", "seed", "tasks", "rows", "cols"],
     },
+    Shape {
+        name: "upgrade",
+        options: &["tree", "workflow", "plan", "priority"],
+    },
 ];
 
 fn command_of<'a>(line: &Line<'a>) -> Option<Request<'a>>
@@ -70,6 +75,7 @@ fn command_of<'a>(line: &Line<'a>) -> Option<Request<'a>>
         "plan" => plan::plan_of(line),
         "simulate" => simulate::simulate_of(line),
         "demo" => demo::demo_of(line),
+        "upgrade" => upgrade::upgrade_of(line),
         _ => None,
     }
 }
@@ -106,5 +112,6 @@ pub fn report<R: Threads + Sync, F: Files, G: Gate>(
         Request::Plan(input, format) => plan::report_plan(alloc, files, input, format),
         Request::Simulate(asked) => simulate::report_simulate(alloc, files, asked),
         Request::Demo(made) => Ok(demo::report_demo(rt, alloc, made, gate)?),
+        Request::Upgrade(asked) => upgrade::report_upgrade(alloc, files, asked),
     }
 }

@@ -1,14 +1,15 @@
-//! The files of an input are read and judged one after the other, and come to a tree or a problem; and so is the order of its tasks.
+//! The files of an input are read and judged one after the other, and come to a tree or a problem; and so are the order of its tasks and
+//! their priority.
 
-ghost use Rattle.std.specs.Prelude.{◌≡◌, ◌≤◌, ℕ, List, [], ◌∷◌, ◌++◌, IfOk, MatchResult, length};
+ghost use Rattle.std.specs.Prelude.{◌≡◌, ◌≤◌, ℕ, List, [], ◌∷◌, ◌++◌, IfOk, MatchResult, length, option_map};
 ghost use Rattle.activation.specs.Schedule.{HoldsEach};
 ghost use Rattle.mp_system.specs.System.{TaskSystem};
 ghost use Rattle.mp_system.specs.Traversal.{IsTraversal};
 ghost use Rattle.plan_text.specs.Plan.{IsPlan};
 ghost use Rattle.memplan.specs.Files.{IsOrderOf, IsMatrixTree, IsTreeOf, IsFirstRefusal};
 ghost use Rattle.memplan.specs.Simulate.{priority_or};
-ghost use Rattle.memplan.specs.Judged.{AreJudged, IsRefusingPage, IsRefusedOrder, IsProblemOf, IsOrderedOf, IsOrderRead, IsRefusedSource, order_tasks, own_priority};
-ghost use Rattle.memplan.specs.Request.{matrix_files, min_degree, ordering_files, tree_input_files, input_files, source_file};
+ghost use Rattle.memplan.specs.Judged.{AreJudged, IsRefusingPage, IsRefusedOrder, IsProblemOf, IsOrderedOf, IsOrderRead, IsRefusedSource, IsPriorityOf, IsRefusedRanking, IsRanking, order_tasks, own_priority};
+ghost use Rattle.memplan.specs.Request.{FileRole, matrix_files, min_degree, ordering_files, tree_input_files, input_files, source_file, priority_files};
 ghost use Rattle.memplan.specs.RequestViews.{ordering_view, matrix_view, tree_input_view, input_view, source_view};
 
 use crate::files::{
@@ -26,7 +27,7 @@ use ordering::laws::read_is_perm;
 use ordering::{MindegRefusal, Perm, identity, min_degree};
 use plan_text::PlanFile;
 use sp_terms::laws::terms_law;
-use std::alloc::Global;
+use std::alloc::{AllocError, Global};
 use symbolic::front_tree;
 use tree_input::Tree;
 
@@ -222,4 +223,49 @@ pub fn judge_ordered<F: Files>(
     let problem = judge_input(alloc, files, input)?;
     let order = judge_order(alloc, files, source)?;
     Ok(OrderedProblem { problem, order })
+}
+
+// ---- the priority
+
+/// Where a priority of tasks comes from.
+#[derive(Drop)]
+pub enum Priority {
+    /// It comes with the order.
+    Own,
+    /// It is read from a file.
+    Given(Vec<u32>),
+}
+
+// The numbers of a permutation by place.
+fn listed(alloc: Global, perm: &Perm) -> Result<Vec<u32>, AllocError>
+    ensures { IfOk result (λ numbers. numbers.items ≡ perm.now) }
+{
+    let mut numbers = Vec::with_capacity(alloc, perm.len() as usize)?;
+    for place in 0..perm.len() {
+        numbers.push(perm.at(place + 1))?;
+    }
+    Ok(numbers)
+}
+
+/// The priority of `n` tasks of a file, if one is named.
+pub fn judge_priority<F: Files>(
+    alloc: Global,
+    files: &mut F,
+    name: Option<&str>,
+    n: u32,
+) -> Result<Priority, Stop>
+    ensures judged { (role : FileRole) → AreJudged (F.bytes_of files.old) (F.faults_of files.old) (F.faults_of files.new)
+        (priority_files role (option_map (λ s. s.now) name.entry)) (IsPriorityOf (option_map (λ s. s.now) name.entry) n)
+        (IsRefusedRanking n) result }
+    ensures each { IfOk result (IsRanking n) }
+    ensures same { (other : List ℕ) → F.bytes_of files.new other ≡ F.bytes_of files.old other }
+    ensures later { (other : List ℕ) → F.faults_of files.old other ≤ F.faults_of files.new other }
+{
+    read_is_perm();
+    let Some(name) = name else {
+        return Ok(Priority::Own);
+    };
+    let ranked = Ranked::Tasks;
+    let perm = judge(alloc, files, name, &PermFile { ranked, n })?;
+    Ok(Priority::Given(listed(alloc, &perm)?))
 }

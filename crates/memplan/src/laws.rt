@@ -1,6 +1,6 @@
 //! Laws of the answers: what holds of each, without a call.
 
-ghost use Rattle.std.specs.Prelude.{◌≡◌, ◌≤◌, ℕ, List, length};
+ghost use Rattle.std.specs.Prelude.{◌≡◌, ◌≤◌, ℕ, List, [], ◌∷◌, length};
 ghost use Rattle.mp_system.specs.System.{IsSystem, TaskSystem};
 ghost use Rattle.sp_terms.specs.declared.position.Position.{Position};
 ghost use Rattle.tree_input.specs.Tree.{IsTree};
@@ -10,8 +10,9 @@ ghost use Rattle.memplan.specs.Check.{IsCertified};
 ghost use Rattle.memplan.specs.Files.{Answer, HasValue, IsRefused, IsSystemOf, IsSystemWithTerm, IsTreeOf};
 ghost use Rattle.memplan.specs.Demo.{IsDemoOf, IsShown};
 ghost use Rattle.memplan.specs.Plan.{IsBestPlan};
-ghost use Rattle.memplan.specs.Request.{FileRole, IsInRange, IsMakeable, Input, OrderSource, PlanFormat, Request, Simulation, TreeInput, check, demo, input_files, planning, simulate, tree_input_files};
+ghost use Rattle.memplan.specs.Request.{FileRole, IsInRange, IsMakeable, Input, OrderSource, PlanFormat, Request, Simulation, TreeInput, Upgrade, check, demo, input_files, planning, simulate, tree_input_files, upgrade};
 ghost use Rattle.memplan.specs.Simulate.{IsSimulated};
+ghost use Rattle.memplan.specs.Upgrade.{IsFileOf, IsUpgraded, IsUpgradedFrom, Versioned, text_2, upgrade_again};
 ghost use Rattle.memplan.specs.declared.commands.demo.Demo.{Demo};
 ghost use Rattle.memplan.specs.declared.status.Status.TheVariants.{Done};
 
@@ -86,6 +87,29 @@ fn one_demo()
     made_inputs();
 }
 
+// What is upgraded is one value, and a file of its text in version 2 says it.
+fn one_upgrade()
+    ensures one { (u : Upgrade) (texts : List (List ℕ)) (one two : Versioned) →
+        IsUpgradedFrom u texts one → IsUpgradedFrom u texts two → one ≡ two }
+    ensures file { (u : Upgrade) (texts : List (List ℕ)) (value : Versioned) → IsUpgradedFrom u texts value →
+        IsFileOf (text_2 value) value }
+{
+    tree_laws::exactly_one();
+    tree_laws::read_is_tree();
+    tree_laws::printed_tree();
+    tree_laws::printed_length();
+    term_laws::exactly_one();
+    term_laws::read_law();
+    term_laws::printed_workflow();
+    term_laws::printed_length();
+    plan_laws::exactly_one();
+    plan_laws::read_law();
+    plan_laws::printed_plan();
+    plan_laws::printed_length();
+    order_laws::exactly_one_perm();
+    order_laws::read_is_perm();
+}
+
 /// A request has one answer over the texts of its files, and so the program prints what these decide; but `plan` may print any plan of
 /// least peak with a certificate.
 pub fn one_answer()
@@ -105,9 +129,11 @@ pub fn one_answer()
     claim_laws::accepted_or_objected();
     run_laws::schedule_law();
     one_demo();
+    one_upgrade();
 }
 
-/// What an answer says: a yes certifies, a plan is best, and a trace is of a run that was simulated. It follows from being an answer.
+/// What an answer says: a yes certifies, a plan is best, a trace is of a run that was simulated, and what was upgraded is what the printed
+/// file says. It follows from being an answer.
 pub fn what_answers_say()
     ensures certified { (input : Input) (plan : List ℕ) (workers : ℕ) (texts : List (List ℕ)) (answer : Answer) →
         IsAnswer (check input plan workers) texts answer → answer.status ≡ Done → IsCertified input texts answer.text }
@@ -117,6 +143,8 @@ pub fn what_answers_say()
         IsAnswer (simulate input source s) texts answer → answer.status ≡ Done → IsSimulated input source s texts answer.text }
     ensures shown { (made : Demo) (texts : List (List ℕ)) (answer : Answer) → IsMakeable made →
         IsAnswer (demo made) texts answer → answer.status ≡ Done → IsShown made answer.text }
+    ensures upgraded { (u : Upgrade) (texts : List (List ℕ)) (answer : Answer) →
+        IsAnswer (upgrade u) texts answer → answer.status ≡ Done → IsUpgraded u texts answer.text }
 {
     one_input();
     tree_laws::tree_term();
@@ -127,4 +155,19 @@ pub fn what_answers_say()
     plan_laws::printed_length();
     run_laws::schedule_law();
     one_demo();
+    one_upgrade();
+}
+
+/// A file that `upgrade` wrote, as `print_tree_2`, `print_workflow_2` or `print_plan_2` prints it, stays as it is: `upgrade` of it, with no
+/// priority, writes the same bytes, and nothing else.
+pub fn upgraded_again()
+    ensures same { (u : Upgrade) (texts : List (List ℕ)) (name : List ℕ) (answer : Answer) →
+        IsAnswer (upgrade u) texts answer → answer.status ≡ Done →
+        IsAnswer (upgrade (upgrade_again u name)) (answer.text ∷ []) answer }
+    ensures only { (u : Upgrade) (texts : List (List ℕ)) (name : List ℕ) (one two : Answer) →
+        IsAnswer (upgrade u) texts one → one.status ≡ Done →
+        IsAnswer (upgrade (upgrade_again u name)) (one.text ∷ []) two → two ≡ one }
+{
+    what_answers_say();
+    one_answer();
 }

@@ -7,6 +7,7 @@ use crate::commands::check::Check;
 use crate::commands::demo::Demo;
 use crate::commands::replay::Replay;
 use crate::commands::simulate::Simulation;
+use crate::commands::upgrade::Upgrade;
 use assembly_tree::Shape;
 use command_line::Line;
 use limits::MOST_WORKERS;
@@ -80,6 +81,8 @@ pub enum Request<'a> {
     Simulate(Simulation<'a>),
     /// An input that is made, its plan, and whether the plan is accepted.
     Demo(Demo),
+    /// A file, as version 2.
+    Upgrade(Upgrade<'a>),
 }
 
 // ---- the options of a matrix

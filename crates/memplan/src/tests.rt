@@ -10,6 +10,7 @@ mod meeting;
 mod plans;
 mod replays;
 mod simulations;
+mod upgrades;
 mod usage;
 
 use crate::{Status, run_words};

@@ -6,14 +6,13 @@ ghost use Rattle.least_peak.specs.Problem.{system_of};
 ghost use Rattle.mp_system.specs.Traversal.{IsTraversal};
 ghost use Rattle.mp_text.specs.Report.{is_token, is_line_start, line_text, text_of_lines};
 ghost use Rattle.memplan.specs.Simulate.{simulate_of, IsSimulation, IsPrintedRun, event_word as event_text, event_line, report_lines};
-ghost use Rattle.memplan.specs.Judged.{AreJudged, IsReported, IsPriorityOf, IsRefusedRanking, IsRanking, priority_beside, order_tasks};
+ghost use Rattle.memplan.specs.Judged.{IsReported, IsRanking, priority_beside, order_tasks};
 ghost use Rattle.memplan.specs.Pages.{answer_of};
-ghost use Rattle.memplan.specs.Request.{AreWorkers, IsInRange, Input as AnyInput, simulate as simulation, priority_files};
+ghost use Rattle.memplan.specs.Request.{AreWorkers, IsInRange, simulate as simulation};
 ghost use Rattle.memplan.specs.RequestViews.{input_view, source_view, simulation_view, request_view};
 ghost use Rattle.memplan.specs.declared.status.Status.TheVariants.{Done};
 
-use crate::files::{PermFile, Ranked, judge};
-use crate::inputs::{OrderedProblem, judge_ordered};
+use crate::inputs::{OrderedProblem, Priority, judge_ordered, judge_priority};
 use crate::page::{Page, PageKind, line_page, order_page, print_count, print_end};
 use crate::request::{
     Input, OrderSource, Request, input_of, number_given, number_up_to, source_of,
@@ -26,8 +25,6 @@ use mp_outside::Files;
 use mp_text::Report;
 use mp_text::Token::{Number, Word};
 use mp_text::laws::printed_lines;
-use ordering::Perm;
-use ordering::laws::read_is_perm;
 use std::alloc::{AllocError, Global};
 
 /// An input, where its order stands, and how its run is simulated.
@@ -112,51 +109,6 @@ fn trace_page(alloc: Global, trace: &Trace) -> Result<Page, AllocError>
     print_end(&mut report)?;
     let kind = PageKind::Done;
     Ok(Page { kind, report })
-}
-
-// ---- the priority
-
-/// Where the priority of a run comes from.
-#[derive(Drop)]
-pub enum Priority {
-    /// It comes with the order.
-    Own,
-    /// It is read from a file.
-    Given(Vec<u32>),
-}
-
-// The numbers of a permutation by place.
-fn listed(alloc: Global, perm: &Perm) -> Result<Vec<u32>, AllocError>
-    ensures { IfOk result (λ numbers. numbers.items ≡ perm.now) }
-{
-    let mut numbers = Vec::with_capacity(alloc, perm.len() as usize)?;
-    for place in 0..perm.len() {
-        numbers.push(perm.at(place + 1))?;
-    }
-    Ok(numbers)
-}
-
-// The priority of `n` tasks of a file, if one is named.
-fn judge_priority<F: Files>(
-    alloc: Global,
-    files: &mut F,
-    name: Option<&str>,
-    n: u32,
-) -> Result<Priority, Stop>
-    ensures judged { (input : AnyInput) → AreJudged (F.bytes_of files.old) (F.faults_of files.old) (F.faults_of files.new)
-        (priority_files input (option_map (λ s. s.now) name.entry)) (IsPriorityOf (option_map (λ s. s.now) name.entry) n)
-        (IsRefusedRanking n) result }
-    ensures each { IfOk result (IsRanking n) }
-    ensures same { (other : List ℕ) → F.bytes_of files.new other ≡ F.bytes_of files.old other }
-    ensures later { (other : List ℕ) → F.faults_of files.old other ≤ F.faults_of files.new other }
-{
-    read_is_perm();
-    let Some(name) = name else {
-        return Ok(Priority::Own);
-    };
-    let ranked = Ranked::Tasks;
-    let perm = judge(alloc, files, name, &PermFile { ranked, n })?;
-    Ok(Priority::Given(listed(alloc, &perm)?))
 }
 
 // ---- the run

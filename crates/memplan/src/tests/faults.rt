@@ -1,7 +1,9 @@
 //! Loads and writes that fail, files that are not held, and sinks that are full.
 
 use super::simulations::TIGHT;
-use super::{ARROW, Case, FIVE, FOUR, ORDER, Texts, check_cases, check_run, files_of, run_into};
+use super::{
+    ARROW, Case, FIVE, FOUR, ORDER, PLAN, Texts, check_cases, check_run, files_of, run_into,
+};
 use crate::Status::{self, Done, Format, ReadFault, WriteFault};
 use mp_outside::MemSink;
 use std::alloc::{AllocError, Global};
@@ -75,7 +77,8 @@ const NOT_HELD: &[Case] = &[
             "simulate --tree t --order none --priority none --bound 0 --workers 1"],
         &[("t", "tree 1\nnodes 0\n")], Format, "refused format tree count 2\n"),
     (&["replay --tree none --order o", "replay --tree none --plan o", "check --tree none --plan o", "replay --workflow none --order o",
-            "replay --matrix none --order o", "plan --tree none", "post --tree none", "tree --matrix none"],
+            "replay --matrix none --order o", "plan --tree none", "post --tree none", "tree --matrix none", "upgrade --tree none",
+            "upgrade --workflow none", "upgrade --plan none --priority o"],
         &[("o", "x")], ReadFault, ""),
     (&["tree --matrix m --perm none", "plan --matrix m --perm none", "post --matrix m --perm none"], &[("m", ARROW)], ReadFault, ""),
     (&["tree --matrix m --perm none", "replay --matrix m --perm none --order none"], &[("m", "")], Format,
@@ -89,6 +92,8 @@ const NOT_HELD: &[Case] = &[
     (&["simulate --tree t --order none --priority p --bound 0 --workers 1",
             "simulate --tree t --order o --priority none --bound 0 --workers 1"],
         &[("t", FOUR), ("o", "1 1\n"), ("p", "x")], ReadFault, ""),
+    (&["upgrade --plan p --priority none"], &[("p", "plan 3\n")], Format, "refused format plan header 1\n"),
+    (&["upgrade --plan p --priority none"], &[("p", PLAN)], ReadFault, ""),
 ];
 
 #[test]

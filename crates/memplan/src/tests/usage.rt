@@ -103,6 +103,26 @@ const SIMULATE: &[&str] = &[
     "simulate --tree t --order o --bound 11 --workers 2 --print text",
 ];
 
+const UPGRADE: &[&str] = &[
+    "upgrade",
+    "upgrade --tree",
+    "upgrade --tree t --tree t",
+    "upgrade --tree t --workflow t",
+    "upgrade --tree t --plan p",
+    "upgrade --workflow t --plan p",
+    "upgrade --tree t --workflow t --plan p",
+    "upgrade --tree t --priority o",
+    "upgrade --workflow t --priority o",
+    "upgrade --priority o",
+    "upgrade --tree t --plan p --priority o",
+    "upgrade --plan p --priority",
+    "upgrade --plan p --order o",
+    "upgrade --matrix t",
+    "upgrade --tree t --shape square",
+    "upgrade --tree t --inplace yes",
+    "upgrade t",
+];
+
 #[rattlefmt::skip]
 const USAGE: &[Case] = &[
     (REPLAY, &[("t", FIVE), ("o", "1 3 2 4 5")], Usage, ""),
@@ -110,6 +130,7 @@ const USAGE: &[Case] = &[
     (PLANNING, &[("t", FIVE)], Usage, ""),
     (CHECK, &[("t", FIVE), ("p", PLAN)], Usage, ""),
     (SIMULATE, &[("t", FIVE), ("o", ORDER)], Usage, ""),
+    (UPGRADE, &[("t", FIVE), ("p", PLAN), ("o", ORDER)], Usage, ""),
 ];
 
 #[test]

@@ -11,6 +11,7 @@ returns c =
       perms = λ n. record { not_both = c.exactly_one_perm.ensures.not_both n; one_refusal = c.exactly_one_perm.ensures.one_refusal n };
       plans = record { not_both = c.exactly_one-5.ensures.not_both; one_refusal = c.exactly_one-5.ensures.one_refusal };
       patterns = c.exactly_one-3.ensures.one_pattern;
+      one_plan = c.exactly_one-5.ensures.one_plan;
       systems = c.one_input.ensures.system;
     } in
     record { not_both = not_both formats; one_refusal = one_refusal formats }

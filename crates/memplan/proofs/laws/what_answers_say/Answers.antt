@@ -1,7 +1,8 @@
 use Rattle.std.proofs.Common.{[], inl, inr}
-use Rattle.memplan.specs.Request.{check, planning, simulate, demo, files_of}
+use Rattle.memplan.specs.Request.{check, planning, simulate, demo, upgrade, files_of}
 use Rattle.memplan.proofs.RunLemmas.{first_refusal}
 use Rattle.memplan.proofs.SoundAnswer.{certified, best, simulated}
+use Rattle.memplan.proofs.UpgradeLemmas.{upgraded}
 use Rattle.memplan.proofs.laws.what_answers_say.Goals as goal
 
 pub returns-clause-certified : goal.returns-clause-certified
@@ -28,4 +29,10 @@ pub returns-clause-shown : goal.returns-clause-shown
 returns-clause-shown c = λ made texts answer makeable is done. elim is [
   | inl refused ↦ absurd (first_refusal (files_of (demo made)) [] texts answer refused done)
   | inr report ↦ c.one_demo.ensures.shown made answer makeable report
+]
+
+pub returns-clause-upgraded : goal.returns-clause-upgraded
+returns-clause-upgraded c = λ u texts answer is done. elim is [
+  | inl refused ↦ absurd (first_refusal (files_of (upgrade u)) [] texts answer refused done)
+  | inr report ↦ upgraded c.one_upgrade.ensures.file u texts answer report
 ]

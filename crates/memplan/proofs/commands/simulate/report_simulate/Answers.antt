@@ -4,7 +4,7 @@ use Rattle.mp_system.specs.System.{TaskSystem}
 use Rattle.mp_system.specs.declared.system.Task.{Task}
 use Rattle.memplan.specs.Judged.{IsStop, IsPriorityOf, IsRefusedRanking}
 use Rattle.memplan.specs.Pages.{answer_of}
-use Rattle.memplan.specs.Request.{input_files, source_file, priority_files}
+use Rattle.memplan.specs.Request.{input_files, source_file, priority_file, priority_files}
 use Rattle.memplan.specs.RequestViews.{input_view, source_view, simulation_view}
 use Rattle.memplan.proofs.StepLemmas.{passed, stop_before, stop_after, told_same}
 use Rattle.memplan.proofs.SimulationLemmas.{few_priority, stop_of_all, ranking_refused, simulated}
@@ -21,7 +21,7 @@ returns-in_err-ordered-clause-told g c =
     let after = g.F.Files.faults_of c.judge_ordered.new.files in
     passed c.from_residual.result _ _ e c.from_residual.ensures.1
     (stop_of_all told input source s before after e
-    (stop_before told before after (input_files input ++ source_file source ∷ []) (priority_files input s.priority) e c.in_err-ordered.ensures.judged))
+    (stop_before told before after (input_files input ++ source_file source ∷ []) (priority_files (priority_file input) s.priority) e c.in_err-ordered.ensures.judged))
 
 pub returns-in_err-priority-clause-told : goal.returns-in_err-priority-clause-told
 returns-in_err-priority-clause-told g c =
@@ -35,14 +35,14 @@ returns-in_err-priority-clause-told g c =
     let then = g.F.Files.faults_of c.judge_ordered.new.files in
     let after = g.F.Files.faults_of c.judge_priority.new.files in
     let ordered = c.in_ok-ordered.ordered in
-    let more = priority_files input s.priority in
+    let more = priority_files (priority_file input) s.priority in
     passed c.from_residual-in_err-priority.result _ _ e c.from_residual-in_err-priority.ensures.1
     (stop_of_all told input source s before after e
     (stop_after told now c.in_ok-ordered.ensures.same before then after c.in_ok-ordered.ensures.later
-    (input_files input ++ source_file source ∷ []) (λ texts are. (c.in_ok-ordered.ensures.judged texts are).accepted) more (few_priority input s.priority)
+    (input_files input ++ source_file source ∷ []) (λ texts are. (c.in_ok-ordered.ensures.judged texts are).accepted) more (few_priority (priority_file input) s.priority)
     (IsRefusedRanking (length (system_of ordered.problem).tasks))
     (λ one two answer are are_more refused. ranking_refused told input source s ordered s.priority one two answer (c.in_ok-ordered.ensures.judged one are) are_more refused) e
-    (subst (λ (ts : List Task). IsStop now then after more (IsRefusedRanking (length ts)) e) (c.tasks.ensures.value ∙ ap (λ (system : TaskSystem). system.tasks) c.system.ensures) (c.in_err-priority.ensures.judged input))))
+    (subst (λ (ts : List Task). IsStop now then after more (IsRefusedRanking (length ts)) e) (c.tasks.ensures.value ∙ ap (λ (system : TaskSystem). system.tasks) c.system.ensures) (c.in_err-priority.ensures.judged (priority_file input)))))
 
 pub returns-clause-told : goal.returns-clause-told
 returns-clause-told g c =
@@ -53,9 +53,9 @@ returns-clause-told g c =
     let now = g.F.Files.bytes_of c.judge_ordered.new.files in
     let ordered = c.in_ok-ordered.ordered in
     let priority = c.in_ok-priority.priority in
-    let more = priority_files input s.priority in
+    let more = priority_files (priority_file input) s.priority in
     let answer = answer_of c.in_ok-simulation_page.field-0 in
     simulated told input source s ordered c.in_ok-ordered.ensures.judged priority answer
     (λ texts are. subst (λ (ts : List Task). IsPriorityOf s.priority (length ts) texts priority) (c.tasks.ensures.value ∙ ap (λ (system : TaskSystem). system.tasks) c.system.ensures)
-    (c.in_ok-priority.ensures.judged input texts (told_same told now c.in_ok-ordered.ensures.same more texts are)))
+    (c.in_ok-priority.ensures.judged (priority_file input) texts (told_same told now c.in_ok-ordered.ensures.same more texts are)))
     (rw (← c.chosen-priority.ensures.value) c.in_ok-simulation_page.ensures)

@@ -5,19 +5,19 @@ use Rattle.ordering.specs.PermFile.{RefusesPerm}
 use Rattle.memplan.specs.Files.{IsRefusedFile}
 use Rattle.memplan.specs.Judged.{IsStop, IsRefusedRanking}
 use Rattle.ordering.specs.Kinds.{perm_word}
-use Rattle.memplan.specs.Request.{priority_file, priority_files}
+use Rattle.memplan.specs.Request.{priority_files}
 use Rattle.memplan.proofs.StepLemmas.{passed, alone_stop}
-use Rattle.memplan.proofs.commands.simulate.judge_priority.Goals as goal
+use Rattle.memplan.proofs.inputs.judge_priority.Goals as goal
 
 pub returns-in_err-perm-clause-judged : goal.returns-in_err-perm-clause-judged
-returns-in_err-perm-clause-judged g c = λ input.
+returns-in_err-perm-clause-judged g c = λ role.
     let told = g.F.Files.bytes_of c.args.files.now in
     let before = g.F.Files.faults_of c.args.files.now in
     let after = g.F.Files.faults_of c.judge.new.files in
     let e = c.in_err-perm.field-0.0 in
     passed c.from_residual.result _ _ e c.from_residual.ensures.1
-    (subst (λ (name : Option (List ℕ)). IsStop told before after (priority_files input name) (IsRefusedRanking c.args.n) e) (sym (ap (option_map (λ s. s.now)) c.in-Some.is))
-    (alone_stop told before after (record { role = priority_file input; name = c.in-Some.name.now })
+    (subst (λ (name : Option (List ℕ)). IsStop told before after (priority_files role name) (IsRefusedRanking c.args.n) e) (sym (ap (option_map (λ s. s.now)) c.in-Some.is))
+    (alone_stop told before after (record { role = role; name = c.in-Some.name.now })
     (λ (text : List ℕ). IsRefusedFile (codes "priority") perm_word (RefusesPerm c.args.n text) text) (IsRefusedRanking c.args.n) (λ text answer refused. refused) e c.in_err-perm.ensures.judged))
 
 pub returns-clause-each : goal.returns-clause-each

@@ -1,0 +1,16 @@
+use Rattle.std.proofs.Common.{◌≡◌, ℕ, List, [], ◌∷◌, sym, inr}
+use Rattle.memplan.specs.Commands.{IsAnswer}
+use Rattle.memplan.specs.Files.{Answer}
+use Rattle.memplan.specs.Request.{Upgrade, upgrade}
+use Rattle.memplan.specs.Upgrade.{upgrade_again}
+use Rattle.memplan.proofs.UpgradeLemmas.{printed_again}
+use Rattle.memplan.proofs.laws.upgraded_again.Goals as goal
+
+pub returns-clause-same : goal.returns-clause-same
+returns-clause-same c = λ u texts name answer is done. inr (printed_again u texts name answer done (c.what_answers_say.ensures.upgraded u texts answer is done))
+
+pub returns-clause-only : goal.returns-clause-only
+returns-clause-only c = λ u texts name one two is done other.
+    let again = upgrade (upgrade_again u name) in
+    let same = inr (printed_again u texts name one done (c.what_answers_say.ensures.upgraded u texts one is done)) in
+    sym (c.one_answer.ensures again (one.text ∷ []) one two tt (λ input format e. absurd (cc e)) same other)
