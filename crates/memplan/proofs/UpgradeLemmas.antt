@@ -14,7 +14,7 @@ use Rattle.tree_input.specs.declared.node.Node.{Node}
 use Rattle.tree_input.specs.Tree.{IsTree}
 use Rattle.tree_input.specs.TreeFile.{ReadsTree}
 use Rattle.tree_input.specs.TreeText.{text2_of as tree_text}
-use Rattle.memplan.specs.Files.{Answer, IsTreeFile, IsWorkflowFile, IsPlanFile, IsPermFile, IsFirstRefusal, AreAccepted}
+use Rattle.memplan.specs.Files.{Answer, IsTreeFile, IsWorkflowFile, IsPlanFile, IsFirstRefusal, AreAccepted}
 use Rattle.memplan.specs.Clauses.{AreTold}
 use Rattle.memplan.specs.Judged.{IsPriorityOf, IsRefusedRanking}
 use Rattle.memplan.specs.Request.{Upgrade, tree_upgrade, workflow_upgrade, plan_upgrade, NamedFile, plan_file, plan_priority_file, priority_files, upgrade_files}

@@ -1,7 +1,5 @@
-use Rattle.std.proofs.Common.{◌≡◌, ℕ, List, [], ◌∷◌, sym, inr}
-use Rattle.memplan.specs.Commands.{IsAnswer}
-use Rattle.memplan.specs.Files.{Answer}
-use Rattle.memplan.specs.Request.{Upgrade, upgrade}
+use Rattle.std.proofs.Common.{[], ◌∷◌, sym, inr}
+use Rattle.memplan.specs.Request.{upgrade}
 use Rattle.memplan.specs.Upgrade.{upgrade_again}
 use Rattle.memplan.proofs.UpgradeLemmas.{printed_again}
 use Rattle.memplan.proofs.laws.upgraded_again.Goals as goal

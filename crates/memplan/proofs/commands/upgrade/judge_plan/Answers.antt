@@ -1,4 +1,4 @@
-use Rattle.std.proofs.Common.{◌≡◌, ◌∙◌, ℕ, List, [], ◌∷◌, ◌++◌, Option, length, sym, subst, inl, option_map}
+use Rattle.std.proofs.Common.{ℕ, List, [], ◌∷◌, length, sym, subst, inl, option_map}
 use Rattle.std.specs.Prelude.{codes}
 use Rattle.plan_text.specs.Kinds.{word_of as plan_word}
 use Rattle.plan_text.specs.Plan.{PlanText}
@@ -7,7 +7,6 @@ use Rattle.memplan.specs.Files.{IsRefusedFile, IsFirstRefusal}
 use Rattle.memplan.specs.Judged.{IsStop, IsPriorityOf, IsRefusedRanking, IsRanking}
 use Rattle.memplan.specs.Request.{plan_upgrade, plan_priority_file, priority_files}
 use Rattle.memplan.specs.Upgrade.{IsUpgradedFrom, plan_value}
-use Rattle.memplan.specs.declared.inputs.Priority.{Priority}
 use Rattle.memplan.specs.declared.inputs.Priority.TheVariants.{Own, Given}
 use Rattle.memplan.proofs.StepLemmas.{passed, alone_stop, stop_before, stop_after, told_same}
 use Rattle.memplan.proofs.SimulationLemmas.{few_priority}

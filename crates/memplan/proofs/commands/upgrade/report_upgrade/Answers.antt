@@ -1,4 +1,4 @@
-use Rattle.std.proofs.Common.{◌≡◌, ℕ, List, [], ◌∷◌, Option, refl, sym, subst, inl, option_map}
+use Rattle.std.proofs.Common.{ℕ, List, [], ◌∷◌, refl, sym, subst, inl}
 use Rattle.std.specs.Prelude.{codes}
 use Rattle.sp_terms.specs.Kinds.{word_of as workflow_word}
 use Rattle.sp_terms.specs.WorkflowFile.{RefusesWorkflow}
