@@ -137,21 +137,6 @@ fn gives_the_parts(rt: HostRuntime) -> Result<(), Fail> {
 }
 
 #[test]
-fn takes_another_priority(rt: HostRuntime) -> Result<(), Fail> {
-    let alloc = rt.alloc();
-    for priority in [[1, 2, 3, 4].as_slice(), &[2, 4, 1, 3], &[]] {
-        let mut given = Vec::new(alloc);
-        given.extend_from_slice(priority)?;
-        let plan = read_plan(alloc, RANKED)?.with_priority(given);
-        assert_eq!(rt; plan.order(), [1, 2, 3, 4].as_slice());
-        assert_eq!(rt; plan.peak(), 6);
-        assert!(rt; plan.claims().is_empty());
-        assert_eq!(rt; plan.priority(), priority);
-    }
-    Ok(())
-}
-
-#[test]
 fn tells_which_parts_make_a_plan(rt: HostRuntime) -> Result<(), Fail> {
     let claims = [claim(2, Dir::F, -5, 0), claim(7, Dir::R, 0, MOST)];
     let low = claim(2, Dir::F, LEAST_BOUND - 1, 0);

@@ -16,7 +16,7 @@ const FILES: Texts = &[("t", FIVE), ("o", ORDER), ("p", "5 4 3 2 1\n")];
 
 const REPLAY: &str = "replay --tree t --order o";
 
-const PLAN: &str = "plan --tree t";
+const PLANNING: &str = "plan --tree t";
 
 const SIMULATE: &str = "simulate --tree t --order o --priority p --bound 11 --workers 2";
 
@@ -62,9 +62,9 @@ fn each_load_fails_in_turn(rt: HostRuntime) -> Result<(), Fail> {
     // the tree has 59 bytes, the order and the priority 10 each, and each file ends with a load that gives nothing
     let (alloc, tree, numbers) = (rt.alloc(), 20 + 1, 4 + 1);
     check_loads(&rt, alloc, REPLAY, tree + numbers, "peak 11\n")?;
-    let plan = printed(&rt, alloc, PLAN)?;
+    let plan = printed(&rt, alloc, PLANNING)?;
     let text = str::from_utf8(plan.written()).expect(&rt, "a plan is text");
-    check_loads(&rt, alloc, PLAN, tree, text)?;
+    check_loads(&rt, alloc, PLANNING, tree, text)?;
     check_loads(&rt, alloc, SIMULATE, tree + numbers + numbers, TIGHT)?;
     Ok(())
 }
@@ -156,10 +156,10 @@ fn check_rooms<R: Threads + Sync + Abort>(
 
 #[test]
 fn sinks_that_fail_and_that_are_full(rt: HostRuntime) -> Result<(), Fail> {
-    let plan = printed(&rt, rt.alloc(), PLAN)?;
+    let plan = printed(&rt, rt.alloc(), PLANNING)?;
     let texts = [
         (REPLAY, b"peak 11\n".as_slice()),
-        (PLAN, plan.written()),
+        (PLANNING, plan.written()),
         (SIMULATE, TIGHT.as_bytes()),
     ];
     for (run, text) in texts {
