@@ -259,21 +259,24 @@ class Contracts:
 
     def read(self, file: Path) -> None:
         module = file.stem
-        owner, function = "", ""
+        owner, function, is_trait = "", "", False
         self.items.add(module)
         for line in file.read_text(encoding="utf-8").split("\n"):
             if found := re.match(r"(?:unsafe )?(?:impl|pub trait)\b(?:<[^{]*?>)? (.*)", line):
-                owner = re.findall(r"(?:for )?(\w+)(?:<|\s|$|:)", found[1].split(" for ")[-1])[0]
+                owner = re.findall(r"(\w+)(?:<|\s|$|:)", found[1].split(" for ")[-1])[0]
+                is_trait = " for " in line or "trait " in line
                 self.items.add(owner)
             elif line.startswith("}"):
                 owner = ""
             elif found := re.match(r"pub (?:struct|enum|type|const|trait) (\w+)", line):
                 self.items.add(found[1])
-            if found := re.match(r"\s*(?:pub )?(?:const )?fn (\w+)", line):
-                scope = owner if line.startswith(" ") else module
-                function = f"{scope}::{found[1]}"
-                self.items |= {found[1], function}
-                self.clauses.setdefault(function, set())
+            if found := re.match(r"(\s*)(pub )?(?:const )?fn (\w+)", line):
+                scope = owner if found[1] else module
+                is_public = found[2] or found[1] and is_trait
+                function = f"{scope}::{found[3]}" if is_public else ""
+                if function:
+                    self.items |= {found[3], function}
+                    self.clauses.setdefault(function, set())
             if function and (found := re.match(r"\s+(?:ensures|requires) (\w+) \{", line)):
                 self.clauses[function].add(found[1])
 
