@@ -4,8 +4,9 @@ import subprocess
 from pathlib import Path
 from typing import NamedTuple, Optional
 
-# The status that the meter tells for a program that was killed, as after the limit.
-KILLED = -1
+# The status that the meter tells for a program that was killed, as after the limit; and that of
+# memplan for words that it does not know.
+KILLED, USAGE = -1, 2
 
 
 class Figure(NamedTuple):
@@ -95,14 +96,12 @@ class Bench:
         self.figures = {key: it for key, it in self.figures.items() if not key.startswith(f"{row}: ")}
 
     def keep(self) -> None:
-        """Writes the store whole under another name first: a run may be stopped at any time."""
+        """Writes the store whole under another name first: a run may be stopped at any time.
+        Commands that are not there yet are asked for again."""
         new = self.store.with_suffix(".new")
-        new.write_text(json.dumps(self.figures, indent=0))
+        known = {key: it for key, it in self.figures.items() if it.status != USAGE}
+        new.write_text(json.dumps(known, indent=0))
         new.replace(self.store)
-
-
-# The status of memplan for words that it does not know.
-USAGE = 2
 
 
 # Cells of tables

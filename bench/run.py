@@ -254,11 +254,14 @@ class Tables:
         return found
 
     def alone(self, row: str, found: list[tuple[str, list[list[str]]]], names: list[str]) -> list[list[str]]:
-        """Rows of one command with several choices of words, by the clock and by processor time."""
+        """Rows of one command with several choices of words, by the clock and by processor time;
+        none where the program has no such command."""
         rows = []
         for label, choices in found:
             sides = [self.memplan(*words, name=f"memplan, {name}") for name, words in zip(names, choices)]
             figures = self.bench.measure(f"{row}: {label}", sides)
+            if figures[0].status == USAGE:
+                return []
             cells = [cell for it in figures for cell in (time_of(it), f"{it.clock:,.0f}")]
             rows.append([label, *cells, memory_of(figures[-1])])
         return rows
@@ -443,7 +446,8 @@ def main() -> None:
             with redirect_stdout(sys.stderr):
                 print(f"{title}:", flush=True)
                 text = make()
-            print(f"\n## {title}\n\n{text}", end="", flush=True)
+            lacks = "" if "\n| " in text.split("---", 1)[-1] else f"The program has no `{name}`.\n"
+            print(f"\n## {title}\n\n{lacks or text}", end="", flush=True)
 
 
 if __name__ == "__main__":
