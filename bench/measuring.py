@@ -125,7 +125,9 @@ def ratio(one: float, other: float) -> str:
 
 
 def table(head: list[str], rows: list[list[str]]) -> str:
-    """A table in Markdown, its numbers at the right."""
+    """A table in Markdown, its numbers at the right; nothing where there are no rows."""
+    if not rows:
+        return ""
     rule = ["---"] + ["--:"] * (len(head) - 1)
     lines = (f"| {' | '.join(row)} |" for row in [head, rule, *rows])
     return "\n".join(lines) + "\n"

@@ -445,9 +445,8 @@ def main() -> None:
         if words.only in (None, name):
             with redirect_stdout(sys.stderr):
                 print(f"{title}:", flush=True)
-                text = make()
-            lacks = "" if "\n| " in text.split("---", 1)[-1] else f"The program has no `{name}`.\n"
-            print(f"\n## {title}\n\n{lacks or text}", end="", flush=True)
+                text = make() or f"The program has no `{name}`.\n"
+            print(f"\n## {title}\n\n{text}", end="", flush=True)
 
 
 if __name__ == "__main__":
