@@ -403,6 +403,10 @@ def shade(share: float) -> str:
     return f"#{red:02x}{green:02x}{blue:02x}"
 
 
+# How the number of nodes is written that are not drawn.
+MORE = f'shape=plaintext style="" margin=0 width=0 height=0.2 fontsize=9 fontcolor="{GREY}"'
+
+
 def dot_of(fronts: list[Front], most: int) -> str:
     """The tree in the language of graphviz, its roots at the top."""
     below: list[list[int]] = [[] for _ in fronts]
@@ -426,8 +430,8 @@ def dot_of(fronts: list[Front], most: int) -> str:
             width = 0.8 + 4 * front.out / widest
             lines.append(f'{front.parent} -> {node} [penwidth={width:.2f} label=" {grouped(front.out)}"]')
         if hidden[node]:
-            lines.append(f'more{node} [label="+ {grouped(hidden[node])}" style=dashed fontcolor="#555555"]')
-            lines.append(f"{node} -> more{node} [style=dashed]")
+            lines.append(f'more{node} [label="+ {grouped(hidden[node])}" {MORE}]')
+            lines.append(f'{node} -> more{node} [style=dotted color="{GREY}"]')
     return "\n".join([*lines, "}"])
 
 
@@ -502,7 +506,7 @@ def parser_of_words() -> argparse.ArgumentParser:
 
     fronts = kinds.add_parser("fronts", help="the tree of fronts: each with the memory of its front, and on its edge that of its block")
     fronts.add_argument("picture", help="the file to make: .svg or .png")
-    fronts.add_argument("--most", type=int, default=40, help="how many nodes are drawn, from the roots down the greatest first (40); the others are counted in dashed boxes")
+    fronts.add_argument("--most", type=int, default=40, help="how many nodes are drawn, from the roots down the greatest first (40); of the others the number is told")
     fronts.add_argument("file", metavar="TREE", help="a tree file, as `tree` prints it for a matrix")
     fronts.set_defaults(draw=draw_fronts)
     return parser
