@@ -49,7 +49,7 @@ BLUE, ORANGE, GREEN, RED, PURPLE, SKY = (
 COLOURS = (RED, BLUE, GREEN, PURPLE, ORANGE, SKY)
 GREY, PALE = "#555555", "#DDDDDD"
 # How many steps are drawn one by one: of more, those beside each other are put together.
-MOST_STEPS = 3000
+MOST_STEPS = 1000
 # How many tasks of an order or of a run have their number in the picture.
 MOST_NAMED = 40
 
@@ -184,10 +184,9 @@ def coarser(course: Course) -> Course:
 
 def draw_course(axes: Axes, label: str, course: Course, colour: str, least: int) -> None:
     """A panel: what is there before each task, what there is while it runs, and the least peak."""
-    there = coarser(course)
-    during = [*there.during, there.before[-1]]
-    axes.fill_between(there.times, during, step="post", color=colour, alpha=0.3, linewidth=0)
-    axes.fill_between(there.times, there.before, step="post", color=colour, alpha=0.65, linewidth=0)
+    steps = coarser(course)
+    axes.stairs(steps.during, steps.times, fill=True, color=colour, alpha=0.3, linewidth=0)
+    axes.stairs(steps.before[:-1], steps.times, fill=True, color=colour, alpha=0.65, linewidth=0)
     peak = course.peak
     more = f", {100 * (peak - least) / least:.0f} % more than the least here" if peak > least else ""
     axes.set_title(f"{label}: peak {grouped(peak)}{more}")
