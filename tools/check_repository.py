@@ -7,7 +7,8 @@ usage: check_repository.py [PROGRAM]
   after the other, and each row of a table `words | prints | status`: what the program writes and
   its status are compared to the byte. A block that cannot be run here has a comment
   `<!-- not run: REASON -->` on the line before it.
-- Each file or folder that a page names, in a link or as code, is in the repository.
+- Each file or folder that a page names, in a link or as code, is in the repository; of other
+  blocks each that stands in tools/, bench/, docs/ or examples/.
 - Each function and each clause that a table of proved clauses names stands in its crate's sources.
 
 PROGRAM is the built program, crates/memplan/out/memplan if nothing else is said. It is there after
@@ -221,6 +222,13 @@ def file_names(line: str) -> Iterator[str]:
                 yield word
 
 
+def block_names(line: str) -> Iterator[str]:
+    """The words of a line of a block that name a file of these folders."""
+    for word in re.findall(r"(?<![\w./-])(?:tools|bench|docs|examples)/[\w./-]*\w", line):
+        if not word.startswith("bench/out"):
+            yield word
+
+
 def crate_of(line: str, word: str, places: Places) -> str:
     """The folder of the crate that is named right before a file, as in `limits`: `name.rt`."""
     before = line[: line.index(f"`{word}`")] if f"`{word}`" in line else ""
@@ -231,6 +239,11 @@ def crate_of(line: str, word: str, places: Places) -> str:
 
 def check_names(name: str, page: list[str], places: Places) -> Iterator[Finding]:
     """Links are relative to their page; names as code may leave out the folders before them."""
+    for fence in fences(page):
+        for number, line in enumerate(fence.lines, fence.number):
+            for word in block_names(line):
+                fault = None if (ROOT / word).exists() else "there is no such file"
+                yield Finding(f"{name}:{number}: {word}", fault)
     for number, line in prose(page):
         for target in LINK.findall(line):
             if "://" not in target and not target.startswith("#"):
