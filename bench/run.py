@@ -223,27 +223,25 @@ class Tables:
         return table(self.pair_head("`post`", "C++"), rows)
 
     def plan(self) -> str:
-        """Trees beside a planner without certificate; workflows alone."""
+        """Beside a planner without certificate."""
         rows = []
-        for label, name in self.trees():
-            sides = [self.memplan("plan", "--tree", name), self.beside("C++", self.peer, "plan", name)]
+        for label, kind, name in self.planned_inputs():
+            sides = [self.memplan("plan", f"--{kind}", name), self.beside("C++", self.peer, "plan", kind, name)]
             rows.append(self.pair("plan", label, sides))
-        for shape in ("random",):
-            name = self.inputs.workflow(shape)
-            label = f"workflow: {shape}, {self.sizes.tasks:,} tasks"
-            [ours] = self.bench.measure(f"plan: {label}", [self.memplan("plan", "--workflow", name)])
-            rows.append([label, time_of(ours), "", "", memory_of(ours), "", ""])
         return table(self.pair_head("`plan`", "C++"), rows)
+
+    def planned_inputs(self) -> list[tuple[str, str, str]]:
+        """Inputs, each with its kind."""
+        workflow = (f"workflow: random, {self.sizes.tasks:,} tasks", "workflow", self.inputs.workflow("random"))
+        return [*((label, "tree", name) for label, name in self.trees()), workflow]
 
     # memplan alone
 
     def planned(self) -> list[tuple[str, list[str], str, int]]:
         """Inputs with the words that name them, a plan and its peak."""
         found = []
-        inputs = [(label, ["--tree", name]) for label, name in self.trees()]
-        workflow = self.inputs.workflow("random")
-        inputs.append((f"workflow: random, {self.sizes.tasks:,} tasks", ["--workflow", workflow]))
-        for label, words in inputs:
+        for label, kind, name in self.planned_inputs():
+            words = [f"--{kind}", name]
             plan = Path(f"{words[1]}.plan")
             if not plan.exists():
                 with open(plan, "wb") as out:
@@ -310,45 +308,56 @@ class Tables:
     # growth
 
     def growth(self) -> str:
-        shown = [(f"tree: {shape}", "--tree", self.inputs.tree, shape) for shape in TREES]
-        shown += [(f"workflow: {it}", "--workflow", self.inputs.workflow, it) for it in ("random", *shapes.WORKFLOWS)]
+        shown = [("tree", self.inputs.tree, shape) for shape in TREES]
+        shown += [("workflow", self.inputs.workflow, it) for it in ("random", *shapes.WORKFLOWS)]
         plans, checks = [], []
-        for label, option, make, shape in shown:
-            planned, checked = self.grown(label, option, lambda tasks: make(shape, tasks))
-            plans.append(self.growth_row(label, planned))
-            checks.append(self.growth_row(label, checked))
-        head = [*(f"{it:,}" for it in self.sizes.growth), "MB of the last", "exponent"]
+        for kind, make, shape in shown:
+            planned, beside, checked = self.grown(kind, shape, make)
+            last = [time_of(beside[-1]), ratio(planned[-1].cpu, beside[-1].cpu) if planned[-1].is_done else ""]
+            plans.append(self.growth_row(f"{kind}: {shape}", planned, last))
+            checks.append(self.growth_row(f"{kind}: {shape}", checked, []))
+        head = [*(f"{it:,}" for it in self.sizes.growth), "exponent", "MB of the last"]
+        both = [table(["`plan`, ms", *head, "C++ of the last, ms", "ratio"], plans), table(["`check`, ms", *head], checks)]
         note = "\nTasks at the head; the exponent is that of the last two sizes: 1 is linear, 2 quadratic.\n"
-        both = (table([f"`{it}`, ms", *head], rows) for it, rows in (("plan", plans), ("check", checks)))
         return "\n".join(both) + note
 
-    def grown(self, label: str, option: str, make: Callable[[int], str]) -> tuple[list[Figure], list[Figure]]:
-        """The figures of `plan` and of `check` at each size, up to the first that takes too long."""
+    def grown(
+        self, kind: str, shape: str, make: Callable[[str, int], str]
+    ) -> tuple[list[Figure], list[Figure], list[Figure]]:
+        """The figures of `plan`, of its peer and of `check` at each size, up to the first that
+        takes too long."""
         planned: list[Figure] = []
+        beside: list[Figure] = []
         checked: list[Figure] = []
         for tasks in self.sizes.growth:
-            if planned and planned[-1].status == KILLED:
-                break
-            row = f"growth: {label}: {tasks}"
+            row = f"growth: {kind}: {shape}: {tasks}"
             is_known = self.is_known(row)
             if not is_known:
                 self.bench.forget(row)
-            name = "" if is_known else make(tasks)
-            plan = self.bench.output("plan")
-            planned += self.bench.measure(row, [self.memplan("plan", option, name, name="plan")], turns=2)
-            if planned[-1].is_done:
-                side = self.memplan("check", option, name, "--plan", str(plan), name="check")
+            name = "" if is_known else make(shape, tasks)
+            ours = self.memplan("plan", f"--{kind}", name, name="plan")
+            other = self.beside("C++", self.peer, "plan", kind, name)
+            plan, peer = self.bench.measure(row, [ours, other], turns=2)
+            planned.append(plan)
+            beside.append(peer)
+            if plan.is_done:
+                if plan.said != peer.said:
+                    raise SystemExit(f"{row}: memplan found {plan.said!r}, and C++ {peer.said!r}")
+                made = str(self.bench.output("plan"))
+                side = self.memplan("check", f"--{kind}", name, "--plan", made, name="check")
                 checked += self.bench.measure(row, [side], turns=2)
             if name and tasks != self.sizes.tasks:
                 self.inputs.forget(name)
-        return planned, checked
+            if plan.status == KILLED:
+                break
+        return planned, beside, checked
 
     def is_known(self, row: str) -> bool:
         """Whether a row was measured whole: a check wants the plan that was made just before it."""
         plan = self.bench.figures.get(f"{row}: plan")
         return plan is not None and (not plan.is_done or f"{row}: check" in self.bench.figures)
 
-    def growth_row(self, label: str, figures: list[Figure]) -> list[str]:
+    def growth_row(self, label: str, figures: list[Figure], last: list[str]) -> list[str]:
         sizes = self.sizes.growth
         cells = [time_of(it) for it in figures] + [""] * (len(sizes) - len(figures))
         done = [it for it in figures if it.is_done]
@@ -356,7 +365,7 @@ class Tables:
         if len(done) > 1:
             grown = log(sizes[len(done) - 1] / sizes[len(done) - 2])
             exponent = f"{log(done[-1].cpu / done[-2].cpu) / grown:.1f}"
-        return [label, *cells, memory_of(done[-1]) if done else "", exponent]
+        return [label, *cells, exponent, memory_of(done[-1]) if done else "", *last]
 
     def all(self) -> dict[str, tuple[str, Callable[[], str]]]:
         return {
@@ -440,7 +449,7 @@ def main() -> None:
     bench = Bench(folder, 1 if words.quick else words.turns, words.limit)
     inputs = Inputs(folder, QUICK if words.quick else WHOLE)
     tables = Tables(bench, inputs, str(words.program.resolve())).all()
-    print(f"{machine()}\n\nTimes are of the processor, user and system together, unless by the clock.")
+    print(f"# Benchmarks\n\nMade by `bench/run.py`. {machine()}\n\nTimes are of the processor, user and system together, unless by the clock.")
     for name, (title, make) in tables.items():
         if words.only in (None, name):
             with redirect_stdout(sys.stderr):

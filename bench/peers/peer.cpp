@@ -2,43 +2,14 @@
 //
 // usage: peer read tree|workflow|matrix|plan FILE
 //        peer post TREE_FILE
-//        peer plan TREE_FILE
+//        peer plan tree|workflow FILE
 
 #include <cstring>
 
 #include "pattern.hpp"
-#include "tree.hpp"
+#include "workflow.hpp"
 
 namespace {
-
-struct Position {
-    enum Kind : std::uint8_t { Data, Task, Par } kind;
-    std::uint64_t size, share, time;
-};
-
-std::vector<Position> read_workflow(const char *name) {
-    Text text(name);
-    text.expect("workflow");
-    const bool has_shares = text.number() == 2;
-    text.expect("tasks");
-    text.number();
-    std::vector<Position> positions;
-    for (;;) {
-        const std::string_view word = text.token();
-        if (word == "end") return positions;
-        Position position{Position::Data, text.number(), 0, 0};
-        if (word == "task") {
-            position.kind = Position::Task;
-            position.share = has_shares ? text.number() : 0;
-            position.time = text.number();
-        } else if (word == "par") {
-            position.kind = Position::Par;
-        } else if (word != "data") {
-            fail("another word is wanted");
-        }
-        positions.push_back(position);
-    }
-}
 
 struct Claim {
     std::uint64_t position;
@@ -89,6 +60,12 @@ void read(const char *kind, const char *name) {
     std::printf("read %zu\n", count);
 }
 
+Traversal plan(const char *kind, const char *name) {
+    if (!std::strcmp(kind, "tree")) return least_peak(read_tree(name));
+    if (!std::strcmp(kind, "workflow")) return least_peak(read_workflow(name));
+    fail("another kind of file is wanted");
+}
+
 void print_post(const Traversal &found) {
     Page page;
     page.line("peak ", found.peak);
@@ -114,6 +91,6 @@ int main(int count, char **words) {
     const auto is = [&](const char *word) { return count > 1 && !std::strcmp(words[1], word); };
     if (is("read") && count == 4) read(words[2], words[3]);
     else if (is("post") && count == 3) print_post(best_postorder(read_tree(words[2])));
-    else if (is("plan") && count == 3) print_plan(least_peak(read_tree(words[2])));
-    else fail("usage: peer read KIND FILE | post TREE | plan TREE");
+    else if (is("plan") && count == 4) print_plan(plan(words[2], words[3]));
+    else fail("usage: peer read KIND FILE | post TREE | plan KIND FILE");
 }
