@@ -1,0 +1,100 @@
+// Reads memplan's files as a C++ program that trusts them would: one buffer, one pass, few tests.
+#pragma once
+
+#include <cstdint>
+#include <cstdio>
+#include <cstdlib>
+#include <string_view>
+#include <vector>
+
+[[noreturn]] inline void fail(const char *why) {
+    std::fprintf(stderr, "peer: %s\n", why);
+    std::exit(1);
+}
+
+// The text of a file, with a place in it.
+class Text {
+public:
+    explicit Text(const char *name) {
+        std::FILE *file = std::fopen(name, "rb");
+        if (!file || std::fseek(file, 0, SEEK_END) != 0) fail("a file cannot be read");
+        bytes.resize(static_cast<std::size_t>(std::ftell(file)) + 1);
+        std::rewind(file);
+        if (std::fread(bytes.data(), 1, bytes.size() - 1, file) != bytes.size() - 1) {
+            fail("a file cannot be read");
+        }
+        std::fclose(file);
+        bytes.back() = 0;
+        at = bytes.data();
+    }
+
+    // The next token, past blanks, line feeds and comments; empty at the end.
+    std::string_view token() {
+        skip();
+        const char *first = at;
+        while (*at > ' ') at++;
+        return {first, static_cast<std::size_t>(at - first)};
+    }
+
+    std::uint64_t number() {
+        skip();
+        if (*at < '0' || *at > '9') fail("no number where one is wanted");
+        std::uint64_t value = 0;
+        while (*at >= '0' && *at <= '9') value = 10 * value + static_cast<std::uint64_t>(*at++ - '0');
+        return value;
+    }
+
+    void expect(std::string_view word) {
+        if (token() != word) fail("another word is wanted");
+    }
+
+    // The rest of the line, whatever it begins with.
+    std::string_view line() {
+        const char *first = at;
+        skip_line();
+        return {first, static_cast<std::size_t>(at - first)};
+    }
+
+private:
+    void skip_line() {
+        while (*at && *at != '\n') at++;
+    }
+
+    void skip() {
+        for (;;) {
+            while (*at && *at <= ' ') at++;
+            if (*at != '%' && *at != '#') return;
+            skip_line();
+        }
+    }
+
+    std::vector<char> bytes;
+    const char *at;
+};
+
+// Numbers and words for standard output, in one buffer.
+class Page {
+public:
+    void word(std::string_view text) { bytes.insert(bytes.end(), text.begin(), text.end()); }
+
+    void number(std::uint64_t value) {
+        char digits[20];
+        int count = 0;
+        do digits[count++] = static_cast<char>('0' + value % 10);
+        while (value /= 10);
+        while (count) bytes.push_back(digits[--count]);
+    }
+
+    void line(std::string_view text, std::uint64_t value) {
+        word(text);
+        number(value);
+        word("\n");
+    }
+
+    void write() const {
+        if (std::fwrite(bytes.data(), 1, bytes.size(), stdout) != bytes.size()) fail("no output");
+    }
+
+private:
+    std::vector<char> bytes;
+};

@@ -1,0 +1,364 @@
+#!/usr/bin/env python3
+"""Checks that what the repository's pages say of it is so.
+
+usage: check_repository.py [PROGRAM]
+
+- Each console block (a fence whose first line begins with `$ `) of each page is run, one command
+  after the other, and each row of a table `words | prints | status`: what the program writes and
+  its status are compared to the byte. A block that cannot be run here has a comment
+  `<!-- not run: REASON -->` on the line before it.
+- Each file or folder that a page names, in a link or as code, is in the repository; of other
+  blocks each that stands in tools/, bench/, docs/ or examples/.
+- Each function and each clause that a table of proved clauses names stands in its crate's sources.
+
+PROGRAM is the built program, crates/memplan/out/memplan if nothing else is said. It is there after
+`rt ci`, which builds and runs it, and after the first `./memplan`. Nothing is written into the
+repository. The last line is 'N passed, M failed', and the status is 0 where none failed.
+"""
+import re
+import subprocess
+import sys
+import tempfile
+from collections.abc import Iterator
+from pathlib import Path
+from typing import NamedTuple, Optional
+
+ROOT = Path(__file__).resolve().parent.parent
+SECONDS = 60
+
+COMPLAINTS = {2: "usage", 6: "read fault", 7: "write fault", 8: "no memory"}
+# What a name as code must end with to be taken for a file.
+ENDINGS = tuple(
+    ".md .rt .antt .py .txt .c .h .cpp .f90 .edit .tree .workflow .graph .mtx .perm .order .postorder "
+    ".plan .priority .svg .png".split()
+)
+SPAN = re.compile(r"`([^`]+)`")
+LINK = re.compile(r"\]\(([^)\s]+)\)")
+
+
+class Finding(NamedTuple):
+    """What came out of one check: where, and what is wrong, if anything is."""
+
+    place: str
+    fault: Optional[str]
+
+
+# Pages
+
+
+class Fence(NamedTuple):
+    """A block of code: the number of its first line, its lines, and why it is not run, if so."""
+
+    number: int
+    lines: list[str]
+    excuse: Optional[str]
+
+
+class Table(NamedTuple):
+    """A table: the text before it, its head, and its rows with their line numbers."""
+
+    before: str
+    head: list[str]
+    rows: list[tuple[int, list[str]]]
+
+
+def tracked() -> list[str]:
+    """The repository's files, those that are not committed yet among them."""
+    words = ["git", "ls-files", "--cached", "--others", "--exclude-standard"]
+    done = subprocess.run(words, cwd=ROOT, capture_output=True, text=True, check=True)
+    return sorted(set(done.stdout.split("\n")) - {""})
+
+
+def prose(page: list[str]) -> Iterator[tuple[int, str]]:
+    """The lines outside fences, numbered from 1."""
+    inside = False
+    for number, line in enumerate(page, 1):
+        if line.lstrip().startswith("```"):
+            inside = not inside
+        elif not inside:
+            yield number, line
+
+
+def fences(page: list[str]) -> Iterator[Fence]:
+    start = None
+    for at, line in enumerate(page):
+        if not line.lstrip().startswith("```"):
+            continue
+        if start is None:
+            start = at
+            continue
+        before = page[start - 1] if start else ""
+        excuse = re.fullmatch(r"<!-- not run: (.+) -->", before.strip())
+        yield Fence(start + 2, page[start + 1 : at], excuse and excuse[1])
+        start = None
+
+
+def tables(page: list[str]) -> Iterator[Table]:
+    before, rows = "", []
+    for number, line in [*prose(page), (0, "")]:
+        if line.startswith("|"):
+            rows.append((number, [cell.strip() for cell in line.strip().strip("|").split("|")]))
+            continue
+        if len(rows) > 2:
+            yield Table(before, rows[0][1], rows[2:])
+        rows = []
+        before = line or before
+
+
+# What the program prints
+
+
+def shell(command: str, folder: Path, status: int) -> tuple[str, int]:
+    """Runs a line in the folder, where `$?` is the status of the line before."""
+    words = ["bash", "-c", f"(exit {status}); {command}"]
+    done = subprocess.run(
+        words,
+        cwd=folder,
+        stdin=subprocess.DEVNULL,
+        stdout=subprocess.PIPE,
+        stderr=subprocess.STDOUT,
+        timeout=SECONDS,
+        text=True,
+    )
+    return done.stdout, done.returncode
+
+
+def told_apart(said: str, printed: str) -> Optional[str]:
+    """The first line in which what is said differs from what is printed."""
+    if said == printed:
+        return None
+    one, other = said.split("\n"), printed.split("\n")
+    for at in range(max(len(one), len(other))):
+        says = one[at] if at < len(one) else "nothing"
+        prints = other[at] if at < len(other) else "nothing"
+        if says != prints:
+            return f"line {at + 1} of its output is {prints!r} and not {says!r}"
+    return "its output differs"
+
+
+def session(fence: Fence) -> Iterator[tuple[int, str, str]]:
+    """The commands of a console block, with their line numbers and what they print."""
+    number, command, said, goes_on = 0, None, [], False
+    for at, line in enumerate(fence.lines):
+        if goes_on:
+            command, goes_on = f"{command}\n{line}", line.endswith("\\")
+        elif line.startswith("$ "):
+            if command:
+                yield number, command, "".join(said)
+            number, command, said = fence.number + at, line[2:], []
+            goes_on = line.endswith("\\")
+        else:
+            said.append(f"{line}\n")
+    if command:
+        yield number, command, "".join(said)
+
+
+def check_sessions(name: str, page: list[str], folder: Path) -> Iterator[Finding]:
+    for fence in fences(page):
+        if not fence.lines or not fence.lines[0].startswith("$ "):
+            continue
+        if fence.excuse:
+            print(f"not run: {name}:{fence.number}: {fence.excuse}")
+            continue
+        status = 0
+        for number, command, said in session(fence):
+            printed, status = shell(command, folder, status)
+            yield Finding(f"{name}:{number}: {command}", told_apart(said, printed))
+
+
+def check_rows(name: str, page: list[str], folder: Path) -> Iterator[Finding]:
+    for table in tables(page):
+        if table.head != ["words", "prints", "status"]:
+            continue
+        for number, (words, prints, status) in table.rows:
+            said = "".join(f"{line}\n" for line in SPAN.findall(prints))
+            if int(status) in COMPLAINTS:
+                said += f"memplan: {COMPLAINTS[int(status)]}\n"
+            command = f"./memplan {SPAN.findall(words)[0]}"
+            printed, ended = shell(command, folder, 0)
+            fault = told_apart(said, printed)
+            if ended != int(status):
+                fault = f"its status is {ended} and not {status}"
+            yield Finding(f"{name}:{number}: {command}", fault)
+
+
+def check_runs(name: str, page: list[str], program: Path) -> Iterator[Finding]:
+    """Runs what the page shows in a folder that looks like the repository's top."""
+    with tempfile.TemporaryDirectory() as made:
+        folder = Path(made)
+        for part in ROOT.iterdir():
+            if part.name not in ("memplan", ".git"):
+                (folder / part.name).symlink_to(part)
+        (folder / "memplan").symlink_to(program)
+        yield from check_rows(name, page, folder)
+        yield from check_sessions(name, page, folder)
+
+
+# What is named
+
+
+class Places:
+    """The files and folders of the repository."""
+
+    def __init__(self, files: list[str]) -> None:
+        parts = [Path(file) for file in files]
+        self.files = {str(part) for part in parts}
+        self.folders = {f"{above}/" for part in parts for above in part.parents}
+        self.crates = {part.parts[1] for part in parts if part.parts[0] == "crates"}
+
+    def has(self, name: str, under: str = "") -> bool:
+        """Whether a file or folder of this name stands somewhere below a folder."""
+        ends = f"/{name}"
+        found = self.folders if name.endswith("/") else self.files
+        return any(f"/{it}".endswith(ends) and it.startswith(under) for it in found)
+
+
+def file_names(line: str) -> Iterator[str]:
+    """The words of a line's code that look like files or folders."""
+    for span in SPAN.findall(line):
+        for word in span.split():
+            is_plain = re.fullmatch(r"[\w./-]+", word) and not word.startswith((".", "/", "-"))
+            if is_plain and word.endswith((*ENDINGS, "/")) and "/out/" not in word:
+                yield word
+
+
+def block_names(line: str) -> Iterator[str]:
+    """The words of a line of a block that name a file of these folders."""
+    for word in re.findall(r"(?<![\w./-])(?:tools|bench|docs|examples)/[\w./-]*\w", line):
+        if not word.startswith("bench/out"):
+            yield word
+
+
+def crate_of(line: str, word: str, places: Places) -> str:
+    """The folder of the crate that is named right before a file, as in `limits`: `name.rt`."""
+    before = line[: line.index(f"`{word}`")] if f"`{word}`" in line else ""
+    cell = re.split(r"[|;.](?=\s)", before)[-1]
+    owners = [it for it in re.findall(r"`(\w+)`[:,]", cell) if it in places.crates]
+    return f"crates/{owners[-1]}/" if owners else ""
+
+
+def check_names(name: str, page: list[str], places: Places) -> Iterator[Finding]:
+    """Links are relative to their page; names as code may leave out the folders before them."""
+    for fence in fences(page):
+        for number, line in enumerate(fence.lines, fence.number):
+            for word in block_names(line):
+                fault = None if (ROOT / word).exists() else "there is no such file"
+                yield Finding(f"{name}:{number}: {word}", fault)
+    for number, line in prose(page):
+        for target in LINK.findall(line):
+            if "://" not in target and not target.startswith("#"):
+                to = (ROOT / name).parent / target.split("#")[0]
+                fault = None if to.exists() else "there is no such file"
+                yield Finding(f"{name}:{number}: {target}", fault)
+        for word in file_names(line):
+            under = crate_of(line, word, places)
+            fault = None if places.has(word, under) else f"no such file in {under or 'any folder'}"
+            yield Finding(f"{name}:{number}: {word}", fault)
+
+
+# What is proved
+
+
+class Contracts:
+    """The public items of some crates, with the clauses of each function."""
+
+    def __init__(self, crates: list[str]) -> None:
+        self.items: set[str] = set()
+        self.clauses: dict[str, set[str]] = {}
+        for crate in crates:
+            for file in sorted((ROOT / "crates" / crate / "src").rglob("*.rt")):
+                if "tests" not in file.relative_to(ROOT).parts[3] and "tests.rt" != file.name:
+                    self.read(file)
+
+    def read(self, file: Path) -> None:
+        module = file.stem
+        owner, function, is_trait = "", "", False
+        self.items.add(module)
+        for line in file.read_text(encoding="utf-8").split("\n"):
+            if found := re.match(r"(?:unsafe )?(?:impl|pub trait)\b(?:<[^{]*?>)? (.*)", line):
+                owner = re.findall(r"(\w+)(?:<|\s|$|:)", found[1].split(" for ")[-1])[0]
+                is_trait = " for " in line or "trait " in line
+                self.items.add(owner)
+            elif line.startswith("}"):
+                owner = ""
+            elif found := re.match(r"pub (?:struct|enum|type|const|trait) (\w+)", line):
+                self.items.add(found[1])
+            if found := re.match(r"(\s*)(pub )?(?:const )?fn (\w+)", line):
+                scope = owner if found[1] else module
+                is_public = found[2] or found[1] and is_trait
+                function = f"{scope}::{found[3]}" if is_public else ""
+                if function:
+                    self.items |= {found[3], function}
+                    self.clauses.setdefault(function, set())
+            if function and (found := re.match(r"\s+(?:ensures|requires) (\w+) \{", line)):
+                self.clauses[function].add(found[1])
+
+    def holds(self, owner: str, name: str) -> bool:
+        """Whether a function has the clause, or a type or a module the function."""
+        if f"{owner}::{name}" in self.items:
+            return True
+        return any(
+            name in clauses and (function == owner or function.endswith(f"::{owner}"))
+            for function, clauses in self.clauses.items()
+        )
+
+
+def check_cell(contracts: Contracts, cell: str) -> Iterator[tuple[str, bool]]:
+    """Judges a list such as `F`: `clause`, `clause`; `T`: `method`: `clause`; `laws`: `law`."""
+    for group in cell.split(";"):
+        owners: list[str] = []
+        for part in re.split(r":(?!:)(?=\s)", group):
+            names = SPAN.findall(part)
+            for name in names:
+                is_there = name in contracts.items if not owners or "::" in name else False
+                yield name, is_there or any(contracts.holds(owner, name) for owner in owners)
+            owners = names
+
+
+def check_clauses(name: str, page: list[str]) -> Iterator[Finding]:
+    for table in tables(page):
+        if table.head[0] == "crate" and table.head[-1].startswith("clauses"):
+            for number, cells in table.rows:
+                contracts = Contracts(SPAN.findall(cells[0]))
+                for word, is_there in check_cell(contracts, cells[-1]):
+                    place = f"{name}:{number}: {cells[0]}: {word}"
+                    yield Finding(place, None if is_there else "no source has it")
+        elif table.head[0] == "clause":
+            crate, function = SPAN.findall(table.before)[:2]
+            contracts = Contracts([crate])
+            for number, cells in table.rows:
+                for clause in SPAN.findall(cells[0]):
+                    fault = None if contracts.holds(function, clause) else f"{function} has none"
+                    yield Finding(f"{name}:{number}: clause {clause}", fault)
+
+
+def findings(program: Path) -> Iterator[Finding]:
+    files = tracked()
+    places = Places(files)
+    pages = [file for file in files if file.endswith(".md") and not file.startswith("crates/")]
+    for name in pages:
+        page = (ROOT / name).read_text(encoding="utf-8").split("\n")
+        yield from check_names(name, page, places)
+        yield from check_clauses(name, page)
+        yield from check_runs(name, page, program)
+
+
+def main() -> int:
+    if len(sys.argv) > 2 or sys.argv[1:2] in (["-h"], ["--help"]):
+        print(__doc__)
+        return 2
+    program = Path(sys.argv[1] if sys.argv[1:] else ROOT / "crates/memplan/out/memplan").resolve()
+    if not program.is_file():
+        print(f"there is no program {program}: rt ci or ./memplan builds it\n0 passed, 1 failed")
+        return 1
+    passed = failed = 0
+    for finding in findings(program):
+        passed, failed = passed + (finding.fault is None), failed + (finding.fault is not None)
+        if finding.fault:
+            print(f"FAILED: {finding.place}: {finding.fault}")
+    print(f"{passed} passed, {failed} failed")
+    return 1 if failed else 0
+
+
+if __name__ == "__main__":
+    sys.exit(main())
