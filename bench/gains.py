@@ -11,6 +11,7 @@ orders. It wants g++, make and libsuitesparse-dev. A whole run takes some minute
 it was stopped, from what stands in FOLDER (bench/out). --quick takes matrices of at most 300 rows.
 """
 import argparse
+import datetime
 import json
 import subprocess
 import sys
@@ -21,6 +22,15 @@ from typing import NamedTuple, Optional
 import shapes
 from measuring import table
 from source_matrices import matrices, write
+
+PAGE = """
+## Gains on real matrices
+
+Made by `bench/gains.py` on {}. The matrices are those of 100 rows and more in SuiteSparse's source package, both triangles
+put together, and two meshes. Peaks of memory are in entries of one triangle; natural is the postorder that the elimination
+tree has by its numbers, best the best of all postorders, least the least of all orders, which `plan` finds. Behind a peak
+stands by how much it is above the least. In place: a front is assembled in the place of its greatest child's block.
+"""
 
 HERE = Path(__file__).resolve().parent
 FEWEST_ROWS, QUICK_ROWS = 100, 300
@@ -59,6 +69,12 @@ class Planner:
     def __init__(self, program: Path, folder: Path) -> None:
         self.program, self.folder = program, folder
         self.tree, self.numbers, self.perm = (folder / it for it in ("gains.tree", "gains.order", "gains.perm"))
+
+    def described(self) -> str:
+        """The day, and the commit of the sources."""
+        words = ["git", "-C", str(HERE), "describe", "--always", "--dirty"]
+        commit = subprocess.run(words, stdout=subprocess.PIPE, text=True).stdout.strip()
+        return f"{datetime.date.today():%d %B %Y}, commit {commit}"
 
     def printed(self, *words: str) -> bytes:
         return subprocess.run([self.program, *words], stdout=subprocess.PIPE, check=True).stdout
@@ -148,7 +164,7 @@ def summary(found: list[Case]) -> list[list[str]]:
     rows = []
     for order, word in ORDERS.items():
         mine = [case for case in found if case.order == order]
-        for assembly, of in (("apart", "apart"), ("in place", "in_place")):
+        for assembly, of in (("classic", "apart"), ("in place", "in_place")):
             peaks = [(case.matrix, getattr(case, of)) for case in mine]
             natural = sum(it.natural == it.least for _, it in peaks)
             best = sum(it.best == it.least for _, it in peaks)
@@ -192,11 +208,14 @@ def main() -> None:
     subprocess.run(["make", "-s", "-C", str(HERE / "peers"), f"OUT={folder}"], check=True)
     planner = Planner(words.program.resolve(), folder)
     found = cases(planner, words.source, words.quick)
-    head = ["order of elimination, assembly", "matrices", "natural postorder is least", "best postorder is least"]
-    print(table([*head, "natural, at most above the least", "best, at most above the least"], summary(found)))
-    head = ["matrix", "rows", "order", *("natural postorder", "best postorder", "least"), *("in place: natural", "best", "least")]
+    print(PAGE.format(planner.described()))
+    head = ["elimination, assembly", "matrices", "natural is least", "best is least"]
+    print(table([*head, "natural, most above the least", "best, most above the least"], summary(found)))
+    head = ["matrix", "rows", "elimination", "natural", "best", "least", "in place: natural", "best", "least"]
     print(table(head, [row_of(case) for case in found]))
-    print(table(["random tree, tasks", *(f"seed {it}" for it in range(1, 6))], random_trees(planner, words.quick)), end="")
+    print("Trees of random sizes (`demo --seed S --tasks N`): how far the best postorder is above the least.\n")
+    head = ["tasks", *(f"seed {it}" for it in range(1, 6))]
+    print(table(head, random_trees(planner, words.quick)), end="")
 
 
 if __name__ == "__main__":

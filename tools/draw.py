@@ -214,7 +214,7 @@ def draw_memory(words: argparse.Namespace) -> None:
     for axes, colour, (label, course) in zip(found[:, 0], COLOURS, courses.items()):
         draw_course(axes, label, course, colour, least)
         axes.set_ylim(0, 1.08 * highest)
-        axes.set_xlim(0, course.times[-1])
+        axes.set_xlim(0, max(1, course.times[-1]))
         axes.set_ylabel("memory")
         count_axis(axes.yaxis)
     count_axis(axes.xaxis)
