@@ -312,9 +312,9 @@ def draw_levels(axes: Axes, levels: list[Level], bound: Optional[int]) -> None:
 
 def draw_run(words: argparse.Namespace) -> None:
     head, events = run_of(text_of(words.report))
-    levels = levels_of(system_of(words), events)
-    most = {word: max(getattr(level, word) for level in levels) for word in ("used", "booked")}
-    if any(most[word] != head[word] for word in most):
+    system = system_of(words)
+    levels = levels_of(system, events) if all(it.task <= system.count for it in events) else []
+    if [max((level[at] for level in levels), default=None) for at in (1, 2)] != [head["used"], head["booked"]]:
         sys.exit("draw.py: the run is not of this tree or workflow: its memory is another one")
     bars = bars_of(events)
     count = 1 + max((bar.worker for bar in bars), default=0)
