@@ -496,7 +496,7 @@ def machine() -> str:
     commit = first_line(["git", "-C", str(HERE), "describe", "--always", "--dirty"])
     lines = [
         f"{datetime.date.today():%d %B %Y}, commit {commit}.",
-        f"{cpu}, {os.cpu_count()} processors, {kilobytes / 2**20:.0f} GB; Linux {platform.release()}.",
+        f"{cpu}, {os.cpu_count()} processors, {kilobytes / 2**20:.0f} GB; {platform.release()}.",
         f"memplan: {first_line(['rt', 'version'])}.",
         f"Peers: {first_line(['g++', '--version'])}, -O2; SuiteSparse {package}.",
     ]
