@@ -4,13 +4,14 @@
 usage: bench/gains.py [--quick] [--program FILE] [--out FOLDER] [SOURCE_FOLDER]
 
 SOURCE_FOLDER is what `apt-get source suitesparse` unpacks: its square matrices of 100 rows and more
-are taken, and without it only meshes that are made here. Each is eliminated in its natural order, by
-minimum degree and in AMD's order, with and without in-place assembly; memplan makes the tree of
+are taken, and without it only meshes that are made here. Each is eliminated in its natural order,
+by minimum degree and in AMD's order, with and without in-place assembly; memplan makes the tree of
 fronts, and tells three peaks of it: of the natural postorder, of the best one and the least of all
 orders. It wants g++, make and libsuitesparse-dev. A whole run takes some minutes; it goes on where
 it was stopped, from what stands in FOLDER (bench/out). --quick takes matrices of at most 300 rows.
 """
 import argparse
+import datetime
 import json
 import subprocess
 import sys
@@ -21,6 +22,17 @@ from typing import NamedTuple, Optional
 import shapes
 from measuring import table
 from source_matrices import matrices, write
+
+PAGE = """
+## Gains on real matrices
+
+Made by `bench/gains.py` on {}. The matrices are those of 100 rows and more in
+SuiteSparse's source package, both triangles put together, and two meshes. Peaks of memory are in
+entries of one triangle; natural is the postorder that the elimination tree has by its numbers, best
+the best of all postorders, least the least of all orders, which `plan` finds. Behind a peak stands
+by how much it is above the least. In place: a front is assembled in the place of its greatest
+child's block.
+"""
 
 HERE = Path(__file__).resolve().parent
 FEWEST_ROWS, QUICK_ROWS = 100, 300
@@ -58,7 +70,15 @@ class Planner:
 
     def __init__(self, program: Path, folder: Path) -> None:
         self.program, self.folder = program, folder
-        self.tree, self.numbers, self.perm = (folder / it for it in ("gains.tree", "gains.order", "gains.perm"))
+        self.tree, self.numbers, self.perm = (
+            folder / it for it in ("gains.tree", "gains.order", "gains.perm")
+        )
+
+    def described(self) -> str:
+        """The day, and the commit of the sources."""
+        words = ["git", "-C", str(HERE), "describe", "--always", "--dirty"]
+        commit = subprocess.run(words, stdout=subprocess.PIPE, text=True).stdout.strip()
+        return f"{datetime.date.today():%d %B %Y}, commit {commit}"
 
     def printed(self, *words: str) -> bytes:
         return subprocess.run([self.program, *words], stdout=subprocess.PIPE, check=True).stdout
@@ -68,7 +88,11 @@ class Planner:
         return int(next(line for line in lines if line.startswith(b"peak")).split()[1])
 
     def peaks(self, matrix: str, order: str, in_place: str) -> Peaks:
-        choice = {"natural": [], "mindeg": ["--ordering", "mindeg"], "amd": ["--perm", str(self.perm)]}[order]
+        choice = {
+            "natural": [],
+            "mindeg": ["--ordering", "mindeg"],
+            "amd": ["--perm", str(self.perm)],
+        }[order]
         text = self.printed("tree", "--matrix", matrix, *choice, "--inplace", in_place)
         self.tree.write_bytes(text)
         nodes = int(text.split(b"\n")[1].split()[1])
@@ -79,9 +103,13 @@ class Planner:
 
     def case(self, name: str, rows: int, matrix: str, order: str) -> Case:
         if order == "amd":
-            found = subprocess.run([self.folder / "analysis", "amd", matrix], stdout=subprocess.PIPE, check=True)
+            found = subprocess.run(
+                [self.folder / "analysis", "amd", matrix], stdout=subprocess.PIPE, check=True
+            )
             self.perm.write_bytes(found.stdout)
-        return Case(name, rows, order, self.peaks(matrix, order, "no"), self.peaks(matrix, order, "yes"))
+        return Case(
+            name, rows, order, self.peaks(matrix, order, "no"), self.peaks(matrix, order, "yes")
+        )
 
 
 def made(folder: Path, is_quick: bool) -> Iterator[tuple[str, int, str]]:
@@ -148,7 +176,7 @@ def summary(found: list[Case]) -> list[list[str]]:
     rows = []
     for order, word in ORDERS.items():
         mine = [case for case in found if case.order == order]
-        for assembly, of in (("apart", "apart"), ("in place", "in_place")):
+        for assembly, of in (("classic", "apart"), ("in place", "in_place")):
             peaks = [(case.matrix, getattr(case, of)) for case in mine]
             natural = sum(it.natural == it.least for _, it in peaks)
             best = sum(it.best == it.least for _, it in peaks)
@@ -174,7 +202,9 @@ def random_trees(planner: Planner, is_quick: bool) -> list[list[str]]:
 
 def parsed() -> argparse.Namespace:
     raw = argparse.RawDescriptionHelpFormatter
-    parser = argparse.ArgumentParser(description=__doc__, formatter_class=raw, usage=argparse.SUPPRESS)
+    parser = argparse.ArgumentParser(
+        description=__doc__, formatter_class=raw, usage=argparse.SUPPRESS
+    )
     built = HERE.parent / "crates" / "memplan" / "out" / "memplan"
     parser.add_argument("source", nargs="?", type=Path, help=argparse.SUPPRESS)
     parser.add_argument("--quick", action="store_true", help=argparse.SUPPRESS)
@@ -192,11 +222,31 @@ def main() -> None:
     subprocess.run(["make", "-s", "-C", str(HERE / "peers"), f"OUT={folder}"], check=True)
     planner = Planner(words.program.resolve(), folder)
     found = cases(planner, words.source, words.quick)
-    head = ["order of elimination, assembly", "matrices", "natural postorder is least", "best postorder is least"]
-    print(table([*head, "natural, at most above the least", "best, at most above the least"], summary(found)))
-    head = ["matrix", "rows", "order", *("natural postorder", "best postorder", "least"), *("in place: natural", "best", "least")]
+    print(PAGE.format(planner.described()))
+    head = ["elimination, assembly", "matrices", "natural is least", "best is least"]
+    print(
+        table(
+            [*head, "natural, most above the least", "best, most above the least"], summary(found)
+        )
+    )
+    head = [
+        "matrix",
+        "rows",
+        "elimination",
+        "natural",
+        "best",
+        "least",
+        "in place: natural",
+        "best",
+        "least",
+    ]
     print(table(head, [row_of(case) for case in found]))
-    print(table(["random tree, tasks", *(f"seed {it}" for it in range(1, 6))], random_trees(planner, words.quick)), end="")
+    print(
+        "Trees of random sizes (`demo --seed S --tasks N`): how far the best postorder is above"
+        " the least.\n"
+    )
+    head = ["tasks", *(f"seed {it}" for it in range(1, 6))]
+    print(table(head, random_trees(planner, words.quick)), end="")
 
 
 if __name__ == "__main__":

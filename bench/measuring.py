@@ -73,7 +73,9 @@ class Bench:
             print(f"  {', '.join(keys)}", flush=True)
             taken = [[self.run(side) for side in sides] for _ in range(turns or self.turns)]
             if same and len({self.output(side.name).read_bytes() for side in sides}) > 1:
-                raise SystemExit(f"{row}: {', '.join(side.name for side in sides)} print different texts")
+                raise SystemExit(
+                    f"{row}: {', '.join(side.name for side in sides)} print different texts"
+                )
             for key, side, tries in zip(keys, sides, zip(*taken)):
                 self.figures[key] = self.least(row, side, tries)
             self.keep()
@@ -82,7 +84,9 @@ class Bench:
     def least(self, row: str, side: Side, tries: tuple[Figure, ...]) -> Figure:
         first = tries[0]
         if first.status not in (side.status, KILLED, USAGE):
-            raise SystemExit(f"{row}: {side.name} ended with {first.status}: {' '.join(side.words)}")
+            raise SystemExit(
+                f"{row}: {side.name} ended with {first.status}: {' '.join(side.words)}"
+            )
         return Figure(
             first.status,
             min(it.cpu for it in tries),
@@ -93,7 +97,9 @@ class Bench:
 
     def forget(self, row: str) -> None:
         """Has a row measured again."""
-        self.figures = {key: it for key, it in self.figures.items() if not key.startswith(f"{row}: ")}
+        self.figures = {
+            key: it for key, it in self.figures.items() if not key.startswith(f"{row}: ")
+        }
 
     def keep(self) -> None:
         """Writes the store whole under another name first: a run may be stopped at any time.

@@ -48,7 +48,9 @@ class Sizes(NamedTuple):
     growth: tuple[int, ...]
 
 
-WHOLE = Sizes(1_000_000, 1000, 100_000, 1_000_000, 100, 224, 36, (10_000, 30_000, 100_000, 300_000, 1_000_000))
+WHOLE = Sizes(
+    1_000_000, 1000, 100_000, 1_000_000, 100, 224, 36, (10_000, 30_000, 100_000, 300_000, 1_000_000)
+)
 QUICK = Sizes(2_000, 20, 300, 1_000, 5, 12, 5, (500, 1_000, 2_000))
 
 TREES = ("near", "random", "chain", "star", "binary", "caterpillar")
@@ -128,7 +130,9 @@ class Tables:
         return Side(name, list(words))
 
     def trees(self) -> list[tuple[str, str]]:
-        return [(f"{shape}, {self.sizes.tasks:,} nodes", self.inputs.tree(shape)) for shape in TREES]
+        return [
+            (f"{shape}, {self.sizes.tasks:,} nodes", self.inputs.tree(shape)) for shape in TREES
+        ]
 
     def matrices(self) -> list[tuple[str, str, str]]:
         """Each with the file of its order of elimination, or ''."""
@@ -139,7 +143,11 @@ class Tables:
             (f"grid {grid:,} by {grid:,}, nested dissection", make("grid", grid, grid), dissection),
             (f"grid {grid:,} by {grid:,}", make("grid", grid, grid), ""),
             (f"band of {rows:,} rows, {sizes.band} wide", make("band", rows, sizes.band), ""),
-            (f"random, {rows:,} rows, {sizes.entries:,} entries", make("random", rows, sizes.entries), ""),
+            (
+                f"random, {rows:,} rows, {sizes.entries:,} entries",
+                make("random", rows, sizes.entries),
+                "",
+            ),
         ]
 
     # two programs side by side
@@ -147,31 +155,53 @@ class Tables:
     def pair(self, row: str, label: str, sides: list[Side], same: bool = True) -> list[str]:
         ours, other = self.bench.measure(f"{row}: {label}", sides)
         if same and ours.is_done and other.is_done and ours.said != other.said:
-            raise SystemExit(f"{row}: {label}: memplan found {ours.said!r}, and {sides[1].name} {other.said!r}")
+            raise SystemExit(
+                f"{row}: {label}: memplan found {ours.said!r}, and {sides[1].name} {other.said!r}"
+            )
         times = [time_of(ours), time_of(other), ratio(ours.cpu, other.cpu)]
         return [label, *times, memory_of(ours), memory_of(other), ratio(ours.memory, other.memory)]
 
     @staticmethod
     def pair_head(what: str, other: str) -> list[str]:
-        return [what, "memplan, ms", f"{other}, ms", "ratio", "memplan, MB", f"{other}, MB", "ratio"]
+        return [
+            what,
+            "memplan, ms",
+            f"{other}, ms",
+            "ratio",
+            "memplan, MB",
+            f"{other}, MB",
+            "ratio",
+        ]
 
     def reading(self) -> str:
         """memplan reads a file and is then refused another one; the peers read and count."""
         rows = []
         for label, name in self.trees():
             ours = self.memplan("replay", "--tree", name, "--order", self.wrong, status=3)
-            rows.append(self.pair("read", f"tree: {label}", [ours, self.beside("C++", self.peer, "read", "tree", name)]))
+            rows.append(
+                self.pair(
+                    "read",
+                    f"tree: {label}",
+                    [ours, self.beside("C++", self.peer, "read", "tree", name)],
+                )
+            )
         name = self.inputs.workflow("random")
         label = f"workflow: random, {self.sizes.tasks:,} tasks"
         ours = self.memplan("replay", "--workflow", name, "--order", self.wrong, status=3)
-        rows.append(self.pair("read", label, [ours, self.beside("C++", self.peer, "read", "workflow", name)]))
+        rows.append(
+            self.pair(
+                "read", label, [ours, self.beside("C++", self.peer, "read", "workflow", name)]
+            )
+        )
         for label, name, perm in self.matrices():
             if not perm:
                 rows.append(self.pair("read", f"matrix: {label}", self.reading_of(name)))
         _, name = self.inputs.claims()
         ours = self.memplan("upgrade", "--plan", name, "--priority", self.wrong, status=3)
         label = f"plan: {4 * self.sizes.tasks + 1:,} claims"
-        rows.append(self.pair("read", label, [ours, self.beside("C++", self.peer, "read", "plan", name)]))
+        rows.append(
+            self.pair("read", label, [ours, self.beside("C++", self.peer, "read", "plan", name)])
+        )
         return table(self.pair_head("reading of a", "C++"), rows)
 
     def reading_of(self, matrix: str) -> list[Side]:
@@ -180,7 +210,9 @@ class Tables:
 
     def tree_sides(self, matrix: str, perm: str) -> list[Side]:
         words = ["tree", "--matrix", matrix, *(["--perm", perm] if perm else [])]
-        others = [self.beside(it, self.analysis, "tree", it, perm or "natural", matrix) for it in PACKAGES]
+        others = [
+            self.beside(it, self.analysis, "tree", it, perm or "natural", matrix) for it in PACKAGES
+        ]
         return [self.memplan(*words), *others]
 
     def analysis_table(self) -> str:
@@ -188,16 +220,35 @@ class Tables:
         whole, rest = [], []
         for label, matrix, perm in self.matrices():
             figures = self.bench.measure(f"tree: {label}", self.tree_sides(matrix, perm), same=True)
-            read = self.bench.measure(f"read: matrix: {label.split(', nested')[0]}", self.reading_of(matrix))
+            read = self.bench.measure(
+                f"read: matrix: {label.split(', nested')[0]}", self.reading_of(matrix)
+            )
             ours = figures[0]
             times = [time_of(it) for it in figures] + [ratio(ours.cpu, figures[1].cpu)]
-            whole.append([label, *times, *(memory_of(it) for it in figures), ratio(ours.memory, figures[1].memory)])
+            whole.append(
+                [
+                    label,
+                    *times,
+                    *(memory_of(it) for it in figures),
+                    ratio(ours.memory, figures[1].memory),
+                ]
+            )
             less = [max(0.0, it.cpu - read[min(at, 1)].cpu) for at, it in enumerate(figures)]
-            rest.append([label, *(time_of(it, ms) for it, ms in zip(figures, less)), ratio(less[0], less[1])])
+            rest.append(
+                [
+                    label,
+                    *(time_of(it, ms) for it, ms in zip(figures, less)),
+                    ratio(less[0], less[1]),
+                ]
+            )
         times = ["memplan, ms", "CXSparse, ms", "CHOLMOD, ms", "ratio"]
         memory = ["memplan, MB", "CXSparse, MB", "CHOLMOD, MB", "ratio"]
         without = "\nWithout reading: elimination tree, postorder, counts, fronts, printing.\n\n"
-        return table(["`tree`", *times, *memory], whole) + without + table(["`tree` less reading", *times], rest)
+        return (
+            table(["`tree`", *times, *memory], whole)
+            + without
+            + table(["`tree` less reading", *times], rest)
+        )
 
     def mindeg(self) -> str:
         sizes, make = self.sizes, self.inputs.matrix
@@ -206,7 +257,10 @@ class Tables:
             (f"grid {side} by {side}", make("grid", side, side)),
             (f"cube {edge} by {edge} by {edge}", make("cube", edge, edge)),
             (f"hub, {rows:,} rows", make("hub", rows, 0)),
-            *((f"random, {rows:,} rows, {rows * per:,} entries", make("random", rows, rows * per)) for per in (2, 3)),
+            *(
+                (f"random, {rows:,} rows, {rows * per:,} entries", make("random", rows, rows * per))
+                for per in (2, 3)
+            ),
         ]
         lines = []
         for label, name in found:
@@ -218,7 +272,10 @@ class Tables:
     def post(self) -> str:
         rows = []
         for label, name in self.trees():
-            sides = [self.memplan("post", "--tree", name), self.beside("C++", self.peer, "post", name)]
+            sides = [
+                self.memplan("post", "--tree", name),
+                self.beside("C++", self.peer, "post", name),
+            ]
             rows.append(self.pair("post", label, sides))
         return table(self.pair_head("`post`", "C++"), rows)
 
@@ -226,13 +283,20 @@ class Tables:
         """Beside a planner without certificate."""
         rows = []
         for label, kind, name in self.planned_inputs():
-            sides = [self.memplan("plan", f"--{kind}", name), self.beside("C++", self.peer, "plan", kind, name)]
+            sides = [
+                self.memplan("plan", f"--{kind}", name),
+                self.beside("C++", self.peer, "plan", kind, name),
+            ]
             rows.append(self.pair("plan", label, sides))
         return table(self.pair_head("`plan`", "C++"), rows)
 
     def planned_inputs(self) -> list[tuple[str, str, str]]:
         """Inputs, each with its kind."""
-        workflow = (f"workflow: random, {self.sizes.tasks:,} tasks", "workflow", self.inputs.workflow("random"))
+        workflow = (
+            f"workflow: random, {self.sizes.tasks:,} tasks",
+            "workflow",
+            self.inputs.workflow("random"),
+        )
         return [*((label, "tree", name) for label, name in self.trees()), workflow]
 
     # memplan alone
@@ -251,12 +315,16 @@ class Tables:
             found.append((label, words, str(plan), peak))
         return found
 
-    def alone(self, row: str, found: list[tuple[str, list[list[str]]]], names: list[str]) -> list[list[str]]:
+    def alone(
+        self, row: str, found: list[tuple[str, list[list[str]]]], names: list[str]
+    ) -> list[list[str]]:
         """Rows of one command with several choices of words, by the clock and by processor time;
         none where the program has no such command."""
         rows = []
         for label, choices in found:
-            sides = [self.memplan(*words, name=f"memplan, {name}") for name, words in zip(names, choices)]
+            sides = [
+                self.memplan(*words, name=f"memplan, {name}") for name, words in zip(names, choices)
+            ]
             figures = self.bench.measure(f"{row}: {label}", sides)
             if figures[0].status == USAGE:
                 return []
@@ -270,7 +338,11 @@ class Tables:
         claims = f"{4 * self.sizes.tasks + 1:,} positions, each with a claim"
         found.append((claims, ["--workflow", workflow, "--plan", plan]))
         names = ["1", "4"]
-        rows = self.alone("check", [(label, [["check", *it, "--workers", w] for w in names]) for label, it in found], names)
+        rows = self.alone(
+            "check",
+            [(label, [["check", *it, "--workers", w] for w in names]) for label, it in found],
+            names,
+        )
         head = ["`check`", "1 worker, ms", "by the clock", "4 workers, ms", "by the clock", "MB"]
         return table(head, rows)
 
@@ -281,7 +353,11 @@ class Tables:
             base = ["simulate", *words, "--plan", plan, "--bound", str(2 * peak)]
             found.append((label, [[*base, "--workers", it] for it in names]))
         head = ["`simulate`, in twice the peak"]
-        head += [cell for it in ("1 worker", "4 workers", "64 workers") for cell in (f"{it}, ms", "by the clock")]
+        head += [
+            cell
+            for it in ("1 worker", "4 workers", "64 workers")
+            for cell in (f"{it}, ms", "by the clock")
+        ]
         return table([*head, "MB"], self.alone("simulate", found, names))
 
     def spill(self) -> str:
@@ -299,7 +375,9 @@ class Tables:
         for label, matrix, perm in self.matrices():
             words = ["fronts", "--matrix", matrix, *(["--perm", perm] if perm else [])]
             asked = [self.program, *words, "--bound", "0", "--workers", "1"]
-            done = subprocess.run(asked, stdout=subprocess.PIPE, stderr=subprocess.DEVNULL, text=True)
+            done = subprocess.run(
+                asked, stdout=subprocess.PIPE, stderr=subprocess.DEVNULL, text=True
+            )
             bound = done.stdout.split()[-1] if done.returncode == 5 else "0"
             found.append((label, [[*words, "--bound", bound, "--workers", it] for it in names]))
         head = ["`fronts`", "1 worker, ms", "by the clock", "4 workers, ms", "by the clock", "MB"]
@@ -313,12 +391,20 @@ class Tables:
         plans, checks = [], []
         for kind, make, shape in shown:
             planned, beside, checked = self.grown(kind, shape, make)
-            last = [time_of(beside[-1]), ratio(planned[-1].cpu, beside[-1].cpu) if planned[-1].is_done else ""]
+            last = [
+                time_of(beside[-1]),
+                ratio(planned[-1].cpu, beside[-1].cpu) if planned[-1].is_done else "",
+            ]
             plans.append(self.growth_row(f"{kind}: {shape}", planned, last))
             checks.append(self.growth_row(f"{kind}: {shape}", checked, []))
         head = [*(f"{it:,}" for it in self.sizes.growth), "exponent", "MB of the last"]
-        both = [table(["`plan`, ms", *head, "C++ of the last, ms", "ratio"], plans), table(["`check`, ms", *head], checks)]
-        note = "\nTasks at the head; the exponent is that of the last two sizes: 1 is linear, 2 quadratic.\n"
+        both = [
+            table(["`plan`, ms", *head, "C++ of the last, ms", "ratio"], plans),
+            table(["`check`, ms", *head], checks),
+        ]
+        note = (
+            "\nTasks at the head. Exponents are of the last two sizes: 1 is linear, 2 quadratic.\n"
+        )
         return "\n".join(both) + note
 
     def grown(
@@ -401,20 +487,27 @@ def first_line(words: list[str]) -> str:
 
 def machine() -> str:
     """The machine, the day, and what it all was built with."""
-    cpu = next((it.split(":")[1].strip() for it in open("/proc/cpuinfo") if it.startswith("model name")), "")
+    cpu = next(
+        (it.split(":")[1].strip() for it in open("/proc/cpuinfo") if it.startswith("model name")),
+        "",
+    )
     kilobytes = int(open("/proc/meminfo").readline().split()[1])
     package = first_line(["dpkg-query", "-W", "-f=${Version}", "libsuitesparse-dev"])
+    commit = first_line(["git", "-C", str(HERE), "describe", "--always", "--dirty"])
     lines = [
-        f"{datetime.date.today():%d %B %Y}, commit {first_line(['git', '-C', str(HERE), 'describe', '--always', '--dirty'])}.",
-        f"{cpu}, {os.cpu_count()} processors, {kilobytes / 2**20:.0f} GB; Linux {platform.release()}.",
-        f"memplan: {first_line(['rt', 'version'])}. Peers: {first_line(['g++', '--version'])}, -O2; SuiteSparse {package}.",
+        f"{datetime.date.today():%d %B %Y}, commit {commit}.",
+        f"{cpu}, {os.cpu_count()} processors, {kilobytes / 2**20:.0f} GB; {platform.release()}.",
+        f"memplan: {first_line(['rt', 'version'])}.",
+        f"Peers: {first_line(['g++', '--version'])}, -O2; SuiteSparse {package}.",
     ]
     return "\n".join(lines)
 
 
 def parsed() -> argparse.Namespace:
     raw = argparse.RawDescriptionHelpFormatter
-    parser = argparse.ArgumentParser(description=__doc__, formatter_class=raw, usage=argparse.SUPPRESS)
+    parser = argparse.ArgumentParser(
+        description=__doc__, formatter_class=raw, usage=argparse.SUPPRESS
+    )
     parser.add_argument("--quick", action="store_true", help=argparse.SUPPRESS)
     built = HERE.parent / "crates" / "memplan" / "out" / "memplan"
     parser.add_argument("--program", type=Path, default=built, help=argparse.SUPPRESS)
@@ -449,7 +542,8 @@ def main() -> None:
     bench = Bench(folder, 1 if words.quick else words.turns, words.limit)
     inputs = Inputs(folder, QUICK if words.quick else WHOLE)
     tables = Tables(bench, inputs, str(words.program.resolve())).all()
-    print(f"# Benchmarks\n\nMade by `bench/run.py`. {machine()}\n\nTimes are of the processor, user and system together, unless by the clock.")
+    print(f"# Benchmarks\n\nMade by `bench/run.py`. {machine()}\n")
+    print("Times are of the processor, user and system together, unless by the clock.")
     for name, (title, make) in tables.items():
         if words.only in (None, name):
             with redirect_stdout(sys.stderr):

@@ -5,8 +5,9 @@ usage: shapes.py SHAPE SIZE FILE
 
 `binary` and `caterpillar` are trees, `cube` and `hub` matrices: SIZE is their number of nodes, the
 length of the cube's edge, the number of rows. All other shapes are workflows that are hard for a
-planner, of about SIZE tasks: stairs stairs_mid front_stairs both comb zip wide nested_wide alternate
-alternate_par broom. Numbers that look random come from a seed: the same call makes the same file.
+planner, of about SIZE tasks: stairs stairs_mid front_stairs both comb zip wide nested_wide
+alternate alternate_par broom. Numbers that look random come from a seed: the same call makes the
+same file.
 
 A planner keeps segments for each part of a workflow: runs that each need more memory than the one
 before, and end lower. It is slow where parts keep many segments, and touches them again and again.
@@ -70,7 +71,7 @@ def stairs_mid(flow: Workflow, count: int) -> None:
 
 
 def front_stairs(flow: Workflow, count: int) -> None:
-    """The first turned round: what is held is there from the start, and is taken up step by step."""
+    """The first turned round: what is held is there from the start, and taken up step by step."""
     length = count // 2
     flow.data(*range(length, 0, -1), 0)
     for step in range(1, length + 1):
@@ -117,7 +118,7 @@ def comb(flow: Workflow, count: int) -> None:
 
 
 def zipped(flow: Workflow, count: int) -> None:
-    """Halves side by side, and so on: each merge moves half of all segments, and none are joined."""
+    """Halves side by side, and so on: each merge moves half of all segments, and joins none."""
     # what is left to be made, the last first: a part of so many tasks, or the two last beside
     left: list[int] = [count]
     while left:
@@ -214,12 +215,17 @@ def tree_text(parents: list[int]) -> str:
 
 def binary(count: int) -> list[int]:
     """The parent of the i-th node from the end is the one at half of i."""
-    return [count + 1 - (count + 1 - node) // 2 if node < count else 0 for node in range(1, count + 1)]
+    return [
+        count + 1 - (count + 1 - node) // 2 if node < count else 0 for node in range(1, count + 1)
+    ]
 
 
 def caterpillar(count: int) -> list[int]:
     """A chain of the even nodes, each odd node a leaf below the next one."""
-    return [0 if node >= count else node + 2 - node % 2 if node + 1 < count else count for node in range(1, count + 1)]
+    return [
+        0 if node >= count else node + 2 - node % 2 if node + 1 < count else count
+        for node in range(1, count + 1)
+    ]
 
 
 TREES = {"binary": binary, "caterpillar": caterpillar}

@@ -56,7 +56,9 @@ def headed_triplets(lines: list[str]) -> Pattern:
     rows, columns, count = (int(it) for it in body[0][:3])
     entries = [(int(it[0]), int(it[1])) for it in body[1 : count + 1]]
     first = 0 if any(0 in entry for entry in entries) else 1
-    return pattern_of(rows, columns, ((row + 1 - first, column + 1 - first) for row, column in entries))
+    return pattern_of(
+        rows, columns, ((row + 1 - first, column + 1 - first) for row, column in entries)
+    )
 
 
 def bare_triplets(lines: list[str]) -> Pattern:
@@ -90,12 +92,16 @@ def fields(form: str, lines: list[str], count: int) -> list[int]:
     if not found:
         raise Unread("another format of numbers")
     width = int(found[2])
-    cut = (line.rstrip("\n")[at : at + width] for line in lines for at in range(0, len(line.rstrip()), width))
+    cut = (
+        line.rstrip("\n")[at : at + width]
+        for line in lines
+        for at in range(0, len(line.rstrip()), width)
+    )
     return [int(it) for it in cut if it.strip()][:count]
 
 
 def boeing(lines: list[str]) -> Pattern:
-    """Rutherford-Boeing or Harwell-Boeing: the old form has a fifth line where it has right sides."""
+    """Rutherford-Boeing or Harwell-Boeing: a fifth line tells of right sides, if there are any."""
     counts = [int(it) for it in numbers(lines[1])]
     kind, rows, columns, entries = lines[2].split()[:4]
     if kind[2].upper() != "A":
@@ -104,7 +110,9 @@ def boeing(lines: list[str]) -> Pattern:
     forms = re.findall(r"\([^)]*\)", lines[3])
     starts = fields(forms[0], lines[start : start + counts[1]], int(columns) + 1)
     places = lines[start + counts[1] : start + counts[1] + counts[2]]
-    return pattern_of(int(rows), int(columns), by_columns(starts, fields(forms[1], places, int(entries)), 1))
+    return pattern_of(
+        int(rows), int(columns), by_columns(starts, fields(forms[1], places, int(entries)), 1)
+    )
 
 
 def form_of(path: Path) -> Optional[object]:
@@ -117,7 +125,12 @@ def form_of(path: Path) -> Optional[object]:
         return headed_triplets if path.suffix == ".tri" else None
     if path.parent.name == "Matrix":
         above = path.parent.parent.name
-        return {"CSparse": bare_triplets, "CXSparse": bare_triplets, "LDL": column_lists, "Tcov": headed_triplets}.get(above)
+        return {
+            "CSparse": bare_triplets,
+            "CXSparse": bare_triplets,
+            "LDL": column_lists,
+            "Tcov": headed_triplets,
+        }.get(above)
     return None
 
 

@@ -29,7 +29,10 @@ from models import System, rows, system_of_tree, system_of_workflow
 try:
     import matplotlib
 except ImportError:
-    sys.exit("draw.py: matplotlib is not there: apt-get install python3-matplotlib, and use /usr/bin/python3")
+    sys.exit(
+        "draw.py: matplotlib is not there: apt-get install python3-matplotlib,"
+        " and use /usr/bin/python3"
+    )
 
 matplotlib.use("Agg")
 from matplotlib import pyplot
@@ -188,7 +191,9 @@ def draw_course(axes: Axes, label: str, course: Course, colour: str, least: int)
     axes.stairs(steps.during, steps.times, fill=True, color=colour, alpha=0.3, linewidth=0)
     axes.stairs(steps.before[:-1], steps.times, fill=True, color=colour, alpha=0.65, linewidth=0)
     peak = course.peak
-    more = f", {100 * (peak - least) / least:.0f} % more than the least here" if peak > least else ""
+    more = (
+        f", {100 * (peak - least) / least:.0f} % more than the least here" if peak > least else ""
+    )
     axes.set_title(f"{label}: peak {grouped(peak)}{more}")
     axes.axhline(least, color="black", linewidth=0.8, linestyle=(0, (4, 3)))
     at = max(range(len(course.during)), key=course.during.__getitem__, default=None)
@@ -205,7 +210,9 @@ def draw_memory(words: argparse.Namespace) -> None:
     courses = {}
     for it in words.orders:
         label, _, name = it.partition("=")
-        order = list(range(1, system.count + 1)) if name == "1..n" else order_of(text_of(name or label))
+        order = (
+            list(range(1, system.count + 1)) if name == "1..n" else order_of(text_of(name or label))
+        )
         courses[label] = course_of(system, order, words.by == "time")
     least = min(course.peak for course in courses.values())
     highest = max(course.peak for course in courses.values())
@@ -214,7 +221,7 @@ def draw_memory(words: argparse.Namespace) -> None:
     for axes, colour, (label, course) in zip(found[:, 0], COLOURS, courses.items()):
         draw_course(axes, label, course, colour, least)
         axes.set_ylim(0, 1.08 * highest)
-        axes.set_xlim(0, course.times[-1])
+        axes.set_xlim(0, max(1, course.times[-1]))
         axes.set_ylabel("memory")
         count_axis(axes.yaxis)
     count_axis(axes.xaxis)
@@ -276,7 +283,7 @@ def levels_of(system: System, events: list[Event]) -> list[Level]:
 
 
 def at_moments(levels: list[Level]) -> list[Level]:
-    """What is left of a moment is its last level: finishes come first, and they only free memory."""
+    """Of each moment its last level: finishes come first, and they only free memory."""
     return list({level.time: level for level in levels}.values())
 
 
@@ -312,9 +319,12 @@ def draw_levels(axes: Axes, levels: list[Level], bound: Optional[int]) -> None:
 
 def draw_run(words: argparse.Namespace) -> None:
     head, events = run_of(text_of(words.report))
-    levels = levels_of(system_of(words), events)
-    most = {word: max(getattr(level, word) for level in levels) for word in ("used", "booked")}
-    if any(most[word] != head[word] for word in most):
+    system = system_of(words)
+    levels = levels_of(system, events) if all(it.task <= system.count for it in events) else []
+    if [max((level[at] for level in levels), default=None) for at in (1, 2)] != [
+        head["used"],
+        head["booked"],
+    ]:
         sys.exit("draw.py: the run is not of this tree or workflow: its memory is another one")
     bars = bars_of(events)
     count = 1 + max((bar.worker for bar in bars), default=0)
@@ -336,19 +346,39 @@ def draw_run(words: argparse.Namespace) -> None:
 
 def draw_stairs(words: argparse.Namespace) -> None:
     both = stairs_of(text_of(words.report), words.number)
-    bounds = [bound for stairs in both.values() for bound in (stairs.start, *(step[0] for step in stairs.steps))]
+    bounds = [
+        bound
+        for stairs in both.values()
+        for bound in (stairs.start, *(step[0] for step in stairs.steps))
+    ]
     right = max(bounds) + max(1, (max(bounds) - min(bounds)) / 6)
     figure, axes = pyplot.subplots(figsize=(6.5, 3.6))
-    lines = (("F", "forwards, from the start", BLUE, "-"), ("R", "backwards, from the end", RED, "--"))
+    lines = (
+        ("F", "forwards, from the start", BLUE, "-"),
+        ("R", "backwards, from the end", RED, "--"),
+    )
     for word, label, colour, dashes in lines:
         stairs = both[word]
         xs = [stairs.start, *(bound for bound, _ in stairs.steps), right]
         ys = [stairs.start, *(level for _, level in stairs.steps)]
-        axes.step(xs, [*ys, ys[-1]], where="post", color=colour, linestyle=dashes, linewidth=2, label=label)
+        axes.step(
+            xs,
+            [*ys, ys[-1]],
+            where="post",
+            color=colour,
+            linestyle=dashes,
+            linewidth=2,
+            label=label,
+        )
         axes.plot(xs[:-1], ys, "o", color=colour, markersize=5)
         if len(stairs.steps) <= 8:
             for bound, level in stairs.steps:
-                place = {"xytext": (4, 6), "textcoords": "offset points", "fontsize": 9, "color": colour}
+                place = {
+                    "xytext": (4, 6),
+                    "textcoords": "offset points",
+                    "fontsize": 9,
+                    "color": colour,
+                }
                 axes.annotate(f"{grouped(level)} from {grouped(bound)} on", (bound, level), **place)
     axes.set_xlim(min(0, min(bounds)), right)
     axes.set_ylim(bottom=-0.03 * max(stairs.start for stairs in both.values()) - 0.1)
@@ -416,7 +446,8 @@ def dot_of(fronts: list[Front], most: int) -> str:
     shown = chosen(fronts, below, most)
     lines = [
         "digraph fronts {",
-        'node [shape=box style="filled,rounded" fontname="Helvetica" fontsize=11 margin="0.08,0.04" color="#555555"]',
+        'node [shape=box style="filled,rounded" fontname="Helvetica" fontsize=11]',
+        f'node [margin="0.08,0.04" color="{GREY}"]',
         'edge [dir=back arrowtail=none color="#0072B2" fontname="Helvetica" fontsize=9]',
         "ranksep=0.35; nodesep=0.2;",
     ]
@@ -427,7 +458,9 @@ def dot_of(fronts: list[Front], most: int) -> str:
         lines.append(f'{node} [label={label} fillcolor="{shade((front.size / greatest) ** 0.5)}"]')
         if front.parent:
             width = 0.8 + 4 * front.out / widest
-            lines.append(f'{front.parent} -> {node} [penwidth={width:.2f} label=" {grouped(front.out)}"]')
+            lines.append(
+                f'{front.parent} -> {node} [penwidth={width:.2f} label=" {grouped(front.out)}"]'
+            )
         if hidden[node]:
             lines.append(f'more{node} [label="+ {grouped(hidden[node])}" {MORE}]')
             lines.append(f'{node} -> more{node} [style=dotted color="{GREY}"]')
@@ -486,27 +519,61 @@ def parser_of_words() -> argparse.ArgumentParser:
     memory = kinds.add_parser("memory", help="memory over time of one or more orders")
     memory.add_argument("picture", help="the file to make: .svg or .png")
     add_input(memory)
-    memory.add_argument("--by", choices=("tasks", "time"), default="tasks", help="what runs from left to right: tasks, one as wide as the other (the default), or their durations")
-    memory.add_argument("orders", nargs="+", metavar="LABEL=FILE", help="an order: what `plan` or `post` printed, or an order file; 1..n in place of FILE is the order of the numbers, a natural postorder of what `tree` printed")
+    memory.add_argument(
+        "--by",
+        choices=("tasks", "time"),
+        default="tasks",
+        help="what runs from left to right: tasks, each as wide as the others (the default), "
+        "or their durations",
+    )
+    memory.add_argument(
+        "orders",
+        nargs="+",
+        metavar="LABEL=FILE",
+        help="an order: what `plan` or `post` printed, or an order file; 1..n in place of FILE is "
+        "the order of the numbers, a natural postorder of what `tree` printed",
+    )
     memory.set_defaults(draw=draw_memory)
 
-    run = kinds.add_parser("run", help="a simulated run, as a Gantt chart over used and booked memory")
+    run = kinds.add_parser(
+        "run", help="a simulated run, as a Gantt chart over used and booked memory"
+    )
     run.add_argument("picture", help="the file to make: .svg or .png")
     add_input(run)
     run.add_argument("--bound", type=int, help="the bound of the run, which is drawn as a line")
     run.add_argument("report", metavar="REPORT", help="what `simulate` printed")
     run.set_defaults(draw=draw_run)
 
-    stairs = kinds.add_parser("stairs", help="the staircases of a subtree: the lowest memory that is reached within each bound")
+    stairs = kinds.add_parser(
+        "stairs",
+        help="the staircases of a subtree: the lowest memory that is reached within each bound",
+    )
     stairs.add_argument("picture", help="the file to make: .svg or .png")
-    stairs.add_argument("--number", type=int, required=True, help="the node of a tree, or the position of a workflow")
+    stairs.add_argument(
+        "--number",
+        type=int,
+        required=True,
+        help="the node of a tree, or the position of a workflow",
+    )
     stairs.add_argument("report", metavar="REPORT", help="what `segments` printed")
     stairs.set_defaults(draw=draw_stairs)
 
-    fronts = kinds.add_parser("fronts", help="the tree of fronts: each with the memory of its front, and on its edge that of its block")
+    fronts = kinds.add_parser(
+        "fronts",
+        help="the tree of fronts: each with the memory of its front, and on its edge that of "
+        "its block",
+    )
     fronts.add_argument("picture", help="the file to make: .svg or .png")
-    fronts.add_argument("--most", type=int, default=40, help="how many nodes are drawn, from the roots down the greatest first (40); of the others the number is told")
-    fronts.add_argument("file", metavar="TREE", help="a tree file, as `tree` prints it for a matrix")
+    fronts.add_argument(
+        "--most",
+        type=int,
+        default=40,
+        help="how many nodes are drawn, from the roots down the greatest first (40); of the "
+        "others the number is told",
+    )
+    fronts.add_argument(
+        "file", metavar="TREE", help="a tree file, as `tree` prints it for a matrix"
+    )
     fronts.set_defaults(draw=draw_fronts)
     return parser
 

@@ -31,8 +31,8 @@ struct Analysis {
 
 Ints amd_of(const Pattern &pattern) {
     Ints order(pattern.columns());
-    if (amd_order(pattern.columns(), pattern.starts.data(), pattern.rows.data(), order.data(), nullptr,
-                  nullptr) < AMD_OK) {
+    if (amd_order(pattern.columns(), pattern.starts.data(), pattern.rows.data(), order.data(),
+                  nullptr, nullptr) < AMD_OK) {
         fail("AMD");
     }
     return order;
@@ -88,7 +88,13 @@ Ints taken(int *list, int count) {
 Analysis by_cxsparse(const Pattern &pattern) {
     Pattern upper = triangle(pattern, true);
     const int n = upper.columns();
-    cs_di matrix{static_cast<int>(upper.rows.size()), n, n, upper.starts.data(), upper.rows.data(), nullptr, -1};
+    cs_di matrix{static_cast<int>(upper.rows.size()),
+                 n,
+                 n,
+                 upper.starts.data(),
+                 upper.rows.data(),
+                 nullptr,
+                 -1};
     Ints parents = taken(cs_di_etree(&matrix, 0), n);
     Ints post = taken(cs_di_post(parents.data(), n), n);
     Ints counts = taken(cs_di_counts(&matrix, parents.data(), post.data(), 0), n);
@@ -142,7 +148,9 @@ Analysis renumbered(const Analysis &old) {
     return found;
 }
 
-std::uint64_t size_of(std::uint64_t order) { return order * (order + 1) / 2; }
+std::uint64_t size_of(std::uint64_t order) {
+    return order * (order + 1) / 2;
+}
 
 // The fundamental supernodes, as a tree file.
 void print_tree(const Analysis &columns) {
@@ -176,10 +184,13 @@ void print_tree(const Analysis &columns) {
     page.write();
 }
 
-double processor_time() { return static_cast<double>(std::clock()) / CLOCKS_PER_SEC; }
+double processor_time() {
+    return static_cast<double>(std::clock()) / CLOCKS_PER_SEC;
+}
 
 // The least of five times, in milliseconds.
-template <class Call> void tell_time(const char *name, Call call) {
+template <class Call>
+void tell_time(const char *name, Call call) {
     double least = 1e9;
     for (int turn = 0; turn < 5; turn++) {
         const double start = processor_time();
@@ -202,10 +213,14 @@ void print_order(const Ints &order) {
 }
 
 void print_fronts(const char *package, const char *ordering, const Pattern &pattern) {
-    const bool is_natural = !std::strcmp(ordering, "natural"), is_amd = !std::strcmp(ordering, "amd");
-    const Ints order = is_natural ? Ints{} : is_amd ? amd_of(pattern) : read_order(ordering, pattern.columns());
+    const bool is_natural = !std::strcmp(ordering, "natural"),
+               is_amd = !std::strcmp(ordering, "amd");
+    const Ints order = is_natural ? Ints{}
+                       : is_amd   ? amd_of(pattern)
+                                  : read_order(ordering, pattern.columns());
     const Pattern &eliminated = is_natural ? pattern : permuted(pattern, order);
-    print_tree(renumbered(!std::strcmp(package, "cholmod") ? by_cholmod(eliminated) : by_cxsparse(eliminated)));
+    print_tree(renumbered(!std::strcmp(package, "cholmod") ? by_cholmod(eliminated)
+                                                           : by_cxsparse(eliminated)));
 }
 
 }

@@ -14,7 +14,9 @@
 #include <time.h>
 #include <unistd.h>
 
-static long long micros(struct timeval time) { return 1000000LL * time.tv_sec + time.tv_usec; }
+static long long micros(struct timeval time) {
+    return 1000000LL * time.tv_sec + time.tv_usec;
+}
 
 static long long now(void) {
     struct timespec time;

@@ -40,7 +40,8 @@ public:
         skip();
         if (*at < '0' || *at > '9') fail("no number where one is wanted");
         std::uint64_t value = 0;
-        while (*at >= '0' && *at <= '9') value = 10 * value + static_cast<std::uint64_t>(*at++ - '0');
+        while (*at >= '0' && *at <= '9')
+            value = 10 * value + static_cast<std::uint64_t>(*at++ - '0');
         return value;
     }
 

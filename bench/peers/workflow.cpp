@@ -132,7 +132,8 @@ private:
 
     // The near side, the way over, and the far side, as one side.
     Side through(Side &&near, const Way &way, Side &&far) {
-        std::uint64_t top = static_cast<std::uint64_t>(std::max({way.hill, way.climbed_from, way.far_start}));
+        std::uint64_t top =
+            static_cast<std::uint64_t>(std::max({way.hill, way.climbed_from, way.far_start}));
         const List climbed = run_down(way.climbed, way.climbed_from, top).turned();
         Level up = static_cast<Level>(top) - way.least;
         Segment run{way.least - way.far_start, links.join(climbed, {way.task, way.task})};
@@ -193,14 +194,17 @@ Traversal least_peak(const Workflow &workflow) {
     std::uint32_t task = 0;
     for (const Position &position : workflow) {
         const auto size = static_cast<Level>(position.size);
-        const std::size_t taken = position.kind == Position::Par ? position.size : position.kind == Position::Task ? 2 : 0;
+        const std::size_t taken = position.kind == Position::Par    ? position.size
+                                  : position.kind == Position::Task ? 2
+                                                                    : 0;
         if (taken > parts.size()) fail("a position lacks its parts");
         if (position.kind == Position::Data) {
             parts.push_back({size, size, size, {}, {}});
         } else if (position.kind == Position::Task) {
             Part second = std::move(parts.back());
             parts.pop_back();
-            const Level hill = parts.back().fin + size + second.initial - static_cast<Level>(position.share);
+            const Level hill =
+                parts.back().fin + size + second.initial - static_cast<Level>(position.share);
             planner.series(parts.back(), ++task, hill, std::move(second));
         } else {
             for (std::size_t left = taken - 1; left > 0; left--) {
