@@ -54,7 +54,7 @@ pub fn check<R: Threads + Sync, G: Gate>(
 }
 
 // Whether the last position has a claim with a bound of at least the plan's peak less 1.
-fn has_root(view: &View<'_>, plan: &PlanFile) -> bool
+pub(crate) fn has_root(view: &View<'_>, plan: &PlanFile) -> bool
     requires { view.now.claims ≡ plan.now.claims }
     ensures { IsTrue result ↔ HasRoot view.now.positions plan.now }
 {

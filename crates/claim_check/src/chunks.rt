@@ -64,7 +64,7 @@ fn lowest_of_chunks<R: Threads + Sync, G: Gate>(
 }
 
 // The lowest position from one on and before another whose claim fails, if there is one.
-fn lowest_in(view: &View<'_>, from: u32, to: u32) -> Option<u32>
+pub(crate) fn lowest_in(view: &View<'_>, from: u32, to: u32) -> Option<u32>
     requires { from ≤ to }
     ensures { IsLowestIn view.now.positions (claim_at view.now.claims) from to result }
 {

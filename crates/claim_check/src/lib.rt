@@ -3,6 +3,7 @@
 //! The definitions stand in specs/: `Claimed`, `Shapes`, `Judged`, `Lowest`, `Accepted`, `Verdicts`.
 #![tactic(auto)]
 
+mod alone;
 mod checking;
 mod chunks;
 mod judge;
@@ -16,6 +17,7 @@ mod tests;
 mod verdict;
 mod view;
 
+pub use alone::check_alone;
 pub use checking::check;
 pub use judge::check_at;
 pub use objection::Objection;

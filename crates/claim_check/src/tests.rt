@@ -1,7 +1,7 @@
 ghost use Rattle.std.specs.Prelude.{◌≤◌};
 ghost use Rattle.limits.specs.Limits.{most_workers};
 
-use crate::{Objection, Shape, Verdict, View, are_claims, check, check_at};
+use crate::{Objection, Shape, Verdict, View, are_claims, check, check_alone, check_at};
 use mp_outside::{Gate, NoGate};
 use mp_system::{OrderFault, OrderKind};
 use plan_text::{Claim, Dir, read_plan};
@@ -127,6 +127,14 @@ fn verdict<R: Threads + Sync, G: Gate>(
     Ok(check(rt, alloc, &system, &terms, &plan, workers, gate)?)
 }
 
+// The same in one thread.
+fn verdict_alone(alloc: Global, workflow: &[u8], plan: &[u8]) -> Result<Verdict, Fail> {
+    let terms = read_workflow(alloc, workflow)?;
+    let system = system_of(alloc, &terms)?;
+    let plan = read_plan(alloc, plan)?;
+    Ok(check_alone(alloc, &system, &terms, &plan)?)
+}
+
 fn no_traversal(place: u64, kind: OrderKind) -> Objection {
     Objection::Order(OrderFault { place, kind })
 }
@@ -144,7 +152,7 @@ const IN_PLACE: &[u8] = b"workflow 2\ntasks 1\ndata 4\ndata 3\ntask 2 4 1\nend\n
 
 // A single node; one without memory; two data items side by side; two roots; the two chains, also with a bound of position 5 that is below
 // 12 - 3; the task in place, also with a bound of 5.
-// Workflows, plans, and their verdicts by one worker and by four.
+// Workflows, plans, and their verdicts by one worker, by four, and without a thread.
 fn check_verdicts<R: Threads + Sync + Abort>(
     rt: &R,
     alloc: Global,
@@ -155,6 +163,7 @@ fn check_verdicts<R: Threads + Sync + Abort>(
             let said = verdict(rt, alloc, workflow, plan, workers, &NoGate)?;
             assert_eq!(rt; said, *expected);
         }
+        assert_eq!(rt; verdict_alone(alloc, workflow, plan)?, *expected);
     }
     Ok(())
 }

@@ -17,3 +17,4 @@ pub mod ChildLemmas
 pub mod OrderLemmas
 pub mod PositionLemmas
 pub mod ReaderLaws
+pub mod JudgedLemmas

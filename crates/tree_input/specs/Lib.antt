@@ -3,6 +3,7 @@ pub mod Forest
 pub mod TreeTerm
 pub mod TreeFile
 pub mod TreeText
+pub mod Judged
 pub mod Ascent
 pub mod Children
 pub mod Stated

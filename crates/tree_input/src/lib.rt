@@ -1,8 +1,9 @@
-//! Trees of nodes, tree files of versions 1 and 2, the system and the term of a tree.
+//! Trees of nodes, which a caller or a tree file of version 1 or 2 gives, the system and the term of a tree.
 #![tactic(auto)]
 
 mod children;
 mod fields;
+mod judged;
 pub mod laws;
 mod lines;
 mod names;
@@ -19,6 +20,7 @@ mod term;
 mod tests;
 mod tree;
 
+pub use judged::{NodeTest, NodesRefusal, tree_of_nodes};
 pub use names::Names;
 pub use node::{Node, TreeKind};
 pub use printing::{print_tree, print_tree_2};

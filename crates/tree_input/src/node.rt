@@ -5,7 +5,8 @@ use std::fmt::{self, Display, Formatter, Write};
 
 /// A node of a tree: a front and its contribution block.
 ///
-/// Sizes are in the unit that the file's author chose, at most 2^40 each.
+/// Sizes are in the unit that the file's author chose, at most 2^40 each. The layout is that of the same struct in C.
+#[repr(C)]
 #[derive(Clone, Copy, Debug, PartialEq, Eq)]
 pub struct Node {
     /// The number of the parent, from 1; 0 at a root.

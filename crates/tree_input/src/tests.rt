@@ -1,6 +1,7 @@
 //! Tree files, and what their trees are as systems and as terms.
 
 mod files;
+mod nodes;
 mod terms;
 
 use crate::{Tree, read_tree};

@@ -1,0 +1,60 @@
+//! The judge in one thread, for callers that may start none.
+
+ghost use Rattle.std.specs.Prelude.{IfOk};
+ghost use Rattle.plan_text.specs.Plan.{claim_at};
+ghost use Rattle.claim_check.specs.Lowest.{IsLowestFrom};
+ghost use Rattle.claim_check.specs.Verdicts.{IsVerdict};
+
+use crate::NoMemory;
+use crate::checking::has_root;
+use crate::chunks::lowest_in;
+use crate::objection::Objection;
+use crate::verdict::Verdict;
+use crate::view::View;
+use mp_system::{ReplayRefusal, System, replay};
+use plan_text::PlanFile;
+use sp_terms::Terms;
+use std::alloc::{AllocError, Global};
+
+// The lowest position whose claim fails: of those at the term's positions, and then of those past the last.
+fn lowest_alone(view: &View<'_>) -> Option<u32>
+    ensures { IsLowestFrom view.now.positions (claim_at view.now.claims) 0 result }
+{
+    let first = lowest_in(view, 1, view.len() + 1);
+    if first.is_some() {
+        return first;
+    }
+    view.first_outside()
+}
+
+/// Judges a plan as [`check`](crate::check) does, with the same verdict, and starts no thread. `NoMemory` says nothing of the plan.
+/// Linear in the system, the positions and the claims.
+pub fn check_alone(
+    alloc: Global,
+    system: &System,
+    terms: &Terms,
+    plan: &PlanFile,
+) -> Result<Verdict, NoMemory>
+    ensures verdict { IfOk result (λ verdict. IsVerdict system.now terms.now plan.now verdict) }
+{
+    let replayed = match replay(alloc, system, plan.order()) {
+        Ok(replayed) => replayed,
+        Err(ReplayRefusal::NoMemory) => return Err(AllocError),
+        Err(ReplayRefusal::Order(fault)) => return Ok(Verdict::No(Objection::Order(fault))),
+    };
+    let printed = plan.peak();
+    if replayed != printed {
+        return Ok(Verdict::No(Objection::Peak { replayed, printed }));
+    }
+    let view = View::new(alloc, terms, plan.claims())?;
+    if !has_root(&view, plan) {
+        return Ok(Verdict::No(Objection::Root { last: view.len() }));
+    }
+    match lowest_alone(&view) {
+        None => Ok(Verdict::Yes(replayed)),
+        Some(position) => Ok(Verdict::No(Objection::Claim {
+            position,
+            shape: view.shape(position),
+        })),
+    }
+}
