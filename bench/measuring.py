@@ -71,17 +71,25 @@ class Bench:
         keys = [f"{row}: {side.name}" for side in sides]
         if not all(key in self.figures for key in keys):
             print(f"  {', '.join(keys)}", flush=True)
-            taken = [[self.run(side) for side in sides] for _ in range(turns or self.turns)]
+            tries = self.in_turn(sides, turns or self.turns)
             if same and len({self.output(side.name).read_bytes() for side in sides}) > 1:
-                raise SystemExit(
-                    f"{row}: {', '.join(side.name for side in sides)} print different texts"
-                )
-            for key, side, tries in zip(keys, sides, zip(*taken)):
-                self.figures[key] = self.least(row, side, tries)
+                names = ", ".join(side.name for side in sides)
+                raise SystemExit(f"{row}: {names} print different texts")
+            for key, side in zip(keys, sides):
+                self.figures[key] = self.least(row, side, tries[side.name])
             self.keep()
         return [self.figures[key] for key in keys]
 
-    def least(self, row: str, side: Side, tries: tuple[Figure, ...]) -> Figure:
+    def in_turn(self, sides: list[Side], turns: int) -> dict[str, list[Figure]]:
+        """The figures of each turn of each side; what took too long is not run again."""
+        tries: dict[str, list[Figure]] = {side.name: [] for side in sides}
+        for _ in range(turns):
+            for side in sides:
+                if all(it.status != KILLED for it in tries[side.name]):
+                    tries[side.name].append(self.run(side))
+        return tries
+
+    def least(self, row: str, side: Side, tries: list[Figure]) -> Figure:
         first = tries[0]
         if first.status not in (side.status, KILLED, USAGE):
             raise SystemExit(
