@@ -23,6 +23,11 @@ class Figure(NamedTuple):
     def is_done(self) -> bool:
         return self.status == 0
 
+    @property
+    def counts(self) -> bool:
+        """Whether it is what the program took for its whole work."""
+        return self.status not in (KILLED, USAGE)
+
 
 class Side(NamedTuple):
     """A program beside others: its name in the table, its words, and how it must end."""
@@ -131,11 +136,18 @@ def time_of(figure: Figure, milliseconds: Optional[float] = None) -> str:
 
 
 def memory_of(figure: Figure) -> str:
-    return f"{figure.memory:,.0f}" if figure.status not in (KILLED, USAGE) else ""
+    return f"{figure.memory:,.0f}" if figure.counts else ""
 
 
 def ratio(one: float, other: float) -> str:
     return f"{one / other:.1f}" if other > 0 and one > 0 else ""
+
+
+def ratios(one: Figure, other: Figure) -> tuple[str, str]:
+    """Those of processor time and of memory."""
+    if not one.counts or not other.counts:
+        return "", ""
+    return ratio(one.cpu, other.cpu), ratio(one.memory, other.memory)
 
 
 def table(head: list[str], rows: list[list[str]]) -> str:

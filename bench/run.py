@@ -28,7 +28,7 @@ from pathlib import Path
 from typing import NamedTuple, Optional
 
 import shapes
-from measuring import KILLED, USAGE, Bench, Figure, Side, memory_of, ratio, table, time_of
+from measuring import KILLED, USAGE, Bench, Figure, Side, memory_of, ratio, ratios, table, time_of
 
 HERE = Path(__file__).resolve().parent
 TOOLS = HERE.parent / "tools"
@@ -158,8 +158,9 @@ class Tables:
             raise SystemExit(
                 f"{row}: {label}: memplan found {ours.said!r}, and {sides[1].name} {other.said!r}"
             )
-        times = [time_of(ours), time_of(other), ratio(ours.cpu, other.cpu)]
-        return [label, *times, memory_of(ours), memory_of(other), ratio(ours.memory, other.memory)]
+        in_time, in_memory = ratios(ours, other)
+        cells = [time_of(ours), time_of(other), in_time]
+        return [label, *cells, memory_of(ours), memory_of(other), in_memory]
 
     @staticmethod
     def pair_head(what: str, other: str) -> list[str]:
@@ -220,35 +221,20 @@ class Tables:
         whole, rest = [], []
         for label, matrix, perm in self.matrices():
             figures = self.bench.measure(f"tree: {label}", self.tree_sides(matrix, perm), same=True)
-            read = self.bench.measure(
-                f"read: matrix: {label.split(', nested')[0]}", self.reading_of(matrix)
-            )
-            ours = figures[0]
-            times = [time_of(it) for it in figures] + [ratio(ours.cpu, figures[1].cpu)]
-            whole.append(
-                [
-                    label,
-                    *times,
-                    *(memory_of(it) for it in figures),
-                    ratio(ours.memory, figures[1].memory),
-                ]
-            )
-            less = [max(0.0, it.cpu - read[min(at, 1)].cpu) for at, it in enumerate(figures)]
-            rest.append(
-                [
-                    label,
-                    *(time_of(it, ms) for it, ms in zip(figures, less)),
-                    ratio(less[0], less[1]),
-                ]
-            )
-        times = ["memplan, ms", "CXSparse, ms", "CHOLMOD, ms", "ratio"]
-        memory = ["memplan, MB", "CXSparse, MB", "CHOLMOD, MB", "ratio"]
-        without = "\nWithout reading: elimination tree, postorder, counts, fronts, printing.\n\n"
-        return (
-            table(["`tree`", *times, *memory], whole)
-            + without
-            + table(["`tree` less reading", *times], rest)
-        )
+            in_time, in_memory = ratios(figures[0], figures[1])
+            times, memory = map(time_of, figures), map(memory_of, figures)
+            whole.append([label, *times, in_time, *memory, in_memory])
+            reading = f"read: matrix: {label.split(', nested')[0]}"
+            ours, peer = self.bench.measure(reading, self.reading_of(matrix))
+            less = [max(0.0, it.cpu - read.cpu) for it, read in zip(figures, (ours, peer, peer))]
+            times = map(time_of, figures, less)
+            rest.append([label, *times, ratio(less[0], less[1]) if in_time else ""])
+        programs = ("memplan", "CXSparse", "CHOLMOD")
+        times = [*(f"{it}, ms" for it in programs), "to CXSparse"]
+        memory = [*(f"{it}, MB" for it in programs), "to CXSparse"]
+        note = "\nWithout reading: elimination tree, postorder, counts, fronts, printing.\n\n"
+        less_reading = table(["`tree` less reading", *times], rest)
+        return table(["`tree`", *times, *memory], whole) + note + less_reading
 
     def mindeg(self) -> str:
         sizes, make = self.sizes, self.inputs.matrix
@@ -391,10 +377,7 @@ class Tables:
         plans, checks = [], []
         for kind, make, shape in shown:
             planned, beside, checked = self.grown(kind, shape, make)
-            last = [
-                time_of(beside[-1]),
-                ratio(planned[-1].cpu, beside[-1].cpu) if planned[-1].is_done else "",
-            ]
+            last = [time_of(beside[-1]), ratios(planned[-1], beside[-1])[0]]
             plans.append(self.growth_row(f"{kind}: {shape}", planned, last))
             checks.append(self.growth_row(f"{kind}: {shape}", checked, []))
         head = [*(f"{it:,}" for it in self.sizes.growth), "exponent", "MB of the last"]
