@@ -23,6 +23,11 @@ class Figure(NamedTuple):
     def is_done(self) -> bool:
         return self.status == 0
 
+    @property
+    def counts(self) -> bool:
+        """Whether it is what the program took for its whole work."""
+        return self.status not in (KILLED, USAGE)
+
 
 class Side(NamedTuple):
     """A program beside others: its name in the table, its words, and how it must end."""
@@ -71,17 +76,25 @@ class Bench:
         keys = [f"{row}: {side.name}" for side in sides]
         if not all(key in self.figures for key in keys):
             print(f"  {', '.join(keys)}", flush=True)
-            taken = [[self.run(side) for side in sides] for _ in range(turns or self.turns)]
+            tries = self.in_turn(sides, turns or self.turns)
             if same and len({self.output(side.name).read_bytes() for side in sides}) > 1:
-                raise SystemExit(
-                    f"{row}: {', '.join(side.name for side in sides)} print different texts"
-                )
-            for key, side, tries in zip(keys, sides, zip(*taken)):
-                self.figures[key] = self.least(row, side, tries)
+                names = ", ".join(side.name for side in sides)
+                raise SystemExit(f"{row}: {names} print different texts")
+            for key, side in zip(keys, sides):
+                self.figures[key] = self.least(row, side, tries[side.name])
             self.keep()
         return [self.figures[key] for key in keys]
 
-    def least(self, row: str, side: Side, tries: tuple[Figure, ...]) -> Figure:
+    def in_turn(self, sides: list[Side], turns: int) -> dict[str, list[Figure]]:
+        """The figures of each turn of each side; what took too long is not run again."""
+        tries: dict[str, list[Figure]] = {side.name: [] for side in sides}
+        for _ in range(turns):
+            for side in sides:
+                if all(it.status != KILLED for it in tries[side.name]):
+                    tries[side.name].append(self.run(side))
+        return tries
+
+    def least(self, row: str, side: Side, tries: list[Figure]) -> Figure:
         first = tries[0]
         if first.status not in (side.status, KILLED, USAGE):
             raise SystemExit(
@@ -123,11 +136,18 @@ def time_of(figure: Figure, milliseconds: Optional[float] = None) -> str:
 
 
 def memory_of(figure: Figure) -> str:
-    return f"{figure.memory:,.0f}" if figure.status not in (KILLED, USAGE) else ""
+    return f"{figure.memory:,.0f}" if figure.counts else ""
 
 
 def ratio(one: float, other: float) -> str:
     return f"{one / other:.1f}" if other > 0 and one > 0 else ""
+
+
+def ratios(one: Figure, other: Figure) -> tuple[str, str]:
+    """Those of processor time and of memory."""
+    if not one.counts or not other.counts:
+        return "", ""
+    return ratio(one.cpu, other.cpu), ratio(one.memory, other.memory)
 
 
 def table(head: list[str], rows: list[list[str]]) -> str:

@@ -28,7 +28,7 @@ from pathlib import Path
 from typing import NamedTuple, Optional
 
 import shapes
-from measuring import KILLED, USAGE, Bench, Figure, Side, memory_of, ratio, table, time_of
+from measuring import KILLED, USAGE, Bench, Figure, Side, memory_of, ratio, ratios, table, time_of
 
 HERE = Path(__file__).resolve().parent
 TOOLS = HERE.parent / "tools"
@@ -63,52 +63,55 @@ class Inputs:
     def __init__(self, folder: Path, sizes: Sizes) -> None:
         self.folder, self.sizes = folder, sizes
 
-    def script(self, name: str, *words: str) -> None:
-        subprocess.run([sys.executable, str(TOOLS / name), *words], check=True)
+    def made(self, name: str, make: Callable[[Path], object]) -> str:
+        """The file of a name, made whole under another name first: a run may be stopped."""
+        at = self.folder / name
+        if not at.exists():
+            new = self.folder / "new.input"
+            make(new)
+            new.replace(at)
+        return str(at)
 
-    def at(self, name: str) -> str:
-        return str(self.folder / name)
-
-    def is_there(self, name: str) -> bool:
-        return (self.folder / name).exists()
-
-    def text(self, name: str, text: str) -> str:
-        if not self.is_there(name):
-            (self.folder / name).write_text(text)
-        return self.at(name)
+    def script(self, name: str, *words: object) -> None:
+        subprocess.run([sys.executable, str(TOOLS / name), *map(str, words)], check=True)
 
     def tree(self, shape: str, tasks: Optional[int] = None) -> str:
-        count = tasks or self.sizes.tasks
-        name = f"{shape}_{count}.tree"
-        if not self.is_there(name) and shape in shapes.TREES:
-            return self.text(name, shapes.text_of(shape, count))
-        if not self.is_there(name):
-            self.script("make_tree.py", str(count), self.at(name), self.at("unused.order"), shape)
-        return self.at(name)
+        count, unused = tasks or self.sizes.tasks, self.folder / "unused.order"
+
+        def make(to: Path) -> None:
+            if shape in shapes.TREES:
+                to.write_text(shapes.text_of(shape, count))
+            else:
+                self.script("make_tree.py", count, to, unused, shape)
+
+        return self.made(f"{shape}_{count}.tree", make)
 
     def workflow(self, shape: str, tasks: Optional[int] = None) -> str:
-        count = tasks or self.sizes.tasks
-        name = f"{shape}_{count}.workflow"
-        if not self.is_there(name) and shape in shapes.WORKFLOWS:
-            return self.text(name, shapes.text_of(shape, count))
-        if not self.is_there(name):
-            self.script("make_workflow.py", str(count), self.at(name), self.at("unused.order"))
-        return self.at(name)
+        count, unused = tasks or self.sizes.tasks, self.folder / "unused.order"
+
+        def make(to: Path) -> None:
+            if shape in shapes.WORKFLOWS:
+                to.write_text(shapes.text_of(shape, count))
+            else:
+                self.script("make_workflow.py", count, to, unused)
+
+        return self.made(f"{shape}_{count}.workflow", make)
 
     def matrix(self, kind: str, first: int, second: int) -> str:
-        name = f"{kind}_{first}_{second}.mtx"
-        if not self.is_there(name) and kind in shapes.MATRICES:
-            return self.text(name, shapes.text_of(kind, first))
-        if not self.is_there(name):
-            self.script("make_matrices.py", kind, str(first), str(second), self.at(name))
-        return self.at(name)
+        def make(to: Path) -> None:
+            if kind in shapes.MATRICES:
+                to.write_text(shapes.text_of(kind, first))
+            else:
+                self.script("make_matrices.py", kind, first, second, to)
+
+        return self.made(f"{kind}_{first}_{second}.mtx", make)
 
     def claims(self) -> tuple[str, str]:
+        """A workflow, and a plan of it with a claim at each position."""
         count = self.sizes.tasks
-        workflow, plan = f"claims_{count}.workflow", f"claims_{count}.plan"
-        if not self.is_there(plan):
-            self.script("make_claims.py", str(count), self.at(workflow), self.at(plan))
-        return self.at(workflow), self.at(plan)
+        workflow = self.folder / f"claims_{count}.workflow"
+        make = lambda to: self.script("make_claims.py", count, workflow, to)
+        return str(workflow), self.made(f"claims_{count}.plan", make)
 
     def forget(self, name: str) -> None:
         Path(name).unlink(missing_ok=True)
@@ -121,7 +124,7 @@ class Tables:
         self.bench, self.inputs, self.program = bench, inputs, program
         self.peer, self.analysis = str(bench.folder / "peer"), str(bench.folder / "analysis")
         self.sizes = inputs.sizes
-        self.wrong = inputs.text("wrong.numbers", "none\n")
+        self.wrong = inputs.made("wrong.numbers", lambda to: to.write_text("none\n"))
 
     def memplan(self, *words: str, status: int = 0, name: str = "memplan") -> Side:
         return Side(name, [self.program, *words], status)
@@ -158,51 +161,35 @@ class Tables:
             raise SystemExit(
                 f"{row}: {label}: memplan found {ours.said!r}, and {sides[1].name} {other.said!r}"
             )
-        times = [time_of(ours), time_of(other), ratio(ours.cpu, other.cpu)]
-        return [label, *times, memory_of(ours), memory_of(other), ratio(ours.memory, other.memory)]
+        in_time, in_memory = ratios(ours, other)
+        cells = [time_of(ours), time_of(other), in_time]
+        return [label, *cells, memory_of(ours), memory_of(other), in_memory]
 
     @staticmethod
     def pair_head(what: str, other: str) -> list[str]:
-        return [
-            what,
-            "memplan, ms",
-            f"{other}, ms",
-            "ratio",
-            "memplan, MB",
-            f"{other}, MB",
-            "ratio",
-        ]
+        programs = ("memplan", other)
+        cells = [[*(f"{it}, {unit}" for it in programs), "ratio"] for unit in ("ms", "MB")]
+        return [what, *cells[0], *cells[1]]
 
     def reading(self) -> str:
         """memplan reads a file and is then refused another one; the peers read and count."""
-        rows = []
-        for label, name in self.trees():
-            ours = self.memplan("replay", "--tree", name, "--order", self.wrong, status=3)
-            rows.append(
-                self.pair(
-                    "read",
-                    f"tree: {label}",
-                    [ours, self.beside("C++", self.peer, "read", "tree", name)],
-                )
-            )
-        name = self.inputs.workflow("random")
+        found = [
+            (f"tree: {label}", self.order_refused("tree", name)) for label, name in self.trees()
+        ]
         label = f"workflow: random, {self.sizes.tasks:,} tasks"
-        ours = self.memplan("replay", "--workflow", name, "--order", self.wrong, status=3)
-        rows.append(
-            self.pair(
-                "read", label, [ours, self.beside("C++", self.peer, "read", "workflow", name)]
-            )
-        )
-        for label, name, perm in self.matrices():
-            if not perm:
-                rows.append(self.pair("read", f"matrix: {label}", self.reading_of(name)))
+        found.append((label, self.order_refused("workflow", self.inputs.workflow("random"))))
+        matrices = ((label, name) for label, name, perm in self.matrices() if not perm)
+        found += [(f"matrix: {label}", self.reading_of(name)) for label, name in matrices]
         _, name = self.inputs.claims()
         ours = self.memplan("upgrade", "--plan", name, "--priority", self.wrong, status=3)
         label = f"plan: {4 * self.sizes.tasks + 1:,} claims"
-        rows.append(
-            self.pair("read", label, [ours, self.beside("C++", self.peer, "read", "plan", name)])
-        )
+        found.append((label, [ours, self.beside("C++", self.peer, "read", "plan", name)]))
+        rows = [self.pair("read", label, sides) for label, sides in found]
         return table(self.pair_head("reading of a", "C++"), rows)
+
+    def order_refused(self, kind: str, name: str) -> list[Side]:
+        ours = self.memplan("replay", f"--{kind}", name, "--order", self.wrong, status=3)
+        return [ours, self.beside("C++", self.peer, "read", kind, name)]
 
     def reading_of(self, matrix: str) -> list[Side]:
         ours = self.memplan("tree", "--matrix", matrix, "--perm", self.wrong, status=3)
@@ -220,35 +207,20 @@ class Tables:
         whole, rest = [], []
         for label, matrix, perm in self.matrices():
             figures = self.bench.measure(f"tree: {label}", self.tree_sides(matrix, perm), same=True)
-            read = self.bench.measure(
-                f"read: matrix: {label.split(', nested')[0]}", self.reading_of(matrix)
-            )
-            ours = figures[0]
-            times = [time_of(it) for it in figures] + [ratio(ours.cpu, figures[1].cpu)]
-            whole.append(
-                [
-                    label,
-                    *times,
-                    *(memory_of(it) for it in figures),
-                    ratio(ours.memory, figures[1].memory),
-                ]
-            )
-            less = [max(0.0, it.cpu - read[min(at, 1)].cpu) for at, it in enumerate(figures)]
-            rest.append(
-                [
-                    label,
-                    *(time_of(it, ms) for it, ms in zip(figures, less)),
-                    ratio(less[0], less[1]),
-                ]
-            )
-        times = ["memplan, ms", "CXSparse, ms", "CHOLMOD, ms", "ratio"]
-        memory = ["memplan, MB", "CXSparse, MB", "CHOLMOD, MB", "ratio"]
-        without = "\nWithout reading: elimination tree, postorder, counts, fronts, printing.\n\n"
-        return (
-            table(["`tree`", *times, *memory], whole)
-            + without
-            + table(["`tree` less reading", *times], rest)
-        )
+            in_time, in_memory = ratios(figures[0], figures[1])
+            times, memory = map(time_of, figures), map(memory_of, figures)
+            whole.append([label, *times, in_time, *memory, in_memory])
+            reading = f"read: matrix: {label.split(', nested')[0]}"
+            ours, peer = self.bench.measure(reading, self.reading_of(matrix))
+            less = [max(0.0, it.cpu - read.cpu) for it, read in zip(figures, (ours, peer, peer))]
+            times = map(time_of, figures, less)
+            rest.append([label, *times, ratio(less[0], less[1]) if in_time else ""])
+        programs = ("memplan", "CXSparse", "CHOLMOD")
+        times = [*(f"{it}, ms" for it in programs), "to CXSparse"]
+        memory = [*(f"{it}, MB" for it in programs), "to CXSparse"]
+        note = "\nWithout reading: elimination tree, postorder, counts, fronts, printing.\n\n"
+        less_reading = table(["`tree` less reading", *times], rest)
+        return table(["`tree`", *times, *memory], whole) + note + less_reading
 
     def mindeg(self) -> str:
         sizes, make = self.sizes, self.inputs.matrix
@@ -306,14 +278,16 @@ class Tables:
         found = []
         for label, kind, name in self.planned_inputs():
             words = [f"--{kind}", name]
-            plan = Path(f"{words[1]}.plan")
-            if not plan.exists():
-                with open(plan, "wb") as out:
-                    subprocess.run([self.program, "plan", *words], stdout=out, check=True)
+            made = lambda to: self.planned_to(words, to)
+            plan = self.inputs.made(f"{Path(name).name}.plan", made)
             with open(plan, encoding="ascii") as text:
                 peak = next(int(line.split()[1]) for line in text if line.startswith("peak"))
-            found.append((label, words, str(plan), peak))
+            found.append((label, words, plan, peak))
         return found
+
+    def planned_to(self, words: list[str], to: Path) -> None:
+        with open(to, "wb") as out:
+            subprocess.run([self.program, "plan", *words], stdout=out, check=True)
 
     def alone(
         self, row: str, found: list[tuple[str, list[list[str]]]], names: list[str]
@@ -391,10 +365,7 @@ class Tables:
         plans, checks = [], []
         for kind, make, shape in shown:
             planned, beside, checked = self.grown(kind, shape, make)
-            last = [
-                time_of(beside[-1]),
-                ratio(planned[-1].cpu, beside[-1].cpu) if planned[-1].is_done else "",
-            ]
+            last = [time_of(beside[-1]), ratios(planned[-1], beside[-1])[0]]
             plans.append(self.growth_row(f"{kind}: {shape}", planned, last))
             checks.append(self.growth_row(f"{kind}: {shape}", checked, []))
         head = [*(f"{it:,}" for it in self.sizes.growth), "exponent", "MB of the last"]
@@ -432,7 +403,7 @@ class Tables:
                 made = str(self.bench.output("plan"))
                 side = self.memplan("check", f"--{kind}", name, "--plan", made, name="check")
                 checked += self.bench.measure(row, [side], turns=2)
-            if name and tasks != self.sizes.tasks:
+            if name and (tasks != self.sizes.tasks or shape in shapes.WORKFLOWS):
                 self.inputs.forget(name)
             if plan.status == KILLED:
                 break

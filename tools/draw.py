@@ -354,8 +354,8 @@ def draw_stairs(words: argparse.Namespace) -> None:
     right = max(bounds) + max(1, (max(bounds) - min(bounds)) / 6)
     figure, axes = pyplot.subplots(figsize=(6.5, 3.6))
     lines = (
-        ("F", "forwards, from the start", BLUE, "-"),
-        ("R", "backwards, from the end", RED, "--"),
+        ("F", "from the start", BLUE, "-"),
+        ("R", "from the end, backwards", RED, "--"),
     )
     for word, label, colour, dashes in lines:
         stairs = both[word]
@@ -370,7 +370,7 @@ def draw_stairs(words: argparse.Namespace) -> None:
             linewidth=2,
             label=label,
         )
-        axes.plot(xs[:-1], ys, "o", color=colour, markersize=5)
+        axes.plot(xs[:-1], ys, "o", color=colour, markersize=5 if len(ys) <= 8 else 3)
         if len(stairs.steps) <= 8:
             for bound, level in stairs.steps:
                 place = {
@@ -386,7 +386,7 @@ def draw_stairs(words: argparse.Namespace) -> None:
     axes.set_xlabel("bound on memory")
     axes.set_ylabel("lowest memory that is reached")
     axes.set_title(f"staircases of {words.number}")
-    axes.legend(loc="upper right")
+    axes.legend(loc="upper left", bbox_to_anchor=(1.0, 1.0))
     count_axis(axes.xaxis)
     count_axis(axes.yaxis)
     figure.tight_layout()
