@@ -5,3 +5,4 @@ pub mod Stacks
 pub mod Stairs
 pub mod StairLaws
 pub mod Reaching
+pub mod Samples

@@ -9,15 +9,17 @@ use Rattle.sp_cuts.specs.Stairs.{IsStaircaseOf, BothSteps, AreStairs}
 
 -- a term has one staircase in each direction
 abbrev pub SomeStaircase : Type 0
-SomeStaircase = (d : Direction) (t : Term) → IsAllowed t → (steps : List Step) × IsStaircaseOf d t steps
+SomeStaircase =
+    (d : Direction) (t : Term) → IsAllowed t → (steps : List Step) × IsStaircaseOf d t steps
 
 abbrev pub OneStaircase : Type 0
-OneStaircase = (d : Direction) (t : Term) (a b : List Step) → IsStaircaseOf d t a → IsStaircaseOf d t b → a ≡ b
+OneStaircase = (d : Direction) (t : Term) (a b : List Step)
+    → IsStaircaseOf d t a → IsStaircaseOf d t b → a ≡ b
 
 -- the level of each step is the least memory that is reached within its bound
 abbrev pub EachStepIsReached : Type 0
-EachStepIsReached = (d : Direction) (t : Term) (steps : List Step) → IsStaircaseOf d t steps → (s : Step) → Contains steps s
-    → IsLowestReached d t (s.bound + 1) s.level
+EachStepIsReached = (d : Direction) (t : Term) (steps : List Step) → IsStaircaseOf d t steps
+    → (s : Step) → Contains steps s → IsLowestReached d t (s.bound + 1) s.level
 
 -- so there is one list of those of all positions
 abbrev pub SomeStairs : Type 0

@@ -1,4 +1,5 @@
--- Staircases: how low the memory of a term can come within each bound, from its first state on and from its last one back.
+-- Staircases: how low the memory of a term can come within each bound, from its first state on and
+-- from its last one back.
 use Rattle.std.specs.Prelude.{◌≡◌, ℕ, ◌+◌, ◌<◌, List, [], ◌∷◌, ⊤, length, map, sum_by}
 use Rattle.limits.specs.Limits.{most_steps}
 use Rattle.hill_valley.specs.declared.steps.Step.{Step}
@@ -13,11 +14,13 @@ use Rattle.sp_cuts.specs.declared.reaching.Stairs.{Stairs}
 
 -- the steps are the staircase of a term in a direction
 pub record IsStaircaseOf (d : Direction) (t : Term) (steps : List Step) : Type 0 where
-  -- from the memory of the first state in this direction on, the bounds rise strictly and the levels fall strictly
+  -- from the memory of the first state in this direction on, the bounds rise strictly and the levels
+  -- fall strictly
   pub falls : IsStaircase (first_memory d t) (first_memory d t) steps
-  -- below each limit above that memory, the least memory that is reached is the level of the last step whose bound is below the limit,
-  -- and the memory of the first state where there is none
-  pub lowest : (limit : ℕ) → first_memory d t < limit → IsLowestReached d t limit (level_at limit (first_memory d t) steps)
+  -- below each limit above that memory, the least memory that is reached is the level of the last step
+  -- whose bound is below the limit, and the memory of the first state where there is none
+  pub lowest : (limit : ℕ) → first_memory d t < limit
+      → IsLowestReached d t limit (level_at limit (first_memory d t) steps)
 
 -- the steps from the first state on, and those from the last state back
 pub record BothSteps : Type 0 where

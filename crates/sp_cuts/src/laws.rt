@@ -1,7 +1,8 @@
 //! The laws, each as a clause of a function that does nothing.
 
 ghost use Rattle.sp_cuts.specs.Laws.{PartsStay, AllPartsStay, NumbersWithinPeak};
-ghost use Rattle.sp_cuts.specs.StairLaws.{SomeStaircase, OneStaircase, EachStepIsReached, SomeStairs, OneStairs};
+ghost use Rattle.sp_cuts.specs.StairLaws.{SomeStaircase, OneStaircase, EachStepIsReached};
+ghost use Rattle.sp_cuts.specs.StairLaws.{SomeStairs, OneStairs};
 
 /// A part stays as it is, however many more ropes are made.
 pub fn parts_stay()
@@ -18,8 +19,8 @@ pub fn within_peak()
     segment_merge::laws::all();
 }
 
-/// A term has one staircase in each direction, each of whose levels is the least memory that is reached within its bound. So a list of
-/// positions has one list of the staircases of its terms.
+/// A term has one staircase in each direction, each of whose levels is the least memory that is reached
+/// within its bound. So a list of positions has one list of the staircases of its terms.
 pub fn one_staircase()
     ensures some { SomeStaircase }
     ensures one { OneStaircase }

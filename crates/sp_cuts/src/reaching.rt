@@ -1,4 +1,5 @@
-//! The staircases of the terms at all positions, read off the sides of their parts while the planner makes them.
+//! The staircases of the terms at all positions, read off the sides of their parts while the planner
+//! makes them.
 
 ghost use Rattle.std.specs.Prelude.{◌≡◌, ℕ, ◌+◌, ◌*◌, ◌^◌, ◌<◌, ◌≤◌, length, IfOk};
 ghost use Rattle.limits.specs.Limits.{most_steps};
@@ -6,7 +7,7 @@ ghost use Rattle.sp_terms.specs.SystemOfTerm.{task_count};
 ghost use Rattle.sp_terms.specs.Values.{term_of};
 ghost use Rattle.sp_cuts.specs.Stairs.{AreStairs, step_total, PassesLimit, both_of, all_of};
 ghost use Rattle.sp_cuts.specs.Reaching.{HasRoom, AreStepsOf, IsLast};
-ghost use Rattle.sp_cuts.specs.declared.reaching.StairsRefusal.TheVariants.{NoMemory as OutOfMemory};
+ghost use Rattle.sp_cuts.specs.declared.reaching.StairsRefusal.TheVariants.{NoMemory as OutOfRoom};
 
 use crate::NoMemory;
 use crate::laws::one_staircase;
@@ -21,9 +22,10 @@ use std::fmt::{self, Display, Formatter, Write};
 use std::sync::ledger::Ledger;
 use step_count::Steps;
 
-/// How low the memory of a term can come within each bound. Within a bound of at least the memory where a list starts, the least memory
-/// that can be reached is the level of the last step whose bound is within it, and the memory where the list starts if there is none.
-/// Along a list the bounds rise and the levels fall.
+/// How low the memory of a term can come within each bound. Within a bound of at least the memory where
+/// a list starts, the least memory that can be reached is the level of the last step whose bound is
+/// within it, and the memory where the list starts if there is none. Along a list the bounds rise and
+/// the levels fall.
 #[derive(Drop)]
 pub struct Stairs {
     /// From the first state on.
@@ -42,7 +44,7 @@ pub enum StairsRefusal {
 }
 
 impl From<NoMemory> for StairsRefusal {
-    ghost from_gives = { λ _ e. e ≡ OutOfMemory };
+    ghost from_gives = { λ _ e. e ≡ OutOfRoom };
 
     fn from(_no_memory: NoMemory) -> StairsRefusal {
         StairsRefusal::NoMemory
@@ -50,7 +52,7 @@ impl From<NoMemory> for StairsRefusal {
 }
 
 impl<T: Drop> From<AllocFailed<T>> for StairsRefusal {
-    ghost from_gives = { λ _ e. e ≡ OutOfMemory };
+    ghost from_gives = { λ _ e. e ≡ OutOfRoom };
 
     fn from(_failed: AllocFailed<T>) -> StairsRefusal {
         StairsRefusal::NoMemory
@@ -66,10 +68,11 @@ impl Display for StairsRefusal {
     }
 }
 
-/// The staircases of the term at each position, in the order of the positions. They are read off the sides of each part before these are
-/// merged into those of a greater one. There is one such list (`laws::one_staircase`). Time linear in the segments of the sides of each
-/// part, beside that of `plan_terms`, whose steps are counted as there; memory for the steps that are given back, an entry for each
-/// position, and the ropes. It ends as soon as the steps pass the limit.
+/// The staircases of the term at each position, in the order of the positions. They are read off the
+/// sides of each part before these are merged into those of a greater one. There is one such list
+/// (`laws::one_staircase`). Time linear in the segments of the sides of each part, beside that of
+/// `plan_terms`, whose steps are counted as there; memory for the steps that are given back, an entry
+/// for each position, and the ropes. It ends as soon as the steps pass the limit.
 pub fn staircases<L: Ledger>(
     alloc: Global,
     terms: &Terms,
@@ -79,7 +82,8 @@ pub fn staircases<L: Ledger>(
     // the limit is passed exactly where this is said
     ensures few { IfOk result (λ all. step_total (all_of all.items) ≤ most_steps) }
     ensures limit { result ≡ Err StairsRefusal.Limit → PassesLimit terms.now }
-    ensures steps { (d : ℕ) → task_count (term_of terms.now) < 2 ^ d → steps.new ≤ steps.old + task_count (term_of terms.now) * d }
+    ensures steps { (d : ℕ) → task_count (term_of terms.now) < 2 ^ d
+        → steps.new ≤ steps.old + task_count (term_of terms.now) * d }
 {
     laws::all();
     cut_laws::laws::stands_law();
