@@ -9,3 +9,5 @@ pub mod Moves
 pub mod Pushed
 pub mod Planned
 pub mod Standing
+pub mod OneStaircase
+pub mod Reached

@@ -12,12 +12,14 @@ mod hills;
 pub mod laws;
 mod parts;
 mod planning;
+mod reaching;
 #[cfg(test)]
 mod tests;
 
 pub use composing::{parallel, series};
 pub use parts::{Part, hill_between, hold};
 pub use planning::{Plan, plan_terms};
+pub use reaching::{Stairs, StairsRefusal, staircases};
 use std::alloc::AllocError;
 
 /// Want of memory: an allocation was refused.

@@ -106,7 +106,7 @@ fn part_of<L: Ledger>(
 }
 
 // One position of the term. The number of the next task is given back.
-fn push_position<L: Ledger>(
+pub(crate) fn push_position<L: Ledger>(
     alloc: Global,
     position: Position,
     next: u32,

@@ -1,5 +1,7 @@
 //! Worked examples, by hand, and small random trees and workflows against a plain search.
 
+mod stairs;
+
 ghost use Rattle.std.specs.Prelude.{◌≡◌, ◌≤◌, ◌<◌};
 ghost use Rattle.limits.specs.Limits.{most_tasks};
 ghost use Rattle.sp_terms.specs.Builder.{IsPosition};
