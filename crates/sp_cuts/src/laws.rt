@@ -1,11 +1,13 @@
 //! The laws, each as a clause of a function that does nothing.
 
-ghost use Rattle.sp_cuts.specs.Laws.{PartsStay, AllPartsStay, NumbersWithinPeak};
+ghost use Rattle.sp_cuts.specs.Laws.{PartsStay, AllPartsStay, RoughPartsStay, AllRoughPartsStay, NumbersWithinPeak};
 
 /// A part stays as it is, however many more ropes are made.
 pub fn parts_stay()
     ensures part { PartsStay }
     ensures all { AllPartsStay }
+    ensures rough { RoughPartsStay }
+    ensures all_rough { AllRoughPartsStay }
 {
     segment_merge::laws::all();
 }

@@ -15,7 +15,7 @@ mod planning;
 #[cfg(test)]
 mod tests;
 
-pub use composing::{parallel, series};
+pub use composing::{parallel, parallel_part, series, series_part};
 pub use parts::{Part, hill_between, hold};
 pub use planning::{Plan, plan_terms};
 use std::alloc::AllocError;
