@@ -3,8 +3,8 @@ use Rattle.std.proofs.Common.{◌≡◌, ℕ, suc, ◌-◌, ◌<◌, ◌≤◌, 
 use Rattle.std.specs.List.{slice_get}
 use Rattle.std.proofs.lemmas.Bool.Decides.{nat_tests}
 use Rattle.std.proofs.lemmas.Grind.{common_steps}
-use Rattle.side_laws.specs.Segments.{Segment, IsRising}
-use Rattle.hill_valley.specs.Side.{profile, AllUpsWithin, last_up, Run, run_numbers, run_profile, join_runs, insert_run, append_run}
+use Rattle.side_laws.specs.Segments.{Segment, IsRising, last_up}
+use Rattle.hill_valley.specs.Side.{profile, AllUpsWithin, Run, run_numbers, run_profile, join_runs, insert_run, append_run}
 use Rattle.hill_valley.specs.Descents.{segs_of}
 use Rattle.hill_valley.proofs.Inserting.{Entry}
 

@@ -1,13 +1,13 @@
 -- The laws, as statements.
 use Rattle.std.specs.Prelude.{◌≡◌, ℕ, max, Bool, false, List, ◌++◌}
-use Rattle.side_laws.specs.Segments.{Segment, IsRising}
+use Rattle.side_laws.specs.Segments.{Segment, IsRising, last_up}
 use Rattle.side_laws.specs.Appending.{append_segment}
 use Rattle.side_laws.specs.Merging.{insert_segment}
 use Rattle.hill_valley.specs.declared.ropes.Rope.{Rope}
 use Rattle.hill_valley.specs.declared.side.Seg.{Seg}
 use Rattle.hill_valley.specs.declared.steps.Step.{Step}
 use Rattle.hill_valley.specs.Ropes.{list_of, IsRope, Extends}
-use Rattle.hill_valley.specs.Side.{profile, last_up, HaveRopes, Run, runs_of, run_numbers, run_profile, tasks_of, insert_run, append_run}
+use Rattle.hill_valley.specs.Side.{profile, HaveRopes, Run, runs_of, run_numbers, run_profile, tasks_of, insert_run, append_run}
 use Rattle.hill_valley.specs.Staircase.{AreSteps}
 
 -- ---- ropes

@@ -29,12 +29,6 @@ AllUpsWithin ss = AllByRecursion (λ s. s.up ≤ most_total) ss
 abbrev pub IsSide : List Segment → Type 0
 IsSide ss = (net_sum ss ≤ most_total) × AllUpsWithin ss × IsRising ss
 
--- the greatest `up`, and 0 where there is no segment
-abbrev pub last_up : List Segment → ℕ
-last_up [] = 0
-last_up (s ∷ []) = s.up
-last_up (s ∷ t ∷ ss) = last_up (t ∷ ss)
-
 -- ---- the tasks of a side
 
 -- the rope of each segment is one of these

@@ -3,10 +3,10 @@
 ghost use Rattle.std.specs.Prelude.{◌≡◌, ℕ, ◌+◌, ◌-◌, ◌<◌, ◌≤◌, ◌^◌, max, if◌then◌else◌, nat_lt, [], ◌∷◌, ◌++◌, length, ◌↔◌, IfOk, IfSome, OnOk, OnErr, MatchOption};
 ghost use Rattle.std.specs.Option.{option_map};
 ghost use Rattle.limits.specs.Limits.{most_total};
-ghost use Rattle.side_laws.specs.Segments.{net_sum, lowest, top, Passes, StartsAbove};
+ghost use Rattle.side_laws.specs.Segments.{net_sum, lowest, top, Passes, StartsAbove, last_up};
 ghost use Rattle.side_laws.specs.Merging.{AreStuckAt, IsLeastTogether};
 ghost use Rattle.hill_valley.specs.Ropes.{list_of, IsRope, Extends};
-ghost use Rattle.hill_valley.specs.Side.{limit_of, numbers, profile, IsSide, last_up, HaveRopes, run_of, runs_of, tasks_of, insert_run, append_run};
+ghost use Rattle.hill_valley.specs.Side.{limit_of, numbers, profile, IsSide, HaveRopes, run_of, runs_of, tasks_of, insert_run, append_run};
 ghost use Rattle.hill_valley.specs.Staircase.{AreSteps};
 ghost use Rattle.hill_valley.specs.Descents.{list_seen, list_joined};
 

@@ -19,7 +19,7 @@ use Rattle.plan_claims.specs.Below.{LawsBelow}
 use Rattle.plan_claims.specs.Crossings.{LeadsOver, IsObstacle, far_stuck, near_stuck, near_closed, hill_above, last_stuck, AreHandedOver}
 use Rattle.plan_claims.specs.Notes.{IsCrossing, IsSeriesNote, IsNote, cut_at, unnamed}
 use Rattle.plan_claims.specs.Wants.{Shows, ShowsIf, AreHanded, claim_if, claim_of_wanted}
-use Rattle.cut_laws.specs.Tops.{MeetsAtLeast}
+use Rattle.cut_laws.specs.Tops.{MeetsAtLeast, BothRise}
 use Rattle.plan_claims.proofs.Crossed.{first_over, second_over, is_first, is_second}
 
 module _ (a : Term) (v : Task) (b : Term) (d : Direction) (near : Cut) (w : Wanted) (p q : Option Wanted) (cp cq : Option Claim)
@@ -50,6 +50,9 @@ module _ (laws : LawsBelow) where
   pub meets : (t : Term) → IsAllowed t → MeetsAtLeast (cut_at t)
   meets t h = let s = laws.stands t (unnamed t) h in record { front = s.front_net; back = s.back_net }
 
+  pub rises : (t : Term) → IsAllowed t → BothRise (cut_at t)
+  rises t h = let s = laws.stands t (unnamed t) h in record { front = s.front_rises; back = s.back_rises }
+
   module _ (a : Term) (v : Task) (b : Term) (allowed : IsAllowed (series a v b)) (n : SeriesNote) (w : Wanted) where
     ends_before : (cut_at a).fin ≤ hill_of a v b
     ends_before = let s = laws.stands a (unnamed a) allowed.2 in let e = s.final in omega arith
@@ -63,7 +66,7 @@ module _ (laws : LawsBelow) where
     handed_forward p q is f (inl (le, dir, x)) s = no_dir (sym is ∙ dir)
     handed_forward p q is f (inr (lt, dir, x)) s =
         let h = f forward (cut_at a) (cut_at b) (cut_second (cut_at a) 0 (hill_of a v b) (cut_at b)) (hill_of a v b) x (ap direction_of dir)
-        (second_over laws (cut_at a) (cut_at b) 0 (hill_of a v b) (meets a allowed.2) (meets b allowed.3) ends_before starts_before lt)
+        (second_over laws (cut_at a) (cut_at b) 0 (hill_of a v b) (meets a allowed.2) (meets b allowed.3) ends_before starts_before (rises a allowed.2) lt)
         (subst (λ (c : Cut). Shows c w) (is_second (cut_at a) 0 (hill_of a v b) (cut_at b) lt) s) in
         record {
           all = (h.near_shows, (h.far_shows, tt));
@@ -76,7 +79,7 @@ module _ (laws : LawsBelow) where
     handed_backward p q is f (inr (lt, dir, x)) s = no_dir (sym dir ∙ is)
     handed_backward p q is f (inl (le, dir, x)) s =
         let h = f backward (cut_at b) (cut_at a) (cut_first (cut_at a) 0 (hill_of a v b) (cut_at b)) (hill_of a v b) x (ap direction_of dir)
-        (first_over laws (cut_at a) (cut_at b) 0 (hill_of a v b) (meets a allowed.2) (meets b allowed.3) ends_before starts_before le)
+        (first_over laws (cut_at a) (cut_at b) 0 (hill_of a v b) (meets a allowed.2) (meets b allowed.3) ends_before starts_before (rises b allowed.3) le)
         (subst (λ (c : Cut). Shows c w) (is_first (cut_at a) 0 (hill_of a v b) (cut_at b) le) s) in
         record {
           all = (h.far_shows, (h.near_shows, tt));

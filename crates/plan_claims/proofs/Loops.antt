@@ -1,9 +1,10 @@
 -- Loops over segments and over parts, from what is left of them.
-use Rattle.std.proofs.Common.{◌≡◌, ℕ, ◌+◌, ◌-◌, ◌<◌, ◌≤◌, sym, ap, arith, ◌∙◌, List, [], ◌∷◌, ◌++◌, drop, length, get_or, append_assoc, append-nil, Option, None}
+use Rattle.std.proofs.Common.{◌≡◌, ℕ, suc, ◌+◌, ◌-◌, ◌<◌, ◌≤◌, sym, ap, arith, ◌∙◌, List, [], ◌∷◌, ◌++◌, drop, length, get_or, append_assoc, append-nil, Option, Some, None}
 use Rattle.std.proofs.lemmas.Bool.Decides.{nat_tests}
 use Rattle.std.proofs.lemmas.List.{at_drop_more, at_drop_all}
 use Rattle.std.specs.Prelude.{if◌then◌else◌}
-use Rattle.side_laws.specs.Segments.{lowest}
+use Rattle.std.specs.List.{slice_get}
+use Rattle.side_laws.specs.Segments.{lowest, last_up}
 use Rattle.hill_valley.specs.declared.side.Seg.{Seg}
 use Rattle.hill_valley.specs.Side.{profile}
 use Rattle.sp_terms.specs.Term.{Direction}
@@ -12,6 +13,15 @@ use Rattle.plan_claims.specs.declared.notes.PartNote.{PartNote}
 use Rattle.plan_claims.specs.declared.notes.Wanted.{Wanted}
 use Rattle.plan_claims.specs.Levels.{level_below, noted_level, left_over, wanted_at, wanted_each}
 use Rattle.plan_claims.specs.Wants.{none_each}
+
+-- the last segment
+pub last_is : (ss : List Seg) (s : Seg) → Some s ≡ slice_get ss (length ss - 1) → s.up ≡ last_up (profile ss)
+last_is [] s h = absurd (cc)
+last_is (t ∷ []) s h = ap (λ (x : Seg). x.up) (same (h ∙ ap (slice_get (t ∷ [])) (let z : length (t ∷ []) - 1 ≡ 0 = omega arith in z)))
+  where
+    same : {x y : Seg} → Some x ≡ Some y → x ≡ y
+    same e = cc
+last_is (t ∷ u ∷ ss) s h = last_is (u ∷ ss) s (h ∙ ap (slice_get (t ∷ u ∷ ss)) (let z : length (t ∷ u ∷ ss) - 1 ≡ suc (length (u ∷ ss) - 1) = omega arith in z))
 
 module _ (segs : List Seg) (i : ℕ) (d : Seg) where
   -- ---- the lowest level

@@ -1,21 +1,20 @@
 -- What is wanted of the near part of a series and of the far one.
-use Rattle.std.proofs.Common.{◌≡◌, ℕ, ◌+◌, ◌<◌, ◌≤◌, inl, inr, max, min, refl, sym, subst, ap, arith, ◌∙◌, Some, None}
+use Rattle.std.proofs.Common.{◌≡◌, ℕ, ◌+◌, ◌-◌, ◌<◌, ◌≤◌, inl, inr, max, min, refl, sym, subst, ap, arith, ◌∙◌, Some, None}
 use Rattle.std.specs.Prelude.{if◌then◌else◌, nat_lt}
 use Rattle.std.proofs.lemmas.Bool.Decides.{nat_tests}
-use Rattle.side_laws.specs.Segments.{lowest}
+use Rattle.side_laws.specs.Segments.{lowest, last_up}
 use Rattle.hill_valley.specs.Side.{profile, run_profile}
 use Rattle.sp_terms.specs.Term.{Direction}
 use Rattle.sp_term_laws.specs.Moves.{other}
-use Rattle.plan_text.specs.declared.claim.Dir.{Dir}
 use Rattle.plan_text.specs.Plan.{direction_of}
 use Rattle.cut_laws.specs.Cuts.{Cut, top_of, lowest_of, side_of}
 use Rattle.plan_claims.specs.declared.notes.SeriesNote.{SeriesNote}
 use Rattle.plan_claims.specs.declared.notes.Wanted.{Wanted}
 use Rattle.plan_claims.specs.Below.{LawsBelow}
-use Rattle.plan_claims.specs.Crossings.{LeadsOver, far_stuck, near_stuck, near_closed, hill_above, last_stuck, AreHandedOver}
-use Rattle.plan_claims.specs.Notes.{IsCrossing}
+use Rattle.plan_claims.specs.Crossings.{LeadsOver, far_stuck, near_stuck, near_closed, hill_above, last_stuck, turned_low, IsTurned, AreHandedOver}
+use Rattle.plan_claims.specs.Notes.{IsCrossing, up_of}
 use Rattle.plan_claims.specs.Wants.{Shows}
-use Rattle.plan_claims.proofs.Sides.{lowest_of_first, lt_or_le}
+use Rattle.plan_claims.proofs.Sides.{lowest_of_first, all_of_first, lt_or_le}
 
 stuck : (limit m l a b z : ℕ) → z ≡ (if nat_lt (max m l) limit then a else b) → limit ≤ max m l → z ≡ b
 stuck limit m l a b z e h = grind (arith, nat_tests)
@@ -52,12 +51,34 @@ module _ (laws : LawsBelow) (d : Direction) (near far whole : Cut) (hill : ℕ) 
     low : w.low ≡ (if nat_lt (max (top_of d near) (max (top_of (other d) near) hill)) w.limit then min near.least (lowest_of d w.limit far) else lowest_of d w.limit near)
     low = subst (λ (c : Direction). w.low ≡ lowest_of c w.limit whole) e s.lowest ∙ o.low_is w.limit
 
-    pub handed_near : w.limit ≤ n.near_top → AreHandedOver d near far hill w (Some w) None
+    -- the near part's side does not pass exactly where it goes up last by as much as the limit is above where the whole is stuck: the
+    -- whole is stuck there with it, or is past it and lower
+    low_near : w.low ≤ lowest_of d w.limit near
+    low_near = elim (lt_or_le (max (top_of d near) (max (top_of (other d) near) hill)) w.limit) [
+      | inl lt ↦
+          let y = over w.limit (top_of d near) (max (top_of (other d) near) hill) (min near.least (lowest_of d w.limit far)) (lowest_of d w.limit near) w.low low lt in
+          omega (arith, o.near_low w.limit (omega arith))
+      | inr le ↦ omega (arith, stuck w.limit (top_of d near) (max (top_of (other d) near) hill) (min near.least (lowest_of d w.limit far)) (lowest_of d w.limit near) w.low low le)
+    ]
+
+    near_stops : w.limit - w.low ≤ n.near_up → w.limit ≤ top_of d near
+    near_stops h = let u = x.near_up in let l = low_near in (o.near_stuck w.limit).1 (omega arith)
+
+    near_passes : n.near_up < w.limit - w.low → top_of d near < w.limit
+    near_passes h = elim (lt_or_le (top_of d near) w.limit) [
+      | inl lt ↦ lt
+      | inr le ↦
+          let u = x.near_up in
+          let y = stuck w.limit (top_of d near) (max (top_of (other d) near) hill) (min near.least (lowest_of d w.limit far)) (lowest_of d w.limit near) w.low low (omega arith) in
+          absurd (omega (arith, (o.near_stuck w.limit).0 le))
+    ]
+
+    pub handed_near : w.limit - w.low ≤ n.near_up → AreHandedOver d near far hill w (Some w) None
     handed_near h =
-        let t = x.near_top in
+        let t = near_stops h in
         record {
           near_shows = record {
-            below = subst (λ (c : Direction). w.limit ≤ top_of c near) (sym e) (omega arith);
+            below = subst (λ (c : Direction). w.limit ≤ top_of c near) (sym e) t;
             lowest = subst (λ (c : Direction). w.low ≡ lowest_of c w.limit near) (sym e)
                 (stuck w.limit (top_of d near) (max (top_of (other d) near) hill) (min near.least (lowest_of d w.limit far)) (lowest_of d w.limit near) w.low low (omega arith));
           };
@@ -65,9 +86,9 @@ module _ (laws : LawsBelow) (d : Direction) (near far whole : Cut) (hill : ℕ) 
           obstacle = near_stuck e refl refl;
         }
 
-    module _ (past : n.near_top < w.limit) where
+    module _ (past : n.near_up < w.limit - w.low) where
       past_near : top_of d near < w.limit
-      past_near = let t = x.near_top in omega arith
+      past_near = near_passes past
 
       -- what stops the way behind the near part's side
       low_least : w.limit ≤ max (top_of (other d) near) hill → w.low ≤ near.least
@@ -75,21 +96,36 @@ module _ (laws : LawsBelow) (d : Direction) (near far whole : Cut) (hill : ℕ) 
           let y = stuck w.limit (top_of d near) (max (top_of (other d) near) hill) (min near.least (lowest_of d w.limit far)) (lowest_of d w.limit near) w.low low (omega arith) in
           omega (arith, y, o.near_low w.limit past_near)
 
-      pub handed_closed : w.limit ≤ n.between_top → (dir : Dir) → direction_of dir ≡ other (direction_of w.dir) → (l : ℕ) → l ≡ lowest w.limit n.between_start (profile n.between.items)
-          → AreHandedOver d near far hill w (Some (record { dir = dir; limit = w.limit; low = l })) None
-      handed_closed h dir t l is =
-          let t' : direction_of dir ≡ other d = t ∙ ap other e in
-          let top = x.between_top in
-          let y : lowest w.limit n.between_start (profile n.between.items) ≡ lowest w.limit n.between_start (run_profile (side_of (other d) near)) =
-          lowest_of_first laws (run_profile (side_of (other d) near)) (profile n.between.items) n.between_start 0 w.limit x.between (omega arith) in
+      -- the near part's other side, which was read to its end
+      turned_is : turned_low n w ≡ lowest_of (other d) w.limit near
+      turned_is =
+          lowest_of_first laws (run_profile (side_of (other d) near)) (profile n.between.items) n.between_start 0 w.limit x.between (omega arith)
+          ∙ ap (λ (m : ℕ). lowest w.limit m (run_profile (side_of (other d) near))) x.between_start
+
+      turned_up : last_up (profile n.between.items) ≡ up_of (other d) near
+      turned_up = ap last_up (all_of_first (run_profile (side_of (other d) near)) (profile n.between.items) n.between_start x.between)
+
+      turned_stops : w.limit - turned_low n w ≤ last_up (profile n.between.items) → w.limit ≤ top_of (other d) near
+      turned_stops h = let l = turned_is in let u = turned_up in (o.turned_stuck w.limit).1 (omega arith)
+
+      turned_passes : last_up (profile n.between.items) < w.limit - turned_low n w → top_of (other d) near < w.limit
+      turned_passes h = elim (lt_or_le (top_of (other d) near) w.limit) [
+        | inl lt ↦ lt
+        | inr le ↦ let l = turned_is in let u = turned_up in absurd (omega (arith, (o.turned_stuck w.limit).0 le))
+      ]
+
+      pub handed_closed : (v : Wanted) → IsTurned n w (Some v) → AreHandedOver d near far hill w (Some v) None
+      handed_closed v t =
+          let turned : direction_of v.dir ≡ other d = t.1 ∙ ap other e in
+          let stops = turned_stops t.0 in
           record {
             near_shows = record {
-              below = subst (λ (c : Direction). w.limit ≤ top_of c near) (sym t') (omega arith);
-              lowest = subst (λ (c : Direction). l ≡ lowest_of c w.limit near) (sym t')
-                  (is ∙ y ∙ ap (λ (m : ℕ). lowest w.limit m (run_profile (side_of (other d) near))) x.between_start);
+              below = subst (λ (c : Direction). v.limit ≤ top_of c near) (sym turned) (omega (arith, t.2));
+              lowest = subst (λ (c : Direction). v.low ≡ lowest_of c v.limit near) (sym turned)
+                  (t.3 ∙ turned_is ∙ ap (λ (m : ℕ). lowest_of (other d) m near) (sym t.2));
             };
             far_shows = tt;
-            obstacle = near_closed e (low_least (omega arith)) (record { dir = dir; limit = w.limit; low = l }) refl refl t' refl;
+            obstacle = near_closed e (low_least (omega arith)) v refl refl turned t.2;
           }
 
       pub handed_hill : w.limit ≤ n.hill → AreHandedOver d near far hill w None None
@@ -97,10 +133,10 @@ module _ (laws : LawsBelow) (d : Direction) (near far whole : Cut) (hill : ℕ) 
           let t = x.hill_is in
           record { near_shows = tt; far_shows = tt; obstacle = hill_above e (low_least (omega arith)) refl refl (omega arith) }
 
-      pub handed_last : n.between_top < w.limit → n.hill < w.limit → (l : ℕ) → l ≡ (if nat_lt w.low n.least then w.low else lowest w.limit n.far_start (profile n.far.items))
+      pub handed_last : IsTurned n w None → n.hill < w.limit → (l : ℕ) → l ≡ (if nat_lt w.low n.least then w.low else lowest w.limit n.far_start (profile n.far.items))
           → AreHandedOver d near far hill w None (Some (record { dir = w.dir; limit = w.limit; low = l }))
       handed_last h h' l is =
-          let t = x.between_top in
+          let t = turned_passes h in
           let u = x.hill_is in
           let top = o.top_is in
           let pn = past_near in

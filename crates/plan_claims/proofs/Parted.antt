@@ -24,8 +24,8 @@ use Rattle.plan_claims.specs.declared.notes.Note.TheVariants.{Par}
 use Rattle.plan_claims.specs.declared.notes.PartNote.{PartNote}
 use Rattle.plan_claims.specs.declared.notes.Wanted.{Wanted}
 use Rattle.plan_claims.specs.Below.{LawsBelow}
-use Rattle.plan_claims.specs.Levels.{level_below, noted_start, noted_side, noted_top, noted_level, left_over, wanted_at, wanted_each}
-use Rattle.plan_claims.specs.Notes.{IsNote, IsPartNote, ArePartNotes, unread, cut_at, unnamed, unnamed_parts}
+use Rattle.plan_claims.specs.Levels.{level_below, noted_start, noted_side, noted_up, noted_level, left_over, wanted_at, wanted_each}
+use Rattle.plan_claims.specs.Notes.{IsNote, IsPartNote, ArePartNotes, unread, cut_at, up_of, unnamed, unnamed_parts}
 use Rattle.plan_claims.specs.Wants.{Shows, ShowsIf, AllShow, AreHanded, claim_if, none_each}
 use Rattle.plan_claims.proofs.Sides.{lt_or_le, lowest_end, taken_below}
 
@@ -93,9 +93,9 @@ noted_start_is : (d : Direction) (c : Cut) (n : PartNote) → IsPartNote c n →
 noted_start_is forward c n h = h.initial_is
 noted_start_is backward c n h = h.fin_is
 
-noted_top_is : (d : Direction) (c : Cut) (n : PartNote) → IsPartNote c n → noted_top d n ≡ top_of d c
-noted_top_is forward c n h = h.front_top
-noted_top_is backward c n h = h.back_top
+noted_up_is : (d : Direction) (c : Cut) (n : PartNote) → IsPartNote c n → noted_up d n ≡ up_of d c
+noted_up_is forward c n h = h.front_up
+noted_up_is backward c n h = h.back_up
 
 noted_side_is : (d : Direction) (c : Cut) (n : PartNote) → IsPartNote c n → n.read ≡ true → profile (noted_side d n) ≡ run_profile (side_of d c)
 noted_side_is forward c n h r = h.front_is r
@@ -179,10 +179,10 @@ module _ (d : Direction) (over : ℕ) where
 
 -- ---- one part at its level
 
-want_yes : (w : Wanted) (n : PartNote) (l : ℕ) → w.limit - (w.low - l) ≤ noted_top (direction_of w.dir) n → wanted_at w n l ≡ Some (record { dir = w.dir; limit = w.limit - (w.low - l); low = l })
+want_yes : (w : Wanted) (n : PartNote) (l : ℕ) → w.limit - w.low ≤ noted_up (direction_of w.dir) n → wanted_at w n l ≡ Some (record { dir = w.dir; limit = w.limit - (w.low - l); low = l })
 want_yes w n l h = grind (arith, nat_tests)
 
-want_none : (w : Wanted) (n : PartNote) (l : ℕ) → noted_top (direction_of w.dir) n < w.limit - (w.low - l) → wanted_at w n l ≡ None
+want_none : (w : Wanted) (n : PartNote) (l : ℕ) → noted_up (direction_of w.dir) n < w.limit - w.low → wanted_at w n l ≡ None
 want_none w n l h = grind (arith, nat_tests)
 
 value_same : (d : Direction) (t : Term) (bound : ℤ) (rest : ℕ) → value_in d t (Some (record { direction = d; bound = bound; rest = rest })) ≡ rest
@@ -201,22 +201,26 @@ less_room limit n = elim (lt_or_le n limit) [
   | inr le ↦ omega (arith, ints)
 ]
 
-module _ (laws : LawsBelow) (w : Wanted) (t : Term) (allowed : IsAllowed t) (n : PartNote) (noted : IsPartNote (cut_at t) n) (l : ℕ)
+module _ (laws : LawsBelow) (w : Wanted) (t : Term) (allowed : IsAllowed t) (n : PartNote) (noted : IsPartNote (cut_at t) n) (l : ℕ) (lower : l ≤ w.low)
     (stuck : lowest (w.limit - (w.low - l)) (start_of (direction_of w.dir) (cut_at t)) (run_profile (side_of (direction_of w.dir) (cut_at t))) ≡ l) where
   pub part_handed : PartHanded w t l (wanted_at w n l)
   part_handed =
       let d : Direction = direction_of w.dir in
       let m : ℕ = w.limit - (w.low - l) in
-      let same = noted_top_is d (cut_at t) n noted in
+      let same = noted_up_is d (cut_at t) n noted in
+      let fits = fit laws d t allowed in
+      let side : List Segment = run_profile (side_of d (cut_at t)) in
+      let law = laws.sides.by_last m (start_of d (cut_at t)) side (rises laws d t allowed) (omega arith) in
+      let up : m - l ≡ w.limit - w.low = omega arith in
       elim (lt_or_le (top_of d (cut_at t)) m) [
-        | inl past ↦ subst (PartHanded w t l) (sym (want_none w n l (omega arith)))
+        | inl past ↦ subst (PartHanded w t l) (sym (want_none w n l (elim (lt_or_le (noted_up d n) (w.limit - w.low)) [ inl less ↦ less | inr as_high ↦ absurd (let b = law.1 (omega (arith, stuck)) in omega arith) ])))
             (record {
               shows = tt;
               value_is = let f = fit laws d t allowed in omega (arith, lowest_end laws m (start_of d (cut_at t)) (run_profile (side_of d (cut_at t))) past, stuck);
               room = tt;
               claimed = λ h ks. absurd (omega arith);
             })
-        | inr stops ↦ subst (PartHanded w t l) (sym (want_yes w n l (omega arith)))
+        | inr stops ↦ subst (PartHanded w t l) (sym (want_yes w n l (let b = law.0 stops in omega (arith, stuck))))
             (record {
               shows = record { below = stops; lowest = sym stuck };
               value_is = value_same d t (pos m -ℤ pos 1) l;
@@ -273,18 +277,18 @@ module _ (laws : LawsBelow) (w : Wanted) where
       ∙ ap (λ (k : ℕ). level_below k (start_of dw c) (run_profile (side_of dw c))) over in
       (λ is_read. noted_level_is dw (w.limit - w.low) c n h.0 is_read ∙ sym e, are_read ts ns ls h.1 s.1 (omega arith))
 
-  each_handed : (rest : ℕ) (ts : Parts) (ns : List PartNote) (ls : List ℕ) → AreAllowed ts → ArePartNotes (cuts ts) ns → AreStuck ts ls → AreFilled dw (w.limit - w.low) rest ns ls
+  each_handed : (rest : ℕ) (ts : Parts) (ns : List PartNote) (ls : List ℕ) → AreAllowed ts → ArePartNotes (cuts ts) ns → AreStuck ts ls → AreFilled dw (w.limit - w.low) rest ns ls → level_sum ls ≤ w.low
       → PartsHanded w ts ls (wanted_each w (w.limit - w.low) rest ns)
   unfolding AreFilled AreStuck
-  each_handed rest no_parts [] [] a h s f = record { all = tt; values_are = refl; room = tt; claimed = λ r. absurd r }
-  each_handed rest no_parts [] (l ∷ ls) a h s f = absurd s
-  each_handed rest no_parts (n ∷ ns) ls a h s f = absurd h
-  each_handed rest (part t ts) [] ls a h s f = absurd h
-  each_handed rest (part t ts) (n ∷ ns) [] a h s f = absurd s
-  each_handed rest (part t ts) (n ∷ ns) (l ∷ ls) a h s f =
+  each_handed rest no_parts [] [] a h s f le = record { all = tt; values_are = refl; room = tt; claimed = λ r. absurd r }
+  each_handed rest no_parts [] (l ∷ ls) a h s f le = absurd s
+  each_handed rest no_parts (n ∷ ns) ls a h s f le = absurd h
+  each_handed rest (part t ts) [] ls a h s f le = absurd h
+  each_handed rest (part t ts) (n ∷ ns) [] a h s f le = absurd s
+  each_handed rest (part t ts) (n ∷ ns) (l ∷ ls) a h s f le =
       let v : Option Wanted = wanted_at w n (level_or dw (w.limit - w.low) rest n) in
-      let one : PartHanded w t l v = subst (λ (k : ℕ). PartHanded w t l (wanted_at w n k)) (sym f.0) (part_handed laws w t a.0 n h.0 l s.0) in
-      let r : PartsHanded w ts ls (wanted_each w (w.limit - w.low) rest ns) = each_handed rest ts ns ls a.1 h.1 s.1 f.1 in
+      let one : PartHanded w t l v = subst (λ (k : ℕ). PartHanded w t l (wanted_at w n k)) (sym f.0) (part_handed laws w t a.0 n h.0 l (omega arith) s.0) in
+      let r : PartsHanded w ts ls (wanted_each w (w.limit - w.low) rest ns) = each_handed rest ts ns ls a.1 h.1 s.1 f.1 (omega arith) in
       record {
         all = (one.shows, r.all);
         values_are = omega (arith, one.value_is, r.values_are);
@@ -331,7 +335,7 @@ module _ (laws : LawsBelow) (w : Wanted) where
       let read : AreRead dw over ns ls = are_read ts ns ls noted stuck (omega arith) in
       let rest : ℕ = left_over dw over w.low ns in
       let rest_is : rest ≡ unread_sum ns ls = ap (λ (k : ℕ). left_over dw over k ns) (let e : w.low ≡ 0 + level_sum ls = omega arith in e) ∙ left_is dw over 0 ns ls read ∙ omega arith in
-      let h : PartsHanded w ts ls (wanted_each w over rest ns) = each_handed rest ts ns ls allowed.1 noted stuck (one_unread dw over rest ns ls read one rest_is) in
+      let h : PartsHanded w ts ls (wanted_each w over rest ns) = each_handed rest ts ns ls allowed.1 noted stuck (one_unread dw over rest ns ls read one rest_is) (omega arith) in
       let reach : SomeReaches dw w.limit w.low cs ls = elim (lt_or_le start w.limit) [
         | inl lt ↦ subst (λ (n : ℕ). SomeReaches dw w.limit n cs ls) (sym total) (laws.some dw w.limit cs ls x.1 whole.below lt)
         | inr le ↦ first_reaches ts ls (omega (arith, allowed.0)) stuck (sym total) (omega (arith, low, lowest_start w.limit start all le))

@@ -9,7 +9,7 @@ use Rattle.plan_claims.specs.Below.{LawsBelow}
 use Rattle.plan_claims.specs.Notes.{cut_at, unnamed}
 use Rattle.sp_cuts.specs.Stacks.{total_of, total_of_parts}
 use Rattle.plan_claims.proofs.Crossed.{first_over, second_over, is_first, is_second}
-use Rattle.plan_claims.proofs.Handed.{meets}
+use Rattle.plan_claims.proofs.Handed.{meets, rises}
 use Rattle.plan_claims.proofs.Parted.{cuts_same, all_rise, all_start}
 use Rattle.plan_claims.proofs.Sides.{lt_or_le}
 
@@ -45,13 +45,13 @@ module _ (laws : LawsBelow) where
     series_small : Small (series a v b)
     series_small = elim (lt_or_le (cut_at b).least (cut_at a).least) [
       | inl lt ↦
-          let o = second_over laws (cut_at a) (cut_at b) 0 (hill_of a v b) (meets laws a allowed.2) (meets laws b allowed.3) after before lt in
+          let o = second_over laws (cut_at a) (cut_at b) 0 (hill_of a v b) (meets laws a allowed.2) (meets laws b allowed.3) after before (rises laws a allowed.2) lt in
           let e = is_second (cut_at a) 0 (hill_of a v b) (cut_at b) lt in
           let fa = sa.front in let ba = sa.back in let fb = sb.front in let bb = sb.back in
           let h = hill_within in let t = o.top_is in let u = o.far_top in
           record { front = omega (arith, ap (top_of forward) e); back = omega (arith, ap (top_of backward) e) }
       | inr le ↦
-          let o = first_over laws (cut_at a) (cut_at b) 0 (hill_of a v b) (meets laws a allowed.2) (meets laws b allowed.3) after before le in
+          let o = first_over laws (cut_at a) (cut_at b) 0 (hill_of a v b) (meets laws a allowed.2) (meets laws b allowed.3) after before (rises laws b allowed.3) le in
           let e = is_first (cut_at a) 0 (hill_of a v b) (cut_at b) le in
           let fa = sa.front in let ba = sa.back in let fb = sb.front in let bb = sb.back in
           let h = hill_within in let t = o.top_is in let u = o.far_top in

@@ -1,5 +1,5 @@
 -- The lowest level of a side: from its first segments, and from how far the limit is above it.
-use Rattle.std.proofs.Common.{◌≡◌, ℕ, suc, ◌+◌, ◌-◌, ◌<◌, ◌≤◌, ◌⊎◌, inl, inr, refl, sym, subst, ap, arith, ◌∙◌, List, [], ◌∷◌, ◌++◌}
+use Rattle.std.proofs.Common.{◌≡◌, ℕ, suc, ◌+◌, ◌-◌, ◌<◌, ◌≤◌, ◌⊎◌, inl, inr, refl, sym, subst, ap, arith, ◌∙◌, List, [], ◌∷◌, ◌++◌, append-nil}
 use Rattle.std.proofs.lemmas.Bool.Decides.{nat_tests}
 use Rattle.side_laws.specs.Segments.{Segment, net_sum, lowest, top}
 use Rattle.plan_claims.specs.Below.{LawsBelow}
@@ -20,6 +20,14 @@ take over level s ss h = grind (arith, nat_tests)
 
 leave : (over level : ℕ) (s : Segment) (ss : List Segment) → over ≤ s.up → level_below over level (s ∷ ss) ≡ level
 leave over level s ss h = grind (arith, nat_tests)
+
+-- the first segments down to nothing are all there are
+pub all_of_first : (side first : List Segment) (level : ℕ) → AreFirst side first level 0 → first ≡ side
+all_of_first side first level h = sym (h.whole ∙ ended h.ends)
+  where
+    ended : (h.rest ≡ []) ⊎ (level - net_sum first < 0) → first ++ h.rest ≡ first
+    ended (inl none) = ap (λ (l : List Segment). first ++ l) none ∙ append-nil first
+    ended (inr lt) = absurd (omega arith)
 
 module _ (laws : LawsBelow) where
   below_start : (limit level : ℕ) (ss : List Segment) → lowest limit level ss ≤ level

@@ -13,7 +13,7 @@ use Rattle.cut_laws.specs.Names.{Names, names_of}
 use Rattle.cut_laws.specs.Standing.{StandsFor}
 use Rattle.cut_laws.specs.TermCuts.{cut_of_term}
 use Rattle.cut_laws.specs.Tops.{SomeReaches, tops}
-use Rattle.sp_cuts.specs.Laws.{PartsStay, AllPartsStay, NumbersWithinPeak}
+use Rattle.sp_cuts.specs.Laws.{RoughPartsStay, AllRoughPartsStay}
 
 pub record LawsBelow : Type 0 where
   -- terms
@@ -25,8 +25,7 @@ pub record LawsBelow : Type 0 where
   pub together : (d : Direction) (cs : List Cut) → AllRising (sides d cs) → AllStart (starts d cs) (sides d cs)
       → top_of d (par_cut cs) ≤ tops d cs
   -- parts
-  pub part_stays : PartsStay
-  pub parts_stay : AllPartsStay
-  pub within_peak : NumbersWithinPeak
+  pub part_stays : RoughPartsStay
+  pub parts_stay : AllRoughPartsStay
   -- sides and ropes; last, since the laws above speak of the sides of cuts
   pub sides : SideLaws

@@ -1,11 +1,15 @@
 -- No public clause names this.
 -- What a series' side that goes over its task does, in numbers, and what is wanted of the parts.
-use Rattle.std.specs.Prelude.{◌≡◌, ℕ, ◌<◌, ◌≤◌, max, min, if◌then◌else◌, nat_lt, Option, Some, None}
+use Rattle.std.specs.Prelude.{◌≡◌, ℕ, ◌-◌, ◌<◌, ◌≤◌, ◌↔◌, max, min, if◌then◌else◌, nat_lt, MatchOption, Option, Some, None}
 use Rattle.sp_terms.specs.Term.{Direction}
 use Rattle.sp_term_laws.specs.Moves.{other}
 use Rattle.plan_text.specs.Plan.{direction_of}
+use Rattle.side_laws.specs.Segments.{lowest, last_up}
+use Rattle.hill_valley.specs.Side.{profile}
 use Rattle.cut_laws.specs.Cuts.{Cut, top_of, lowest_of}
 use Rattle.plan_claims.specs.declared.notes.Wanted.{Wanted}
+use Rattle.plan_claims.specs.declared.notes.SeriesNote.{SeriesNote}
+use Rattle.plan_claims.specs.Notes.{up_of}
 use Rattle.plan_claims.specs.Wants.{ShowsIf}
 
 -- in direction d the whole goes over the near part and the hill, and on along the far part; in the other one it is the far part
@@ -17,6 +21,9 @@ pub record LeadsOver (d : Direction) (near far whole : Cut) (hill : ℕ) : Type 
       ≡ (if nat_lt (max (top_of d near) (max (top_of (other d) near) hill)) limit then min near.least (lowest_of d limit far)
       else lowest_of d limit near)
   pub near_low : (limit : ℕ) → top_of d near < limit → lowest_of d limit near ≡ near.least
+  -- whether the near part's sides pass, from how high they go last
+  pub near_stuck : (limit : ℕ) → (limit ≤ top_of d near) ↔ (limit - lowest_of d limit near ≤ up_of d near)
+  pub turned_stuck : (limit : ℕ) → (limit ≤ top_of (other d) near) ↔ (limit - lowest_of (other d) limit near ≤ up_of (other d) near)
 
 -- the first thing on the way that does not pass below the limit
 pub data IsObstacle (d : Direction) (near : Cut) (hill : ℕ) (w : Wanted) (p q : Option Wanted) : Type 0 where
@@ -27,6 +34,17 @@ pub data IsObstacle (d : Direction) (near : Cut) (hill : ℕ) (w : Wanted) (p q 
   hill_above : direction_of w.dir ≡ d → w.low ≤ near.least → p ≡ None → q ≡ None → w.limit ≤ hill → IsObstacle d near hill w p q
   last_stuck : direction_of w.dir ≡ d → w.low ≤ near.least → (v : Wanted) → p ≡ None → q ≡ Some v → direction_of v.dir ≡ d
       → v.limit ≡ w.limit → w.low ≤ v.low → IsObstacle d near hill w p q
+
+-- where the near part's other side is stuck below the limit
+abbrev pub turned_low : SeriesNote → Wanted → ℕ
+turned_low n w = lowest w.limit n.between_start (profile n.between.items)
+
+-- what is wanted of the near part in the other direction: that side at the same limit, if it does not pass
+abbrev pub IsTurned : SeriesNote → Wanted → Option Wanted → Type 0
+IsTurned n w v =
+    MatchOption v (last_up (profile n.between.items) < w.limit - turned_low n w)
+    (λ x. (w.limit - turned_low n w ≤ last_up (profile n.between.items)) × (direction_of x.dir ≡ other (direction_of w.dir))
+    × (x.limit ≡ w.limit) × (x.low ≡ turned_low n w))
 
 -- what is wanted of the near part and of the far one
 pub record AreHandedOver (d : Direction) (near far : Cut) (hill : ℕ) (w : Wanted) (p q : Option Wanted) : Type 0 where

@@ -22,9 +22,9 @@ abbrev pub noted_side : Direction → PartNote → List Seg
 noted_side forward n = n.front.items
 noted_side backward n = n.back.items
 
-abbrev pub noted_top : Direction → PartNote → ℕ
-noted_top forward n = n.front_top
-noted_top backward n = n.back_top
+abbrev pub noted_up : Direction → PartNote → ℕ
+noted_up forward n = n.front_up
+noted_up backward n = n.back_up
 
 -- the level of a part that was read, where the whole is stuck at `over` below the limit
 abbrev pub noted_level : Direction → ℕ → PartNote → ℕ
@@ -35,10 +35,11 @@ abbrev pub left_over : Direction → ℕ → ℕ → List PartNote → ℕ
 left_over d over total [] = total
 left_over d over total (n ∷ ns) = left_over d over (total - (if n.read then noted_level d over n else 0)) ns
 
--- what is wanted of a part at a level: below a limit of its own that it does not pass
+-- what is wanted of a part at a level: below a limit of its own, which is as far above the level as the whole's limit is above where the
+-- whole is stuck. The part does not pass below it where its side goes up by as much
 abbrev pub wanted_at : Wanted → PartNote → ℕ → Option Wanted
 wanted_at w n level =
-    if nat_le (w.limit - (w.low - level)) (noted_top (direction_of w.dir) n)
+    if nat_le (w.limit - w.low) (noted_up (direction_of w.dir) n)
     then Some (record { dir = w.dir; limit = w.limit - (w.low - level); low = level })
     else None
 

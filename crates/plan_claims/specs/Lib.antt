@@ -2,7 +2,6 @@ pub mod Below
 pub mod Notes
 pub mod Wants
 pub mod Rows
-pub mod Entries
 pub mod Noted
 pub mod Levels
 pub mod Crossings

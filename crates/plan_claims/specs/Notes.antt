@@ -1,14 +1,15 @@
 -- No public clause names this.
--- What is noted of a position: the peaks and levels of the cuts of its term's parts, and as much of their sides as claims may ask for.
+-- What is noted of a position: the levels of the cuts of its term's parts, how high their sides go last, and as much of their sides as
+-- claims may ask for.
 use Rattle.std.specs.Prelude.{◌≡◌, ℕ, ◌+◌, ◌-◌, ◌<◌, ◌≤◌, true, if◌then◌else◌, List, [], ◌∷◌, ◌++◌, map, ◌⊎◌, ⊤}
 use Rattle.std.specs.List.{AllZip}
-use Rattle.side_laws.specs.Segments.{Segment, net_sum}
+use Rattle.side_laws.specs.Segments.{Segment, net_sum, last_up}
 use Rattle.hill_valley.specs.Side.{profile, run_profile}
 use Rattle.sp_terms.specs.Term.{Term, hold, series, par, Parts, no_parts, part, Direction, forward, backward, hill_of}
 use Rattle.sp_terms.specs.Places.{list_of_parts}
 use Rattle.sp_term_laws.specs.Moves.{other}
 use Rattle.plan_text.specs.declared.claim.Dir.TheVariants.{F, R}
-use Rattle.cut_laws.specs.Cuts.{Cut, front_peak, back_peak, side_of, start_of, top_of}
+use Rattle.cut_laws.specs.Cuts.{Cut, side_of, start_of}
 use Rattle.cut_laws.specs.Names.{Names, NamesOfParts}
 use Rattle.cut_laws.specs.TermCuts.{cut_of_term}
 use Rattle.plan_claims.specs.declared.notes.Note.{Note}
@@ -31,6 +32,10 @@ abbrev mutual
 abbrev pub cut_at : Term → Cut
 cut_at t = cut_of_term t (unnamed t)
 
+-- how high the last run of a side goes
+abbrev pub up_of : Direction → Cut → ℕ
+up_of d c = last_up (run_profile (side_of d c))
+
 -- ---- a side that was read
 
 -- these are the first segments of a side, and the level after them is below `stop`, or they are all there are
@@ -43,8 +48,7 @@ pub record AreFirst (side first : List Segment) (level stop : ℕ) : Type 0 wher
 
 -- the side in direction d goes over the near part's other side, the hill, and on along the far part's side
 pub record IsCrossing (d : Direction) (near far : Cut) (hill : ℕ) (n : SeriesNote) : Type 0 where
-  pub near_top : n.near_top ≡ top_of d near
-  pub between_top : n.between_top ≡ top_of (other d) near
+  pub near_up : n.near_up ≡ up_of d near
   pub hill_is : n.hill ≡ hill
   pub least_is : n.least ≡ near.least
   pub between_start : n.between_start ≡ start_of (other d) near
@@ -63,8 +67,8 @@ IsSeriesNote a b hill n =
 pub record IsPartNote (c : Cut) (n : PartNote) : Type 0 where
   pub initial_is : n.initial ≡ c.initial
   pub fin_is : n.fin ≡ c.fin
-  pub front_top : n.front_top ≡ front_peak c
-  pub back_top : n.back_top ≡ back_peak c
+  pub front_up : n.front_up ≡ up_of forward c
+  pub back_up : n.back_up ≡ up_of backward c
   pub front_is : n.read ≡ true → profile n.front.items ≡ run_profile c.front
   pub back_is : n.read ≡ true → profile n.back.items ≡ run_profile c.back
 

@@ -9,21 +9,22 @@ ghost use Rattle.claim_rules.specs.Claims.{Claim as RuleClaim};
 ghost use Rattle.plan_text.specs.Plan.{claim_at, IsClaimWithin, RiseFrom};
 ghost use Rattle.claim_check.specs.Judged.{PassesAt};
 ghost use Rattle.plan_claims.specs.declared.notes.Wanted.{Wanted};
-ghost use Rattle.plan_claims.specs.Entries.{IsEntry};
 ghost use Rattle.plan_claims.specs.Notes.{cut_at};
 ghost use Rattle.plan_claims.specs.Noted.{AreNotesOf};
 ghost use Rattle.plan_claims.specs.Wants.{Shows};
+ghost use Rattle.cut_laws.specs.Cuts.{front_peak, back_peak};
 ghost use Rattle.sp_cuts.specs.Parts.{cut_of};
+ghost use Rattle.sp_cuts.specs.Splits.{IsRough};
 ghost use Rattle.plan_claims.specs.Walks.{AreClaimsOf, IsLeft, IsRight, claims_put};
 
 use crate::NoMemory;
-use crate::entries::Entry;
 use crate::handing::hand_down;
 use crate::laws::below;
 use crate::notes::{Note, Wanted};
 use crate::noting::note_terms;
+use hill_valley::Ropes;
 use plan_text::{Claim, Dir};
-use sp_cuts::Plan;
+use sp_cuts::{Part, Plan};
 use sp_terms::Terms;
 use std::alloc::Global;
 use std::sync::ledger::Ledger;
@@ -33,8 +34,8 @@ use step_count::Steps;
 /// its rule over the claims of its parts, and one on the whole term whose bound is just below the peak. They turn the exchange
 /// argument of Liu 1987 (An application of generalized tree pebbling to sparse matrix factorization) into a certificate: no way
 /// within the bound of a claim leads to the end of its term. The plan's peak is least, as that of [`sp_cuts::plan_terms`] is.
-/// Bounds are from -1 to 2^60 - 1. Near linear in the positions and the segments that are joined or moved; each parallel
-/// composition also takes the time of its segments. The segments that are moved from one side into another are counted as steps.
+/// Bounds are from -1 to 2^60 - 1. Near linear in the positions and the segments that are joined or moved. The segments that are moved
+/// from one side into another are counted as steps.
 pub fn claims_of<L: Ledger>(
     alloc: Global,
     terms: &Terms,
@@ -54,24 +55,23 @@ pub fn claims_of<L: Ledger>(
     below();
     let _positions = terms.len();
     let noted = note_terms(alloc, terms, steps)?;
-    let root = want_whole(&noted.whole, plan.peak);
+    let root = want_whole(&noted.whole, &noted.ropes, plan.peak);
     claims_from(alloc, terms, noted.notes, root)
 }
 
 // What is wanted of the whole term: below its peak, in a direction whose side reaches it.
-fn want_whole(whole: &Entry, peak: u64) -> Wanted
-    requires entry { (lists : List (List ℕ)) × IsEntry lists whole.now }
-    requires peak { peak ≤ max whole.now.front_top whole.now.back_top }
+fn want_whole(whole: &Part, ropes: &Ropes, peak: u64) -> Wanted
+    requires rough { IsRough ropes.now whole.now }
+    requires peak { let cut = cut_of ropes.now whole.now in peak ≤ max (front_peak cut) (back_peak cut) }
     ensures limit { result.limit ≡ peak }
-    ensures shows { (lists : List (List ℕ)) → IsEntry lists whole.now → Shows (cut_of lists whole.now.part) result }
+    ensures shows { Shows (cut_of ropes.now whole.now) result }
 {
     below();
-    let part = &whole.part;
     let bound = peak as i64 - 1;
-    let (dir, low) = if peak <= whole.front_top {
-        (Dir::F, part.front.lowest(part.initial, bound))
+    let (dir, low) = if peak <= whole.front.top(whole.initial) {
+        (Dir::F, whole.front.lowest(whole.initial, bound))
     } else {
-        (Dir::R, part.back.lowest(part.fin, bound))
+        (Dir::R, whole.back.lowest(whole.fin, bound))
     };
     Wanted {
         dir,

@@ -4,7 +4,8 @@ ghost use Rattle.std.specs.Prelude.{◌≡◌, ◌++◌, ◌≤◌, IfOk};
 ghost use Rattle.side_laws.specs.Segments.{net_sum};
 ghost use Rattle.hill_valley.specs.Ropes.{Extends};
 ghost use Rattle.hill_valley.specs.Side.{profile, IsSide, HaveRopes, runs_of, run_profile};
-ghost use Rattle.sp_cuts.specs.Parts.{cut_of, IsPart};
+ghost use Rattle.sp_cuts.specs.Parts.{cut_of};
+ghost use Rattle.sp_cuts.specs.Splits.{IsRough};
 ghost use Rattle.plan_claims.specs.Notes.{AreFirst};
 
 use crate::NoMemory;
@@ -34,8 +35,8 @@ pub(crate) fn read_front(
     stop: u64,
     ropes: &mut Ropes,
 ) -> Result<ReadPart, NoMemory>
-    requires part { IsPart ropes.old part }
-    ensures part { IfOk result (λ r. IsPart ropes.new r.part) }
+    requires part { IsRough ropes.old part }
+    ensures part { IfOk result (λ r. IsRough ropes.new r.part) }
     ensures cut { IfOk result (λ r. cut_of ropes.new r.part ≡ cut_of ropes.old part) }
     ensures peak { IfOk result (λ r. r.part.peak ≡ part.peak) }
     ensures first { IfOk result (λ r. AreFirst (run_profile (cut_of ropes.old part).front) (profile r.first.items) part.initial stop) }
@@ -59,8 +60,8 @@ pub(crate) fn read_back(
     stop: u64,
     ropes: &mut Ropes,
 ) -> Result<ReadPart, NoMemory>
-    requires part { IsPart ropes.old part }
-    ensures part { IfOk result (λ r. IsPart ropes.new r.part) }
+    requires part { IsRough ropes.old part }
+    ensures part { IfOk result (λ r. IsRough ropes.new r.part) }
     ensures cut { IfOk result (λ r. cut_of ropes.new r.part ≡ cut_of ropes.old part) }
     ensures peak { IfOk result (λ r. r.part.peak ≡ part.peak) }
     ensures first { IfOk result (λ r. AreFirst (run_profile (cut_of ropes.old part).back) (profile r.first.items) part.fin stop) }

@@ -1,7 +1,7 @@
 //! The second pass, for one position: what is wanted of the parts of its term, for what is wanted of the term.
 
 ghost use Rattle.std.specs.Prelude.{◌≡◌, ℕ, ◌-◌, ◌++◌, if◌then◌else◌, nat_lt, true, false, [], ◌∷◌, List, Option, Some, None, OnOk};
-ghost use Rattle.side_laws.specs.Segments.{lowest};
+ghost use Rattle.side_laws.specs.Segments.{lowest, last_up};
 ghost use Rattle.hill_valley.specs.Side.{profile};
 ghost use Rattle.mp_system.specs.declared.system.Task.{Task};
 ghost use Rattle.sp_terms.specs.Term.{Term, Direction, series, hill_of, IsAllowed};
@@ -9,8 +9,8 @@ ghost use Rattle.sp_term_laws.specs.Moves.{other};
 ghost use Rattle.plan_text.specs.Plan.{direction_of};
 ghost use Rattle.cut_laws.specs.Cuts.{Cut};
 ghost use Rattle.plan_claims.specs.declared.notes.Wanted.{Wanted};
-ghost use Rattle.plan_claims.specs.Crossings.{LeadsOver, AreHandedOver};
-ghost use Rattle.plan_claims.specs.Levels.{level_below, noted_level, noted_start, noted_side, noted_top, left_over, wanted_at, wanted_each};
+ghost use Rattle.plan_claims.specs.Crossings.{LeadsOver, IsTurned, AreHandedOver};
+ghost use Rattle.plan_claims.specs.Levels.{level_below, noted_level, noted_start, noted_side, noted_up, left_over, wanted_at, wanted_each};
 ghost use Rattle.plan_claims.specs.Notes.{IsNote, IsSeriesNote, IsCrossing, cut_at};
 ghost use Rattle.plan_claims.specs.Wants.{Shows, ShowsIf, AreHanded, none_each};
 
@@ -69,28 +69,52 @@ fn near_and_far(note: &SeriesNote, wanted: &Wanted) -> (Option<Wanted>, Option<W
     if !is_same(wanted.dir, note.dir) {
         return (None, Some(*wanted));
     }
-    let limit = wanted.limit;
-    if limit <= note.near_top {
-        (Some(*wanted), None)
-    } else if limit <= note.between_top {
-        (
-            Some(Wanted {
-                dir: wanted.dir.opposite(),
-                low: lowest_below(&note.between, note.between_start, limit),
-                ..*wanted
-            }),
-            None,
-        )
-    } else if limit <= note.hill {
-        (None, None)
+    if over_of(wanted) <= note.near_up {
+        return (Some(*wanted), None);
+    }
+    if let Some(turned) = want_turned(note, wanted) {
+        return (Some(turned), None);
+    }
+    if wanted.limit <= note.hill {
+        return (None, None);
+    }
+    let last = Wanted {
+        low: far_low(note, wanted),
+        ..*wanted
+    };
+    (None, Some(last))
+}
+
+// How far the limit is above where the side is stuck.
+fn over_of(wanted: &Wanted) -> u64
+    ensures { result ≡ wanted.now.limit - wanted.now.low }
+{
+    wanted.limit.saturating_sub(wanted.low)
+}
+
+// What is wanted of the near part in the other direction, if its side there does not pass below the limit.
+fn want_turned(note: &SeriesNote, wanted: &Wanted) -> Option<Wanted>
+    ensures { IsTurned note.now wanted.now result }
+{
+    let turned = Wanted {
+        dir: wanted.dir.opposite(),
+        low: lowest_below(&note.between, note.between_start, wanted.limit),
+        ..*wanted
+    };
+    if over_of(&turned) <= last_up(&note.between) {
+        Some(turned)
     } else {
-        (
-            None,
-            Some(Wanted {
-                low: far_low(note, wanted),
-                ..*wanted
-            }),
-        )
+        None
+    }
+}
+
+// How high the last segment goes.
+fn last_up(segments: &[Seg]) -> u64
+    ensures { result ≡ last_up (profile segments.now) }
+{
+    match segments.last() {
+        Some(last) => last.up,
+        None => 0,
     }
 }
 
@@ -143,7 +167,7 @@ fn par_wants(
     match wanted {
         None => nothing_each(parts, todo),
         Some(wanted) => {
-            let over = wanted.limit.saturating_sub(wanted.low);
+            let over = over_of(&wanted);
             let rest = left_of(parts, wanted.dir, over, wanted.low);
             wants_each(parts, &wanted, over, rest, todo)
         }
@@ -179,16 +203,15 @@ fn wants_each(
 fn want_at(part: &PartNote, wanted: &Wanted, level: u64) -> Option<Wanted>
     ensures { result ≡ wanted_at wanted.now part.now level }
 {
-    let others = wanted.low.saturating_sub(level);
-    let limit = wanted.limit.saturating_sub(others);
-    let top = match wanted.dir {
-        Dir::F => part.front_top,
-        Dir::R => part.back_top,
+    let up = match wanted.dir {
+        Dir::F => part.front_up,
+        Dir::R => part.back_up,
     };
-    if limit <= top {
+    if over_of(wanted) <= up {
+        let others = wanted.low.saturating_sub(level);
         Some(Wanted {
             dir: wanted.dir,
-            limit,
+            limit: wanted.limit.saturating_sub(others),
             low: level,
         })
     } else {

@@ -10,5 +10,4 @@ pub(crate) fn below()
     cut_laws::laws::stands_law();
     cut_laws::laws::par_law();
     sp_cuts::laws::parts_stay();
-    sp_cuts::laws::within_peak();
 }

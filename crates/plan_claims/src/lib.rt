@@ -9,7 +9,6 @@
 #![tactic(auto)]
 
 mod claiming;
-mod entries;
 mod first_segments;
 mod handing;
 mod laws;

@@ -17,9 +17,8 @@ pub(crate) struct Wanted {
 #[derive(Drop)]
 pub(crate) struct SeriesNote {
     pub dir: Dir,
-    // the near part's peaks: of its side in the direction, and of the other one
-    pub near_top: u64,
-    pub between_top: u64,
+    // how high the last segment of the near part's side in the direction goes
+    pub near_up: u64,
     pub hill: u64,
     // the near part's least memory
     pub least: u64,
@@ -36,8 +35,9 @@ pub(crate) struct SeriesNote {
 pub(crate) struct PartNote {
     pub initial: u64,
     pub fin: u64,
-    pub front_top: u64,
-    pub back_top: u64,
+    // how high the last segments of its sides go
+    pub front_up: u64,
+    pub back_up: u64,
     pub read: bool,
     pub front: Vec<Seg>,
     pub back: Vec<Seg>,

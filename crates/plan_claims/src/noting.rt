@@ -1,36 +1,33 @@
 //! The first pass: the cut of each term, and what the claims need of it.
 
-ghost use Rattle.std.specs.Prelude.{◌≡◌, ◌<◌, ◌≤◌, ℕ, List, length, sum_by, IfOk, OnOk};
+ghost use Rattle.std.specs.Prelude.{◌≡◌, ◌<◌, ◌≤◌, max, length, sum_by, IfOk, OnOk};
 ghost use Rattle.hill_valley.specs.Ropes.{Extends};
-ghost use Rattle.limits.specs.Limits.{most_total};
 ghost use Rattle.sp_terms.specs.Term.{Term, series, par, Parts, count, IsAllowed};
 ghost use Rattle.sp_terms.specs.Places.{IsTermAt};
 ghost use Rattle.sp_terms.specs.Values.{term_of};
-ghost use Rattle.cut_laws.specs.Cuts.{hold_cut};
-ghost use Rattle.sp_cuts.specs.Parts.{cut_of, cuts_of, AreParts, hill_between, CanJoin};
-ghost use Rattle.plan_claims.specs.Entries.{IsEntry, AreEntries, entry_cuts, entry_peaks, IsSeriesOf, IsNotedPart};
+ghost use Rattle.sp_cuts.specs.Parts.{cut_of, cuts_of, hill_between, CanJoin};
+ghost use Rattle.sp_cuts.specs.Splits.{IsRough, AreRough};
 ghost use Rattle.plan_claims.specs.Notes.{ArePartNotes, unread, cut_at};
-ghost use Rattle.plan_claims.specs.Noted.{AreNotesOf, IsReady, IsDone};
+ghost use Rattle.plan_claims.specs.Noted.{AreNotesOf, IsSeriesOf, IsNotedPart, IsReady, IsDone};
 
 use crate::NoMemory;
-use crate::entries::Entry;
 use crate::first_segments::{read_back, read_front};
 use crate::laws::below;
 use crate::notes::{Note, PartNote, SeriesNote};
 use hill_valley::Ropes;
 use mp_system::Task;
 use plan_text::Dir;
-use sp_cuts::{Part, hill_between, hold, parallel, series};
+use sp_cuts::{Part, hill_between, hold, parallel_part, series_part};
 use sp_terms::{Position, Terms};
 use std::alloc::Global;
 use std::sync::ledger::Ledger;
 use step_count::Steps;
 
-// A note of each position, and the cut of the whole term.
+// A note of each position, and the part of the whole term.
 #[derive(Drop)]
 pub(crate) struct Noted {
     pub notes: Vec<Note>,
-    pub whole: Entry,
+    pub whole: Part,
     pub ropes: Ropes,
 }
 
@@ -40,8 +37,8 @@ pub(crate) fn note_terms<L: Ledger>(
     steps: &mut Steps<L>,
 ) -> Result<Noted, NoMemory>
     ensures notes { IfOk result (λ n. AreNotesOf terms.now n.notes.items (length terms.now)) }
-    ensures whole { IfOk result (λ n. IsEntry n.ropes n.whole) }
-    ensures cut { IfOk result (λ n. cut_of n.ropes n.whole.part ≡ cut_at (term_of terms.now)) }
+    ensures whole { IfOk result (λ n. IsRough n.ropes n.whole) }
+    ensures cut { IfOk result (λ n. cut_of n.ropes n.whole ≡ cut_at (term_of terms.now)) }
 {
     let mut ropes = Ropes::new(alloc);
     let mut stack = Vec::new(alloc);
@@ -61,17 +58,17 @@ pub(crate) fn note_terms<L: Ledger>(
     })
 }
 
-// One position: the entries of its parts are taken from the stack, and that of its term is put there.
+// One position: the parts of its term's parts are taken from the stack, and that of its term is put there. No peak of a part is asked for.
 fn note_position<L: Ledger>(
     alloc: Global,
     position: Position,
-    stack: &mut Vec<Entry>,
+    stack: &mut Vec<Part>,
     ropes: &mut Ropes,
     steps: &mut Steps<L>,
 ) -> Result<Note, NoMemory>
-    requires entries { AreEntries ropes.old stack.old.items }
+    requires parts { AreRough ropes.old stack.old.items }
     requires ready { (t : Term) × IsTermAt position t × IsReady ropes.old stack.old.items t }
-    ensures entries { OnOk result (AreEntries ropes.new stack.new.items) }
+    ensures parts { OnOk result (AreRough ropes.new stack.new.items) }
     ensures done { IfOk result
         (λ n. (t : Term) → IsTermAt position t → IsAllowed t → IsDone ropes.old ropes.new stack.old.items stack.new.items t n) }
     ensures kept { Extends ropes.old ropes.new }
@@ -79,7 +76,7 @@ fn note_position<L: Ledger>(
     below();
     match position {
         Position::Hold(size) => {
-            stack.push(hold_entry(alloc, size))?;
+            stack.push(hold(alloc, size))?;
             Ok(Note::Data)
         }
         Position::Task { extra, share, time } => {
@@ -89,29 +86,17 @@ fn note_position<L: Ledger>(
     }
 }
 
-fn hold_entry(alloc: Global, size: u64) -> Entry
-    requires size { size ≤ most_total }
-    ensures entry { (lists : List (List ℕ)) → IsEntry lists result }
-    ensures cut { (lists : List (List ℕ)) → cut_of lists result.part ≡ hold_cut size }
-{
-    Entry {
-        part: hold(alloc, size),
-        front_top: size,
-        back_top: size,
-    }
-}
-
 // The task of a series of the two terms on top.
 fn note_task<L: Ledger>(
     alloc: Global,
     task: Task,
-    stack: &mut Vec<Entry>,
+    stack: &mut Vec<Part>,
     ropes: &mut Ropes,
     steps: &mut Steps<L>,
 ) -> Result<Note, NoMemory>
-    requires entries { AreEntries ropes.old stack.old.items }
+    requires parts { AreRough ropes.old stack.old.items }
     requires ready { (a : Term) × (b : Term) × IsReady ropes.old stack.old.items (series a task b) }
-    ensures entries { OnOk result (AreEntries ropes.new stack.new.items) }
+    ensures parts { OnOk result (AreRough ropes.new stack.new.items) }
     ensures done { IfOk result (λ n. (a b : Term) → IsAllowed (series a task b)
         → IsDone ropes.old ropes.new stack.old.items stack.new.items (series a task b) n) }
     ensures kept { Extends ropes.old ropes.new }
@@ -120,7 +105,7 @@ fn note_task<L: Ledger>(
     if let Some(b) = stack.pop() {
         if let Some(a) = stack.pop() {
             let made = note_series(alloc, a, task, b, ropes, steps)?;
-            stack.push(made.entry)?;
+            stack.push(made.part)?;
             return Ok(Note::Series(made.note));
         }
     }
@@ -130,26 +115,27 @@ fn note_task<L: Ledger>(
 // A series, and what is noted of it.
 #[derive(Drop)]
 struct Made {
-    entry: Entry,
+    part: Part,
     note: SeriesNote,
 }
 
 fn note_series<L: Ledger>(
     alloc: Global,
-    a: Entry,
+    a: Part,
     task: Task,
-    b: Entry,
+    b: Part,
     ropes: &mut Ropes,
     steps: &mut Steps<L>,
 ) -> Result<Made, NoMemory>
-    requires a { IsEntry ropes.old a }
-    requires b { IsEntry ropes.old b }
-    requires joins { CanJoin a.part task b.part }
+    requires a { IsRough ropes.old a }
+    requires b { IsRough ropes.old b }
+    requires joins { CanJoin a task b }
     ensures made { IfOk result (λ m.
-        IsSeriesOf ropes.new (cut_of ropes.old a.part) (cut_of ropes.old b.part) (hill_between a.part task b.part) m.entry m.note) }
+        IsSeriesOf ropes.new (cut_of ropes.old a) (cut_of ropes.old b) (hill_between a task b) m.part m.note) }
+    ensures peak { IfOk result (λ m. m.part.peak ≡ max a.peak (max (hill_between a task b) b.peak)) }
     ensures kept { Extends ropes.old ropes.new }
 {
-    if a.part.least <= b.part.least {
+    if a.least <= b.least {
         note_first(alloc, a, task, b, ropes, steps)
     } else {
         note_second(alloc, a, task, b, ropes, steps)
@@ -159,36 +145,33 @@ fn note_series<L: Ledger>(
 // The cut lies in the first part: backwards, the way goes over the second part's front.
 fn note_first<L: Ledger>(
     alloc: Global,
-    a: Entry,
+    a: Part,
     task: Task,
-    b: Entry,
+    b: Part,
     ropes: &mut Ropes,
     steps: &mut Steps<L>,
 ) -> Result<Made, NoMemory>
-    requires a { IsEntry ropes.old a }
-    requires b { IsEntry ropes.old b }
-    requires joins { CanJoin a.part task b.part }
-    requires least { a.part.least ≤ b.part.least }
+    requires a { IsRough ropes.old a }
+    requires b { IsRough ropes.old b }
+    requires joins { CanJoin a task b }
+    requires least { a.least ≤ b.least }
     ensures made { IfOk result (λ m.
-        IsSeriesOf ropes.new (cut_of ropes.old a.part) (cut_of ropes.old b.part) (hill_between a.part task b.part) m.entry m.note) }
+        IsSeriesOf ropes.new (cut_of ropes.old a) (cut_of ropes.old b) (hill_between a task b) m.part m.note) }
+    ensures peak { IfOk result (λ m. m.part.peak ≡ max a.peak (max (hill_between a task b) b.peak)) }
     ensures kept { Extends ropes.old ropes.new }
 {
     below();
-    let hill = hill_between(&a.part, &task, &b.part);
-    let (least, between_start, far_start) = (b.part.least, b.part.initial, a.part.fin);
-    let near = read_front(alloc, b.part, 0, ropes)?;
-    let far = read_back(alloc, a.part, least + 1, ropes)?;
-    let part = series(far.part, 0, task, near.part, ropes, steps)?;
+    let hill = hill_between(&a, &task, &b);
+    let near_up = b.back.last_up();
+    let (least, between_start, far_start) = (b.least, b.initial, a.fin);
+    let near = read_front(alloc, b, 0, ropes)?;
+    let far = read_back(alloc, a, least + 1, ropes)?;
+    let part = series_part(far.part, 0, hill, near.part, ropes, steps)?;
     Ok(Made {
-        entry: Entry {
-            part,
-            front_top: a.front_top,
-            back_top: b.back_top.max(b.front_top.max(hill)).max(a.back_top),
-        },
+        part,
         note: SeriesNote {
             dir: Dir::R,
-            near_top: b.back_top,
-            between_top: b.front_top,
+            near_up,
             hill,
             least,
             between_start,
@@ -202,36 +185,33 @@ fn note_first<L: Ledger>(
 // The cut lies in the second part: forwards, the way goes over the first part's back.
 fn note_second<L: Ledger>(
     alloc: Global,
-    a: Entry,
+    a: Part,
     task: Task,
-    b: Entry,
+    b: Part,
     ropes: &mut Ropes,
     steps: &mut Steps<L>,
 ) -> Result<Made, NoMemory>
-    requires a { IsEntry ropes.old a }
-    requires b { IsEntry ropes.old b }
-    requires joins { CanJoin a.part task b.part }
-    requires least { b.part.least < a.part.least }
+    requires a { IsRough ropes.old a }
+    requires b { IsRough ropes.old b }
+    requires joins { CanJoin a task b }
+    requires least { b.least < a.least }
     ensures made { IfOk result (λ m.
-        IsSeriesOf ropes.new (cut_of ropes.old a.part) (cut_of ropes.old b.part) (hill_between a.part task b.part) m.entry m.note) }
+        IsSeriesOf ropes.new (cut_of ropes.old a) (cut_of ropes.old b) (hill_between a task b) m.part m.note) }
+    ensures peak { IfOk result (λ m. m.part.peak ≡ max a.peak (max (hill_between a task b) b.peak)) }
     ensures kept { Extends ropes.old ropes.new }
 {
     below();
-    let hill = hill_between(&a.part, &task, &b.part);
-    let (least, between_start, far_start) = (a.part.least, a.part.fin, b.part.initial);
-    let near = read_back(alloc, a.part, 0, ropes)?;
-    let far = read_front(alloc, b.part, least + 1, ropes)?;
-    let part = series(near.part, 0, task, far.part, ropes, steps)?;
+    let hill = hill_between(&a, &task, &b);
+    let near_up = a.front.last_up();
+    let (least, between_start, far_start) = (a.least, a.fin, b.initial);
+    let near = read_back(alloc, a, 0, ropes)?;
+    let far = read_front(alloc, b, least + 1, ropes)?;
+    let part = series_part(near.part, 0, hill, far.part, ropes, steps)?;
     Ok(Made {
-        entry: Entry {
-            part,
-            front_top: a.front_top.max(a.back_top.max(hill)).max(b.front_top),
-            back_top: b.back_top,
-        },
+        part,
         note: SeriesNote {
             dir: Dir::F,
-            near_top: a.front_top,
-            between_top: a.back_top,
+            near_up,
             hill,
             least,
             between_start,
@@ -246,39 +226,33 @@ fn note_second<L: Ledger>(
 fn note_par<L: Ledger>(
     alloc: Global,
     many: u32,
-    stack: &mut Vec<Entry>,
+    stack: &mut Vec<Part>,
     ropes: &mut Ropes,
     steps: &mut Steps<L>,
 ) -> Result<Note, NoMemory>
-    requires entries { AreEntries ropes.old stack.old.items }
+    requires parts { AreRough ropes.old stack.old.items }
     requires ready { (ts : Parts) × (count ts ≡ many) × IsReady ropes.old stack.old.items (par ts) }
-    ensures entries { OnOk result (AreEntries ropes.new stack.new.items) }
+    ensures parts { OnOk result (AreRough ropes.new stack.new.items) }
     ensures done { IfOk result
         (λ n. (ts : Parts) → count ts ≡ many → IsAllowed (par ts) → IsDone ropes.old ropes.new stack.old.items stack.new.items (par ts) n) }
     ensures kept { Extends ropes.old ropes.new }
 {
     below();
     let at = stack.len() - many as usize;
-    let entries = stack.split_off(at)?;
-    let most = longest(&entries);
-    let read = note_parts(alloc, entries, most, ropes)?;
-    let part = parallel(alloc, read.parts, ropes, steps)?;
-    let front_top = part.front.top(part.initial);
-    let back_top = part.back.top(part.fin);
-    stack.push(Entry {
-        part,
-        front_top,
-        back_top,
-    })?;
+    let parts = stack.split_off(at)?;
+    let most = longest(&parts);
+    let read = note_parts(alloc, parts, most, ropes)?;
+    let part = parallel_part(alloc, read.parts, ropes, steps)?;
+    stack.push(part)?;
     Ok(Note::Par(read.notes))
 }
 
 // Where the part with the most segments stands, counted from 1, and 0 where none has any.
-fn longest(entries: &[Entry]) -> usize {
+fn longest(parts: &[Part]) -> usize {
     let mut place = 0;
     let mut most = 0;
-    for (i, entry) in entries.iter().enumerate() {
-        let len = entry.part.front.len().max(entry.part.back.len());
+    for (i, part) in parts.iter().enumerate() {
+        let len = part.front.len().max(part.back.len());
         if most < len {
             place = i + 1;
             most = len;
@@ -297,29 +271,32 @@ struct NotedParts {
 // The parts, with notes of them. The sides of all but one are read, which stands at this place, counted from 1.
 fn note_parts(
     alloc: Global,
-    entries: Vec<Entry>,
+    parts: Vec<Part>,
     most: usize,
     ropes: &mut Ropes,
 ) -> Result<NotedParts, NoMemory>
-    requires entries { AreEntries ropes.old entries.items }
-    ensures parts { IfOk result (λ n. AreParts ropes.new n.parts.items) }
-    ensures cuts { IfOk result (λ n. cuts_of ropes.new n.parts.items ≡ entry_cuts ropes.old entries.items) }
-    ensures peaks { IfOk result (λ n. sum_by (λ p. p.peak) n.parts.items ≡ entry_peaks entries.items) }
-    ensures notes { IfOk result (λ n. ArePartNotes (entry_cuts ropes.old entries.items) n.notes.items) }
+    requires parts { AreRough ropes.old parts.items }
+    ensures parts { IfOk result (λ n. AreRough ropes.new n.parts.items) }
+    ensures cuts { IfOk result (λ n. cuts_of ropes.new n.parts.items ≡ cuts_of ropes.old parts.items) }
+    ensures peaks { IfOk result (λ n. sum_by (λ p. p.peak) n.parts.items ≡ sum_by (λ p. p.peak) parts.items) }
+    ensures notes { IfOk result (λ n. ArePartNotes (cuts_of ropes.old parts.items) n.notes.items) }
     ensures one { IfOk result (λ n. unread n.notes.items ≤ 1) }
     ensures kept { Extends ropes.old ropes.new }
 {
     below();
-    let mut parts = Vec::new(alloc);
+    let mut noted = Vec::new(alloc);
     let mut notes = Vec::new(alloc);
     let mut left = most;
-    for entry in entries {
-        let one = note_part(alloc, entry, left != 1, ropes)?;
-        parts.push(one.part)?;
+    for part in parts {
+        let one = note_part(alloc, part, left != 1, ropes)?;
+        noted.push(one.part)?;
         notes.push(one.note)?;
         left = left.saturating_sub(1);
     }
-    Ok(NotedParts { parts, notes })
+    Ok(NotedParts {
+        parts: noted,
+        notes,
+    })
 }
 
 // A part, and what is noted of it.
@@ -332,21 +309,21 @@ struct NotedPart {
 // The sides are noted if they are read.
 fn note_part(
     alloc: Global,
-    entry: Entry,
+    part: Part,
     read: bool,
     ropes: &mut Ropes,
 ) -> Result<NotedPart, NoMemory>
-    requires entry { IsEntry ropes.old entry }
-    ensures noted { IfOk result (λ n. IsNotedPart ropes.old ropes.new entry read n.part n.note) }
+    requires part { IsRough ropes.old part }
+    ensures noted { IfOk result (λ n. IsNotedPart ropes.old ropes.new part read n.part n.note) }
     ensures kept { Extends ropes.old ropes.new }
 {
     below();
-    let mut part = entry.part;
+    let mut part = part;
     let mut note = PartNote {
         initial: part.initial,
         fin: part.fin,
-        front_top: entry.front_top,
-        back_top: entry.back_top,
+        front_up: part.front.last_up(),
+        back_up: part.back.last_up(),
         read,
         front: Vec::new(alloc),
         back: Vec::new(alloc),

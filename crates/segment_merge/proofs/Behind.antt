@@ -1,7 +1,7 @@
 -- Behind a side that is lower throughout, putting in and putting behind are the same.
 use Rattle.std.proofs.Common.{◌≡◌, ℕ, ◌<◌, max, List, [], ◌∷◌, refl, ap, sym, ◌∙◌, arith, subst, false}
-use Rattle.side_laws.specs.Segments.{Segment, IsRising, StartsAbove}
-use Rattle.hill_valley.specs.Side.{Run, run_numbers, run_profile, last_up, insert_run, append_run}
+use Rattle.side_laws.specs.Segments.{Segment, IsRising, StartsAbove, last_up}
+use Rattle.hill_valley.specs.Side.{Run, run_numbers, run_profile, insert_run, append_run}
 use Rattle.segment_merge.specs.Merging.{insert_runs, move_runs}
 use Rattle.segment_merge.specs.Crossing.{append_runs}
 use Rattle.hill_valley.specs.Laws.{RunLaws}

@@ -1,7 +1,7 @@
 -- The lowest level of one side.
-use Rattle.std.proofs.Common.{◌≡◌, ℕ, ◌+◌, ◌-◌, ◌<◌, ◌≤◌, List, [], ◌∷◌, ◌++◌, ◌⊎◌, refl, ap, ◌∙◌, arith, subst, inl, inr}
+use Rattle.std.proofs.Common.{◌≡◌, ℕ, ◌+◌, ◌-◌, ◌<◌, ◌≤◌, List, [], ◌∷◌, ◌++◌, ◌⊎◌, ◌↔◌, refl, ap, ◌∙◌, arith, subst, inl, inr}
 use Rattle.std.proofs.lemmas.Bool.Decides.{nat_tests}
-use Rattle.side_laws.specs.Segments.{Segment, net_sum, lowest, top, Passes, IsStuck}
+use Rattle.side_laws.specs.Segments.{Segment, net_sum, lowest, top, Passes, last_up, IsRising, IsStuck}
 use Rattle.side_laws.proofs.Passing.{passes_from_top}
 
 go : (limit level : ℕ) (s : Segment) (ss : List Segment) → level + s.up < limit → lowest limit level (s ∷ ss) ≡ lowest limit (level - s.net) ss
@@ -53,4 +53,27 @@ lowest_splits limit level (s ∷ ss) = elim (lt_or_le (level + s.up) limit) [
       let same : level - s.net - net_sum before ≡ level - (s.net + net_sum before) = omega arith in
       (s ∷ before, rest, ap (λ (l : List Segment). s ∷ l) split, (h, passes), go limit level s ss h ∙ low ∙ same, subst (λ (n : ℕ). IsStuck limit n rest) same stuck)
   | inr h ↦ ([], s ∷ ss, refl, tt, stay limit level s ss h ∙ omega arith, omega arith)
+]
+
+-- ---- the last segment decides
+
+pub last_ge : (s : Segment) (ss : List Segment) → IsRising (s ∷ ss) → s.up ≤ last_up (s ∷ ss)
+last_ge s [] h = omega arith
+last_ge s (t ∷ ss) h = let above : s.up < t.up = h.0 in let rest = last_ge t ss h.1 in omega arith
+
+pub stuck_by_last : (limit level : ℕ) (ss : List Segment) → IsRising ss → net_sum ss ≤ level → (limit ≤ top level ss) ↔ (limit - lowest limit level ss ≤ last_up ss)
+stuck_by_last limit level [] rises room = (λ h. omega arith, λ h. omega arith)
+stuck_by_last limit level (s ∷ []) rises room = elim (lt_or_le (level + s.up) limit) [
+  | inl passes ↦ let low = go limit level s [] passes in (λ h. absurd (omega arith), λ h. absurd (omega arith))
+  | inr stops ↦ let low = stay limit level s [] stops in (λ h. omega arith, λ h. omega arith)
+]
+stuck_by_last limit level (s ∷ t ∷ ss) rises room = elim (lt_or_le (level + s.up) limit) [
+  | inl passes ↦
+      let low = go limit level s (t ∷ ss) passes in
+      let rest = stuck_by_last limit (level - s.net) (t ∷ ss) rises.1 (omega arith) in
+      (λ h. let r = rest.0 (omega arith) in omega arith, λ h. let r = rest.1 (omega arith) in omega arith)
+  | inr stops ↦
+      let low = stay limit level s (t ∷ ss) stops in
+      let last = last_ge s (t ∷ ss) rises in
+      (λ h. omega arith, λ h. omega arith)
 ]

@@ -1,7 +1,7 @@
 -- The laws, as statements.
 use Rattle.std.specs.Prelude.{◌≡◌, ℕ, ◌+◌, ◌-◌, ◌*◌, ◌^◌, ◌<◌, ◌≤◌, max, min, if◌then◌else◌, nat_lt, List, [], ◌∷◌, ◌++◌, ◌↔◌}
 use Rattle.std.specs.List.{AllByRecursion, sum_by}
-use Rattle.side_laws.specs.Segments.{Segment, net_sum, lowest, top, Passes, IsRising, IsStuck}
+use Rattle.side_laws.specs.Segments.{Segment, net_sum, lowest, top, Passes, last_up, IsRising, IsStuck}
 use Rattle.side_laws.specs.Appending.{append_segment, cross_hill}
 use Rattle.side_laws.specs.Merging.{insert_segment, insert_segments, merge_segments, AllRising, AreStuckAt, IsLeastTogether}
 use Rattle.side_laws.specs.Levels.{AllStart, AreLevels}
@@ -34,6 +34,11 @@ TopAboveLevel = (level : ℕ) (ss : List Segment) → level ≤ top level ss
 -- under a limit above the level, all segments pass exactly where the top is below the limit
 abbrev pub TopPasses : Type 0
 TopPasses = (limit level : ℕ) (ss : List Segment) → (top level ss < limit) ↔ ((level < limit) × Passes limit level ss)
+
+-- a rising side does not pass below a limit exactly where its last segment goes up by as much as the limit is above where it is stuck
+abbrev pub StuckByLast : Type 0
+StuckByLast = (limit level : ℕ) (ss : List Segment) → IsRising ss → net_sum ss ≤ level
+    → (limit ≤ top level ss) ↔ (limit - lowest limit level ss ≤ last_up ss)
 
 -- ---- a segment at the end
 

@@ -27,6 +27,12 @@ abbrev pub top : ℕ → List Segment → ℕ
 top level [] = level
 top level (s ∷ ss) = max (level + s.up) (top (level - s.net) ss)
 
+-- the `up` of the last segment, and 0 where there is none
+abbrev pub last_up : List Segment → ℕ
+last_up [] = 0
+last_up (s ∷ []) = s.up
+last_up (s ∷ t ∷ ss) = last_up (t ∷ ss)
+
 -- the first segment, if there is one, goes higher than `up`
 abbrev pub StartsAbove : ℕ → List Segment → Type 0
 StartsAbove up [] = ⊤

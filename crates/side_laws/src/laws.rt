@@ -1,6 +1,6 @@
 //! The laws, each as a clause of a function that does nothing.
 
-ghost use Rattle.side_laws.specs.Laws.{LowestBetween, LowestMonotone, LowestAfterAll, LowestIsStuck, TopAboveLevel, TopPasses};
+ghost use Rattle.side_laws.specs.Laws.{LowestBetween, LowestMonotone, LowestAfterAll, LowestIsStuck, TopAboveLevel, TopPasses, StuckByLast};
 ghost use Rattle.side_laws.specs.Laws.{NetOfAppend, AppendRises, LowestOfAppend, TopOfAppend};
 ghost use Rattle.side_laws.specs.Laws.{NetOfCrossing, CrossingRises, LowestOfCrossing, TopOfCrossing};
 ghost use Rattle.side_laws.specs.Laws.{NetOfInsert, InsertRises, LowestOfInsert, InsertsCommute};
@@ -15,6 +15,7 @@ pub fn one_side()
     ensures stuck { LowestIsStuck }
     ensures above { TopAboveLevel }
     ensures passes { TopPasses }
+    ensures by_last { StuckByLast }
 {}
 
 /// A segment put at the end of a side.

@@ -2,10 +2,10 @@
 use Rattle.std.proofs.Common.{◌≡◌, ℕ, ◌+◌, ◌≤◌, ◌^◌, max, List, [], ◌∷◌, refl, ap, sym, ◌∙◌, arith, length, true, false}
 use Rattle.std.proofs.lemmas.Bool.Decides.{nat_tests}
 use Rattle.std.proofs.lemmas.List.{length-map}
-use Rattle.side_laws.specs.Segments.{net_sum, IsRising, StartsAbove}
+use Rattle.side_laws.specs.Segments.{net_sum, IsRising, StartsAbove, last_up}
 use Rattle.hill_valley.specs.declared.side.Seg.{Seg}
 use Rattle.hill_valley.specs.Ropes.{IsRope, Extends}
-use Rattle.hill_valley.specs.Side.{profile, HaveRopes, Run, run_of, runs_of, run_profile, append_run, last_up}
+use Rattle.hill_valley.specs.Side.{profile, HaveRopes, Run, run_of, runs_of, run_profile, append_run}
 use Rattle.segment_merge.specs.Crossing.{append_runs}
 use Rattle.segment_merge.specs.Laws.{SideLaws}
 use Rattle.segment_merge.specs.Merging.{move_runs}

@@ -8,7 +8,7 @@ use Rattle.cut_laws.specs.Cuts.{Cut, front_peak, back_peak}
 use Rattle.cut_laws.specs.Tops.{MeetsAtLeast, BothRise}
 use Rattle.sp_cuts.specs.declared.parts.Part.{Part}
 use Rattle.sp_cuts.specs.Parts.{cut_of, cuts_of, HasSides, IsPart, AreParts}
-use Rattle.sp_cuts.specs.Splits.{IsRough}
+use Rattle.sp_cuts.specs.Splits.{IsRough, AreRough}
 
 pub same_cut : (f f' b b' : List Run) (i e l : ℕ) → f ≡ f' → b ≡ b' → ◌≡◌ {A = Cut} (record { front = f; back = b; initial = i; fin = e; least = l }) (record { front = f'; back = b'; initial = i; fin = e; least = l })
 same_cut f f' b b' i e l p q = rw (p, q) refl
@@ -42,6 +42,13 @@ module _ (laws : SideLaws) where
       let one = parts_stay old new p h.0 k in
       let r = all_parts_stay old new ps h.1 k in
       ((one.0, r.0), rw (one.1, r.1) refl)
+
+  pub all_rough_stay : (old new : List (List ℕ)) (ps : List Part) → AreRough old ps → Extends old new
+      → AreRough new ps × (cuts_of new ps ≡ cuts_of old ps)
+  all_rough_stay old new [] h k = (tt, refl)
+  all_rough_stay old new (p ∷ ps) h k =
+      let r = all_rough_stay old new ps h.1 k in
+      ((rough_kept old new p h.0 k, r.0), rw (cut_kept old new p h.0.both k, r.1) refl)
 
   -- the numbers of the sides, and each number within the peak
   pub record Within (lists : List (List ℕ)) (p : Part) : Type 0 where

@@ -3,6 +3,7 @@ use Rattle.std.specs.Prelude.{◌≡◌, ℕ, ◌≤◌, List}
 use Rattle.hill_valley.specs.Ropes.{Extends}
 use Rattle.sp_cuts.specs.declared.parts.Part.{Part}
 use Rattle.sp_cuts.specs.Parts.{cut_of, cuts_of, IsPart, AreParts}
+use Rattle.sp_cuts.specs.Splits.{IsRough, AreRough}
 
 -- a part is the same cut for good, however many more ropes are made
 abbrev pub PartsStay : Type 0
@@ -11,6 +12,15 @@ PartsStay = (old new : List (List ℕ)) (p : Part) → IsPart old p → Extends 
 abbrev pub AllPartsStay : Type 0
 AllPartsStay =
     (old new : List (List ℕ)) (ps : List Part) → AreParts old ps → Extends old new → AreParts new ps × (cuts_of new ps ≡ cuts_of old ps)
+
+-- the same for parts whose peaks are bounds
+abbrev pub RoughPartsStay : Type 0
+RoughPartsStay =
+    (old new : List (List ℕ)) (p : Part) → IsRough old p → Extends old new → IsRough new p × (cut_of new p ≡ cut_of old p)
+
+abbrev pub AllRoughPartsStay : Type 0
+AllRoughPartsStay =
+    (old new : List (List ℕ)) (ps : List Part) → AreRough old ps → Extends old new → AreRough new ps × (cuts_of new ps ≡ cuts_of old ps)
 
 -- the numbers of a part are within its peak
 abbrev pub NumbersWithinPeak : Type 0

@@ -1,5 +1,4 @@
--- No public clause names this.
--- Parts taken apart into their sides: the words of the planner's own steps.
+-- Parts whose peaks are bounds, and parts taken apart into their sides.
 use Rattle.std.specs.Prelude.{◌≡◌, ℕ, ◌≤◌, max, List, sum_by}
 use Rattle.std.specs.List.{AllByRecursion}
 use Rattle.limits.specs.Limits.{most_total}
@@ -16,6 +15,8 @@ pub record IsRough (lists : List (List ℕ)) (p : Part) : Type 0 where
 
 abbrev pub AreRough : List (List ℕ) → List Part → Type 0
 AreRough lists ps = AllByRecursion (IsRough lists) ps
+
+-- ---- no public clause names this
 
 -- the sides of the parts, and the sums of their numbers
 pub record AreSplit (parts : List Part) (fs bs : List (List Seg)) (start end low most : ℕ) : Type 0 where

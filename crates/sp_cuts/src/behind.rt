@@ -2,9 +2,9 @@
 
 ghost use Rattle.std.specs.Prelude.{◌≡◌, ◌+◌, ◌≤◌, max, length, IfOk};
 ghost use Rattle.limits.specs.Limits.{most_total};
-ghost use Rattle.side_laws.specs.Segments.{net_sum, StartsAbove};
+ghost use Rattle.side_laws.specs.Segments.{net_sum, StartsAbove, last_up};
 ghost use Rattle.hill_valley.specs.Ropes.{Extends};
-ghost use Rattle.hill_valley.specs.Side.{profile, last_up, HaveRopes, runs_of};
+ghost use Rattle.hill_valley.specs.Side.{profile, HaveRopes, runs_of};
 ghost use Rattle.segment_merge.specs.Crossing.{append_runs};
 
 use crate::NoMemory;

@@ -9,7 +9,7 @@ ghost use Rattle.hill_valley.specs.Ropes.{Extends};
 ghost use Rattle.cut_laws.specs.Cuts.{series_cut, par_cut, top_of, starts, sides};
 ghost use Rattle.cut_laws.specs.Standing.{StandsFor, AllStandFor};
 ghost use Rattle.cut_laws.specs.Tops.{LiesInFirst, LiesInSecond, SomeReaches};
-ghost use Rattle.sp_cuts.specs.Parts.{cut_of, cuts_of, HasSides, IsPart, AreParts, hill_between, CanJoin, moves_between, moves_in};
+ghost use Rattle.sp_cuts.specs.Parts.{cut_of, cuts_of, IsPart, AreParts, hill_between, CanJoin, moves_between, moves_in};
 ghost use Rattle.sp_cuts.specs.Splits.{IsRough, AreRough, AreSplit};
 
 use crate::NoMemory;
@@ -59,8 +59,10 @@ pub fn series<L: Ledger>(
     Ok(part)
 }
 
-// The same for parts whose peaks are bounds, with the hill of the series.
-pub(crate) fn series_part<L: Ledger>(
+/// The same for parts whose `peak` is only a bound, as in a pass that asks for no peak but that of the whole: with the memory while the
+/// task runs as the hill, from what the first part leaves and what the second starts with on, and at most 2^60. The `peak` of the part is
+/// the greatest of the three.
+pub fn series_part<L: Ledger>(
     a: Part,
     name: u32,
     hill: u64,
@@ -77,7 +79,7 @@ pub(crate) fn series_part<L: Ledger>(
     ensures peak { IfOk result (λ p. p.peak ≡ max a.peak (max hill b.peak)) }
     ensures kinds { IfOk result (λ p. LiesInFirst (cut_of ropes.old a) (cut_of ropes.old b) hill (cut_of ropes.new p)
         ⊎ LiesInSecond (cut_of ropes.old a) (cut_of ropes.old b) hill (cut_of ropes.new p)) }
-    ensures sides { IfOk result (λ p. HasSides ropes.new p) }
+    ensures rough { IfOk result (λ p. IsRough ropes.new p) }
     ensures kept { Extends ropes.old ropes.new }
     ensures steps { steps.new ≤ steps.old + moves_between a b }
 {
@@ -164,8 +166,8 @@ pub(crate) fn with_peak(part: Part, ropes: &Ropes) -> Part
     Part { peak, ..part }
 }
 
-// The same for parts whose peaks are bounds. The bound is their sum.
-pub(crate) fn parallel_part<L: Ledger>(
+/// The same for parts whose `peak` is only a bound. The `peak` of the part is their sum, and takes no time.
+pub fn parallel_part<L: Ledger>(
     alloc: Global,
     parts: Vec<Part>,
     ropes: &mut Ropes,

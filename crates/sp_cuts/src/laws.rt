@@ -1,6 +1,6 @@
 //! The laws, each as a clause of a function that does nothing.
 
-ghost use Rattle.sp_cuts.specs.Laws.{PartsStay, AllPartsStay, NumbersWithinPeak};
+ghost use Rattle.sp_cuts.specs.Laws.{PartsStay, AllPartsStay, RoughPartsStay, AllRoughPartsStay, NumbersWithinPeak};
 ghost use Rattle.sp_cuts.specs.StairLaws.{SomeStaircase, OneStaircase, EachStepIsReached};
 ghost use Rattle.sp_cuts.specs.StairLaws.{SomeStairs, OneStairs};
 
@@ -8,6 +8,8 @@ ghost use Rattle.sp_cuts.specs.StairLaws.{SomeStairs, OneStairs};
 pub fn parts_stay()
     ensures part { PartsStay }
     ensures all { AllPartsStay }
+    ensures rough { RoughPartsStay }
+    ensures all_rough { AllRoughPartsStay }
 {
     segment_merge::laws::all();
 }

@@ -16,7 +16,7 @@ mod reaching;
 #[cfg(test)]
 mod tests;
 
-pub use composing::{parallel, series};
+pub use composing::{parallel, parallel_part, series, series_part};
 pub use parts::{Part, hill_between, hold};
 pub use planning::{Plan, plan_terms};
 pub use reaching::{Stairs, StairsRefusal, staircases};

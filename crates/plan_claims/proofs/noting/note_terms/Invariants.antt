@@ -1,13 +1,15 @@
 use Rattle.std.proofs.Common.{◌≡◌, map}
-use Rattle.plan_claims.specs.Entries.{AreEntries, entry_cuts}
-use Rattle.plan_claims.specs.Noted.{AreNotesOf}
+use Rattle.sp_cuts.specs.Parts.{cuts_of}
+use Rattle.sp_cuts.specs.Splits.{AreRough}
+use Rattle.plan_claims.specs.Noted.{AreNotesOf, AreWithin}
 use Rattle.plan_claims.specs.Notes.{cut_at}
 use Rattle.plan_claims.specs.Rows.{row_of}
 use Rattle.plan_claims.proofs.noting.note_terms.Given as goal
 
 abbrev pub invariant-loop-done : goal.invariant-loop-done
 invariant-loop-done g l = record {
-  entries : AreEntries l.ropes l.stack.items;
-  cuts : entry_cuts l.ropes l.stack.items ≡ map cut_at (row_of l.terms l.done);
+  parts : AreRough l.ropes l.stack.items;
+  peaks : AreWithin (row_of l.terms l.done) l.stack.items;
+  cuts : cuts_of l.ropes l.stack.items ≡ map cut_at (row_of l.terms l.done);
   notes : AreNotesOf l.terms l.notes.items l.done;
 }

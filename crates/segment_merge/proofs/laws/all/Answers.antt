@@ -8,6 +8,7 @@ returns c = record {
   stuck = c.one_side.ensures.stuck;
   above = c.one_side.ensures.above;
   passes = c.one_side.ensures.passes;
+  by_last = c.one_side.ensures.by_last;
   append_net = c.appending.ensures.net;
   crossing_net = c.crossing.ensures.net;
   crossing_rises = c.crossing.ensures.rising;

@@ -1,4 +1,4 @@
-use Rattle.side_laws.proofs.Lowest.{lowest_le, lowest_ge, lowest_monotone, lowest_passed, lowest_splits}
+use Rattle.side_laws.proofs.Lowest.{lowest_le, lowest_ge, lowest_monotone, lowest_passed, lowest_splits, stuck_by_last}
 use Rattle.side_laws.proofs.Passing.{level_le_top, top_passes}
 use Rattle.side_laws.proofs.laws.one_side.Goals as goal
 
@@ -10,4 +10,5 @@ returns c = record {
   stuck = lowest_splits;
   above = level_le_top;
   passes = top_passes;
+  by_last = stuck_by_last;
 }

@@ -17,7 +17,7 @@ returns-clause-stands g c = series_stands c.composition_law.ensures.series c.arg
 
 pub returns-clause-part : goal.returns-clause-part
 returns-clause-part g c = record {
-  both = c.in_ok-part.ensures.sides;
+  both = c.in_ok-part.ensures.rough.both;
   peak = omega (arith, peak_is _ _ _ _ c.in_ok-part.ensures.kinds, c.requires.a.peak, c.requires.b.peak, c.in_ok-part.ensures.peak);
   within = let a = c.requires.a.within in let b = c.requires.b.within in let h = c.requires.joins.hill in omega (arith, c.in_ok-part.ensures.peak, c.hill_between-hill.ensures);
 }

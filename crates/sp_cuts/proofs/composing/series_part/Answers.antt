@@ -3,7 +3,7 @@ use Rattle.cut_laws.specs.Cuts.{series_cut}
 use Rattle.cut_laws.specs.Tops.{LiesInFirst, LiesInSecond}
 use Rattle.sp_cuts.specs.Parts.{cut_of}
 use Rattle.sp_cuts.proofs.Kept.{sides_of}
-use Rattle.sp_cuts.proofs.Made.{first_cut, second_cut, first_leads, second_leads}
+use Rattle.sp_cuts.proofs.Made.{first_cut, second_cut, first_leads, second_leads, series_rough}
 use Rattle.sp_cuts.proofs.composing.series_part.Goals as goal
 
 -- ---- cut in the first part
@@ -31,12 +31,13 @@ returns-in_ok-back-clause-kinds g c =
     inl (subst (LiesInFirst (cut_of c.args.ropes.now c.args.a) (cut_of c.args.ropes.now c.args.b) c.args.hill) (sym (returns-in_ok-back-clause-cut g c))
     (c.series_law.ensures.first (cut_of c.args.ropes.now c.args.a) (cut_of c.args.ropes.now c.args.b) c.args.name c.args.hill c.requires.a.both.meets c.requires.b.both.meets c.requires.after c.requires.before c.if-a-b.true))
 
-pub returns-in_ok-back-clause-sides : goal.returns-in_ok-back-clause-sides
-returns-in_ok-back-clause-sides g c =
+pub returns-in_ok-back-clause-rough : goal.returns-in_ok-back-clause-rough
+returns-in_ok-back-clause-rough g c = series_rough _ _ _ _ _ c.args.hill c.requires.a c.requires.b c.requires.hill (
     sides_of _ _ (series_cut (cut_of c.args.ropes.now c.args.a) c.args.name c.args.hill (cut_of c.args.ropes.now c.args.b)) (returns-in_ok-back-clause-cut g c)
     (c.all.ensures.runs.stay _ _ _ c.requires.a.both.front_ropes (c.all.ensures.runs.on _ _ _ c.in_ok-tasks.ensures.kept c.in_ok-back.ensures.kept)).0 c.in_ok-back.ensures.ropes
     (c.series_law.ensures.meets (cut_of c.args.ropes.now c.args.a) (cut_of c.args.ropes.now c.args.b) c.args.name c.args.hill c.requires.a.both.meets c.requires.b.both.meets)
-    (c.series_law.ensures.rising (cut_of c.args.ropes.now c.args.a) (cut_of c.args.ropes.now c.args.b) c.args.name c.args.hill c.requires.a.both.rising c.requires.b.both.rising)
+    (c.series_law.ensures.rising (cut_of c.args.ropes.now c.args.a) (cut_of c.args.ropes.now c.args.b) c.args.name c.args.hill c.requires.a.both.rising c.requires.b.both.rising))
+    (returns-in_ok-back-clause-kinds g c) (omega (arith, c.max-peak.ensures, c.max.ensures))
 
 -- ---- cut in the second part
 
@@ -63,9 +64,10 @@ returns-in_ok-front-clause-kinds g c =
     inr (subst (LiesInSecond (cut_of c.args.ropes.now c.args.a) (cut_of c.args.ropes.now c.args.b) c.args.hill) (sym (returns-in_ok-front-clause-cut g c))
     (c.series_law.ensures.second (cut_of c.args.ropes.now c.args.a) (cut_of c.args.ropes.now c.args.b) c.args.name c.args.hill c.requires.a.both.meets c.requires.b.both.meets c.requires.after c.requires.before (let t = c.if-a-b.false in omega arith)))
 
-pub returns-in_ok-front-clause-sides : goal.returns-in_ok-front-clause-sides
-returns-in_ok-front-clause-sides g c =
+pub returns-in_ok-front-clause-rough : goal.returns-in_ok-front-clause-rough
+returns-in_ok-front-clause-rough g c = series_rough _ _ _ _ _ c.args.hill c.requires.a c.requires.b c.requires.hill (
     sides_of _ _ (series_cut (cut_of c.args.ropes.now c.args.a) c.args.name c.args.hill (cut_of c.args.ropes.now c.args.b)) (returns-in_ok-front-clause-cut g c)
     c.in_ok-front.ensures.ropes (c.all.ensures.runs.stay _ _ _ c.requires.b.both.back_ropes (c.all.ensures.runs.on _ _ _ c.in_ok-tasks-2.ensures.kept c.in_ok-front.ensures.kept)).0
     (c.series_law.ensures.meets (cut_of c.args.ropes.now c.args.a) (cut_of c.args.ropes.now c.args.b) c.args.name c.args.hill c.requires.a.both.meets c.requires.b.both.meets)
-    (c.series_law.ensures.rising (cut_of c.args.ropes.now c.args.a) (cut_of c.args.ropes.now c.args.b) c.args.name c.args.hill c.requires.a.both.rising c.requires.b.both.rising)
+    (c.series_law.ensures.rising (cut_of c.args.ropes.now c.args.a) (cut_of c.args.ropes.now c.args.b) c.args.name c.args.hill c.requires.a.both.rising c.requires.b.both.rising))
+    (returns-in_ok-front-clause-kinds g c) (omega (arith, c.max-peak.ensures, c.max.ensures))

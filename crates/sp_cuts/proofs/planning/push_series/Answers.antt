@@ -1,7 +1,6 @@
 use Rattle.std.proofs.Common.{◌≤◌, ◌^◌, max, arith, ap, ◌∙◌}
 use Rattle.cut_laws.specs.Cuts.{series_cut}
 use Rattle.sp_cuts.specs.Parts.{cut_of}
-use Rattle.sp_cuts.proofs.Made.{series_rough}
 use Rattle.sp_cuts.proofs.Stacked.{joins_fit, series_done}
 use Rattle.sp_cuts.proofs.Pushed.{series_steps}
 use Rattle.sp_cuts.proofs.planning.push_series.Goals as goal
@@ -24,10 +23,9 @@ pub returns-clause-done : goal.returns-clause-done
 returns-clause-done g c st a b ok tk piled =
     let j = joins_fit c.all.ensures c.args.ropes.now c.args.ropes.now _ _ _ _ _ _ _ _ c.args.number c.args.task c.requires.ready.piled c.in-Some.ensures.items c.in-Some-pop.ensures.items c.requires.ready.inputs c.requires.ready.outputs c.requires.ready.within in
     let e = c.hill_between-hill.ensures in
-    let room : c.hill_between-hill.result ≤ 2 ^ 60 = (let h = j.joins.hill in omega arith) in
     series_done c.all.ensures _ _ st a b _ _ _ _ _ c.args.number c.args.task piled c.in-Some.ensures.items c.in-Some-pop.ensures.items c.in_ok-part.part _ ok tk c.in_ok-part.ensures.kept
     (c.in_ok-part.ensures.cut ∙ ap (λ n. series_cut (cut_of c.args.ropes.now c.in-Some-pop.a) c.args.number n (cut_of c.args.ropes.now c.in-Some.b)) e)
-    (series_rough _ _ _ _ _ c.hill_between-hill.result j.first j.second room c.in_ok-part.ensures.sides c.in_ok-part.ensures.kinds c.in_ok-part.ensures.peak)
+    c.in_ok-part.ensures.rough
     (c.in_ok-part.ensures.peak ∙ ap (λ n. max c.in-Some-pop.a.peak (max n c.in-Some.b.peak)) e)
     c.in_ok-push.ensures.items
 

@@ -1,8 +1,8 @@
 use Rattle.std.proofs.Common.{◌≡◌, List, arith, sym, ◌∙◌, ap, max, OnOk}
 use Rattle.std.proofs.lemmas.Result.{on_ok_weaker}
-use Rattle.side_laws.specs.Segments.{lowest, top}
+use Rattle.side_laws.specs.Segments.{lowest, top, last_up}
 use Rattle.side_laws.specs.Appending.{append_segment}
-use Rattle.hill_valley.specs.Side.{profile, last_up, runs_of, run_profile, tasks_of, append_run, Run}
+use Rattle.hill_valley.specs.Side.{profile, runs_of, run_profile, tasks_of, append_run, Run}
 use Rattle.hill_valley.specs.Ropes.{list_of}
 use Rattle.hill_valley.proofs.Inserting.{run}
 use Rattle.hill_valley.proofs.Last.{append_is, last_within}
