@@ -181,8 +181,8 @@ impl Core {
             && self.waiting[at] == 0
     }
 
-    // Whether the task may start now.
-    fn may_start(&self, task: u32) -> bool
+    /// Whether a task may start now: `start` answers yes just then.
+    pub fn may_start(&self, task: u32) -> bool
         ensures { IsTrue result ↔ MayStart self.now.setting self.now.state task }
     {
         is_number(task, self.system.tasks().len())

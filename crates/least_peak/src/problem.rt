@@ -18,7 +18,7 @@ use crate::NoMemory;
 use crate::planning::plan_term;
 use activation::{Core, CoreRefusal};
 use claim_check::laws::accepted_law;
-use claim_check::{Verdict, check};
+use claim_check::{Verdict, check, check_alone};
 use mp_outside::Gate;
 use mp_system::{ReplayRefusal, System, replay};
 use plan_text::PlanFile;
@@ -149,6 +149,30 @@ impl Problem {
             Origin::Workflow(terms) => {
                 terms.keeps();
                 check(rt, alloc, &self.system, terms, plan, workers, gate)
+            }
+        }
+    }
+
+    /// Judges a plan as [`check`](Problem::check) does, and starts no thread. `NoMemory` says nothing of the plan. Linear in the tasks,
+    /// the items and the claims.
+    pub fn check_alone(&self, alloc: Global, plan: &PlanFile) -> Result<Verdict, NoMemory>
+        ensures verdict { IfOk result (λ verdict.
+            (positions : List Position) × IsTermOf self.now positions × IsVerdict (system_of self.now) positions plan.now verdict) }
+        ensures best { IfOk result (λ verdict. (peak : ℕ) → verdict ≡ Yes peak →
+            (plan.now.peak ≡ peak) × IsBestTraversal (system_of self.now) plan.now.order peak) }
+    {
+        accepted_law();
+        forest_law();
+        tree_term();
+        match &self.origin {
+            Origin::Tree(tree) => {
+                tree.keeps();
+                let named = terms_of_tree(alloc, tree)?;
+                check_alone(alloc, &self.system, &named.terms, plan)
+            }
+            Origin::Workflow(terms) => {
+                terms.keeps();
+                check_alone(alloc, &self.system, terms, plan)
             }
         }
     }

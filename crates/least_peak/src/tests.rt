@@ -17,7 +17,7 @@ const FIVE: &[u8] = b"tree 1\nnodes 5\n2 1 9 1\n5 5 0 1\n4 1 9 1\n5 5 0 1\n0 0 0
 const BRANCHES: &[u8] =
     b"workflow 1\ntasks 4\ndata 4\ndata 1\ntask 0 1\ndata 3\ntask 6 1\ndata 4\ndata 1\ntask 0 1\ndata 3\ntask 6 1\npar 2\nend\n";
 
-// The plan has this peak, `check` accepts it, and its order replays to it.
+// The plan has this peak, `check` accepts it, also without a thread, and its order replays to it.
 fn check_plan<R: Abort + Threads + Sync>(
     rt: &R,
     alloc: Global,
@@ -28,6 +28,7 @@ fn check_plan<R: Abort + Threads + Sync>(
     assert_eq!(rt; plan.peak(), peak);
     let verdict = problem.check(rt, alloc, &plan, 2, &NoGate)?;
     assert_eq!(rt; verdict, Verdict::Yes(peak));
+    assert_eq!(rt; problem.check_alone(alloc, &plan)?, Verdict::Yes(peak));
     assert_eq!(rt; problem.replay(alloc, plan.order())?, peak);
     Ok(())
 }
