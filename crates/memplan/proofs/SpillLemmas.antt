@@ -2,7 +2,7 @@
 use Rattle.std.proofs.Common.{◌≡◌, ◌∙◌, ◌+◌, ◌<◌, ◌≤◌, ℕ, zero, suc, Bool, true, false, cond, List, [], ◌∷◌, ◌++◌, length, map, take, get_or, refl, sym, ap, subst, inl, inr, arith}
 use Rattle.std.specs.Prelude.{sum, nat_lt, decimal}
 use Rattle.std.specs.List.{filter, enumerate_from}
-use Rattle.std.proofs.lemmas.List.{take-length, map-append, append-nil}
+use Rattle.std.proofs.lemmas.List.{take_all, map-append, append-nil}
 use Rattle.std.proofs.lemmas.List.Elements.{filter_more}
 use Rattle.std.proofs.lemmas.List.FromFn.{length-enumerate_from, get_or-enumerate_from}
 use Rattle.std.proofs.lemmas.List.Sums.{sum_by-cons}
@@ -25,9 +25,8 @@ lines_before amounts i = map amount_line (filter is_spilled (take i (enumerate_f
 
 pub lines_of_all : (amounts : List ℕ) → lines_before amounts (length amounts) ≡ map amount_line (spilled_items amounts)
 lines_of_all amounts =
-    let whole = subst (λ (n : ℕ). take n (enumerate_from 1 amounts) ≡ enumerate_from 1 amounts) (length-enumerate_from 1 amounts)
-        (take-length (enumerate_from 1 amounts)) in
-    ap (λ (ps : List (ℕ × ℕ)). map amount_line (filter is_spilled ps)) whole
+    ap (λ (ps : List (ℕ × ℕ)). map amount_line (filter is_spilled ps))
+    (take_all (length amounts) (enumerate_from 1 amounts) (omega (arith, length-enumerate_from 1 amounts)))
 
 -- and of one more
 item_at : (amounts : List ℕ) (i : ℕ) → i < length amounts → get_or (enumerate_from 1 amounts) i (0, 0) ≡ (i + 1, get_or amounts i 0)
