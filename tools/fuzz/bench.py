@@ -6,6 +6,10 @@ from typing import NamedTuple, Optional
 
 DONE, NO, USAGE, FORMAT, LIMIT, BOUND, READ_FAULT, WRITE_FAULT, NO_MEMORY = range(9)
 
+WORKING_SET = 10
+
+STATUSES = {*range(9), WORKING_SET}
+
 COMPLAINTS = {
     USAGE: b"memplan: usage\n",
     READ_FAULT: b"memplan: read fault\n",

@@ -123,12 +123,26 @@ def simulate_options(draw: random.Random, bench: Bench, setting: Setting) -> Opt
     return options
 
 
-def near_peak(draw: random.Random, bench: Bench, setting: Setting, options: Options) -> int:
-    """A number at or round the peak of the order."""
+def peak_of(bench: Bench, setting: Setting, options: Options) -> int:
+    """The peak of the order, or some number where it has none."""
     bench.put(setting.files)
     told = bench.printed(["replay", *(f"{name}={value}" for name, value in setting.options + options)])
-    peak = int(told.split()[1]) if told else 10
+    return int(told.split()[1]) if told else 10
+
+
+def near_peak(draw: random.Random, bench: Bench, setting: Setting, options: Options) -> int:
+    """A number at or round the peak of the order."""
+    peak = peak_of(bench, setting, options)
     return max(0, peak + draw.choice([-1, 0, 0, 0, 1, 2, 10, peak]))
+
+
+def spill_options(draw: random.Random, bench: Bench, setting: Setting) -> Options:
+    options = replay_options(draw, bench, setting)
+    bound = draw.choice([0, 5, 11, 1000, 2**40, 2**60, 2**64 - 1])
+    if draw.random() < 0.8:
+        peak = peak_of(bench, setting, options)
+        bound = draw.randrange(peak // 2, peak + 1)
+    return [*options, ("--bound", str(bound))]
 
 
 def check_options(draw: random.Random, bench: Bench, setting: Setting) -> Options:
@@ -178,6 +192,7 @@ COMMANDS = {
     "plan": Command(ALL_INPUTS, plan_options),
     "check": Command(ALL_INPUTS, check_options),
     "simulate": Command(ALL_INPUTS, simulate_options),
+    "spill": Command(ALL_INPUTS, spill_options),
     "tree": Command(("matrix",), no_options),
     "post": Command(("tree", "tree", "matrix"), no_options),
     "demo": Command((), demo_options),

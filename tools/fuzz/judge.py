@@ -16,7 +16,9 @@ from bench import (
     NO,
     NO_MEMORY,
     READ_FAULT,
+    STATUSES,
     USAGE,
+    WORKING_SET,
     WRITE_FAULT,
     Bench,
     Ending,
@@ -75,14 +77,14 @@ class Judge:
     def wrongs(self) -> Iterator[str]:
         """All that is wrong with the case."""
         status, report, complaint = self.ending
-        if status not in range(9):
+        if status not in STATUSES:
             yield f"the status is {status}"
             return
         if complaint != COMPLAINTS.get(status, b""):
             yield f"standard error holds {complaint!r}"
         if status in (USAGE, READ_FAULT, NO_MEMORY) and report:
             yield "something is printed"
-        if status in (NO, FORMAT, LIMIT, BOUND) and not self.is_refusal():
+        if status in (NO, FORMAT, LIMIT, BOUND, WORKING_SET) and not self.is_refusal():
             yield "this is no refusal of the grammar"
         if self.bench.run(self.words) != self.ending:
             yield "the same words end otherwise"
@@ -90,7 +92,7 @@ class Judge:
         if refusal:
             if refusal != self.ending:
                 yield f"expected {refusal}"
-        elif status not in (DONE, NO, BOUND):
+        elif status not in (DONE, NO, BOUND, WORKING_SET):
             yield "all words and files are accepted"
         else:
             yield from getattr(self, f"{self.words[0]}_ends")()
@@ -105,8 +107,10 @@ class Judge:
         order = f"no order {count} (unknown|repeated|too-early|missing)"
         if self.ending.status == BOUND:
             return self.words[0] == "simulate" and bool(re.fullmatch(f"refused bound {count} {count}\n", self.text))
+        if self.ending.status == WORKING_SET:
+            return self.words[0] == "spill" and bool(re.fullmatch(f"refused working-set {count} {count} {count}\n", self.text))
         claim = f"no peak {count} {count}|no root {count}|no claim {count} (data|series|par|outside)"
-        lines = {"replay": order, "simulate": order, "check": f"{order}|{claim}"}
+        lines = {"replay": order, "simulate": order, "spill": order, "check": f"{order}|{claim}"}
         return self.words[0] in lines and bool(re.fullmatch(f"({lines[self.words[0]]})\n", self.text))
 
     # ---- refusals
@@ -148,7 +152,7 @@ class Judge:
 
     def expect(self, text: str) -> Iterator[str]:
         """The text of the report, and the status that it has."""
-        begins = {"no ": NO, "refused bound": BOUND}
+        begins = {"no ": NO, "refused bound": BOUND, "refused working-set": WORKING_SET}
         status = next((status for start, status in begins.items() if text.startswith(start)), DONE)
         if (self.ending.status, self.text) != (status, text):
             yield f"expected {status} {text!r}"
@@ -176,6 +180,20 @@ class Judge:
         elif "plan" in self.options:
             priority = plan_of(self.file("plan")).priority or order
         yield from self.expect(Simulation(system, order, priority, bound, int(self.options["workers"])).report())
+
+    def spill_ends(self) -> Iterator[str]:
+        system, order = system_of(self.bench, self.options), self.asked_order()
+        bound = int(self.options["bound"])
+        if refusal := system.fault(order) or system.working_set(order, bound):
+            yield from self.expect(refusal)
+            return
+        lines = [line.split() for line in self.text.splitlines()[2:-1]]
+        amounts = {int(item): int(amount) for item, amount in lines}
+        volume = system.least_volume(order, bound)
+        told = [f"{item} {amounts[item]}\n" for item in sorted(amounts) if amounts[item] > 0]
+        yield from self.expect(f"volume {volume}\nitems {len(told)}\n{''.join(told)}end\n")
+        if sum(amounts.values()) != volume or not system.is_spill_plan(order, bound, amounts):
+            yield "the amounts are no spill plan of this volume"
 
     def plan_ends(self) -> Iterator[str]:
         words, text = input_words(self.options), self.ending.report

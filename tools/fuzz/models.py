@@ -21,6 +21,7 @@ class System:
                 taken[taker] += size
             if maker is not None and taker is not None:
                 self.suppliers[taker].add(maker)
+        self.items, self.taken = items, taken
         self.needs = [extra + out - share for (extra, share, _), out in zip(tasks, made)]
         self.gains = [out - back for out, back in zip(made, taken)]
 
@@ -46,6 +47,45 @@ class System:
             memory += self.gains[number - 1]
             peak = max(peak, memory)
         return peak
+
+    def own_need(self, number: int) -> int:
+        """What a task takes up and needs beside it."""
+        return self.taken[number - 1] + self.needs[number - 1]
+
+    def working_set(self, order: list[int], bound: int) -> Optional[str]:
+        """The first step of a traversal that needs more for itself than the bound."""
+        for step, number in enumerate(order, 1):
+            if self.own_need(number) > bound:
+                return f"refused working-set {step} {self.own_need(number)} {bound}\n"
+        return None
+
+    def held(self, order: list[int]) -> list[list[int]]:
+        """For each step of a traversal the items, counted from 1, that are there all along it and are not taken up."""
+        place = {number - 1: step for step, number in enumerate(order)}
+        place[None] = -1
+        end = {**place, None: len(order)}
+        spans = [(place[maker], end[taker]) for _, maker, taker in self.items]
+        return [[item for item, (first, last) in enumerate(spans, 1) if first < step < last] for step in range(len(order))]
+
+    def is_spill_plan(self, order: list[int], bound: int, amounts: dict[int, int]) -> bool:
+        """Whether each step of a traversal fits, where so much of each item is on disk while it is held."""
+        if any(not 1 <= item <= len(self.items) or amount > self.items[item - 1][0] for item, amount in amounts.items()):
+            return False
+        kept = (sum(self.items[item - 1][0] - amounts.get(item, 0) for item in items) for items in self.held(order))
+        return all(self.own_need(number) + size <= bound for number, size in zip(order, kept))
+
+    def least_volume(self, order: list[int], bound: int) -> int:
+        """What has to be spilled where no step alone needs too much: from the last step back, of what is held the longest first."""
+        place = {number - 1: step for step, number in enumerate(order)}
+        place[None] = -1
+        amounts = dict.fromkeys(range(1, len(self.items) + 1), 0)
+        for number, items in reversed(list(zip(order, self.held(order)))):
+            left = {item: self.items[item - 1][0] - amounts[item] for item in items}
+            over = self.own_need(number) + sum(left.values()) - bound
+            for item in sorted(items, key=lambda item: place[self.items[item - 1][1]]):
+                amounts[item] += max(0, min(left[item], over))
+                over -= left[item]
+        return sum(amounts.values())
 
     def least_peak(self) -> int:
         """The least peak of all traversals, by the sets of tasks that are done."""

@@ -38,6 +38,8 @@ check --workflow branches.workflow --plan branches.plan --workers 2
 simulate --tree five.tree --order five.order --bound 11 --workers 2
 simulate --tree four.tree --order four.order --priority four.priority --bound 6 --workers 1
 simulate --tree five.tree --plan five.plan --bound 22 --workers 4096
+spill --tree five.tree --order five.order --bound 10
+spill --workflow branches.workflow --order branches.order --bound 12
 tree --matrix arrow.mtx
 tree --matrix arrow.mtx --perm arrow.perm --inplace yes
 tree --matrix grid.mtx --ordering mindeg --amalgamate 1
@@ -54,6 +56,7 @@ replay --tree five.tree --order two.order
 replay --tree five.tree --order none
 check --tree four.tree --plan five.plan
 simulate --tree five.tree --order five.order --bound 10 --workers 2
+spill --tree five.tree --order five.order --bound 9
 tree --matrix arrow.mtx --perm three.order
 plan --tree five.tree --print xml
 """

@@ -9,5 +9,6 @@ pub mod DemoLemmas
 pub mod OneInput
 pub mod OneFile
 pub mod UpgradeLemmas
+pub mod SpillLemmas
 pub mod OneReport
 pub mod SoundAnswer

@@ -19,13 +19,13 @@ use Rattle.postorder_best.specs.BestPostorder.{IsBestPostorder}
 use Rattle.sp_terms.specs.declared.position.Position.{Position}
 use Rattle.tree_input.specs.declared.node.Node.{Node}
 use Rattle.tree_input.specs.Tree.{IsTree, system_of_nodes}
-use Rattle.memplan.specs.Commands.{IsReport}
+use Rattle.memplan.specs.Commands.{IsReport, IsDecided}
 use Rattle.memplan.specs.Check.{IsCheckOf, verdict_answer}
 use Rattle.memplan.specs.Files.{Answer, AreAccepted, HasValue, IsRefused, IsFirstRefusal, IsOrderFrom, IsTreeOf, IsSystemOf, IsSystemWithTerm, order_refused}
 use Rattle.memplan.specs.Demo.{IsDemoOf}
 use Rattle.memplan.specs.Post.{IsPost, post_answer}
 use Rattle.memplan.specs.Replay.{IsReplayAnswer, IsReplayOf}
-use Rattle.memplan.specs.Request.{Request, replay, tree, post, check, planning, simulate, demo, upgrade, Upgrade, IsInRange, IsMakeable, TreeInput, matrix_named, Input, OrderSource, order_named, plan_named, PlanFormat, Simulation, FileRole, NamedFile, tree_input_files, input_files, source_file, priority_file, priority_files, files_of}
+use Rattle.memplan.specs.Request.{Request, replay, tree, post, check, planning, simulate, demo, upgrade, spill, Upgrade, IsInRange, IsMakeable, TreeInput, matrix_named, Input, OrderSource, order_named, plan_named, PlanFormat, Simulation, FileRole, NamedFile, tree_input_files, input_files, source_file, priority_file, priority_files, files_of}
 use Rattle.memplan.specs.Simulate.{IsOwnPriority, IsPriorityFrom, IsSimulation, IsSimulationOf, priority_or, setting_of, simulation_answer}
 use Rattle.memplan.specs.Tree.{tree_answer}
 use Rattle.memplan.specs.Upgrade.{Versioned, IsUpgradedFrom}
@@ -145,18 +145,19 @@ module _ (r : Reports) where
       one_simulation (setting_of system order s) priority a b (r.systems input mine system system is_system is_system).1 workers one.1 is
       (coe 1 0 (i. IsSimulation (setting_of (same.3 i) (orders i) s) (one.0 i) b) is')
 
-  pub one_report : (request : Request) (texts : List (List ℕ)) (a b : Answer) → IsInRange request → ((input : Input) (format : PlanFormat) → ¬ (request ≡ planning input format))
+  pub one_report : (request : Request) (texts : List (List ℕ)) (a b : Answer) → IsInRange request → IsDecided request
       → IsReport request texts a → IsReport request texts b → a ≡ b
-  one_report (replay input source) texts a b workers other is is' = replayed_once input source texts a b is is'
-  one_report (tree m) texts a b workers other (nodes, is, e) (nodes', is', e') = e ∙ ap tree_answer (r.trees (matrix_named m) texts nodes nodes' is is').0 ∙ sym e'
-  one_report (post input) texts a b workers other (nodes, is, best) (nodes', is', best') =
+  one_report (replay input source) texts a b workers decided is is' = replayed_once input source texts a b is is'
+  one_report (tree m) texts a b workers decided (nodes, is, e) (nodes', is', e') = e ∙ ap tree_answer (r.trees (matrix_named m) texts nodes nodes' is is').0 ∙ sym e'
+  one_report (post input) texts a b workers decided (nodes, is, best) (nodes', is', best') =
       let one = r.trees input texts nodes nodes' is is' in
       posted_once nodes a b one.1 best (subst (λ (ns : List Node). IsPost ns b) (sym one.0) best')
-  one_report (check input plan workers) texts a b has other is is' = checked_once input texts a b is is'
-  one_report (planning input format) texts a b workers other is is' = absurd (other input format refl)
-  one_report (simulate input source s) texts a b workers other is is' = simulated_once input source s texts a b workers.0 is is'
-  one_report (demo made) texts a b within other is is' = r.demos made a b within is is'
-  one_report (upgrade u) texts a b within other is is' = one_upgrade_answer r.upgrades u texts a b is is'
+  one_report (check input plan workers) texts a b has decided is is' = checked_once input texts a b is is'
+  one_report (planning input format) texts a b workers decided is is' = absurd decided
+  one_report (simulate input source s) texts a b workers decided is is' = simulated_once input source s texts a b workers.0 is is'
+  one_report (demo made) texts a b within decided is is' = r.demos made a b within is is'
+  one_report (upgrade u) texts a b within decided is is' = one_upgrade_answer r.upgrades u texts a b is is'
+  one_report (spill input source bound) texts a b within decided is is' = absurd decided
 
   -- ---- files that have values
 
@@ -194,6 +195,8 @@ module _ (r : Reports) where
       (source_accepted source mine text order is_order, priority_accepted input source s.priority mine text rest system order priority is_system is_priority)
   report_accepted (demo made) texts a is = tt
   report_accepted (upgrade u) texts a (value, is, e) = upgrade_accepted u texts value is
+  report_accepted (spill input source bound) texts a (mine, text, s, order, split, is_system, is_order, is) =
+      with_input input (source_file source ∷ []) texts mine (text ∷ []) s split is_system (source_accepted source mine text order is_order, tt)
 
 -- ---- refusals in turn
 

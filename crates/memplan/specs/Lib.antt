@@ -11,6 +11,7 @@ pub mod Plan
 pub mod Simulate
 pub mod Demo
 pub mod Upgrade
+pub mod Spill
 pub mod Commands
 pub mod Clauses
 pub mod Pages

@@ -79,6 +79,8 @@ pub data Request : Type 0 where
   demo : Demo → Request
   -- a file, as version 2
   upgrade : Upgrade → Request
+  -- what must go to disk where an order of the input's tasks runs within a bound
+  spill : Input → OrderSource → ℕ → Request
 
 -- ---- the options of a matrix
 
@@ -254,3 +256,4 @@ files_of (planning input format) = input_files input
 files_of (simulate input source s) = input_files input ++ source_file source ∷ priority_files (priority_file input) s.priority
 files_of (demo made) = []
 files_of (upgrade u) = upgrade_files u
+files_of (spill input source bound) = input_files input ++ source_file source ∷ []

@@ -59,3 +59,4 @@ request_view (commands.Plan input format) = requests.planning (input_view input)
 request_view (commands.Simulate names) = requests.simulate (input_view names.input) (source_view names.source) (simulation_view names)
 request_view (commands.Demo made) = requests.demo made
 request_view (commands.Upgrade u) = requests.upgrade (upgrade_view u)
+request_view (commands.Spill s) = requests.spill (input_view s.input) (source_view s.source) s.bound

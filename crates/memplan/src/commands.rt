@@ -6,6 +6,7 @@ pub mod plan;
 pub mod post;
 pub mod replay;
 pub mod simulate;
+pub mod spill;
 pub mod tree;
 pub mod upgrade;
 
@@ -25,7 +26,7 @@ use std::thread::Threads;
 
 // Each command, with the names of its options.
 #[rattlefmt::skip]
-static COMMANDS: [Shape; 8] = [
+static COMMANDS: [Shape; 9] = [
     Shape {
         name: "replay",
         options: &["order", "plan", "workflow", "tree", "matrix", "perm", "ordering", "shape", "amalgamate", "inplace"],
@@ -61,6 +62,10 @@ static COMMANDS: [Shape; 8] = [
         name: "upgrade",
         options: &["tree", "workflow", "plan", "priority"],
     },
+    Shape {
+        name: "spill",
+        options: &["order", "plan", "bound", "workflow", "tree", "matrix", "perm", "ordering", "shape", "amalgamate", "inplace"],
+    },
 ];
 
 fn command_of<'a>(line: &Line<'a>) -> Option<Request<'a>>
@@ -76,6 +81,7 @@ fn command_of<'a>(line: &Line<'a>) -> Option<Request<'a>>
         "simulate" => simulate::simulate_of(line),
         "demo" => demo::demo_of(line),
         "upgrade" => upgrade::upgrade_of(line),
+        "spill" => spill::spill_of(line),
         _ => None,
     }
 }
@@ -113,5 +119,6 @@ pub fn report<R: Threads + Sync, F: Files, G: Gate>(
         Request::Simulate(asked) => simulate::report_simulate(alloc, files, asked),
         Request::Demo(made) => Ok(demo::report_demo(rt, alloc, made, gate)?),
         Request::Upgrade(asked) => upgrade::report_upgrade(alloc, files, asked),
+        Request::Spill(asked) => spill::report_spill(alloc, files, asked),
     }
 }

@@ -5,13 +5,14 @@ ghost use Rattle.mp_system.specs.System.{IsSystem, TaskSystem};
 ghost use Rattle.sp_terms.specs.declared.position.Position.{Position};
 ghost use Rattle.tree_input.specs.Tree.{IsTree};
 ghost use Rattle.tree_input.specs.declared.node.Node.{Node};
-ghost use Rattle.memplan.specs.Commands.{IsAnswer};
+ghost use Rattle.memplan.specs.Commands.{IsAnswer, IsDecided};
 ghost use Rattle.memplan.specs.Check.{IsCertified};
 ghost use Rattle.memplan.specs.Files.{Answer, HasValue, IsRefused, IsSystemOf, IsSystemWithTerm, IsTreeOf};
 ghost use Rattle.memplan.specs.Demo.{IsDemoOf, IsShown};
 ghost use Rattle.memplan.specs.Plan.{IsBestPlan};
-ghost use Rattle.memplan.specs.Request.{FileRole, IsInRange, IsMakeable, Input, OrderSource, PlanFormat, Request, Simulation, TreeInput, Upgrade, check, demo, input_files, planning, simulate, tree_input_files, upgrade};
+ghost use Rattle.memplan.specs.Request.{FileRole, IsInRange, IsMakeable, Input, OrderSource, PlanFormat, Request, Simulation, TreeInput, Upgrade, check, demo, input_files, planning, simulate, spill, tree_input_files, upgrade};
 ghost use Rattle.memplan.specs.Simulate.{IsSimulated};
+ghost use Rattle.memplan.specs.Spill.{IsSpilled};
 ghost use Rattle.memplan.specs.Upgrade.{IsFileOf, IsUpgraded, IsUpgradedFrom, Versioned, text_2, upgrade_again};
 ghost use Rattle.memplan.specs.declared.commands.demo.Demo.{Demo};
 ghost use Rattle.memplan.specs.declared.status.Status.TheVariants.{Done};
@@ -111,10 +112,9 @@ fn one_upgrade()
 }
 
 /// A request has one answer over the texts of its files, and so the program prints what these decide; but `plan` may print any plan of
-/// least peak with a certificate.
+/// least peak with a certificate, and `spill` the amounts of any spill plan of least volume.
 pub fn one_answer()
-    ensures { (request : Request) (texts : List (List ℕ)) (one two : Answer) → IsInRange request →
-        ((input : Input) (format : PlanFormat) → ¬ (request ≡ planning input format)) →
+    ensures { (request : Request) (texts : List (List ℕ)) (one two : Answer) → IsInRange request → IsDecided request →
         IsAnswer request texts one → IsAnswer request texts two → one ≡ two }
 {
     one_input();
@@ -132,8 +132,8 @@ pub fn one_answer()
     one_upgrade();
 }
 
-/// What an answer says: a yes certifies, a plan is best, a trace is of a run that was simulated, and what was upgraded is what the printed
-/// file says. It follows from being an answer.
+/// What an answer says: a yes certifies, a plan is best, a trace is of a run that was simulated, what was upgraded is what the printed
+/// file says, and what is spilled is a spill plan of least volume. It follows from being an answer.
 pub fn what_answers_say()
     ensures certified { (input : Input) (plan : List ℕ) (workers : ℕ) (texts : List (List ℕ)) (answer : Answer) →
         IsAnswer (check input plan workers) texts answer → answer.status ≡ Done → IsCertified input texts answer.text }
@@ -145,6 +145,8 @@ pub fn what_answers_say()
         IsAnswer (demo made) texts answer → answer.status ≡ Done → IsShown made answer.text }
     ensures upgraded { (u : Upgrade) (texts : List (List ℕ)) (answer : Answer) →
         IsAnswer (upgrade u) texts answer → answer.status ≡ Done → IsUpgraded u texts answer.text }
+    ensures spilled { (input : Input) (source : OrderSource) (bound : ℕ) (texts : List (List ℕ)) (answer : Answer) →
+        IsAnswer (spill input source bound) texts answer → answer.status ≡ Done → IsSpilled input source bound texts answer.text }
 {
     one_input();
     tree_laws::tree_term();

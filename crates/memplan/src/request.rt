@@ -7,6 +7,7 @@ use crate::commands::check::Check;
 use crate::commands::demo::Demo;
 use crate::commands::replay::Replay;
 use crate::commands::simulate::Simulation;
+use crate::commands::spill::Spilling;
 use crate::commands::upgrade::Upgrade;
 use assembly_tree::Shape;
 use command_line::Line;
@@ -83,6 +84,8 @@ pub enum Request<'a> {
     Demo(Demo),
     /// A file, as version 2.
     Upgrade(Upgrade<'a>),
+    /// What must go to disk where the order runs within the bound.
+    Spill(Spilling<'a>),
 }
 
 // ---- the options of a matrix

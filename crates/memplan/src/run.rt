@@ -1,10 +1,11 @@
 ghost use Rattle.std.specs.Prelude.{◌≡◌, ◌⊎◌, ◌<◌, ◌≤◌, ℕ, List, length, take};
 ghost use Rattle.mp_outside.specs.Outside.{Rose, Appended};
-ghost use Rattle.memplan.specs.Request.{Input, OrderSource, PlanFormat, Request, Simulation, check, demo, planning, simulate, files_of};
+ghost use Rattle.memplan.specs.Request.{Input, OrderSource, PlanFormat, Request, Simulation, check, demo, planning, simulate, spill, files_of};
 ghost use Rattle.memplan.specs.Check.{IsCertified};
 ghost use Rattle.memplan.specs.Demo.{IsShown};
 ghost use Rattle.memplan.specs.Plan.{IsBestPlan};
 ghost use Rattle.memplan.specs.Simulate.{IsSimulated};
+ghost use Rattle.memplan.specs.Spill.{IsSpilled};
 ghost use Rattle.memplan.specs.declared.commands.demo.Demo.{Demo};
 ghost use Rattle.memplan.specs.Pages.{answer_of, status_of};
 ghost use Rattle.memplan.specs.Clauses.{Asks, AsksNothing, AreTold, HasText, IsAnswered, IsCutShort, HasFailed, AreQuiet};
@@ -54,6 +55,13 @@ pub fn run_words<R: Threads + Sync, F: Files, S: Sink, G: Gate>(
         → Asks words.now (simulate input source s)
         → (texts : List (List ℕ)) → AreTold (F.bytes_of files.old) (files_of (simulate input source s)) texts
         → (printed : List ℕ) × IsSimulated input source s texts printed × Appended (S.written sink.old) (S.written sink.new) printed }
+
+    // where amounts were printed, they are a spill plan of the input's system, the order and the bound, whose volume is the printed one, and
+    // no spill plan of these has a lower one
+    ensures spilled { result ≡ Status.Done → (input : Input) (source : OrderSource) (bound : ℕ)
+        → Asks words.now (spill input source bound)
+        → (texts : List (List ℕ)) → AreTold (F.bytes_of files.old) (files_of (spill input source bound)) texts
+        → (printed : List ℕ) × IsSpilled input source bound texts printed × Appended (S.written sink.old) (S.written sink.new) printed }
 
     // where a demo was made, what was printed is its summary: the checker says yes, and no traversal of the made system has a lower peak
     // than the one that was printed
@@ -127,5 +135,6 @@ fn status_of(kind: PageKind) -> Status
         PageKind::Format => Status::Format,
         PageKind::Limit => Status::Limit,
         PageKind::Bound => Status::Bound,
+        PageKind::WorkingSet => Status::WorkingSet,
     }
 }

@@ -22,9 +22,11 @@ pub enum Status {
     WriteFault,
     /// Memory ran out; nothing was written.
     NoMemory,
+    /// A step of the order needs more for itself than the given bound.
+    WorkingSet,
 }
 
-/// The number with which the program ends: 0 to 8, in the order of the statuses.
+/// The number with which the program ends: 0 to 8, in the order of the statuses, and 10.
 pub fn code_of(status: Status) -> u8
     ensures { result ≡ exit_code_of status }
 {
@@ -38,6 +40,7 @@ pub fn code_of(status: Status) -> u8
         Status::ReadFault => 6,
         Status::WriteFault => 7,
         Status::NoMemory => 8,
+        Status::WorkingSet => 10,
     }
 }
 
@@ -50,7 +53,12 @@ pub fn complaint(status: Status) -> Option<&'static str>
         Status::ReadFault => Some("memplan: read fault"),
         Status::WriteFault => Some("memplan: write fault"),
         Status::NoMemory => Some("memplan: no memory"),
-        Status::Done | Status::No | Status::Format | Status::Limit | Status::Bound => None,
+        Status::Done
+        | Status::No
+        | Status::Format
+        | Status::Limit
+        | Status::Bound
+        | Status::WorkingSet => None,
     }
 }
 
@@ -71,6 +79,7 @@ mod tests {
             (Status::ReadFault, 6, Some("memplan: read fault")),
             (Status::WriteFault, 7, Some("memplan: write fault")),
             (Status::NoMemory, 8, Some("memplan: no memory")),
+            (Status::WorkingSet, 10, None),
         ];
         for (status, number, said) in ends {
             assert_eq!(rt; code_of(status), number);

@@ -10,6 +10,7 @@ mod meeting;
 mod plans;
 mod replays;
 mod simulations;
+mod spills;
 mod upgrades;
 mod usage;
 

@@ -1,6 +1,7 @@
 //! Loads and writes that fail, files that are not held, and sinks that are full.
 
 use super::simulations::TIGHT;
+use super::spills::BOTH;
 use super::{
     ARROW, Case, FIVE, FOUR, ORDER, PLAN, Texts, check_cases, check_run, files_of, run_into,
 };
@@ -19,6 +20,8 @@ const REPLAY: &str = "replay --tree t --order o";
 const PLANNING: &str = "plan --tree t";
 
 const SIMULATE: &str = "simulate --tree t --order o --priority p --bound 11 --workers 2";
+
+const SPILL: &str = "spill --tree t --order o --bound 10";
 
 // What a run without faults prints. A plan may be any of least peak: whether it is one is tested elsewhere.
 fn printed(
@@ -66,6 +69,7 @@ fn each_load_fails_in_turn(rt: HostRuntime) -> Result<(), Fail> {
     let text = str::from_utf8(plan.written()).expect(&rt, "a plan is text");
     check_loads(&rt, alloc, PLANNING, tree, text)?;
     check_loads(&rt, alloc, SIMULATE, tree + numbers + numbers, TIGHT)?;
+    check_loads(&rt, alloc, SPILL, tree + numbers, BOTH)?;
     Ok(())
 }
 
@@ -74,11 +78,12 @@ fn each_load_fails_in_turn(rt: HostRuntime) -> Result<(), Fail> {
 const NOT_HELD: &[Case] = &[
     (&["replay --tree t --order none"], &[("t", FIVE)], ReadFault, ""),
     (&["replay --tree t --order none", "replay --tree t --plan none", "check --tree t --plan none",
-            "simulate --tree t --order none --priority none --bound 0 --workers 1"],
+            "simulate --tree t --order none --priority none --bound 0 --workers 1", "spill --tree t --order none --bound 0"],
         &[("t", "tree 1\nnodes 0\n")], Format, "refused format tree count 2\n"),
     (&["replay --tree none --order o", "replay --tree none --plan o", "check --tree none --plan o", "replay --workflow none --order o",
             "replay --matrix none --order o", "plan --tree none", "post --tree none", "tree --matrix none", "upgrade --tree none",
-            "upgrade --workflow none", "upgrade --plan none --priority o"],
+            "upgrade --workflow none", "upgrade --plan none --priority o", "spill --tree none --order o --bound 0",
+            "spill --workflow none --plan o --bound 0"],
         &[("o", "x")], ReadFault, ""),
     (&["tree --matrix m --perm none", "plan --matrix m --perm none", "post --matrix m --perm none"], &[("m", ARROW)], ReadFault, ""),
     (&["tree --matrix m --perm none", "replay --matrix m --perm none --order none"], &[("m", "")], Format,
@@ -94,6 +99,7 @@ const NOT_HELD: &[Case] = &[
         &[("t", FOUR), ("o", "1 1\n"), ("p", "x")], ReadFault, ""),
     (&["upgrade --plan p --priority none"], &[("p", "plan 3\n")], Format, "refused format plan header 1\n"),
     (&["upgrade --plan p --priority none"], &[("p", PLAN)], ReadFault, ""),
+    (&["spill --tree t --order none --bound 11", "spill --tree t --plan none --bound 11"], &[("t", FIVE)], ReadFault, ""),
 ];
 
 #[test]
@@ -161,6 +167,7 @@ fn sinks_that_fail_and_that_are_full(rt: HostRuntime) -> Result<(), Fail> {
         (REPLAY, b"peak 11\n".as_slice()),
         (PLANNING, plan.written()),
         (SIMULATE, TIGHT.as_bytes()),
+        (SPILL, BOTH.as_bytes()),
     ];
     for (run, text) in texts {
         check_writes(&rt, rt.alloc(), run, 1, text)?;

@@ -103,6 +103,29 @@ const SIMULATE: &[&str] = &[
     "simulate --tree t --order o --bound 11 --workers 2 --print text",
 ];
 
+// Without fault: `spill --tree t --order o --bound 11`.
+const SPILL: &[&str] = &[
+    "spill",
+    "spill --tree t --order o",
+    "spill --tree t --bound 11",
+    "spill --order o --bound 11",
+    "spill --tree t --order o --plan o --bound 11",
+    "spill --tree t --order o --bound",
+    "spill --tree t --order o --bound ''",
+    "spill --tree t --order o --bound -1",
+    "spill --tree t --order o --bound 1.5",
+    "spill --tree t --order o --bound eleven",
+    "spill --tree t --order o --bound 18446744073709551616",
+    "spill --tree t --order o --bound 11 --bound 11",
+    "spill --tree t --order o --bound 11 --workers 2",
+    "spill --tree t --order o --bound 11 --priority o",
+    "spill --tree t --order o --bound 11 --print text",
+    "spill --tree t --order o --bound 11 --workflow t",
+    "spill --tree t --order o --bound 11 --shape square",
+    "spill --workflow t --order o --bound 11 --inplace yes",
+    "spill t --order o --bound 11",
+];
+
 const UPGRADE: &[&str] = &[
     "upgrade",
     "upgrade --tree",
@@ -131,6 +154,7 @@ const USAGE: &[Case] = &[
     (CHECK, &[("t", FIVE), ("p", PLAN)], Usage, ""),
     (SIMULATE, &[("t", FIVE), ("o", ORDER)], Usage, ""),
     (UPGRADE, &[("t", FIVE), ("p", PLAN), ("o", ORDER)], Usage, ""),
+    (SPILL, &[("t", FIVE), ("o", ORDER)], Usage, ""),
 ];
 
 #[test]

@@ -1,18 +1,18 @@
 use Rattle.std.proofs.Common.{◌≡◌, ℕ, List, [], inl, inr}
-use Rattle.memplan.specs.Commands.{IsAnswer}
+use Rattle.memplan.specs.Commands.{IsAnswer, IsDecided}
 use Rattle.memplan.specs.Files.{Answer, HasValue, IsRefused}
-use Rattle.memplan.specs.Request.{Request, FileRole, IsInRange, Input, PlanFormat, planning, files_of}
+use Rattle.memplan.specs.Request.{Request, FileRole, IsInRange, files_of}
 use Rattle.memplan.proofs.OneReport.{Reports, one_report, report_accepted, one_first_refusal, none_refused}
 use Rattle.memplan.proofs.laws.one_answer.Goals as goal
 
 module _ (r : Reports)
     (not_both : (role : FileRole) (earlier : List (List ℕ)) (text : List ℕ) (answer : Answer) → HasValue role earlier text → IsRefused role earlier text answer → ⊥)
     (one_refusal : (role : FileRole) (earlier : List (List ℕ)) (text : List ℕ) (a b : Answer) → IsRefused role earlier text a → IsRefused role earlier text b → a ≡ b) where
-  one : (request : Request) (texts : List (List ℕ)) (a b : Answer) → IsInRange request → ((input : Input) (format : PlanFormat) → ¬ (request ≡ planning input format)) → IsAnswer request texts a → IsAnswer request texts b → a ≡ b
-  one request texts a b workers other (inl is) (inl is') = one_first_refusal not_both one_refusal (files_of request) [] texts a b is is'
-  one request texts a b workers other (inl is) (inr is') = absurd (none_refused not_both one_refusal (files_of request) [] texts a (report_accepted r request texts b is') is)
-  one request texts a b workers other (inr is) (inl is') = absurd (none_refused not_both one_refusal (files_of request) [] texts b (report_accepted r request texts a is) is')
-  one request texts a b workers other (inr is) (inr is') = one_report r request texts a b workers other is is'
+  one : (request : Request) (texts : List (List ℕ)) (a b : Answer) → IsInRange request → IsDecided request → IsAnswer request texts a → IsAnswer request texts b → a ≡ b
+  one request texts a b range decided (inl is) (inl is') = one_first_refusal not_both one_refusal (files_of request) [] texts a b is is'
+  one request texts a b range decided (inl is) (inr is') = absurd (none_refused not_both one_refusal (files_of request) [] texts a (report_accepted r request texts b is') is)
+  one request texts a b range decided (inr is) (inl is') = absurd (none_refused not_both one_refusal (files_of request) [] texts b (report_accepted r request texts a is) is')
+  one request texts a b range decided (inr is) (inr is') = one_report r request texts a b range decided is is'
 
 pub returns : goal.returns
 returns c =

@@ -11,4 +11,4 @@ pub returns-clause-only : goal.returns-clause-only
 returns-clause-only c = λ u texts name one two is done other.
     let again = upgrade (upgrade_again u name) in
     let same = inr (printed_again u texts name one done (c.what_answers_say.ensures.upgraded u texts one is done)) in
-    sym (c.one_answer.ensures again (one.text ∷ []) one two tt (λ input format e. absurd (cc e)) same other)
+    sym (c.one_answer.ensures again (one.text ∷ []) one two tt tt same other)

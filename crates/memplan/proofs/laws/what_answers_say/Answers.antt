@@ -1,8 +1,9 @@
 use Rattle.std.proofs.Common.{[], inl, inr}
-use Rattle.memplan.specs.Request.{check, planning, simulate, demo, upgrade, files_of}
+use Rattle.memplan.specs.Request.{check, planning, simulate, demo, upgrade, spill, files_of}
 use Rattle.memplan.proofs.RunLemmas.{first_refusal}
 use Rattle.memplan.proofs.SoundAnswer.{certified, best, simulated}
 use Rattle.memplan.proofs.UpgradeLemmas.{upgraded}
+use Rattle.memplan.proofs.SpillLemmas.{spilled}
 use Rattle.memplan.proofs.laws.what_answers_say.Goals as goal
 
 pub returns-clause-certified : goal.returns-clause-certified
@@ -35,4 +36,10 @@ pub returns-clause-upgraded : goal.returns-clause-upgraded
 returns-clause-upgraded c = λ u texts answer is done. elim is [
   | inl refused ↦ absurd (first_refusal (files_of (upgrade u)) [] texts answer refused done)
   | inr report ↦ upgraded c.one_upgrade.ensures.file u texts answer report
+]
+
+pub returns-clause-spilled : goal.returns-clause-spilled
+returns-clause-spilled c = λ input source bound texts answer is done. elim is [
+  | inl refused ↦ absurd (first_refusal (files_of (spill input source bound)) [] texts answer refused done)
+  | inr report ↦ spilled input source bound texts answer report done
 ]

@@ -1,0 +1,122 @@
+//! `spill`: what must go to disk where an order of an input's tasks runs within a bound below its peak.
+
+ghost use Rattle.std.specs.Prelude.{◌≡◌, ◌≤◌, ◌++◌, ℕ, List, IfOk, IfSome, OnOk, IsTrue, length, map, option_map};
+ghost use Rattle.mp_text.specs.Report.{is_line_start, text_of_lines};
+ghost use Rattle.least_peak.specs.Problem.{system_of};
+ghost use Rattle.memplan.specs.Spill.{spill_of, spilled_items, amount_line, spill_answer, IsSpillAnswer};
+ghost use Rattle.memplan.specs.Judged.{IsReported};
+ghost use Rattle.memplan.specs.Pages.{answer_of};
+ghost use Rattle.memplan.specs.Request.{IsInRange, spill as spilling};
+ghost use Rattle.memplan.specs.RequestViews.{input_view, source_view, request_view};
+
+use crate::inputs::judge_ordered;
+use crate::page::{Page, PageKind, line_page, order_page, print_count, print_end};
+use crate::request::{Input, OrderSource, Request, input_of, number_given, source_of};
+use crate::stop::Stop;
+use command_line::Line;
+use least_peak::Problem;
+use mp_outside::Files;
+use mp_text::Report;
+use mp_text::Token::{Number, Word};
+use mp_text::laws::printed_lines;
+use spill_plan::{Spill, SpillRefusal};
+use std::alloc::{AllocError, Global};
+
+/// An input, where its order stands, and in how much memory it is to run.
+#[derive(Clone, Copy, Debug)]
+pub struct Spilling<'a> {
+    pub input: Input<'a>,
+    pub source: OrderSource<'a>,
+    /// At most so much memory.
+    pub bound: u64,
+}
+
+/// `spill`, an input, an order of its tasks, and the bound of its run.
+pub fn spill_of<'a>(line: &Line<'a>) -> Option<Request<'a>>
+    ensures value { option_map request_view result ≡ spill_of line.now.options }
+    ensures range { IfSome result (λ request. IsInRange (request_view request)) }
+{
+    let input = input_of(line)?;
+    let source = source_of(line.value("order"), line.value("plan"))?;
+    let bound = number_given(line.value("bound"))?;
+    Some(Request::Spill(Spilling {
+        input,
+        source,
+        bound,
+    }))
+}
+
+// ---- the report
+
+// Of how many items some is spilled.
+fn spilled_count(amounts: &[u64]) -> u64
+    ensures { result ≡ length (spilled_items amounts.now) }
+{
+    amounts.iter().filter(|amount| **amount > 0).count() as u64
+}
+
+// `ITEM AMOUNT` for each of them.
+fn print_amounts(amounts: &[u64], report: &mut Report) -> Result<(), AllocError>
+    requires { IsTrue (is_line_start report.old) }
+    ensures start { OnOk result (IsTrue (is_line_start report.new)) }
+    ensures text { OnOk result (report.new ≡ report.old ++ text_of_lines (map amount_line (spilled_items amounts.now))) }
+{
+    printed_lines();
+    for (place, amount) in amounts.iter().enumerate() {
+        if *amount > 0 {
+            report.line(&[Number(place as u64 + 1), Number(*amount)])?;
+        }
+    }
+    Ok(())
+}
+
+// `volume V`, `items K`, the items, `end`
+fn amounts_page(alloc: Global, spill: &Spill) -> Result<Page, AllocError>
+    ensures { IfOk result (λ page. answer_of page ≡ spill_answer spill.now.volume spill.now.amounts.items) }
+{
+    printed_lines();
+    let mut report = Report::new(alloc);
+    print_count("volume", spill.volume, &mut report)?;
+    print_count("items", spilled_count(&spill.amounts), &mut report)?;
+    print_amounts(&spill.amounts, &mut report)?;
+    print_end(&mut report)?;
+    let kind = PageKind::Done;
+    Ok(Page { kind, report })
+}
+
+// What goes to disk, or why the order cannot run within the bound.
+fn spill_page(
+    alloc: Global,
+    problem: &Problem,
+    order: &[u32],
+    bound: u64,
+) -> Result<Page, AllocError>
+    ensures { IfOk result (λ page. IsSpillAnswer (system_of problem.now) order.now bound (answer_of page)) }
+{
+    match spill_plan::spill(alloc, problem.system(), order, bound) {
+        Ok(spill) => amounts_page(alloc, &spill),
+        Err(SpillRefusal::Order(fault)) => order_page(alloc, fault),
+        Err(SpillRefusal::WorkingSet { step, need, bound }) => {
+            let (refused, kind) = (Word("refused"), Word("working-set"));
+            let words = [refused, kind, Number(step), Number(need), Number(bound)];
+            line_page(alloc, PageKind::WorkingSet, &words)
+        }
+        Err(SpillRefusal::NoMemory) => Err(AllocError),
+    }
+}
+
+/// The least that goes to disk, or why the order cannot run within the bound.
+pub fn report_spill<F: Files>(
+    alloc: Global,
+    files: &mut F,
+    asked: Spilling<'_>,
+) -> Result<Page, Stop>
+    ensures told { IsReported (F.bytes_of files.old) (F.faults_of files.old) (F.faults_of files.new)
+        (spilling (input_view asked.entry.input) (source_view asked.entry.source) asked.entry.bound) result }
+    ensures same { (other : List ℕ) → F.bytes_of files.new other ≡ F.bytes_of files.old other }
+    ensures later { (other : List ℕ) → F.faults_of files.old other ≤ F.faults_of files.new other }
+{
+    let ordered = judge_ordered(alloc, files, asked.input, asked.source)?;
+    let order = ordered.order.numbers();
+    Ok(spill_page(alloc, &ordered.problem, order, asked.bound)?)
+}
