@@ -2,6 +2,7 @@
 use Rattle.std.proofs.Common.{◌≡◌, ◌∙◌, ◌+◌, ◌<◌, ◌≤◌, ℕ, zero, suc, Bool, true, false, cond, List, [], ◌∷◌, ◌++◌, length, map, take, get_or, refl, sym, ap, subst, inl, inr, arith}
 use Rattle.std.specs.Prelude.{sum, nat_lt, decimal}
 use Rattle.std.specs.List.{filter, enumerate_from}
+use Rattle.std.proofs.lemmas.Bool.{lt-ltb, le-ltb}
 use Rattle.std.proofs.lemmas.List.{take_all, map-append, append-nil}
 use Rattle.std.proofs.lemmas.List.Elements.{filter_more}
 use Rattle.std.proofs.lemmas.List.FromFn.{length-enumerate_from, get_or-enumerate_from}
@@ -42,17 +43,17 @@ one_more amounts i h b is =
     ∙ map-append amount_line (filter is_spilled (take i all)) (cond (is_spilled (get_or all i (0, 0))) (get_or all i (0, 0) ∷ []) [])
     ∙ ap (λ (ps : List (ℕ × ℕ)). lines_before amounts i ++ map amount_line ps) (coe 0 1 (j. cond (is_spilled (get_or all i (0, 0))) (get_or all i (0, 0) ∷ []) [] ≡ cond (test j) (here j ∷ []) []) refl)
 
-pub skipped : (amounts : List ℕ) (i : ℕ) → i < length amounts → nat_lt 0 (get_or amounts i 0) ≡ false → lines_before amounts (i + 1) ≡ lines_before amounts i
-skipped amounts i h none = one_more amounts i h false none ∙ append-nil (lines_before amounts i)
+pub skipped : (amounts : List ℕ) (i : ℕ) → i < length amounts → get_or amounts i 0 ≤ 0 → lines_before amounts (i + 1) ≡ lines_before amounts i
+skipped amounts i h none = one_more amounts i h false (le-ltb 0 (get_or amounts i 0) none) ∙ append-nil (lines_before amounts i)
 
 pub printed : ((text : List ℕ) (lines : List (List (List ℕ))) (line : List (List ℕ)) → (text ++ text_of_lines lines) ++ line_text line ≡ text ++ text_of_lines (lines ++ line ∷ []))
-    → (amounts : List ℕ) (i : ℕ) → i < length amounts → nat_lt 0 (get_or amounts i 0) ≡ true → (start before after : List ℕ)
+    → (amounts : List ℕ) (i : ℕ) → i < length amounts → 0 < get_or amounts i 0 → (start before after : List ℕ)
     → before ≡ start ++ text_of_lines (lines_before amounts i) → after ≡ before ++ line_text (decimal (i + 1) ∷ decimal (get_or amounts i 0) ∷ [])
     → after ≡ start ++ text_of_lines (lines_before amounts (i + 1))
 printed more amounts i h some start before after was is =
     let line = decimal (i + 1) ∷ decimal (get_or amounts i 0) ∷ [] in
     is ∙ ap (λ (t : List ℕ). t ++ line_text line) was ∙ more start (lines_before amounts i) line
-    ∙ ap (λ (ls : List (List (List ℕ))). start ++ text_of_lines ls) (sym (one_more amounts i h true some))
+    ∙ ap (λ (ls : List (List (List ℕ))). start ++ text_of_lines ls) (sym (one_more amounts i h true (lt-ltb 0 (get_or amounts i 0) some)))
 
 -- as many as there are amounts above 0
 pub as_many : (first : ℕ) (amounts : List ℕ) → length (filter (λ a. nat_lt 0 a) amounts) ≡ length (filter is_spilled (enumerate_from first amounts))
