@@ -1,4 +1,4 @@
-use Rattle.std.proofs.Common.{◌≡◌, ◌-◌, length, take, drop, arith, rules, sym, ap, ◌∙◌}
+use Rattle.std.proofs.Common.{◌-◌, length, take, drop, arith, rules, sym, ap, ◌∙◌}
 use Rattle.std.proofs.lemmas.List.{at_drop_all, take_all, length-drop, take-append-drop}
 use Rattle.mp_text.specs.Text.{number_from}
 use Rattle.mp_text.proofs.TextLemmas.{number_of-empty, number_of-filled, number_from-nil}
