@@ -17,3 +17,6 @@ pub mod ChildLemmas
 pub mod OrderLemmas
 pub mod PositionLemmas
 pub mod ReaderLaws
+pub mod NodeLines
+pub mod PlainLemmas
+pub mod RowsAhead
