@@ -1,7 +1,8 @@
 pub mod TableLemmas
 pub mod PartnerLemmas
+pub mod GroupLemmas
 pub mod NumberLists
-pub mod TurnLemmas
+pub mod SortLemmas
 pub mod PatternLemmas
 pub mod ReadingLemmas
 pub mod SameRows

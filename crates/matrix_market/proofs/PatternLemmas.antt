@@ -1,14 +1,15 @@
 -- Patterns and pairs: what pairs name, and which rows are their pattern.
-use Rattle.std.proofs.Common.{◌≡◌, ℕ, zero, suc, ◌+◌, ◌≤◌, inl, inr, Bool, true, false, not, ◌||◌, ◌&&◌, eqb, List, [], ◌∷◌, length, drop, refl, sym, ap, ◌∙◌, arith, All, length-drop}
+use Rattle.std.proofs.Common.{◌≡◌, ℕ, zero, suc, ◌+◌, ◌≤◌, inl, inr, Bool, true, false, not, ◌||◌, ◌&&◌, eqb, List, [], ◌∷◌, length, drop, refl, sym, ap, ◌∙◌, arith, All, IsPermutation, length-drop}
 use Rattle.std.specs.List.{list_any}
 use Rattle.std.specs.List.Sorted.{IsStrictlyIncreasing}
 use Rattle.std.proofs.lemmas.Bool.{eq-eqb, cases_eq, cases_lt, cases_Bool, eqb-true, and_parts, or_cases, false_from_ne_true}
 use Rattle.std.proofs.lemmas.List.Folds.{list_any-append}
+use Rattle.std.proofs.lemmas.List.Sorted.{list_any-IsPermutation}
 use Rattle.std.proofs.lemmas.Grind.{get_or_after_one}
 use Rattle.std.proofs.lemmas.Bool.Decides.{nat_tests}
 use Rattle.matrix_market.specs.Pattern.{neighbours_of, has, is_joined, names, are_named, IsPairWithin, IsPatternOf}
 use Rattle.matrix_market.specs.Table.{Rooms, list_at}
-use Rattle.matrix_market.specs.Partners.{partner, partners, IsPairBelow, IsTurned}
+use Rattle.matrix_market.specs.Partners.{partner, partners, IsPairBelow}
 use Rattle.matrix_market.proofs.NumberLists.{eqb-same}
 
 -- ---- what pairs name
@@ -101,28 +102,19 @@ is_pattern_of order pairs rows few within order_is rising joined = record {
 pub neighbours_in : (table : Rooms) (i : ℕ) → neighbours_of (drop 1 table.lists) (suc i) ≡ list_at table (suc i)
 neighbours_in table i = let one : 1 + i ≡ suc i = omega arith in get_or_after_one table.lists i [] ∙ ap (list_at table) one
 
-pub turned_pattern : (order : ℕ) (pairs : List (ℕ × ℕ)) (from into : Rooms) → (1 ≤ order) × (order ≤ 1000000) → All (IsPairWithin order) pairs
-    → ((v : ℕ) → list_at from v ≡ partners pairs v) → length into.lists ≡ order + 1 → IsTurned from into (order + 1) [] → IsPatternOf order pairs (drop 1 into.lists)
-turned_pattern order pairs from into few within are count turned =
-    is_pattern_of order pairs (drop 1 into.lists) few within (omega (arith, length-drop 1 into.lists)) rising joined where
-      rising : (v : ℕ) → IsStrictlyIncreasing (neighbours_of (drop 1 into.lists) v)
+pub sorted_pattern : (order : ℕ) (pairs moved : List (ℕ × ℕ)) (table : Rooms) → (1 ≤ order) × (order ≤ 1000000) → All (IsPairWithin order) pairs
+    → IsPermutation pairs moved → length table.lists ≡ order + 1 → ((v : ℕ) → IsStrictlyIncreasing (list_at table v))
+    → ((v x : ℕ) → has (list_at table v) x ≡ has (partners moved v) x) → IsPatternOf order pairs (drop 1 table.lists)
+sorted_pattern order pairs moved table few within is_moved count sorted same =
+    is_pattern_of order pairs (drop 1 table.lists) few within (omega (arith, length-drop 1 table.lists)) rising joined where
+      rising : (v : ℕ) → IsStrictlyIncreasing (neighbours_of (drop 1 table.lists) v)
       rising zero = λ k lt. absurd (omega arith)
-      rising (suc i) = rw (neighbours_in into i) (turned.rising (suc i))
+      rising (suc i) = rw (neighbours_in table i) (sorted (suc i))
 
-      not_named : (a b : ℕ) → (BothWithin order a b → ⊥) → are_named pairs a b ≡ false
-      not_named a b outside = false_from_ne_true (are_named pairs a b) (λ named. outside (named_within order pairs a b within named))
+      moved_named : (a b : ℕ) → are_named moved a b ≡ are_named pairs a b
+      moved_named a b = ap (λ (named : Bool). not (eqb a b) && named) (sym (list_any-IsPermutation (names a b) pairs moved is_moved))
 
-      joined : (a b : ℕ) → is_joined (drop 1 into.lists) a b ≡ are_named pairs a b
-      joined zero b = sym (not_named zero b (λ w. absurd (let some = w.0.0 in omega arith)))
+      joined : (a b : ℕ) → is_joined (drop 1 table.lists) a b ≡ are_named pairs a b
+      joined zero b = sym (false_from_ne_true (are_named pairs zero b) (λ named. absurd (let w = named_within order pairs zero b within named in let some = w.0.0 in omega arith)))
       joined (suc i) b =
-          ap (λ (l : List ℕ). has l b) (neighbours_in into i)
-          ∙ elim (cases_lt b (order + 1)) [
-            | inl below ↦ turned.before (suc i) b below ∙ rw (are b) (partners_named pairs b (suc i)) ∙ named_flip pairs b (suc i)
-            | inr above ↦ past above
-          ] where
-            past : order + 1 ≤ b → has (list_at into (suc i)) b ≡ are_named pairs (suc i) b
-            past above =
-                elim (cases_eq b (order + 1)) [
-                  | inl last ↦ rw last (turned.now (suc i))
-                  | inr other ↦ turned.after (suc i) b (omega arith)
-                ] ∙ sym (not_named (suc i) b (λ w. absurd (let most = w.1.1 in omega arith)))
+          ap (λ (l : List ℕ). has l b) (neighbours_in table i) ∙ same (suc i) b ∙ partners_named moved (suc i) b ∙ moved_named (suc i) b

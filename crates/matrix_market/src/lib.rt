@@ -1,12 +1,14 @@
 //! Patterns of symmetric matrices, and matrix files in the coordinate format of Matrix Market.
 #![tactic(auto)]
 
+mod groups;
 mod kind;
 pub mod laws;
 mod lines;
 mod pairs;
 mod pattern;
 mod reader;
+mod sorting;
 mod stage;
 mod table;
 #[cfg(test)]

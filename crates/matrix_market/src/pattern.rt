@@ -5,7 +5,8 @@ ghost use Rattle.limits.specs.Limits.{most_order, most_entries};
 ghost use Rattle.matrix_market.specs.Pattern.{IsPattern, IsPatternOf, IsPairWithin, neighbours_of};
 
 use crate::NoMemory;
-use crate::pairs::{partner_counts, partner_lists, turned};
+use crate::groups::grouped;
+use crate::pairs::{partner_counts, partner_lists};
 use crate::table::ListTable;
 use std::alloc::Global;
 use std::marker::Model;
@@ -51,7 +52,8 @@ impl Pattern {
     }
 
     /// The pattern of so many vertices that joins these pairs. Repeated pairs count once, and a pair of a vertex with itself joins
-    /// nothing. Linear in the vertices and pairs: two passes of counting, and no comparison sort.
+    /// nothing. The pairs are taken by blocks of vertices where they come scattered, and counted into rows; a row that does not rise by
+    /// then is sorted.
     pub fn from_pairs(
         alloc: Global,
         order: u32,
@@ -62,9 +64,10 @@ impl Pattern {
         requires within { All (IsPairWithin order) pairs.items }
         ensures { IfOk result (λ pattern. IsPatternOf order pairs.items pattern) }
     {
-        let counts = partner_counts(alloc, order as usize + 1, &pairs)?;
-        let partners = partner_lists(alloc, &counts, pairs)?;
-        let table = turned(alloc, &counts, &partners)?;
+        let groups = grouped(alloc, pairs)?;
+        let counts = partner_counts(alloc, order as usize + 1, &groups)?;
+        let mut table = partner_lists(alloc, &counts, groups)?;
+        table.sort_lists();
         Ok(Pattern { table })
     }
 }

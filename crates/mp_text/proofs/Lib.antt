@@ -1,4 +1,6 @@
 pub mod TextLemmas
+pub mod DigitLemmas
+pub mod LineLemmas
 pub mod CursorLemmas
 pub mod ScanLemmas
 pub mod ReadingLemmas

@@ -7,11 +7,16 @@ use crate::numbers::number;
 use crate::token_scan::Tokens;
 
 impl<'a> Tokens<'a> {
-    /// Takes the next token, and gives the number that it spells: none where it spells none, or no token is left.
+    /// Takes the next token, and gives the number that it spells: none where it spells none, or no token is left. Each byte of a number of
+    /// few digits is looked at once.
+    #[inline]
     pub fn next_number(&mut self) -> Option<u64>
         ensures number { result ≡ number_of (slice_index_or self.old 0 []) }
         ensures rest { self.new ≡ drop 1 self.old }
     {
+        if let Some(value) = self.short_number() {
+            return Some(value);
+        }
         let token = self.next()?;
         number(token)
     }

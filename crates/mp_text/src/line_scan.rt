@@ -4,7 +4,8 @@ ghost use Rattle.mp_text.specs.Text.{is_feed, says_nothing, is_passed, are_passe
 ghost use Rattle.mp_text.specs.Ahead.{Ahead, IsNextLine, rows_of, past_of, row};
 
 use crate::layout::Layout;
-use crate::split::tokens;
+use crate::token_scan::after_blanks;
+use memchr::memchr;
 use std::marker::Model;
 
 /// A line of a text, with its number.
@@ -36,17 +37,15 @@ impl<'a> Model for Lines<'a> {
     ghost invariant = { λ s. s.number + length s.rest.now ≤ 2 ^ 63 };
 }
 
-// Whether a line has no token, or begins a comment.
+// Whether a line has no token, or begins a comment: the first byte of its first token says it.
 fn says_nothing(layout: Layout, line: &[u8]) -> bool
     ensures { result ≡ says_nothing layout (tokens_of line.now) }
 {
-    match tokens(line).next() {
-        None => true,
-        Some(token) => match token {
-            [b'%', ..] => true,
-            [b'#', ..] => layout == Layout::Commented,
-            _ => false,
-        },
+    match after_blanks(line) {
+        [] => true,
+        [b'%', ..] => true,
+        [b'#', ..] => layout == Layout::Commented,
+        _ => false,
     }
 }
 
@@ -65,7 +64,7 @@ fn line_len(bytes: &[u8]) -> usize
     ensures within { result ≤ length bytes.now }
     ensures value { result ≡ position_or_len is_feed bytes.now }
 {
-    bytes.iter().take_while(|b| **b != b'\n').count()
+    memchr(b'\n', bytes).unwrap_or(bytes.len())
 }
 
 // The first line, and what follows its line feed.

@@ -1,4 +1,4 @@
-ghost use Rattle.std.specs.Prelude.{◌≡◌, ℕ, List, ◌∷◌, None, MatchOption};
+ghost use Rattle.std.specs.Prelude.{◌≡◌, ◌≤◌, ℕ, List, ◌∷◌, ◌++◌, length, take, None, MatchOption};
 ghost use Rattle.mp_text.specs.Text.{number_of, number_from, positive_of, negative_of, signed_of};
 
 // The number with one byte more, where that is a digit and it fits.
@@ -15,6 +15,25 @@ fn with_digit(value: u64, byte: u8) -> Option<u64>
     }
 }
 
+// The greatest number that fits whatever digit follows it.
+const MOST_BEFORE_DIGIT: u64 = (u64::MAX - 9) / 10;
+
+/// The number that the digits at the head of a text spell, and how many digits these are. It ends before a digit that may be too many,
+/// so that none of them is tested for overflow.
+#[inline]
+pub(crate) fn leading_number(text: &[u8]) -> (u64, usize)
+    ensures within { result.1 ≤ length text.now }
+    ensures spells { (rest : List ℕ) → number_from 0 (take result.1 text.now ++ rest) ≡ number_from result.0 rest }
+{
+    let mut value: u64 = 0;
+    let mut len = 0;
+    while len < text.len() && text[len].is_ascii_digit() && value <= MOST_BEFORE_DIGIT {
+        value = 10 * value + u64::from(text[len] - b'0');
+        len += 1;
+    }
+    (value, len)
+}
+
 /// The number that a token spells: one or more digits with a value of at most 2^64 - 1. Leading zeros are accepted.
 pub fn number(token: &[u8]) -> Option<u64>
     ensures { result ≡ number_of token.now }
@@ -22,8 +41,9 @@ pub fn number(token: &[u8]) -> Option<u64>
     if token.is_empty() {
         return None;
     }
-    let mut value: u64 = 0;
-    for byte in token {
+    let (leading, len) = leading_number(token);
+    let mut value = leading;
+    for byte in &token[len..] {
         value = with_digit(value, *byte)?;
     }
     Some(value)

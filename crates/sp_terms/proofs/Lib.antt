@@ -9,3 +9,4 @@ pub mod PrintedLemmas
 pub mod LengthLemmas
 pub mod Positions
 pub mod ReaderLaws
+pub mod BodyLines

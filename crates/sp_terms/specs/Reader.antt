@@ -17,9 +17,10 @@ use Rattle.sp_terms.specs.declared.kind.WorkflowKind.TheVariants as kinds
 use Rattle.sp_terms.specs.declared.stage.Stage.{Stage}
 use Rattle.sp_terms.specs.declared.stage.Stage.TheVariants as stages
 use Rattle.sp_terms.specs.declared.position.Position.{Position}
+use Rattle.sp_terms.specs.declared.word.Word.{Word}
 use Rattle.sp_terms.specs.Values.{stack_of, added_tasks}
 use Rattle.sp_terms.specs.Builder.{refusal_of}
-use Rattle.sp_terms.specs.WorkflowFile.{header_tests, version_stated, count_tests, count_stated, position_of, form_tests, last_tests, is_end}
+use Rattle.sp_terms.specs.WorkflowFile.{header_tests, version_stated, count_tests, count_stated, position_from, stated_or, stated_tests, position_of, form_tests, last_tests, is_end}
 
 -- what the reader keeps: what comes next, the version, the stated number of tasks, and the positions
 pub record ReaderState : Type 0 where
@@ -46,6 +47,23 @@ pushed_or (Some refusal) line next = Err (refusal_at line refusal)
 -- a position is taken, or refused
 abbrev pub pushed : ReaderState → ℕ → Position → Result ReaderState (Refusal WorkflowKind)
 pushed s line p = pushed_or (refusal_of s.positions p) line (record s { positions = s.positions ++ p ∷ [] })
+
+-- a position line: its word, and the numbers after it
+abbrev pub position_step : ReaderState → ℕ → Word → Option (List ℕ) → Result ReaderState (Refusal WorkflowKind)
+position_step s line word numbers =
+    let height = length (stack_of s.positions) in
+    let tasks = sum_by added_tasks s.positions in
+    let stated = position_from s.version (Some word) numbers in
+    tested (stated_tests s.count height tasks stated line) (stated_or stated) >>= pushed s line
+
+-- a line with no word of a position: the end, or else it is refused for its word
+abbrev pub end_step : ReaderState → Row → Result ReaderState (Refusal WorkflowKind)
+end_step s row =
+    let height = length (stack_of s.positions) in
+    let tasks = sum_by added_tasks s.positions in
+    if is_end row
+    then tested (last_tests s.count height tasks row) (record s { stage = stages.Ended })
+    else Err (fault kinds.Word row)
 
 -- a line where positions are read: one more of them, or the end
 abbrev pub body_step : ReaderState → Row → Result ReaderState (Refusal WorkflowKind)

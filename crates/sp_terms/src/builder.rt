@@ -106,6 +106,23 @@ impl TermBuilder {
             (λ _. (refusal_of self.old p ≡ None) × (self.new ≡ self.old ++ p ∷ []))
             (λ e. IsPushRefusal self.old p e × (self.new ≡ self.old)) }
     {
+        // so each kind of position has steps of its own, which do not ask for the kind again
+        match p {
+            Position::Hold(size) => self.push_one(Position::Hold(size)),
+            Position::Task { extra, share, time } => {
+                self.push_one(Position::Task { extra, share, time })
+            }
+            Position::Par(parts) => self.push_one(Position::Par(parts)),
+        }
+    }
+
+    #[inline(always)]
+    fn push_one(&mut self, p: Position) -> Result<(), PushRefusal>
+        requires { IsPosition p }
+        ensures { MatchResult result
+            (λ _. (refusal_of self.old p ≡ None) × (self.new ≡ self.old ++ p ∷ []))
+            (λ e. IsPushRefusal self.old p e × (self.new ≡ self.old)) }
+    {
         if short(self.ends.len(), p) {
             return Err(PushRefusal::Short);
         }
@@ -134,6 +151,7 @@ impl TermBuilder {
 }
 
 // How many tasks a position is.
+#[inline(always)]
 pub(crate) fn count(p: Position) -> u64
     ensures { result ≡ added_tasks p }
 {
@@ -144,6 +162,7 @@ pub(crate) fn count(p: Position) -> u64
 }
 
 // What a position adds to the total.
+#[inline(always)]
 fn size(p: Position) -> u64
     ensures { result ≡ added_size p }
 {
@@ -155,6 +174,7 @@ fn size(p: Position) -> u64
 }
 
 // Whether there are too few terms for a position.
+#[inline(always)]
 fn short(height: usize, p: Position) -> bool
     ensures { result ≡ is_short height p }
 {
@@ -179,6 +199,7 @@ fn sum_limit(total: u64, size: u64) -> Option<LimitName>
 }
 
 // The first limit that a position passes.
+#[inline(always)]
 fn limit(count: u64, tasks: u64, total: u64, p: Position) -> Option<LimitName>
     requires { total ≤ most_total }
     ensures { result ≡ passed_limit count tasks total p }
@@ -210,6 +231,7 @@ fn limit(count: u64, tasks: u64, total: u64, p: Position) -> Option<LimitName>
 }
 
 // Whether a task's share is more than its parts allow.
+#[inline(always)]
 fn overshared(ends: &[Ends], p: Position) -> bool
     requires long { is_short (length ends.now) p ≡ false }
     requires total { sum_by initial_at ends.now ≤ most_total }
@@ -226,6 +248,7 @@ fn overshared(ends: &[Ends], p: Position) -> bool
 }
 
 // Takes a position whose tests are done.
+#[inline(always)]
 fn append(
     positions: &mut Vec<Position>,
     ends: &mut Vec<Ends>,

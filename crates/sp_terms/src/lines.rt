@@ -8,11 +8,11 @@ ghost use Rattle.mp_text.specs.Reading.{Gives, tested};
 ghost use Rattle.sp_terms.specs.Builder.{IsPosition};
 ghost use Rattle.sp_terms.specs.Postfix.{at_task};
 ghost use Rattle.sp_terms.specs.declared.position.Position.TheVariants.{Par};
-ghost use Rattle.sp_terms.specs.WorkflowFile.{header_tests, version_stated, count_tests, count_stated, only, task_from, stated_tests, form_tests, position_of, is_end, last_tests};
+ghost use Rattle.sp_terms.specs.WorkflowFile.{header_tests, version_stated, count_tests, count_stated, only, task_from, position_from, stated_or, stated_tests, is_end, last_tests};
 
 use crate::kind::WorkflowKind;
 use crate::position::Position;
-use crate::word::{Word, next_word};
+use crate::word::Word;
 use limits::{LimitName, MOST_TASKS};
 use mp_system::Task;
 use mp_text::{Line, Refusal, Tokens, Version, after_word, fault, number, tokens, version_of};
@@ -103,30 +103,30 @@ fn par_on(height: u64, line: u64, parts: u64) -> Result<Position, Refusal<Workfl
     Ok(Position::Par(parts as u32))
 }
 
-/// A position line of a file of so many tasks, after lines that left so many terms and had so many tasks. Its limits and its share are
-/// judged where the position is taken.
+/// What a word and the tokens after it state in a file of so many tasks, after lines that left so many terms and had so many tasks. The
+/// limits and the share of the position are judged where it is taken.
 pub fn position_on(
     version: Version,
     count: u64,
     height: u64,
     tasks: u64,
-    line: Line<'_>,
+    line: u64,
+    word: Word,
+    words: Tokens<'_>,
 ) -> Result<Position, Refusal<WorkflowKind>>
     requires { height ≤ most_positions }
-    ensures judged { let r = row line.entry.number line.entry.text.now in
-        Gives (tested (form_tests version count height tasks r) (position_of version r)) result }
+    ensures judged { let stated = position_from version (Some word) (numbers_of words.entry) in
+        Gives (tested (stated_tests count height tasks stated line) (stated_or stated)) result }
     ensures position { IfOk result IsPosition }
 {
-    let mut words = tokens(line.text);
-    let word = next_word(&mut words).ok_or(fault(line.number, WorkflowKind::Word))?;
-    let no_numbers = fault(line.number, WorkflowKind::Number);
+    let no_numbers = fault(line, WorkflowKind::Number);
     match word {
         Word::Data => Ok(Position::Hold(only_number(words).ok_or(no_numbers)?)),
         Word::Task => {
             let task = task_numbers(version, words).ok_or(no_numbers)?;
-            task_on(count, height, tasks, line.number, task)
+            task_on(count, height, tasks, line, task)
         }
-        Word::Par => par_on(height, line.number, only_number(words).ok_or(no_numbers)?),
+        Word::Par => par_on(height, line, only_number(words).ok_or(no_numbers)?),
     }
 }
 

@@ -9,7 +9,8 @@ use crate::lines::{count_on, header_on, is_end, last_on, position_on};
 use crate::position::Position;
 use crate::stage::Stage;
 use crate::terms::Terms;
-use mp_text::{Layout, Line, Reader, Refusal, Version, fault, read_with};
+use crate::word::{Word, next_word};
+use mp_text::{Layout, Line, Reader, Refusal, Tokens, Version, fault, read_with, tokens};
 use std::alloc::Global;
 use std::marker::Model;
 
@@ -44,7 +45,8 @@ fn refusal_at(line: u64, refusal: PushRefusal) -> Refusal<WorkflowKind>
 
 impl WorkflowReader {
     ghost use Rattle.sp_terms.specs.Builder.{IsPosition};
-    ghost use Rattle.sp_terms.specs.Reader.{pushed, body_step, start, workflow_step, workflow_end};
+    ghost use Rattle.sp_terms.specs.Reader.{pushed, position_step, end_step, body_step, start, workflow_step, workflow_end};
+    ghost use Rattle.mp_text.specs.Text.{numbers_of};
     ghost use Rattle.mp_text.specs.Reading.{Steps};
 
     // A reader of which nothing was read.
@@ -70,19 +72,47 @@ impl WorkflowReader {
         }
     }
 
+    // Takes a position line: the word that it begins with, and the tokens after it.
+    fn position_line(
+        &mut self,
+        line: u64,
+        word: Word,
+        words: Tokens<'_>,
+    ) -> Result<(), Refusal<WorkflowKind>>
+        ensures { Steps (position_step self.old line word (numbers_of words.entry)) result self.new }
+    {
+        let height = self.builder.height();
+        let tasks = self.builder.tasks();
+        let position = position_on(self.version, self.count, height, tasks, line, word, words)?;
+        self.push(line, position)
+    }
+
+    // Takes a line that begins with no word of a position: it must be the end.
+    fn end_line(&mut self, line: Line<'_>) -> Result<(), Refusal<WorkflowKind>>
+        ensures { Steps (end_step self.old (row line.entry.number line.entry.text.now)) result self.new }
+    {
+        if !is_end(line) {
+            return Err(fault(line.number, WorkflowKind::Word));
+        }
+        last_on(
+            self.count,
+            self.builder.height(),
+            self.builder.tasks(),
+            line,
+        )?;
+        self.stage = Stage::Ended;
+        Ok(())
+    }
+
     // Takes a line after the second, where positions are read.
     fn body_line(&mut self, line: Line<'_>) -> Result<(), Refusal<WorkflowKind>>
         ensures { Steps (body_step self.old (row line.entry.number line.entry.text.now)) result self.new }
     {
-        let height = self.builder.height();
-        let tasks = self.builder.tasks();
-        if is_end(line) {
-            last_on(self.count, height, tasks, line)?;
-            self.stage = Stage::Ended;
-            return Ok(());
+        let mut words = tokens(line.text);
+        match next_word(&mut words) {
+            Some(word) => self.position_line(line.number, word, words),
+            None => self.end_line(line),
         }
-        let position = position_on(self.version, self.count, height, tasks, line)?;
-        self.push(line.number, position)
     }
 
     // Takes a line.

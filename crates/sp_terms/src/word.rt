@@ -1,4 +1,5 @@
-ghost use Rattle.std.specs.Prelude.{◌≡◌, [], drop, slice_index_or};
+ghost use Rattle.std.specs.Prelude.{◌≡◌, [], drop, false, codes, slice_index_or, OnSome};
+ghost use Rattle.std.specs.Str.{bytes_eq};
 ghost use Rattle.sp_terms.specs.WorkflowFile.{word_spelled};
 
 use mp_text::Tokens;
@@ -15,15 +16,12 @@ pub enum Word {
 pub fn next_word(tokens: &mut Tokens<'_>) -> Option<Word>
     ensures word { result ≡ word_spelled (slice_index_or tokens.old 0 []) }
     ensures rest { tokens.new ≡ drop 1 tokens.old }
+    ensures no_end { OnSome result (bytes_eq (slice_index_or tokens.old 0 []) (codes "end") ≡ false) }
 {
-    let token = tokens.next()?;
-    if token == b"data".as_slice() {
-        Some(Word::Data)
-    } else if token == b"task".as_slice() {
-        Some(Word::Task)
-    } else if token == b"par".as_slice() {
-        Some(Word::Par)
-    } else {
-        None
+    match tokens.next()? {
+        b"data" => Some(Word::Data),
+        b"task" => Some(Word::Task),
+        b"par" => Some(Word::Par),
+        _ => None,
     }
 }

@@ -18,3 +18,6 @@ pub mod OrderLemmas
 pub mod PositionLemmas
 pub mod ReaderLaws
 pub mod JudgedLemmas
+pub mod NodeLines
+pub mod PlainLemmas
+pub mod RowsAhead

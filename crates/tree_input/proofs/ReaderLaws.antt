@@ -26,7 +26,7 @@ at_header : (s : ReaderState) (row : Row) → IsFresh s →
     (tested (header_tests row) (record s { stage = stages.Count; version = version_stated row }))
 unfolding IsNext
 at_header s row fresh = tested-follows (header_tests row) _ _ (λ _. (
-  record { header = row; rows_are = refl; version = refl; fresh = record { nodes = fresh.nodes; lines = fresh.lines; total = fresh.total } },
+  record { header = row; rows_are = refl; version = refl; fresh = record { nodes = fresh.nodes; total = fresh.total } },
   refl,
 ))
 
@@ -40,7 +40,7 @@ at_count s header row version fresh = tested-follows (count_tests row) _ _ (λ _
     counted = row;
     node_rows = [];
     rows_are = refl;
-    nodes = record { version = version; count = refl; nodes = fresh.nodes; lines = fresh.lines; total = fresh.total; within = omega arith };
+    nodes = record { version = version; count = refl; nodes = fresh.nodes; total = fresh.total; within = omega arith };
   },
   refl,
 ))
@@ -53,7 +53,6 @@ more_nodes s header counted row rows taken lt = record {
   version = taken.version;
   count = taken.count;
   nodes = rw (taken.version, taken.nodes) (sym (map_push (node_of (version_stated header)) rows row));
-  lines = rw taken.lines (sym (map_push (λ (r : Row). r.number) rows row));
   total = rw (taken.version, taken.total) (sym (sum_by_push (λ (r : Row). node_size (node_of (version_stated header) r)) rows row));
   within = omega (arith, length_push rows row);
 }
@@ -92,7 +91,7 @@ at_last s header counted row rows taken whole = tested-follows (last_tests row) 
     node_rows = rows;
     last = row;
     rows_are = refl;
-    nodes = record { version = taken.version; count = taken.count; nodes = taken.nodes; lines = taken.lines; total = taken.total; within = taken.within };
+    nodes = record { version = taken.version; count = taken.count; nodes = taken.nodes; total = taken.total; within = taken.within };
     whole = whole;
   },
   refl,

@@ -10,3 +10,4 @@ pub mod Stated
 pub mod Reader
 pub mod Samples
 pub mod Kinds
+pub mod Plain

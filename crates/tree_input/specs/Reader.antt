@@ -9,25 +9,23 @@ use Rattle.mp_text.specs.declared.words.Version.TheVariants.{One}
 use Rattle.mp_text.specs.Grammar.{fault, fault_at}
 use Rattle.mp_text.specs.Reading.{tested}
 use Rattle.tree_input.specs.Tree.{node_size}
-use Rattle.tree_input.specs.TreeFile.{header_tests, version_stated, count_tests, count_stated, node_tests, node_of, total_of, last_tests}
+use Rattle.tree_input.specs.TreeFile.{header_tests, version_stated, count_tests, count_stated, is_end, node_tests, node_of, total_of, last_tests}
 use Rattle.tree_input.specs.declared.node.Node.{Node}
 use Rattle.tree_input.specs.declared.node.TreeKind.{TreeKind}
 use Rattle.tree_input.specs.declared.node.TreeKind.TheVariants as kinds
 use Rattle.tree_input.specs.declared.stage.Stage.{Stage}
 use Rattle.tree_input.specs.declared.stage.Stage.TheVariants as stages
 
--- what the reader keeps: what comes next, the version, their stated number, the nodes with the numbers of
--- their lines, and the sum of their sizes
+-- what the reader keeps: what comes next, the version, the stated number of nodes, the nodes, and the sum of their sizes
 pub record ReaderState : Type 0 where
   pub stage : Stage
   pub version : Version
   pub count : ℕ
   pub nodes : List Node
-  pub lines : List ℕ
   pub total : ℕ
 
 abbrev pub start : ReaderState
-start = record { stage = stages.Header; version = One; count = 0; nodes = []; lines = []; total = 0 }
+start = record { stage = stages.Header; version = One; count = 0; nodes = []; total = 0 }
 
 -- bounds that the code relies on
 pub record IsReaderState (s : ReaderState) : Type 0 where
@@ -38,9 +36,12 @@ abbrev pub with_node : ReaderState → Row → ReaderState
 with_node s row =
     record s {
       nodes = s.nodes ++ node_of s.version row ∷ [];
-      lines = s.lines ++ row.number ∷ [];
       total = s.total + node_size (node_of s.version row);
     }
+
+-- why a line is refused that has no fields of a node
+abbrev pub refusal_without_fields : Row → Refusal TreeKind
+refusal_without_fields row = if is_end row then fault kinds.Count row else fault kinds.Number row
 
 -- a line where nodes are read: one more of them, or the end after the last
 abbrev pub body_step : ReaderState → Row → Result ReaderState (Refusal TreeKind)
@@ -72,14 +73,12 @@ pub record TookNodes (s : ReaderState) (header counted : Row) (rows : List Row) 
   pub version : s.version ≡ version_stated header
   pub count : s.count ≡ count_stated counted
   pub nodes : s.nodes ≡ map (node_of (version_stated header)) rows
-  pub lines : s.lines ≡ map (λ row. row.number) rows
   pub total : s.total ≡ total_of (version_stated header) rows
   pub within : length rows ≤ count_stated counted
 
 -- the reader has taken nothing of the nodes yet
 pub record IsFresh (s : ReaderState) : Type 0 where
   pub nodes : s.nodes ≡ []
-  pub lines : s.lines ≡ []
   pub total : s.total ≡ 0
 
 pub record TookHeader (s : ReaderState) (rows : List Row) : Type 0 where

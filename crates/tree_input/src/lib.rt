@@ -8,6 +8,7 @@ pub mod laws;
 mod lines;
 mod names;
 mod node;
+mod plain;
 mod postorder;
 mod printing;
 mod reader;

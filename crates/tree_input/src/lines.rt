@@ -1,12 +1,13 @@
 //! One function for each line of a tree file: its tests in the order of the format's table.
 
-ghost use Rattle.std.specs.Prelude.{◌≤◌, ◌+◌, IfOk};
+ghost use Rattle.std.specs.Prelude.{◌≡◌, ◌≤◌, ◌+◌, false, Some, None, IfOk, IfErr};
 ghost use Rattle.limits.specs.Limits.{most_tasks, most_total};
 ghost use Rattle.mp_text.specs.Ahead.{row};
 ghost use Rattle.mp_text.specs.Reading.{Gives, tested};
-ghost use Rattle.tree_input.specs.TreeFile.{header_tests, version_stated, count_tests, count_stated, node_tests, node_of, last_tests};
+ghost use Rattle.tree_input.specs.Reader.{refusal_without_fields};
+ghost use Rattle.tree_input.specs.TreeFile.{header_tests, version_stated, count_tests, count_stated, is_end, fields_stated, node_tests, node_of, last_tests};
 
-use crate::fields::fields_on;
+use crate::fields::{NodeFields, fields_on};
 use crate::node::{Node, TreeKind};
 use limits::{LimitName, MOST_SIZE, MOST_TASKS, MOST_TIME, MOST_TOTAL};
 use mp_text::{Line, Refusal, Version, after_word, fault, is_word, number, version_of};
@@ -34,6 +35,22 @@ pub fn count_on(line: Line<'_>) -> Result<u64, Refusal<TreeKind>>
     Ok(count)
 }
 
+// The fields of a node line. A line that has none is the end, or its words are not as many numbers.
+fn node_fields(version: Version, line: Line<'_>) -> Result<NodeFields, Refusal<TreeKind>>
+    ensures read { let r = row line.entry.number line.entry.text.now in
+        IfOk result (λ f. (fields_stated version r ≡ Some f) × (is_end r ≡ false)) }
+    ensures refused { let r = row line.entry.number line.entry.text.now in
+        IfErr result (λ e. (fields_stated version r ≡ None) × (e ≡ refusal_without_fields r)) }
+{
+    if let Some(fields) = fields_on(version, line.text) {
+        return Ok(fields);
+    }
+    if is_word(line.text, b"end") {
+        return Err(fault(line.number, TreeKind::Count));
+    }
+    Err(fault(line.number, TreeKind::Number))
+}
+
 /// A node line, after node lines whose sizes sum to the total.
 pub fn node_on(
     version: Version,
@@ -47,10 +64,7 @@ pub fn node_on(
         Gives (tested (node_tests version count total r) (node_of version r)) result }
     ensures sizes { IfOk result (λ n. total + (n.out + n.extra) ≤ most_total) }
 {
-    if is_word(line.text, b"end") {
-        return Err(fault(line.number, TreeKind::Count));
-    }
-    let fields = fields_on(version, line.text).ok_or(fault(line.number, TreeKind::Number))?;
+    let fields = node_fields(version, line)?;
     if fields.time == 0 {
         return Err(fault(line.number, TreeKind::Number));
     }

@@ -15,7 +15,6 @@ pub struct TreeReader {
     version: Version,
     count: u64,
     pub nodes: Vec<Node>,
-    pub lines: Vec<u64>,
     total: u64,
 }
 
@@ -29,7 +28,6 @@ impl Model for TreeReader {
       version = s.version;
       count = s.count;
       nodes = s.nodes.items;
-      lines = s.lines.items;
       total = s.total;
     } };
 
@@ -41,8 +39,7 @@ impl Model for TreeReader {
           version = s.version;
           count = s.count;
           nodes = s.nodes.items;
-          lines = s.lines.items;
-          total = s.total;
+              total = s.total;
         }) };
 }
 
@@ -61,7 +58,6 @@ impl TreeReader {
             version: Version::One,
             count: 0,
             nodes: Vec::new(alloc),
-            lines: Vec::new(alloc),
             total: 0,
         }
     }
@@ -72,7 +68,6 @@ impl TreeReader {
             Steps (tested (node_tests self.old.version self.old.count self.old.total r) (with_node self.old r)) result self.new }
     {
         let node = node_on(self.version, self.count, self.total, line)?;
-        self.lines.push(line.number)?;
         self.nodes.push(node)?;
         self.total += node.out + node.extra;
         Ok(())

@@ -1,15 +1,17 @@
-ghost use Rattle.std.specs.Prelude.{◌≡◌, ◌≤◌, ◌-◌, List, length, IfOk, IfErr, MatchResult, slice_index_or};
-ghost use Rattle.mp_text.specs.Grammar.{fault_at};
+ghost use Rattle.std.specs.Prelude.{◌≡◌, ℕ, List, IfOk, IfErr, OnOk, MatchResult};
+ghost use Rattle.mp_text.specs.declared.layout.Layout.TheVariants.{Commented};
+ghost use Rattle.mp_text.specs.Ahead.{rows_of_bytes};
 ghost use Rattle.tree_input.specs.declared.node.Node.{Node};
-ghost use Rattle.tree_input.specs.Tree.{IsTree};
-ghost use Rattle.tree_input.specs.TreeFile.{ReadsTree, IsTreeRefusal};
+ghost use Rattle.tree_input.specs.Tree.{IsNode, IsTree, LeadsToRoot, ShareFits};
+ghost use Rattle.tree_input.specs.TreeFile.{ReadsTree, IsTreeRefusal, line_stating};
 ghost use Rattle.tree_input.specs.Stated.{AreStated};
 
 use crate::node::{Node, TreeKind};
+use crate::plain::is_plain;
 use crate::reader::TreeReader;
 use crate::roots::first_cycle;
 use crate::shares::first_unfit_share;
-use mp_text::{Layout, Refusal, fault, read_with};
+use mp_text::{Layout, Lines, Refusal, fault, read_with};
 use std::alloc::Global;
 use std::marker::Model;
 
@@ -53,28 +55,47 @@ impl Tree {
     }
 }
 
-// The nodes that the lines state, with the numbers of these lines.
-#[derive(Drop)]
-struct Stated {
-    nodes: Vec<Node>,
-    lines: Vec<u64>,
-}
-
-fn read_lines(alloc: Global, bytes: &[u8]) -> Result<Stated, Refusal<TreeKind>>
-    ensures stated { IfOk result (λ s. AreStated bytes.now s.nodes.items s.lines.items) }
+fn read_nodes(alloc: Global, bytes: &[u8]) -> Result<Vec<Node>, Refusal<TreeKind>>
+    ensures stated { IfOk result (λ nodes. AreStated bytes.now nodes.items) }
     ensures refused { IfErr result (IsTreeRefusal bytes.now) }
 {
     let reader = read_with(bytes, Layout::Commented, TreeReader::new(alloc))?;
-    let TreeReader { nodes, lines, .. } = reader;
-    Ok(Stated { nodes, lines })
+    let TreeReader { nodes, .. } = reader;
+    Ok(nodes)
 }
 
-// The refusal of the line that states a node.
-fn fault_of(lines: &[u64], node: u32, kind: TreeKind) -> Refusal<TreeKind>
-    requires { (1 ≤ node) × (node ≤ length lines.now) }
-    ensures { result ≡ fault_at (slice_index_or lines.now (node - 1) 0) kind }
+// The number of the line that states a node. It goes over the lines again, which only a refusal needs.
+fn line_of(bytes: &[u8], node: u32) -> u64
+    ensures { result ≡ line_stating (rows_of_bytes Commented bytes.now) node }
 {
-    fault(lines[node as usize - 1], kind)
+    let mut lines = Lines::new(bytes, Layout::Commented);
+    // the header, the line with the count, and the nodes before this one
+    for _before in 0..u64::from(node) + 1 {
+        let _ = lines.next_line();
+    }
+    match lines.next_line() {
+        Some(line) => line.number,
+        None => 0,
+    }
+}
+
+// Judges the nodes that the lines state: the lowest whose parents lead to no root, and then the lowest whose share does not fit.
+fn judge(alloc: Global, bytes: &[u8], nodes: &[Node]) -> Result<(), Refusal<TreeKind>>
+    requires { AreStated bytes.now nodes.now }
+    ensures roots { OnOk result ((v : ℕ) → IsNode nodes.now v → LeadsToRoot nodes.now v) }
+    ensures shares { OnOk result ((v : ℕ) → IsNode nodes.now v → ShareFits nodes.now v) }
+    ensures refused { IfErr result (IsTreeRefusal bytes.now) }
+{
+    if is_plain(nodes) {
+        return Ok(());
+    }
+    if let Some(node) = first_cycle(alloc, nodes)? {
+        return Err(fault(line_of(bytes, node), TreeKind::Cycle));
+    }
+    if let Some(node) = first_unfit_share(alloc, nodes)? {
+        return Err(fault(line_of(bytes, node), TreeKind::Share));
+    }
+    Ok(())
 }
 
 /// The tree that a file of version 1 or 2 states, or why it is refused: the first test that fails in the first line that fails;
@@ -82,12 +103,7 @@ fn fault_of(lines: &[u64], node: u32, kind: TreeKind) -> Refusal<TreeKind>
 pub fn read_tree(alloc: Global, bytes: &[u8]) -> Result<Tree, Refusal<TreeKind>>
     ensures { MatchResult result (λ tree. ReadsTree bytes.now tree) (IsTreeRefusal bytes.now) }
 {
-    let stated = read_lines(alloc, bytes)?;
-    if let Some(node) = first_cycle(alloc, &stated.nodes)? {
-        return Err(fault_of(&stated.lines, node, TreeKind::Cycle));
-    }
-    if let Some(node) = first_unfit_share(alloc, &stated.nodes)? {
-        return Err(fault_of(&stated.lines, node, TreeKind::Share));
-    }
-    Ok(Tree::new(stated.nodes))
+    let nodes = read_nodes(alloc, bytes)?;
+    judge(alloc, bytes, &nodes)?;
+    Ok(Tree::new(nodes))
 }

@@ -1,27 +1,38 @@
-use Rattle.std.proofs.Common.{◌≡◌, ◌+◌, ℕ, [], length, arith, ap, sym, ◌∙◌, subst}
+use Rattle.std.proofs.Common.{◌≡◌, ◌+◌, ◌∙◌, All, ℕ, List, length, arith, ap, sym, subst}
+use Rattle.std.proofs.lemmas.List.Sorted.{length_permutation, All-permutation}
 use Rattle.matrix_market.specs.Pattern.{has}
-use Rattle.matrix_market.specs.Partners.{IsTurned}
-use Rattle.matrix_market.proofs.PatternLemmas.{partners_named, named_flip, named_within, turned_pattern}
+use Rattle.matrix_market.specs.Partners.{pairs_in, IsPairBelow}
+use Rattle.matrix_market.proofs.GroupLemmas.{Group}
+use Rattle.matrix_market.proofs.PatternLemmas.{below_from_within, sorted_pattern}
 use Rattle.matrix_market.proofs.pattern.Pattern.from_pairs.Goals as goal
 
-pub turned-requires-clause-below : goal.turned-requires-clause-below
-turned-requires-clause-below c = λ a b there.
-    let named = sym (ap (λ l. has l b) (c.in_ok-partners.ensures.each a) ∙ partners_named c.args.pairs.items a b) ∙ there in
-    let within = named_within c.args.order c.args.pairs.items a b c.requires.within named in
-    omega (arith, within.1.1, ap length c.deref-3.ensures.value, c.in_ok-counts.ensures.len)
+pub partner_counts-requires-clause-few : goal.partner_counts-requires-clause-few
+partner_counts-requires-clause-few c =
+    omega (arith, ap (λ (gs : List Group). length (pairs_in gs)) c.deref.ensures.value, length_permutation c.args.pairs.items (pairs_in c.in_ok-groups.groups.items) c.in_ok-groups.ensures, c.requires.few)
 
-pub turned-requires-clause-symmetric : goal.turned-requires-clause-symmetric
-turned-requires-clause-symmetric c = λ a b.
-    rw (c.in_ok-partners.ensures.each a, c.in_ok-partners.ensures.each b) (partners_named c.args.pairs.items a b ∙ named_flip c.args.pairs.items a b ∙ sym (partners_named c.args.pairs.items b a))
+pub partner_counts-requires-clause-below : goal.partner_counts-requires-clause-below
+partner_counts-requires-clause-below c =
+    let P = IsPairBelow (c.args.order + 1) in
+    subst (λ (gs : List Group). All P (pairs_in gs)) (sym c.deref.ensures.value)
+    (All-permutation P c.args.pairs.items (pairs_in c.in_ok-groups.groups.items) c.in_ok-groups.ensures (below_from_within c.args.order c.args.pairs.items c.requires.within))
+
+pub partner_lists-requires-clause-below : goal.partner_lists-requires-clause-below
+partner_lists-requires-clause-below c =
+    let count : length c.deref-2.result.now ≡ c.args.order + 1 = ap length c.deref-2.ensures.value ∙ c.in_ok-counts.ensures.len in
+    let P = IsPairBelow (c.args.order + 1) in
+    subst (λ (n : ℕ). All (IsPairBelow n) (pairs_in c.in_ok-groups.groups.items)) (sym count)
+    (All-permutation P c.args.pairs.items (pairs_in c.in_ok-groups.groups.items) c.in_ok-groups.ensures (below_from_within c.args.order c.args.pairs.items c.requires.within))
 
 pub invariant_of-result : goal.invariant_of-result
 invariant_of-result c =
-    let count : length c.deref-3.result.now ≡ c.args.order + 1 = omega (arith, ap length c.deref-3.ensures.value, c.in_ok-counts.ensures.len) in
-    let turned = subst (λ (n : ℕ). IsTurned c.in_ok-partners.partners c.in_ok-table.table n []) count c.in_ok-table.ensures.turned in
-    (turned_pattern c.args.order c.args.pairs.items c.in_ok-partners.partners c.in_ok-table.table c.requires.order c.requires.within c.in_ok-partners.ensures.each (c.in_ok-table.ensures.count ∙ count) turned).pattern
+    let count : length c.deref-2.result.now ≡ c.args.order + 1 = ap length c.deref-2.ensures.value ∙ c.in_ok-counts.ensures.len in
+    let e = c.sort_lists.ensures in
+    (sorted_pattern c.args.order c.args.pairs.items (pairs_in c.in_ok-groups.groups.items) c.sort_lists.new.self c.requires.order c.requires.within c.in_ok-groups.ensures
+    (e.count ∙ c.in_ok-table.ensures.count ∙ count) e.rising (λ v x. e.same v x ∙ ap (λ (l : List ℕ). has l x) (c.in_ok-table.ensures.each v))).pattern
 
 pub returns : goal.returns
 returns c =
-    let count : length c.deref-3.result.now ≡ c.args.order + 1 = omega (arith, ap length c.deref-3.ensures.value, c.in_ok-counts.ensures.len) in
-    let turned = subst (λ (n : ℕ). IsTurned c.in_ok-partners.partners c.in_ok-table.table n []) count c.in_ok-table.ensures.turned in
-    turned_pattern c.args.order c.args.pairs.items c.in_ok-partners.partners c.in_ok-table.table c.requires.order c.requires.within c.in_ok-partners.ensures.each (c.in_ok-table.ensures.count ∙ count) turned
+    let count : length c.deref-2.result.now ≡ c.args.order + 1 = ap length c.deref-2.ensures.value ∙ c.in_ok-counts.ensures.len in
+    let e = c.sort_lists.ensures in
+    sorted_pattern c.args.order c.args.pairs.items (pairs_in c.in_ok-groups.groups.items) c.sort_lists.new.self c.requires.order c.requires.within c.in_ok-groups.ensures
+    (e.count ∙ c.in_ok-table.ensures.count ∙ count) e.rising (λ v x. e.same v x ∙ ap (λ (l : List ℕ). has l x) (c.in_ok-table.ensures.each v))

@@ -3,7 +3,7 @@ use Rattle.mp_text.specs.declared.layout.Layout.TheVariants.{Commented}
 use Rattle.mp_text.specs.Ahead.{rows_of_bytes}
 use Rattle.tree_input.specs.Reader.{ReaderState, took}
 use Rattle.tree_input.proofs.StatedLemmas.{took_stated}
-use Rattle.tree_input.proofs.tree.read_lines.Goals as goal
+use Rattle.tree_input.proofs.tree.read_nodes.Goals as goal
 
 pub returns-clause-stated : goal.returns-clause-stated
 returns-clause-stated c =

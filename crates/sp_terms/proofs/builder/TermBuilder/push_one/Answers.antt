@@ -6,7 +6,7 @@ use Rattle.sp_terms.specs.declared.builder.PushRefusal.TheVariants.{Short, Limit
 use Rattle.sp_terms.specs.Builder.{refusal_of, is_short, passed_limit}
 use Rattle.sp_terms.specs.Ends.{over_ends, initial_at}
 use Rattle.sp_terms.proofs.BuilderLemmas.{refusal_is, builder_more, light}
-use Rattle.sp_terms.proofs.builder.TermBuilder.push.Goals as goal
+use Rattle.sp_terms.proofs.builder.TermBuilder.push_one.Goals as goal
 
 pub returns-then-short : goal.returns-then-short
 returns-then-short c =
