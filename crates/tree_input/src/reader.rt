@@ -39,7 +39,7 @@ impl Model for TreeReader {
           version = s.version;
           count = s.count;
           nodes = s.nodes.items;
-              total = s.total;
+          total = s.total;
         }) };
 }
 
