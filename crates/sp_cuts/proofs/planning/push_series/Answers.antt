@@ -1,4 +1,4 @@
-use Rattle.std.proofs.Common.{◌≤◌, ◌^◌, max, arith, ap, ◌∙◌}
+use Rattle.std.proofs.Common.{max, arith, ap, ◌∙◌}
 use Rattle.cut_laws.specs.Cuts.{series_cut}
 use Rattle.sp_cuts.specs.Parts.{cut_of}
 use Rattle.sp_cuts.proofs.Stacked.{joins_fit, series_done}
