@@ -210,15 +210,15 @@ class Tables:
             in_time, in_memory = ratios(figures[0], figures[1])
             times, memory = map(time_of, figures), map(memory_of, figures)
             whole.append([label, *times, in_time, *memory, in_memory])
-            reading = f"read: matrix: {label.split(', nested')[0]}"
-            ours, peer = self.bench.measure(reading, self.reading_of(matrix))
-            less = [max(0.0, it.cpu - read.cpu) for it, read in zip(figures, (ours, peer, peer))]
+            peer = self.beside("peer", self.analysis, "read", matrix)
+            read = self.bench.measure(f"tree, reading: {label}", [self.reading_of(matrix)[0], peer])
+            less = [max(0.0, it.cpu - read.cpu) for it, read in zip(figures, (*read, read[1]))]
             times = map(time_of, figures, less)
             rest.append([label, *times, ratio(less[0], less[1]) if in_time else ""])
         programs = ("memplan", "CXSparse", "CHOLMOD")
         times = [*(f"{it}, ms" for it in programs), "to CXSparse"]
         memory = [*(f"{it}, MB" for it in programs), "to CXSparse"]
-        note = "\nWithout reading: elimination tree, postorder, counts, fronts, printing.\n\n"
+        note = "\nWithout reading and start: elimination tree, postorder, counts, fronts, printing.\n\n"
         less_reading = table(["`tree` less reading", *times], rest)
         return table(["`tree`", *times, *memory], whole) + note + less_reading
 
@@ -238,8 +238,12 @@ class Tables:
         for label, name in found:
             ours = self.memplan("tree", "--matrix", name, "--ordering", "mindeg")
             amd = self.beside("AMD", self.analysis, "tree", "cxsparse", "amd", name)
-            lines.append(self.pair("mindeg", label, [ours, amd], same=False))
-        return table(self.pair_head("`tree --ordering mindeg`", "AMD"), lines)
+            row = self.pair("mindeg", label, [ours, amd], same=False)
+            call = self.beside("times", self.analysis, "times", name)
+            [alone] = self.bench.measure(f"mindeg: {label}", [call], turns=1)
+            lines.append([*row, f"{float(alone.said.split()[1]):.1f}"])
+        head = self.pair_head("`tree --ordering mindeg`", "AMD")
+        return table([*head, "AMD's call alone, ms"], lines)
 
     def post(self) -> str:
         rows = []

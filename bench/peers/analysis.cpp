@@ -5,6 +5,7 @@
 // usage: analysis amd MATRIX                               AMD's order, as a permutation file
 //        analysis tree cxsparse|cholmod natural|amd MATRIX
 //        analysis tree cxsparse|cholmod PERM_FILE MATRIX   the tree of fronts
+//        analysis read MATRIX                              reads it, and counts its pairs
 //        analysis times MATRIX                             processor time of each call alone
 //
 // Elimination tree, postorder and column counts are the packages'; sizes are those of a triangle.
@@ -228,7 +229,9 @@ void print_fronts(const char *package, const char *ordering, const Pattern &patt
 int main(int count, char **words) {
     const auto is = [&](const char *word) { return count > 1 && !std::strcmp(words[1], word); };
     if (is("amd") && count == 3) print_order(amd_of(read_pattern(words[2])));
+    else if (is("read") && count == 3)
+        std::printf("read %zu\n", read_pattern(words[2]).rows.size());
     else if (is("times") && count == 3) tell_times(read_pattern(words[2]));
     else if (is("tree") && count == 5) print_fronts(words[2], words[3], read_pattern(words[4]));
-    else fail("usage: analysis amd MATRIX | times MATRIX | tree PACKAGE ORDERING MATRIX");
+    else fail("usage: analysis amd|read|times MATRIX | tree PACKAGE ORDERING MATRIX");
 }
