@@ -1,5 +1,5 @@
 -- What the first tokens of an entry line spell.
-use Rattle.std.proofs.Common.{◌≡◌, ◌==◌, ℕ, true, List, [], ◌∷◌, length, drop, slice_index_or, Some, None, refl, sym, ◌∙◌, ap}
+use Rattle.std.proofs.Common.{◌≡◌, ◌==◌, ℕ, true, List, [], ◌∷◌, length, drop, slice_index_or, Some, refl}
 use Rattle.mp_text.specs.Text.{number_of}
 use Rattle.matrix_market.specs.MatrixFile.{entry_stated}
 
