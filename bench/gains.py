@@ -157,9 +157,14 @@ def cases(planner: Planner, source: Optional[Path], is_quick: bool) -> list[Case
     return found
 
 
+def percent(excess: float) -> str:
+    return f"{excess:.1f} %" if excess >= 0.05 else "less than 0.1 %"
+
+
 def cell(peak: int, least: int) -> str:
     """A peak, and by how much it is above the least."""
-    return f"{peak:,}" + (f" (+{100 * (peak - least) / least:.1f} %)" if peak > least else "")
+    more = f" (+ {percent(100 * (peak - least) / least)})" if peak > least else ""
+    return f"{peak:,}{more}"
 
 
 def row_of(case: Case) -> list[str]:
@@ -169,7 +174,7 @@ def row_of(case: Case) -> list[str]:
 
 def worst(found: list[tuple[str, float]]) -> str:
     name, excess = max(found, key=lambda it: it[1])
-    return f"{excess:.1f} % ({name})" if excess > 0 else "none"
+    return f"{percent(excess)} ({name})" if excess > 0 else "none"
 
 
 def summary(found: list[Case]) -> list[list[str]]:
