@@ -6,7 +6,8 @@ usage: bench/check_peers.py PEER [CASES]
 PEER is what `make -C bench/peers` builds, bench/out/peer. Each order that it finds has
 to be a traversal, with the peak that it tells; of at most ten tasks, no order has a lower peak than
 its plan, and of at most seven no postorder than its best one. Inputs and models are those of
-tools/fuzz. CASES is 1,000 if nothing else is said, which take a minute. The last line is 'N passed, M failed'.
+tools/fuzz. CASES is 1,000 if nothing else is said, which take a minute. The last line is 'N passed,
+M failed'.
 """
 import random
 import subprocess

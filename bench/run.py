@@ -218,7 +218,7 @@ class Tables:
         programs = ("memplan", "CXSparse", "CHOLMOD")
         times = [*(f"{it}, ms" for it in programs), "to CXSparse"]
         memory = [*(f"{it}, MB" for it in programs), "to CXSparse"]
-        note = "\nWithout reading and start: elimination tree, postorder, counts, fronts, printing.\n\n"
+        note = "\nWithout reading: elimination tree, postorder, counts, fronts, printing.\n\n"
         less_reading = table(["`tree` less reading", *times], rest)
         return table(["`tree`", *times, *memory], whole) + note + less_reading
 

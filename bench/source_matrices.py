@@ -38,21 +38,17 @@ def pattern_of(rows: int, columns: int, entries: Iterator[tuple[int, int]]) -> P
     return Pattern(rows, tuple(sorted(pairs)))
 
 
-def numbers(line: str) -> list[str]:
-    return line.split()
-
-
 def market(lines: list[str]) -> Pattern:
     if not re.match(r"%%MatrixMarket\s+matrix\s+coordinate\s", lines[0], re.IGNORECASE):
         raise Unread("not in coordinates")
-    body = [numbers(line) for line in lines[1:] if line.strip() and not line.startswith("%")]
+    body = [line.split() for line in lines[1:] if line.strip() and not line.startswith("%")]
     rows, columns, count = map(int, body[0])
     return pattern_of(rows, columns, ((int(it[0]), int(it[1])) for it in body[1 : count + 1]))
 
 
 def headed_triplets(lines: list[str]) -> Pattern:
     """CHOLMOD's: a line `rows columns entries` and maybe a symmetry; indices from 0 or from 1."""
-    body = [numbers(line) for line in lines if line.strip() and line[0] not in "%#"]
+    body = [line.split() for line in lines if line.strip() and line[0] not in "%#"]
     rows, columns, count = (int(it) for it in body[0][:3])
     entries = [(int(it[0]), int(it[1])) for it in body[1 : count + 1]]
     first = 0 if any(0 in entry for entry in entries) else 1
@@ -63,7 +59,7 @@ def headed_triplets(lines: list[str]) -> Pattern:
 
 def bare_triplets(lines: list[str]) -> Pattern:
     """CSparse's: indices from 0, and the greatest say how large the matrix is."""
-    body = [numbers(line) for line in lines if line.strip()]
+    body = [line.split() for line in lines if line.strip()]
     entries = [(int(it[0]) + 1, int(it[1]) + 1) for it in body]
     rows, columns = (max(entry[side] for entry in entries) for side in (0, 1))
     return pattern_of(rows, columns, iter(entries))
@@ -102,7 +98,7 @@ def fields(form: str, lines: list[str], count: int) -> list[int]:
 
 def boeing(lines: list[str]) -> Pattern:
     """Rutherford-Boeing or Harwell-Boeing: a fifth line tells of right sides, if there are any."""
-    counts = [int(it) for it in numbers(lines[1])]
+    counts = [int(it) for it in lines[1].split()]
     kind, rows, columns, entries = lines[2].split()[:4]
     if kind[2].upper() != "A":
         raise Unread("elements")

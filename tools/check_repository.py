@@ -15,6 +15,7 @@ PROGRAM is the built program, crates/memplan/out/memplan if nothing else is said
 `rt ci`, which builds and runs it, and after the first `./memplan`. Nothing is written into the
 repository. The last line is 'N passed, M failed', and the status is 0 where none failed.
 """
+import os
 import re
 import subprocess
 import sys
@@ -62,11 +63,13 @@ class Table(NamedTuple):
     rows: list[tuple[int, list[str]]]
 
 
-def tracked() -> list[str]:
-    """The repository's files, those that are not committed yet among them."""
-    words = ["git", "ls-files", "--cached", "--others", "--exclude-standard"]
-    done = subprocess.run(words, cwd=ROOT, capture_output=True, text=True, check=True)
-    return sorted(set(done.stdout.split("\n")) - {""})
+def files_of_repository() -> list[str]:
+    """The repository's files, without what was built or measured."""
+    found = []
+    for above, folders, names in os.walk(ROOT):
+        folders[:] = [it for it in folders if it not in (".git", "out", "__pycache__")]
+        found += [str((Path(above) / name).relative_to(ROOT)) for name in names]
+    return sorted(found)
 
 
 def prose(page: list[str]) -> Iterator[tuple[int, str]]:
@@ -333,7 +336,7 @@ def check_clauses(name: str, page: list[str]) -> Iterator[Finding]:
 
 
 def findings(program: Path) -> Iterator[Finding]:
-    files = tracked()
+    files = files_of_repository()
     places = Places(files)
     pages = [file for file in files if file.endswith(".md") and not file.startswith("crates/")]
     for name in pages:

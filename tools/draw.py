@@ -344,45 +344,45 @@ def draw_run(words: argparse.Namespace) -> None:
 # Staircases
 
 
+class StairsLine(NamedTuple):
+    """How one of the two staircases is drawn."""
+
+    word: str
+    label: str
+    colour: str
+    dashes: str
+
+
+STAIRS_LINES = (
+    StairsLine("F", "from the start", BLUE, "-"),
+    StairsLine("R", "from the end, backwards", RED, "--"),
+)
+
+
+def draw_staircase(axes: Axes, line: StairsLine, stairs: Stairs, right: float) -> None:
+    """One staircase, up to the right margin; where it has few steps they are written beside it."""
+    xs = [stairs.start, *(bound for bound, _ in stairs.steps)]
+    ys = [stairs.start, *(level for _, level in stairs.steps)]
+    look = {"color": line.colour, "linestyle": line.dashes, "linewidth": 2, "label": line.label}
+    axes.step([*xs, right], [*ys, ys[-1]], where="post", **look)
+    has_few = len(stairs.steps) <= 8
+    axes.plot(xs, ys, "o", color=line.colour, markersize=5 if has_few else 3)
+    for bound, level in stairs.steps if has_few else ():
+        place = {"xytext": (4, 6), "textcoords": "offset points", "fontsize": 9}
+        told = f"{grouped(level)} from {grouped(bound)} on"
+        axes.annotate(told, (bound, level), color=line.colour, **place)
+
+
 def draw_stairs(words: argparse.Namespace) -> None:
     both = stairs_of(text_of(words.report), words.number)
-    bounds = [
-        bound
-        for stairs in both.values()
-        for bound in (stairs.start, *(step[0] for step in stairs.steps))
-    ]
+    starts = [stairs.start for stairs in both.values()]
+    bounds = [*starts, *(bound for stairs in both.values() for bound, _ in stairs.steps)]
     right = max(bounds) + max(1, (max(bounds) - min(bounds)) / 6)
     figure, axes = pyplot.subplots(figsize=(6.5, 3.6))
-    lines = (
-        ("F", "from the start", BLUE, "-"),
-        ("R", "from the end, backwards", RED, "--"),
-    )
-    for word, label, colour, dashes in lines:
-        stairs = both[word]
-        xs = [stairs.start, *(bound for bound, _ in stairs.steps), right]
-        ys = [stairs.start, *(level for _, level in stairs.steps)]
-        axes.step(
-            xs,
-            [*ys, ys[-1]],
-            where="post",
-            color=colour,
-            linestyle=dashes,
-            linewidth=2,
-            label=label,
-        )
-        axes.plot(xs[:-1], ys, "o", color=colour, markersize=5 if len(ys) <= 8 else 3)
-        if len(stairs.steps) <= 8:
-            for bound, level in stairs.steps:
-                place = {
-                    "xytext": (4, 6),
-                    "textcoords": "offset points",
-                    "fontsize": 9,
-                    "color": colour,
-                }
-                axes.annotate(f"{grouped(level)} from {grouped(bound)} on", (bound, level), **place)
+    for line in STAIRS_LINES:
+        draw_staircase(axes, line, both[line.word], right)
     axes.set_xlim(min(0, min(bounds)), right)
-    axes.set_ylim(bottom=-0.03 * max(stairs.start for stairs in both.values()) - 0.1)
-    axes.margins(y=0.15)
+    axes.set_ylim(bottom=-0.03 * max(starts) - 0.1)
     axes.set_xlabel("bound on memory")
     axes.set_ylabel("lowest memory that is reached")
     axes.set_title(f"staircases of {words.number}")
@@ -505,76 +505,66 @@ def system_of(words: argparse.Namespace) -> System:
     return system_of_workflow(text_of(words.workflow))
 
 
+def add_picture(kinds, name: str, draw, told: str) -> argparse.ArgumentParser:
+    """The words of a kind of picture, which begin with the file to make."""
+    parser = kinds.add_parser(name, help=told, description=f"Draws {told}.")
+    parser.add_argument("picture", help="the file to make: .svg or .png")
+    parser.set_defaults(draw=draw)
+    return parser
+
+
 def add_input(parser: argparse.ArgumentParser) -> None:
     one = parser.add_mutually_exclusive_group(required=True)
     one.add_argument("--tree", metavar="FILE", help="a tree file, as `tree` prints it for a matrix")
     one.add_argument("--workflow", metavar="FILE", help="a workflow file")
 
 
+def add_memory(kinds) -> None:
+    parser = add_picture(kinds, "memory", draw_memory, "memory over time of one or more orders")
+    add_input(parser)
+    by = "what runs from left to right: tasks, each as wide (the default), or their durations"
+    parser.add_argument("--by", choices=("tasks", "time"), default="tasks", help=by)
+    order = (
+        "an order: what `plan` or `post` printed, or an order file; 1..n in place of FILE is the "
+        "order of the numbers, a natural postorder of what `tree` printed"
+    )
+    parser.add_argument("orders", nargs="+", metavar="LABEL=FILE", help=order)
+
+
+def add_run(kinds) -> None:
+    told = "a simulated run, as a Gantt chart over used and booked memory"
+    parser = add_picture(kinds, "run", draw_run, told)
+    add_input(parser)
+    parser.add_argument("--bound", type=int, help="the bound of the run, which is drawn as a line")
+    parser.add_argument("report", metavar="REPORT", help="what `simulate` printed")
+
+
+def add_stairs(kinds) -> None:
+    told = "the staircases of a subtree: the lowest memory that is reached within each bound"
+    parser = add_picture(kinds, "stairs", draw_stairs, told)
+    number = "the node of a tree, or the position of a workflow"
+    parser.add_argument("--number", type=int, required=True, help=number)
+    parser.add_argument("report", metavar="REPORT", help="what `segments` printed")
+
+
+def add_fronts(kinds) -> None:
+    told = "the tree of fronts: each with its memory, and on its edge that of the block it leaves"
+    parser = add_picture(kinds, "fronts", draw_fronts, told)
+    most = (
+        "how many nodes are drawn, from the roots down the greatest first (40); of the others the "
+        "number is told"
+    )
+    parser.add_argument("--most", type=int, default=40, help=most)
+    tree = "a tree file, as `tree` prints it for a matrix"
+    parser.add_argument("file", metavar="TREE", help=tree)
+
+
 def parser_of_words() -> argparse.ArgumentParser:
     raw = argparse.RawDescriptionHelpFormatter
     parser = argparse.ArgumentParser(description=__doc__, formatter_class=raw)
     kinds = parser.add_subparsers(required=True, metavar="KIND")
-
-    memory = kinds.add_parser("memory", help="memory over time of one or more orders")
-    memory.add_argument("picture", help="the file to make: .svg or .png")
-    add_input(memory)
-    memory.add_argument(
-        "--by",
-        choices=("tasks", "time"),
-        default="tasks",
-        help="what runs from left to right: tasks, each as wide as the others (the default), "
-        "or their durations",
-    )
-    memory.add_argument(
-        "orders",
-        nargs="+",
-        metavar="LABEL=FILE",
-        help="an order: what `plan` or `post` printed, or an order file; 1..n in place of FILE is "
-        "the order of the numbers, a natural postorder of what `tree` printed",
-    )
-    memory.set_defaults(draw=draw_memory)
-
-    run = kinds.add_parser(
-        "run", help="a simulated run, as a Gantt chart over used and booked memory"
-    )
-    run.add_argument("picture", help="the file to make: .svg or .png")
-    add_input(run)
-    run.add_argument("--bound", type=int, help="the bound of the run, which is drawn as a line")
-    run.add_argument("report", metavar="REPORT", help="what `simulate` printed")
-    run.set_defaults(draw=draw_run)
-
-    stairs = kinds.add_parser(
-        "stairs",
-        help="the staircases of a subtree: the lowest memory that is reached within each bound",
-    )
-    stairs.add_argument("picture", help="the file to make: .svg or .png")
-    stairs.add_argument(
-        "--number",
-        type=int,
-        required=True,
-        help="the node of a tree, or the position of a workflow",
-    )
-    stairs.add_argument("report", metavar="REPORT", help="what `segments` printed")
-    stairs.set_defaults(draw=draw_stairs)
-
-    fronts = kinds.add_parser(
-        "fronts",
-        help="the tree of fronts: each with the memory of its front, and on its edge that of "
-        "its block",
-    )
-    fronts.add_argument("picture", help="the file to make: .svg or .png")
-    fronts.add_argument(
-        "--most",
-        type=int,
-        default=40,
-        help="how many nodes are drawn, from the roots down the greatest first (40); of the "
-        "others the number is told",
-    )
-    fronts.add_argument(
-        "file", metavar="TREE", help="a tree file, as `tree` prints it for a matrix"
-    )
-    fronts.set_defaults(draw=draw_fronts)
+    for add in (add_memory, add_run, add_stairs, add_fronts):
+        add(kinds)
     return parser
 
 
