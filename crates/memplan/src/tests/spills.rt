@@ -1,7 +1,8 @@
 //! What must go to disk where an order runs within a bound below its peak.
 
 use super::{
-    BRANCHES, Case, FIVE, FOUR, NO_TASKS, NOTHING, ONE, ORDER, PLAN, ROOTS, SHARE, Texts, check_cases,
+    BRANCHES, Case, FIVE, FOUR, NO_TASKS, NOTHING, ONE, ORDER, PLAN, ROOTS, SHARE, Texts,
+    check_cases,
 };
 use crate::Status::{Done, Format, No, WorkingSet};
 use std::test::Fail;
@@ -43,7 +44,8 @@ const SHARED: &str = "tree 2\nnodes 3\n3 4 0 0 1\n0 6 0 0 1\n0 3 2 4 1\nend\n";
 const SHARED_FILES: Texts = &[("t", SHARED), ("o", "1 2 3\n")];
 
 // Its third front, of order 3, has a child with a block of 1, while the block of the first waits.
-const WAITING: &str = "%%MatrixMarket matrix coordinate pattern symmetric\n6 6 6\n6 1\n3 2\n4 3\n5 3\n5 4\n6 5\n";
+const WAITING: &str =
+    "%%MatrixMarket matrix coordinate pattern symmetric\n6 6 6\n6 1\n3 2\n4 3\n5 3\n5 4\n6 5\n";
 
 const WAITING_FILES: Texts = &[("m", WAITING), ("o", "1 2 3 4 5\n")];
 

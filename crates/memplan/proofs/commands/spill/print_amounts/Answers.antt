@@ -14,12 +14,12 @@ loop-place-preserved c =
     elim c.if-amount-gt0.branch [
       | then-amount-gt0+in_ok-line w ↦ record {
         text = w.report-is ∙ printed c.printed_lines.ensures.more amounts place c.loop-place-test.true w.if-amount-gt0.true start
-        c.loop-place.report w.line.new.self was.text w.in_ok-line.ensures.ok;
+            c.loop-place.report w.line.new.self was.text w.in_ok-line.ensures.ok;
         start = subst (λ (r : List ℕ). IsTrue (is_line_start r)) (sym w.report-is) w.in_ok-line.ensures.start;
       }
       | else-amount-gt0 w ↦ record {
         text = w.report-is ∙ was.text
-        ∙ ap (λ ls. start ++ text_of_lines ls) (sym (skipped amounts place c.loop-place-test.true w.if-amount-gt0.false));
+            ∙ ap (λ ls. start ++ text_of_lines ls) (sym (skipped amounts place c.loop-place-test.true w.if-amount-gt0.false));
         start = subst (λ (r : List ℕ). IsTrue (is_line_start r)) (sym w.report-is) was.start;
       }
     ]
