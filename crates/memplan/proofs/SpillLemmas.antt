@@ -1,5 +1,5 @@
 -- What `spill` prints: the items of which some is spilled, and the volume of the plan that their amounts make.
-use Rattle.std.proofs.Common.{◌≡◌, ◌∙◌, ◌+◌, ◌<◌, ◌≤◌, ℕ, zero, suc, Bool, true, false, cond, List, [], ◌∷◌, ◌++◌, length, map, take, get_or, refl, sym, ap, subst, inl, inr, arith}
+use Rattle.std.proofs.Common.{◌≡◌, ◌∙◌, ◌+◌, ◌<◌, ◌≤◌, ℕ, zero, suc, Bool, true, false, cond, List, [], ◌∷◌, ◌++◌, length, map, take, get_or, refl, sym, ap, ap₂, subst, inl, inr, arith}
 use Rattle.std.specs.Prelude.{sum, nat_lt, decimal}
 use Rattle.std.specs.List.{filter, enumerate_from}
 use Rattle.std.proofs.lemmas.Bool.{lt-ltb, le-ltb}
@@ -38,15 +38,17 @@ one_more : (amounts : List ℕ) (i : ℕ) → i < length amounts → (b : Bool) 
 one_more amounts i h b is =
     let all = enumerate_from 1 amounts in
     let here = item_at amounts i h in
+    let picked = λ (c : Bool) (p : ℕ × ℕ). cond c (p ∷ []) [] in
     let test : is_spilled (get_or all i (0, 0)) ≡ b = ap is_spilled here ∙ is in
     ap (map amount_line) (filter_more is_spilled all i (0, 0) (omega (arith, h, length-enumerate_from 1 amounts)))
     ∙ map-append amount_line (filter is_spilled (take i all)) (cond (is_spilled (get_or all i (0, 0))) (get_or all i (0, 0) ∷ []) [])
-    ∙ ap (λ (ps : List (ℕ × ℕ)). lines_before amounts i ++ map amount_line ps) (coe 0 1 (j. cond (is_spilled (get_or all i (0, 0))) (get_or all i (0, 0) ∷ []) [] ≡ cond (test j) (here j ∷ []) []) refl)
+    ∙ ap (λ (ps : List (ℕ × ℕ)). lines_before amounts i ++ map amount_line ps) (ap₂ picked test here)
 
 pub skipped : (amounts : List ℕ) (i : ℕ) → i < length amounts → get_or amounts i 0 ≤ 0 → lines_before amounts (i + 1) ≡ lines_before amounts i
 skipped amounts i h none = one_more amounts i h false (le-ltb 0 (get_or amounts i 0) none) ∙ append-nil (lines_before amounts i)
 
-pub printed : ((text : List ℕ) (lines : List (List (List ℕ))) (line : List (List ℕ)) → (text ++ text_of_lines lines) ++ line_text line ≡ text ++ text_of_lines (lines ++ line ∷ []))
+pub printed : ((text : List ℕ) (lines : List (List (List ℕ))) (line : List (List ℕ))
+    → (text ++ text_of_lines lines) ++ line_text line ≡ text ++ text_of_lines (lines ++ line ∷ []))
     → (amounts : List ℕ) (i : ℕ) → i < length amounts → 0 < get_or amounts i 0 → (start before after : List ℕ)
     → before ≡ start ++ text_of_lines (lines_before amounts i) → after ≡ before ++ line_text (decimal (i + 1) ∷ decimal (get_or amounts i 0) ∷ [])
     → after ≡ start ++ text_of_lines (lines_before amounts (i + 1))
@@ -94,8 +96,8 @@ plan_within system order amounts len =
 
 -- ---- what is said of a spill that is done
 
-pub spilled : (input : Input) (source : OrderSource) (bound : ℕ) (texts : List (List ℕ)) (answer : Answer) → IsSpillOf input source bound texts answer → answer.status ≡ Done
-    → IsSpilled input source bound texts answer.text
+pub spilled : (input : Input) (source : OrderSource) (bound : ℕ) (texts : List (List ℕ)) (answer : Answer)
+    → IsSpillOf input source bound texts answer → answer.status ≡ Done → IsSpilled input source bound texts answer.text
 spilled input source bound texts answer (mine, text, system, order, split, is_system, is_order, inl (place, kind, fault, e)) done =
     absurd (cc (sym (ap (λ (a : Answer). a.status) e) ∙ done))
 spilled input source bound texts answer (mine, text, system, order, split, is_system, is_order, inr (inl (step, need, traversal, first, e))) done =
