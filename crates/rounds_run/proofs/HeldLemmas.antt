@@ -2,7 +2,7 @@
 use Rattle.std.proofs.Common.{◌≡◌, ◌≢◌, ◌⊎◌, ◌↔◌, ℕ, zero, suc, ◌+◌, ◌-◌, ◌<◌, ◌≤◌, inl, inr, Bool, true, false, ◌||◌, cond, eqb, IsTrue, List, [], ◌∷◌, ◌++◌, length, get_or, set, take, drop, replicate, refl, sym, ap, subst, ◌∙◌, arith}
 use Rattle.std.specs.List.{All, list_any, IsDistinct}
 use Rattle.std.proofs.Math.Bool.{or-false}
-use Rattle.std.proofs.lemmas.Bool.{cases_eq, cases_lt, cases_Bool, both_ways, eq-eqb, ne_eqb, eqb-true, eqb-false, or_parts, or_cases, or_left, or_right}
+use Rattle.std.proofs.lemmas.Bool.{cases_eq, cases_lt, cases_Bool, both_ways, eq-eqb, ne_eqb, eqb-true, eqb-false, or_parts, or_cases, or_left, or_right, cond-true, cond-false}
 use Rattle.std.proofs.lemmas.List.{get_or-set_same, get_or-set_other, length-set, length-replicate, get_or-replicate, get_or_default}
 use Rattle.std.proofs.lemmas.List.Folds.{list_any-append}
 use Rattle.std.proofs.lemmas.List.Elements.{All-push, All-nil}
@@ -86,9 +86,9 @@ held_made f taken done also s made old new super inside rows inboxes spare is_ma
     record {
       rows_long = ap (λ (z : List (List ℕ)). length z) rows ∙ length-set old.rows.items (s - 1) made.rows ∙ is.rows_long;
       inboxes_long = elim (cases_eq p 0) [
-        | inl root ↦ ap (λ (z : List (List (List ℕ))). length z) (inboxes ∙ (let e = eq-eqb p 0 root in rw e refl)) ∙ is.inboxes_long
-        | inr child ↦ ap (λ (z : List (List (List ℕ))). length z) (inboxes ∙ (let e = ne_eqb p 0 child in rw e refl))
-            ∙ length-set old.inboxes.items (p - 1) _ ∙ is.inboxes_long
+        | inl root ↦ ap (λ (z : List (List (List ℕ))). length z) (inboxes ∙ cond-true _ _ _ (eq-eqb p 0 root)) ∙ is.inboxes_long
+        | inr child ↦ ap (λ (z : List (List (List ℕ))). length z) (inboxes ∙ cond-false _ _ _ (ne_eqb p 0 child))
+            ∙ length-set old.inboxes.items (p - 1) (get_or old.inboxes.items (p - 1) [] ++ made.rest ∷ []) ∙ is.inboxes_long
       ];
       spare = subst (All (λ marks. marks ≡ f.order + 1)) (sym spare)
           (All-push (λ marks. marks ≡ f.order + 1) old.spare.items made.marks is.spare is_made.marks);
@@ -144,11 +144,12 @@ held_made f taken done also s made old new super inside rows inboxes spare is_ma
       other_inbox : (t : ℕ) → (super_at f.supers s).parent ≢ t → 1 ≤ t
           → get_or new.inboxes.items (t - 1) [] ≡ get_or old.inboxes.items (t - 1) []
       other_inbox t ne low = elim (cases_eq (super_at f.supers s).parent 0) [
-        | inl root ↦ ap (λ (z : List (List (List ℕ))). get_or z (t - 1) []) (inboxes ∙ (let e = eq-eqb (super_at f.supers s).parent 0 root in rw e refl))
+        | inl root ↦ ap (λ (z : List (List (List ℕ))). get_or z (t - 1) []) (inboxes ∙ cond-true _ _ _ (eq-eqb (super_at f.supers s).parent 0 root))
         | inr child ↦ (
             let other : t - 1 ≢ (super_at f.supers s).parent - 1 = λ e. ne (omega (arith, e, low, child)) in
-            ap (λ (z : List (List (List ℕ))). get_or z (t - 1) []) (inboxes ∙ (let e = ne_eqb (super_at f.supers s).parent 0 child in rw e refl))
-            ∙ get_or-set_other old.inboxes.items ((super_at f.supers s).parent - 1) (t - 1) _ [] other
+            ap (λ (z : List (List (List ℕ))). get_or z (t - 1) []) (inboxes ∙ cond-false _ _ _ (ne_eqb (super_at f.supers s).parent 0 child))
+            ∙ get_or-set_other old.inboxes.items ((super_at f.supers s).parent - 1) (t - 1)
+            (get_or old.inboxes.items ((super_at f.supers s).parent - 1) [] ++ made.rest ∷ []) [] other
             )
       ]
 
@@ -158,7 +159,7 @@ held_made f taken done also s made old new super inside rows inboxes spare is_ma
           let child : (super_at f.supers s).parent ≢ 0 = λ z. absurd (let low = there.0 in omega (arith, low, e, z)) in
           let lt : t - 1 < length old.inboxes.items = omega (arith, there.0, there.1, is.inboxes_long) in
           let whole : new.inboxes.items ≡ set old.inboxes.items (t - 1) (get_or old.inboxes.items (t - 1) [] ++ made.rest ∷ []) =
-          inboxes ∙ (let z = ne_eqb (super_at f.supers s).parent 0 child in rw z refl)
+          inboxes ∙ cond-false _ _ _ (ne_eqb (super_at f.supers s).parent 0 child)
           ∙ ap (λ (q : ℕ). set old.inboxes.items (q - 1) (get_or old.inboxes.items (q - 1) [] ++ made.rest ∷ [])) e in
           ap (λ (z : List (List (List ℕ))). in_lists (get_or z (t - 1) []) i) whole
           ∙ ap (λ z. in_lists z i) (get_or-set_same old.inboxes.items (t - 1) (get_or old.inboxes.items (t - 1) [] ++ made.rest ∷ []) [] lt)

@@ -5,4 +5,5 @@ mod RowTrees
 mod Timely
 mod OrderlyRounds
 mod HeldLemmas
+mod Marking
 mod Gathered

@@ -6,7 +6,7 @@ use Rattle.std.proofs.lemmas.List.Elements.{All-map, All-tail}
 use Rattle.std.proofs.lemmas.List.Sums.{sum_by-cons, sum_by-le, AllPass-from_list_all, list_all-from_AllPass}
 use Rattle.std.proofs.lemmas.List.Folds.{list_any_at}
 use Rattle.std.proofs.lemmas.List.FromFn.{length-range_with_len, get_or-range_with_len}
-use Rattle.std.proofs.lemmas.Bool.{cases_eq, eq-eqb, ne_eqb, or_left, or_right, or_cases, not_from_false}
+use Rattle.std.proofs.lemmas.Bool.{cases_eq, eq-eqb, ne_eqb, or_left, or_right, or_cases, not_from_false, not-true, both_ways, cond-true, cond-false}
 use Rattle.mp_system.specs.declared.system.Item.{Item}
 use Rattle.mp_system.specs.System.{TaskSystem, IsTask, is_input}
 use Rattle.mp_system.specs.Memory.{stands_in, is_ready, is_produced}
@@ -139,14 +139,21 @@ consumes_child : (v u p : ℕ) (done : ℕ → Bool) (item : Item) → item.from
 consumes_child v u p done item from to ready =
     elim (cases_eq p 0) [
       | inl root ↦ (
-          let none : item.to ≡ None = to ∙ (let e = eq-eqb p 0 root in rw e refl) in
-          or_left _ _ (rw none refl)
+          let none : item.to ≡ None = to ∙ cond-true _ _ _ (eq-eqb p 0 root) in
+          let unused : not (is_input v item) ≡ true = rw none refl in
+          or_left _ _ unused
           )
       | inr child ↦ (
-          let some : item.to ≡ Some p = to ∙ (let e = ne_eqb p 0 child in rw e refl) in
+          let some : item.to ≡ Some p = to ∙ cond-false _ _ _ (ne_eqb p 0 child) in
           elim (cases_eq p v) [
-            | inl here ↦ or_right _ _ (rw from (ready here (omega arith)))
-            | inr ne ↦ or_left _ _ (rw some (not_from_false _ (ne_eqb p v ne)))
+            | inl here ↦ (
+                let produced : is_produced done item ≡ true = rw from (ready here (omega arith)) in
+                or_right _ _ produced
+                )
+            | inr ne ↦ (
+                let unused : not (is_input v item) ≡ true = rw some (not_from_false _ (ne_eqb p v ne)) in
+                or_left _ _ unused
+                )
           ]
           )
     ]
@@ -154,17 +161,15 @@ consumes_child v u p done item from to ready =
 child_produced : (v u p : ℕ) (done : ℕ → Bool) (item : Item) → item.from ≡ Some u → item.to ≡ cond (eqb p 0) None (Some p)
     → p ≡ v → 0 < p → (not (is_input v item) || is_produced done item) ≡ true → done u ≡ true
 child_produced v u p done item from to here some passes =
-    let named : item.to ≡ Some p = to ∙ (let e = ne_eqb p 0 (λ z. absurd (omega arith)) in rw e refl) in
+    let child : p ≢ 0 = λ z. absurd (omega arith) in
+    let named : item.to ≡ Some p = to ∙ cond-false _ _ _ (ne_eqb p 0 child) in
     elim (or_cases (not (is_input v item)) (is_produced done item) passes) [
-      | inl no ↦ absurd (
-          let same = eq-eqb p v here in
-          let wrong : false ≡ true = rw (named, same) at no in
-          apart wrong
+      | inl unused ↦ absurd (
+          let used : is_input v item ≡ true = rw named (eq-eqb p v here) in
+          both_ways _ (not-true _ unused) used
           )
-      | inr yes ↦ rw from at yes
-    ] where
-      apart : false ≡ true → ⊥
-      apart e = cc
+      | inr produced ↦ rw from at produced
+    ]
 
 module _ (assembly : AssemblyTree) (is : IsAssembly assembly) where
   tasks_long : length (row_system assembly.supers).tasks ≡ length assembly.supers

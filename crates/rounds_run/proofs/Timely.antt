@@ -133,9 +133,13 @@ round_count_more (x ∷ xs) e = let rest = round_count_more xs e in omega arith
 pub flip : (a b : ℕ) → eqb a b ≡ eqb b a
 flip a b = same_bool _ _ (λ e. eq-eqb b a (sym (eqb-true a b e))) (λ e. eq-eqb a b (sym (eqb-true b a e)))
 
-any_flip : (t : ℕ) (xs : List ℕ) → list_any (eqb t) xs ≡ has xs t
+pub any_flip : (t : ℕ) (xs : List ℕ) → list_any (eqb t) xs ≡ has xs t
 any_flip t [] = refl
 any_flip t (x ∷ xs) = rw (flip t x, any_flip t xs) refl
+
+pub distinct_nil : IsDistinct eqb []
+unfolding IsDistinct
+distinct_nil = tt
 
 -- ---- along the schedule
 
@@ -170,10 +174,7 @@ module _ (c : Setting) (supplies : ℕ → ℕ → Type 0) (unit : (t : ℕ) →
     once = λ k. distinct_nil;
     apart = λ j k u one two. absurd (both_ways _ refl one);
     supplied = λ k u v there by. absurd (both_ways _ refl there);
-  } where
-    distinct_nil : IsDistinct eqb []
-    unfolding IsDistinct
-    distinct_nil = tt
+  }
 
   activated_task : (k t : ℕ) → stands_in (take k c.order) t ≡ true → IsTask c.system t
   activated_task k t there =

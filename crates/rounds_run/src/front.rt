@@ -1,6 +1,6 @@
 //! The task of a front.
 
-ghost use Rattle.std.specs.Prelude.{◌≡◌, ◌+◌, ◌<◌, ◌≤◌, ℕ, IsTrue, [], length, IfOk, OnOk};
+ghost use Rattle.std.specs.Prelude.{◌≡◌, ◌+◌, ◌<◌, ◌≤◌, ℕ, IsTrue, [], drop, length, IfOk, OnOk};
 ghost use Rattle.matrix_market.specs.Pattern.{is_joined, neighbours_of};
 ghost use Rattle.ordering.specs.Perm.{IsPerm, IsVertex, vertex_at};
 ghost use Rattle.ordering.specs.Fill.{renumbered};
@@ -67,6 +67,14 @@ fn gather(
     note_lists(lists, rows, seen)
 }
 
+// The rows past so many.
+fn rest_of(alloc: Global, rows: &[u32], columns: u32) -> Result<Vec<u32>, NoMemory>
+    requires { columns ≤ length rows.now }
+    ensures { IfOk result (λ rest. rest.items ≡ drop columns rows.now) }
+{
+    Vec::from_slice(alloc, &rows[columns as usize..])
+}
+
 /// The rows of a front: its first column, the later neighbours of that, and the rows that its children left to it, merged by marks. Linear
 /// in what these hold, but for a sort of the rows.
 pub fn make_front(
@@ -99,7 +107,7 @@ pub fn make_front(
     gather(pattern, perm, first, children.as_slice(), &mut rows, &mut seen)?;
     unmark(&rows, &mut seen);
     rows.sort_unstable();
-    let rest = Vec::from_slice(alloc, &rows[columns as usize..])?;
+    let rest = rest_of(alloc, &rows, columns)?;
     Ok(Made {
         rows: NumberList::of(rows),
         rest: NumberList::of(rest),

@@ -1,6 +1,7 @@
 //! What is held between the rounds.
 
-ghost use Rattle.std.specs.Prelude.{◌≡◌, ◌==◌, ◌+◌, ◌-◌, ◌≤◌, ◌<◌, ℕ, Bool, true, false, ◌||◌, ◌++◌, ◌∷◌, [], All, if◌then◌else◌, length, slice_set, slice_index_or, IfOk, OnOk};
+ghost use Rattle.std.specs.Prelude.{◌≡◌, ◌==◌, ◌+◌, ◌-◌, ◌≤◌, ◌<◌, ◌^◌, ℕ, Bool, true, false, ◌||◌, ◌++◌, ◌∷◌, [], All, if◌then◌else◌, length, slice_set, slice_index_or, IfOk, OnOk};
+ghost use Rattle.limits.specs.Limits.{most_order};
 ghost use Rattle.matrix_market.specs.Pattern.{has};
 ghost use Rattle.assembly_tree.specs.Assembly.{IsSuper, super_at};
 ghost use Rattle.assembly_tree.specs.Supernodes.{first_of};
@@ -74,7 +75,9 @@ impl Held {
         round: &[u32],
     ) -> Result<Vec<Job>, NoMemory>
         requires within { (s : ℕ) → has round.now s ≡ true → IsSuper supers.now s }
+        requires short { length round.now < 2 ^ 32 }
         requires firsts { AreFirsts supers.now firsts.now }
+        requires few { columns ≤ most_order }
         requires long { length self.old.inboxes.items ≡ length supers.now }
         requires spare { All (λ marks. marks ≡ columns + 1) self.old.spare.items }
         ensures jobs { IfOk result (λ jobs. (f : Factor) (ran : ℕ → Bool) → IsFactor f → f.supers ≡ supers.now →

@@ -14,7 +14,7 @@ fn reach(alloc: Global, lists: &mut Vec<NumberList>, place: u64) -> Result<(), N
     ensures lists { OnOk result
         ((k : ℕ) → slice_index_or lists.new.items k [] ≡ slice_index_or lists.old.items k []) }
 {
-    while lists.len() as u64 <= place {
+    'more: while lists.len() as u64 <= place {
         lists.push(NumberList::of(Vec::new(alloc)))?;
     }
     Ok(())

@@ -1,16 +1,13 @@
 //! The making of row lists as a system of tasks.
 
-ghost use Rattle.std.specs.Prelude.{◌≡◌, map, length, IfOk};
-ghost use Rattle.std.specs.List.{range_with_len};
+ghost use Rattle.std.specs.Prelude.{◌≡◌, ◌≤◌, map, length, IfOk};
 ghost use Rattle.limits.specs.Limits.{most_order};
-ghost use Rattle.assembly_tree.specs.Assembly.{IsAssembly};
 ghost use Rattle.rounds_run.specs.RowSystem.{row_node, row_system, row_order};
 
 use crate::NoMemory;
 use assembly_tree::{Assembly, Super};
 use mp_system::System;
 use std::alloc::Global;
-use tree_input::laws::root_law;
 use tree_input::{Node, Tree, system_of_tree};
 
 fn row_nodes(alloc: Global, supers: &[Super]) -> Result<Vec<Node>, NoMemory>
@@ -32,15 +29,15 @@ fn row_nodes(alloc: Global, supers: &[Super]) -> Result<Vec<Node>, NoMemory>
 pub fn row_system(alloc: Global, assembly: &Assembly) -> Result<System, NoMemory>
     ensures { IfOk result (λ system. system ≡ row_system assembly.now.supers) }
 {
-    root_law();
     let nodes = row_nodes(alloc, assembly.supers())?;
     system_of_tree(alloc, &Tree::new(nodes))
 }
 
 /// The numbers of the supernodes, in rising order.
-pub fn row_order(alloc: Global, assembly: &Assembly) -> Result<Vec<u32>, NoMemory>
-    ensures { IfOk result (λ order. order.items ≡ row_order assembly.now.supers) }
+pub fn row_order(alloc: Global, supers: &[Super]) -> Result<Vec<u32>, NoMemory>
+    requires { length supers.now ≤ most_order }
+    ensures { IfOk result (λ order. order.items ≡ row_order supers.now) }
 {
-    let count = assembly.supers().len() as u32;
+    let count = supers.len() as u32;
     (1..count + 1).collect(alloc)
 }

@@ -1,6 +1,6 @@
 //! The fronts, round by round.
 
-ghost use Rattle.std.specs.Prelude.{◌≡◌, ◌+◌, ◌-◌, ◌≤◌, ◌<◌, ℕ, Bool, true, All, length, drop, slice_index_or, IfOk, IfErr, OnOk};
+ghost use Rattle.std.specs.Prelude.{◌≡◌, ◌+◌, ◌-◌, ◌≤◌, ◌<◌, ◌^◌, ℕ, Bool, true, All, length, drop, slice_index_or, IfOk, IfErr, OnOk};
 ghost use Rattle.limits.specs.Limits.{most_workers, most_order};
 ghost use Rattle.matrix_market.specs.Pattern.{is_joined};
 ghost use Rattle.ordering.specs.Fill.{renumbered, parents_of, counts_of};
@@ -83,7 +83,10 @@ fn run_rounds<R: Threads + Sync, G: Gate>(
 ) -> Result<Vec<NumberList>, NoMemory>
     requires perm { length perm.now ≡ length pattern.now }
     requires supers { (f : Factor) × IsFactor f × (f.supers ≡ supers.now) × (f.order ≡ length perm.now) × (f.joined ≡ renumbered (is_joined pattern.now) perm.now) }
+    requires few { (length perm.now ≤ most_order) × (last_of supers.now (length supers.now) ≤ most_order) }
+    requires parents { All (λ x. x.parent ≤ length supers.now) supers.now }
     requires rounds { AreOrderly supers.now rounds.now }
+    requires short { All (λ round. length round < 2 ^ 32) rounds.now }
     ensures len { IfOk result (λ rows. length rows.items ≡ length supers.now) }
     ensures rows { IfOk result (λ rows. (s : ℕ) → IsSuper supers.now s → list_of rows.items s
         ≡ rows_of (renumbered (is_joined pattern.now) perm.now) (length perm.now) (first_of supers.now s)) }

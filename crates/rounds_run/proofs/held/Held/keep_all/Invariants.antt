@@ -4,8 +4,8 @@ use Rattle.matrix_market.specs.Pattern.{has}
 use Rattle.rounds_run.specs.Holding.{Factor, IsHeld, AreMadeOf, or_in}
 use Rattle.rounds_run.proofs.held.Held.keep_all.Given as goal
 
-abbrev pub invariant-loop-left : goal.invariant-loop-left
-invariant-loop-left l = record {
+abbrev pub invariant-loop-next : goal.invariant-loop-next
+invariant-loop-next l = record {
   rows : length l.self.rows.items ≡ length l.supers;
   inboxes : length l.self.inboxes.items ≡ length l.supers;
   few : length l.left.items ≤ length l.round;
@@ -15,5 +15,5 @@ invariant-loop-left l = record {
       → IsHeld f (or_in ran l.round) (or_in ran (drop (length l.left.items) l.round)) l.self;
 }
 
-abbrev pub decreases-loop-left : goal.decreases-loop-left
-decreases-loop-left l = length l.left.items
+abbrev pub decreases-loop-next : goal.decreases-loop-next
+decreases-loop-next l = length l.left.items
