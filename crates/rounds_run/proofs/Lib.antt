@@ -7,3 +7,8 @@ mod OrderlyRounds
 mod HeldLemmas
 mod Marking
 mod Gathered
+mod JobLemmas
+mod Starts
+mod MostUsed
+mod PlanLemmas
+mod RunLemmas

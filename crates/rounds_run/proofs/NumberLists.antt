@@ -5,7 +5,8 @@ use Rattle.std.specs.List.Sorted.{IsStrictlyIncreasing}
 use Rattle.std.proofs.Math.Bool.{or-false}
 use Rattle.std.proofs.lemmas.Bool.{cases_eq, cases_Bool, eq-eqb, ne_eqb, eqb-true, both_ways, or_cases, or_left, or_right, false_from_ne_true}
 use Rattle.std.proofs.lemmas.List.Folds.{list_any-append, list_any_at, list_any_more}
-use Rattle.std.proofs.lemmas.List.FromFn.{length-range_with_len, get_or-range_with_len}
+use Rattle.std.proofs.lemmas.List.FromFn.{length-range_with_len, get_or-range_with_len, map-range_with_len_more}
+use Rattle.std.proofs.lemmas.List.{map-id}
 use Rattle.std.proofs.lemmas.List.Kept.{AllPairs-from_increasing}
 use Rattle.matrix_market.specs.Pattern.{has}
 
@@ -176,3 +177,8 @@ from_range a n b there =
     let lt : place.0 < n = omega (arith, place.1, length-range_with_len a n) in
     let at = get_or-range_with_len a n place.0 0 lt in
     (omega (arith, at, place.2), omega (arith, at, place.2))
+
+pub range_more : (k : ℕ) → range_with_len 1 (k + 1) ≡ range_with_len 1 k ++ (k + 1) ∷ []
+range_more k =
+    sym (map-id (range_with_len 1 (k + 1))) ∙ map-range_with_len_more (λ x. x) 1 k (k + 1) (omega arith)
+    ∙ ap (λ z. z ++ (k + 1) ∷ []) (map-id (range_with_len 1 k))

@@ -172,7 +172,7 @@ child_produced v u p done item from to here some passes =
     ]
 
 module _ (assembly : AssemblyTree) (is : IsAssembly assembly) where
-  tasks_long : length (row_system assembly.supers).tasks ≡ length assembly.supers
+  pub tasks_long : length (row_system assembly.supers).tasks ≡ length assembly.supers
   tasks_long = length-map (map row_node assembly.supers) task_of ∙ length-map assembly.supers row_node
 
   -- tasks are supernodes
@@ -245,3 +245,20 @@ module _ (assembly : AssemblyTree) (is : IsAssembly assembly) where
     before_within [] v rest m e = omega arith
     before_within (x ∷ xs) v rest zero e = absurd (omega arith)
     before_within (x ∷ xs) v rest (suc m) e = omega (arith, before_within xs v rest m (omega (arith, e)))
+
+-- parents are supernodes
+pub parents_within : (assembly : AssemblyTree) → IsAssembly assembly → (supers : List Super) → supers ≡ assembly.supers
+    → All (λ (x : Super). x.parent ≤ length supers) supers
+parents_within assembly is supers same k d lt =
+    let lt_all : k < length assembly.supers = omega (arith, lt, ap (λ (z : List Super). length z) same) in
+    let here : super_at assembly.supers (suc k) ≡ get_or supers k d =
+    super_here assembly.supers k d lt_all ∙ ap (λ (z : List Super). get_or z k d) (sym same) in
+    let up = ap (λ (x : Super). x.parent) here in
+    let long = ap (λ (z : List Super). length z) same in
+    elim (cases_eq (super_at assembly.supers (suc k)).parent 0) [
+      | inl root ↦ omega (arith, root, up)
+      | inr child ↦ (
+          let inside = ((is.each (suc k) (omega arith, omega (arith, lt_all))).parent (omega (arith, child))).1 in
+          omega (arith, inside, up, long)
+          )
+    ]

@@ -87,23 +87,23 @@ grows : (k u : ℕ) (xs ys : List Event) → has (started_at k xs) u ≡ true �
 grows k u xs ys there =
     ap (λ z. has z u) (started-append k xs ys) ∙ has_append (started_at k xs) (started_at k ys) u ∙ or_left _ _ there
 
-activated_same : (k time t : ℕ) (xs : List Event)
+pub activated_same : (k time t : ℕ) (xs : List Event)
     → started_at k (xs ++ record { time = time; kind = Activate; task = t } ∷ []) ≡ started_at k xs
 activated_same k time t xs =
     started-append k xs (record { time = time; kind = Activate; task = t } ∷ []) ∙ append-nil (started_at k xs)
 
-finished_same : (k time t : ℕ) (xs : List Event)
+pub finished_same : (k time t : ℕ) (xs : List Event)
     → started_at k (xs ++ record { time = time; kind = Finish; task = t } ∷ []) ≡ started_at k xs
 finished_same k time t xs =
     started-append k xs (record { time = time; kind = Finish; task = t } ∷ []) ∙ append-nil (started_at k xs)
 
-started_more : (time t : ℕ) (xs : List Event)
+pub started_more : (time t : ℕ) (xs : List Event)
     → started_at time (xs ++ record { time = time; kind = Start; task = t } ∷ []) ≡ started_at time xs ++ t ∷ []
 started_more time t xs =
     started-append time xs (record { time = time; kind = Start; task = t } ∷ [])
     ∙ (let here = eq-eqb time time refl in rw here refl)
 
-started_same : (k time t : ℕ) (xs : List Event) → time ≢ k
+pub started_same : (k time t : ℕ) (xs : List Event) → time ≢ k
     → started_at k (xs ++ record { time = time; kind = Start; task = t } ∷ []) ≡ started_at k xs
 started_same k time t xs ne =
     started-append k xs (record { time = time; kind = Start; task = t } ∷ [])
@@ -126,7 +126,7 @@ started_cases k s time t xs there =
       | inr ne ↦ inl (ap (λ z. has z s) (sym (started_same k time t xs ne)) ∙ there)
     ]
 
-round_count_more : (xs : List Event) (e : Event) → round_count (xs ++ e ∷ []) ≡ max (round_count xs) (moments_of e)
+pub round_count_more : (xs : List Event) (e : Event) → round_count (xs ++ e ∷ []) ≡ max (round_count xs) (moments_of e)
 round_count_more [] e = omega arith
 round_count_more (x ∷ xs) e = let rest = round_count_more xs e in omega arith
 

@@ -38,6 +38,9 @@ pub fn row_order(alloc: Global, supers: &[Super]) -> Result<Vec<u32>, NoMemory>
     requires { length supers.now ≤ most_order }
     ensures { IfOk result (λ order. order.items ≡ row_order supers.now) }
 {
-    let count = supers.len() as u32;
-    (1..count + 1).collect(alloc)
+    let mut order = Vec::with_capacity(alloc, supers.len())?;
+    for i in 0..supers.len() {
+        order.push(i as u32 + 1)?;
+    }
+    Ok(order)
 }
