@@ -1,9 +1,9 @@
 -- Round after round.
-use Rattle.std.proofs.Common.{◌≡◌, ℕ, ◌+◌, ◌-◌, ◌<◌, ◌≤◌, Bool, true, ◌||◌, List, [], length, get_or, take, drop, sym, ap, subst, ◌∙◌, arith}
+use Rattle.std.proofs.Common.{◌≡◌, ℕ, ◌+◌, ◌-◌, ◌<◌, ◌≤◌, Bool, true, false, cond, ◌||◌, List, [], ◌∷◌, ◌++◌, length, get_or, set, take, drop, refl, sym, ap, subst, ◌∙◌, arith}
 use Rattle.std.specs.Prelude.{Result, IfOk, nat_eq}
 use Rattle.std.specs.List.{list_any, IsDistinct}
 use Rattle.std.specs.declared.alloc.AllocError.{AllocError}
-use Rattle.std.proofs.lemmas.List.{get_or_default, take_all}
+use Rattle.std.proofs.lemmas.List.{get_or_default, take_all, length_push, length-set, take-take, take_at, get_or_push, get_or-take}
 use Rattle.std.proofs.lemmas.List.Folds.{list_any_more}
 use Rattle.matrix_market.specs.Pattern.{has}
 use Rattle.assembly_tree.specs.declared.assembly.Super.{Super}
@@ -63,3 +63,23 @@ made_of f round jobs made are long each = (
       subst (λ n. IfOk (get_or made i d) (IsMade f.joined f.order (first_of f.supers (get_or round i 0)) n)) here.columns
       (subst (λ n. IfOk (get_or made i d) (IsMade f.joined f.order n (get_or jobs i job).columns)) here.first (each i d job in_jobs)),
 )
+
+-- ---- what was handed back, from the last on
+
+pub popped : {X : Type 0} (made left rest : List X) (x : X) → left ≡ rest ++ x ∷ [] → left ≡ take (length left) made
+    → rest ≡ take (length rest) made
+popped {X} made left rest x is are =
+    let more = ap (λ (z : List X). length z) is ∙ length_push rest x in
+    sym (take_at rest (x ∷ []) (length rest) refl) ∙ ap (take (length rest)) (sym is) ∙ ap (take (length rest)) are
+    ∙ take-take (length rest) (length left) made (omega (arith, more))
+
+pub popped_at : {X : Type 0} (made left rest : List X) (x : X) → left ≡ rest ++ x ∷ [] → left ≡ take (length left) made
+    → get_or made (length rest) x ≡ x
+popped_at {X} made left rest x is are =
+    let more = ap (λ (z : List X). length z) is ∙ length_push rest x in
+    sym (get_or-take (length left) made (length rest) x (omega (arith, more)))
+    ∙ ap (λ (z : List X). get_or z (length rest) x) (sym are ∙ is) ∙ get_or_push rest x x (length rest) refl
+
+pub cond_long : {X : Type 0} (b : Bool) (xs : List X) (i : ℕ) (x : X) → length (cond b xs (set xs i x)) ≡ length xs
+cond_long true xs i x = refl
+cond_long false xs i x = length-set xs i x

@@ -60,8 +60,10 @@ pub returns : goal.returns
 returns c =
     let before = (goal.at.returns c).After-deref-2 in
     let seen = c.marks.inside.seen in
+    let long : length seen.items ≡ c.args.job.marks = c.marks.view_is in
+    let whole : seen.len ≡ length c.unmark.new.seen = omega (arith, c.unmark.auto.seen, c.deref_mut-2.ensures.len) in
     record {
       rows = c.of.ensures ∙ sorted_is before;
       rest = c.of-2.ensures ∙ c.in_ok-rest.ensures ∙ ap (drop c.args.job.columns) (c.deref-2.ensures.value ∙ sorted_is before);
-      marks = ?;
+      marks = ap length (written c.unmark.new.seen _ seen.len whole) ∙ omega (arith, whole, seen.ok.0, long, c.requires.job.marks);
     }

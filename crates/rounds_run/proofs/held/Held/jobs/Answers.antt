@@ -82,7 +82,7 @@ loop-place-preserved c =
             (not_taken f.supers ran round place due c.loop-place-test.true there)
             (λ t child up. due.children node t there child up)
             (c.requires.firsts.each node super ∙ ap (λ z. first_of z node) (sym supers))
-            (let h = c.in_ok-push.ensures.items in ?)
+            (ap (λ z. (super_at z node).columns) (sym supers))
             c.take_lists-children.ensures.lists
             (c.in_ok-marks.ensures.marks ∙ ap (λ n. n + 1) (sym order)))
             )
