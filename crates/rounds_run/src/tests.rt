@@ -80,7 +80,7 @@ const GRID_BY_FOUR: &[&[u32]] = &[
 ];
 
 // The fronts of a matrix in an order that is numbered along its postorder.
-fn fronts<R: Threads + Sync, G: Gate>(
+fn fronts<R: Threads + Sync + Abort, G: Gate>(
     rt: &R,
     alloc: Global,
     matrix: &str,
@@ -96,6 +96,7 @@ fn fronts<R: Threads + Sync, G: Gate>(
     let pattern = read_pattern(alloc, matrix.as_bytes())?;
     pattern.keeps();
     let perm = read_perm(alloc, order.as_bytes(), pattern.order())?;
+    assert_eq!(rt; perm.len(), pattern.order());
     let numbered = postordered_etree(alloc, &pattern, &perm)?;
     let counts = counts(alloc, &pattern, &numbered.perm, &numbered.parents)?;
     let assembly = supernodes(alloc, &numbered.parents, &counts)?;
