@@ -1,0 +1,14 @@
+mod NumberLists
+mod RowLists
+mod SuperRows
+mod RowTrees
+mod Timely
+mod OrderlyRounds
+mod HeldLemmas
+mod Marking
+mod Gathered
+mod JobLemmas
+mod Starts
+mod MostUsed
+mod PlanLemmas
+mod RunLemmas

@@ -1,0 +1,6 @@
+pub mod FrontRows
+pub mod Fronts
+pub mod RowSystem
+pub mod Rounds
+pub mod Gathering
+pub mod Holding
