@@ -189,16 +189,17 @@ double processor_time() {
     return static_cast<double>(std::clock()) / CLOCKS_PER_SEC;
 }
 
-// The least of five times, in milliseconds.
+// The middle one of five times, in milliseconds.
 template <class Call>
 void tell_time(const char *name, Call call) {
-    double least = 1e9;
+    std::vector<double> times;
     for (int turn = 0; turn < 5; turn++) {
         const double start = processor_time();
         call();
-        least = std::min(least, processor_time() - start);
+        times.push_back(processor_time() - start);
     }
-    std::printf("%s %.3f\n", name, 1000 * least);
+    std::sort(times.begin(), times.end());
+    std::printf("%s %.3f\n", name, 1000 * times[2]);
 }
 
 void tell_times(const Pattern &pattern) {
