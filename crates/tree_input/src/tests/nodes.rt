@@ -46,30 +46,40 @@ fn refused_nodes(rt: HostRuntime) {
     let alloc = rt.alloc();
     let failed = |test, node| NodesRefusal::Node { test, node };
     refused(&rt, alloc, &[], NodesRefusal::NoNode);
-    for (nodes, refusal) in [
-        ([plain(4), plain(0), plain(9)], failed(NodeTest::Parent, 1)),
+    for (first, second, third, refusal) in [
+        (plain(4), plain(0), plain(9), failed(NodeTest::Parent, 1)),
         (
-            [plain(0), node(0, MOST + 1, 1, 0, 0), plain(4)],
+            plain(0),
+            node(0, MOST + 1, 1, 0, 0),
+            plain(4),
             failed(NodeTest::Parent, 3),
         ),
         (
-            [plain(0), node(0, MOST + 1, 1, 0, 1), node(0, 1, 1, 0, 0)],
+            plain(0),
+            node(0, MOST + 1, 1, 0, 1),
+            node(0, 1, 1, 0, 0),
             failed(NodeTest::Time, 3),
         ),
         (
-            [plain(0), node(0, 1, MOST + 1, 0, MOST + 1), plain(0)],
+            plain(0),
+            node(0, 1, MOST + 1, 0, MOST + 1),
+            plain(0),
             failed(NodeTest::Size, 2),
         ),
         (
-            [plain(0), plain(0), node(0, 1, 1, 0, MOST + 1)],
+            plain(0),
+            plain(0),
+            node(0, 1, 1, 0, MOST + 1),
             failed(NodeTest::LongTime, 3),
         ),
-        ([plain(0), plain(3), plain(2)], NodesRefusal::Cycle(2)),
+        (plain(0), plain(3), plain(2), NodesRefusal::Cycle(2)),
         (
-            [node(2, 1, 1, 0, 1), node(0, 0, 3, 2, 1), plain(0)],
+            node(2, 1, 1, 0, 1),
+            node(0, 0, 3, 2, 1),
+            plain(0),
             NodesRefusal::Share(2),
         ),
     ] {
-        refused(&rt, alloc, &nodes, refusal);
+        refused(&rt, alloc, &[first, second, third], refusal);
     }
 }
