@@ -77,8 +77,8 @@ pub held_made : (f : Factor) (taken done also : ℕ → Bool) (s : ℕ) (made : 
     → (super_at f.supers s).parent ≤ length f.supers
     → new.rows.items ≡ set old.rows.items (s - 1) made.rows
     → new.inboxes.items ≡ cond (eqb (super_at f.supers s).parent 0) old.inboxes.items
-        (set old.inboxes.items ((super_at f.supers s).parent - 1)
-        (get_or old.inboxes.items ((super_at f.supers s).parent - 1) [] ++ made.rest ∷ []))
+    (set old.inboxes.items ((super_at f.supers s).parent - 1)
+    (get_or old.inboxes.items ((super_at f.supers s).parent - 1) [] ++ made.rest ∷ []))
     → new.spare.items ≡ old.spare.items ++ made.marks ∷ [] → IsMadeOf f s made
     → ((t : ℕ) → also t ≡ (done t || eqb s t)) → IsHeld f taken done old → IsHeld f taken also new
 held_made f taken done also s made old new super inside rows inboxes spare is_made more is =
@@ -115,12 +115,12 @@ held_made f taken done also s made old new super inside rows inboxes spare is_ma
               λ now. elim (or_cases (in_lists (get_or old.inboxes.items (t - 1) []) i) (has made.rest i) (sym list ∙ now)) [
                 | inl before ↦ (let h = here.0 before in (h.0, h.1, h.2, more h.0 ∙ or_left _ _ h.3, h.4))
                 | inr new_one ↦ (
-                    s,
-                    super,
-                    e,
-                    more s ∙ or_right _ _ (eq-eqb s s refl),
-                    ap (λ z. has z i) (sym is_made.rest) ∙ new_one,
-                    )
+                  s,
+                  super,
+                  e,
+                  more s ∙ or_right _ _ (eq-eqb s s refl),
+                  ap (λ z. has z i) (sym is_made.rest) ∙ new_one,
+                )
               ],
               λ h. list ∙ elim (cases_eq s h.0) [
                 | inl same ↦ or_right _ _ (ap (λ z. has z i) is_made.rest ∙ subst (λ z. has (rest_rows f z) i ≡ true) (sym same) h.4)
@@ -137,30 +137,30 @@ held_made f taken done also s made old new super inside rows inboxes spare is_ma
             )
       ];
     }
-    where
-      earlier : (t : ℕ) → s ≢ t → also t ≡ true → done t ≡ true
-      earlier t ne d = elim (or_cases (done t) (eqb s t) (sym (more t) ∙ d)) [ inl before ↦ before | inr same ↦ absurd (ne (eqb-true s t same)) ]
+  where
+    earlier : (t : ℕ) → s ≢ t → also t ≡ true → done t ≡ true
+    earlier t ne d = elim (or_cases (done t) (eqb s t) (sym (more t) ∙ d)) [ inl before ↦ before | inr same ↦ absurd (ne (eqb-true s t same)) ]
 
-      other_inbox : (t : ℕ) → (super_at f.supers s).parent ≢ t → 1 ≤ t
-          → get_or new.inboxes.items (t - 1) [] ≡ get_or old.inboxes.items (t - 1) []
-      other_inbox t ne low = elim (cases_eq (super_at f.supers s).parent 0) [
-        | inl root ↦ ap (λ (z : List (List (List ℕ))). get_or z (t - 1) []) (inboxes ∙ cond-true _ _ _ (eq-eqb (super_at f.supers s).parent 0 root))
-        | inr child ↦ (
-            let other : t - 1 ≢ (super_at f.supers s).parent - 1 = λ e. ne (omega (arith, e, low, child)) in
-            ap (λ (z : List (List (List ℕ))). get_or z (t - 1) []) (inboxes ∙ cond-false _ _ _ (ne_eqb (super_at f.supers s).parent 0 child))
-            ∙ get_or-set_other old.inboxes.items ((super_at f.supers s).parent - 1) (t - 1)
-            (get_or old.inboxes.items ((super_at f.supers s).parent - 1) [] ++ made.rest ∷ []) [] other
-            )
-      ]
+    other_inbox : (t : ℕ) → (super_at f.supers s).parent ≢ t → 1 ≤ t
+        → get_or new.inboxes.items (t - 1) [] ≡ get_or old.inboxes.items (t - 1) []
+    other_inbox t ne low = elim (cases_eq (super_at f.supers s).parent 0) [
+      | inl root ↦ ap (λ (z : List (List (List ℕ))). get_or z (t - 1) []) (inboxes ∙ cond-true _ _ _ (eq-eqb (super_at f.supers s).parent 0 root))
+      | inr child ↦ (
+          let other : t - 1 ≢ (super_at f.supers s).parent - 1 = λ e. ne (omega (arith, e, low, child)) in
+          ap (λ (z : List (List (List ℕ))). get_or z (t - 1) []) (inboxes ∙ cond-false _ _ _ (ne_eqb (super_at f.supers s).parent 0 child))
+          ∙ get_or-set_other old.inboxes.items ((super_at f.supers s).parent - 1) (t - 1)
+          (get_or old.inboxes.items ((super_at f.supers s).parent - 1) [] ++ made.rest ∷ []) [] other
+          )
+    ]
 
-      own_inbox : (t i : ℕ) → (super_at f.supers s).parent ≡ t → IsSuper f.supers t
-          → in_lists (get_or new.inboxes.items (t - 1) []) i ≡ (in_lists (get_or old.inboxes.items (t - 1) []) i || has made.rest i)
-      own_inbox t i e there =
-          let child : (super_at f.supers s).parent ≢ 0 = λ z. absurd (let low = there.0 in omega (arith, low, e, z)) in
-          let lt : t - 1 < length old.inboxes.items = omega (arith, there.0, there.1, is.inboxes_long) in
-          let whole : new.inboxes.items ≡ set old.inboxes.items (t - 1) (get_or old.inboxes.items (t - 1) [] ++ made.rest ∷ []) =
-          inboxes ∙ cond-false _ _ _ (ne_eqb (super_at f.supers s).parent 0 child)
-          ∙ ap (λ (q : ℕ). set old.inboxes.items (q - 1) (get_or old.inboxes.items (q - 1) [] ++ made.rest ∷ [])) e in
-          ap (λ (z : List (List (List ℕ))). in_lists (get_or z (t - 1) []) i) whole
-          ∙ ap (λ z. in_lists z i) (get_or-set_same old.inboxes.items (t - 1) (get_or old.inboxes.items (t - 1) [] ++ made.rest ∷ []) [] lt)
-          ∙ in_lists_push (get_or old.inboxes.items (t - 1) []) made.rest i
+    own_inbox : (t i : ℕ) → (super_at f.supers s).parent ≡ t → IsSuper f.supers t
+        → in_lists (get_or new.inboxes.items (t - 1) []) i ≡ (in_lists (get_or old.inboxes.items (t - 1) []) i || has made.rest i)
+    own_inbox t i e there =
+        let child : (super_at f.supers s).parent ≢ 0 = λ z. absurd (let low = there.0 in omega (arith, low, e, z)) in
+        let lt : t - 1 < length old.inboxes.items = omega (arith, there.0, there.1, is.inboxes_long) in
+        let whole : new.inboxes.items ≡ set old.inboxes.items (t - 1) (get_or old.inboxes.items (t - 1) [] ++ made.rest ∷ []) =
+        inboxes ∙ cond-false _ _ _ (ne_eqb (super_at f.supers s).parent 0 child)
+        ∙ ap (λ (q : ℕ). set old.inboxes.items (q - 1) (get_or old.inboxes.items (q - 1) [] ++ made.rest ∷ [])) e in
+        ap (λ (z : List (List (List ℕ))). in_lists (get_or z (t - 1) []) i) whole
+        ∙ ap (λ z. in_lists z i) (get_or-set_same old.inboxes.items (t - 1) (get_or old.inboxes.items (t - 1) [] ++ made.rest ∷ []) [] lt)
+        ∙ in_lists_push (get_or old.inboxes.items (t - 1) []) made.rest i

@@ -52,7 +52,7 @@ all_made f rounds i held is end held_is s super =
 pub made_of : (f : Factor) (round : List ℕ) (jobs : List Job) (made : List (Result Made AllocError)) → AreJobsOf f round jobs
     → length made ≡ length jobs
     → ((i : ℕ) (d : Result Made AllocError) (e : Job) → i < length jobs → IfOk (get_or made i d)
-        (IsMade f.joined f.order (get_or jobs i e).first (get_or jobs i e).columns))
+    (IsMade f.joined f.order (get_or jobs i e).first (get_or jobs i e).columns))
     → AreMadeOf f round made
 made_of f round jobs made are long each = (
   long ∙ are.0,

@@ -67,5 +67,9 @@ starts_more e start xs rounds reached new is long same written =
 -- no more tasks start at a moment than there are events
 pub started_few : (k : ℕ) (xs : List Event) → length (started_at k xs) ≤ length xs
 started_few k xs =
-    omega (arith, length-map (filter (is_start_at k) xs) (λ (e : Event). e.task), length-filter (is_start_at k) xs,
-    count_by-le-length (is_start_at k) xs)
+    omega (
+      arith,
+      length-map (filter (is_start_at k) xs) (λ (e : Event). e.task),
+      length-filter (is_start_at k) xs,
+      count_by-le-length (is_start_at k) xs,
+    )

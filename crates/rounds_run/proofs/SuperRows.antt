@@ -175,12 +175,12 @@ module _ (joined : ℕ → ℕ → Bool) (n : ℕ) (laws : Laws joined n) (super
         let t = own.0 in
         elim (cases_eq x (last_of supers t)) [
           | inl e ↦ (
-              t,
-              own.1,
-              sym e,
-              super_parent t own.1 ∙ ap (λ (j : ℕ). super_of nodes (parent_of joined n j)) (sym e) ∙ ap (super_of nodes) up
-              ∙ stands s (first_of supers s) super (omega arith) (is.some s super),
-              )
+            t,
+            own.1,
+            sym e,
+            super_parent t own.1 ∙ ap (λ (j : ℕ). super_of nodes (parent_of joined n j)) (sym e) ∙ ap (super_of nodes) up
+                ∙ stands s (first_of supers s) super (omega arith) (is.some s super),
+          )
           | inr ne ↦ absurd (
               let below : x < last_of supers t = omega (arith, own.3, ne) in
               let goes = is.runs t x own.1 own.2 below in

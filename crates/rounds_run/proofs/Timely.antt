@@ -281,11 +281,11 @@ module _ (c : Setting) (supplies : ℕ → ℕ → Type 0) (unit : (t : ℕ) →
         ];
         soon = λ u is. elim (cases_eq u t) [
           | inl at ↦ (
-              time,
-              ap (task_entry (with_task_entry m.dues t (time + (task_at c.system t).time))) at ∙ due ∙ ap (λ z. time + z) one,
-              omega arith,
-              ap (λ z. has (started_at time (hist ++ e ∷ [])) z) at ∙ new,
-              )
+            time,
+            ap (task_entry (with_task_entry m.dues t (time + (task_at c.system t).time))) at ∙ due ∙ ap (λ z. time + z) one,
+            omega arith,
+            ap (λ z. has (started_at time (hist ++ e ∷ [])) z) at ∙ new,
+          )
           | inr ne ↦ (
               let s = ok.soon u (sym (other u ne) ∙ is) in
               (s.0, entry_other m.dues t u (time + (task_at c.system t).time) ne ∙ s.1, omega (arith, s.2, now), old s.0 u s.3)

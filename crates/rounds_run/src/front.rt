@@ -77,12 +77,7 @@ fn rest_of(alloc: Global, rows: &[u32], columns: u32) -> Result<Vec<u32>, NoMemo
 
 /// The rows of a front: its first column, the later neighbours of that, and the rows that its children left to it, merged by marks. Linear
 /// in what these hold, but for a sort of the rows.
-pub fn make_front(
-    alloc: Global,
-    pattern: &Pattern,
-    perm: &Perm,
-    job: Job,
-) -> Result<Made, NoMemory>
+pub fn make_front(alloc: Global, pattern: &Pattern, perm: &Perm, job: Job) -> Result<Made, NoMemory>
     requires perm { length perm.now ≡ length pattern.now }
     requires job { IsJob (renumbered (is_joined pattern.now) perm.now) (length perm.now) job }
     ensures { IfOk result
@@ -104,7 +99,14 @@ pub fn make_front(
     } = job;
     let Marks { mut seen } = marks;
     let mut rows: Vec<u32> = Vec::new(alloc);
-    gather(pattern, perm, first, children.as_slice(), &mut rows, &mut seen)?;
+    gather(
+        pattern,
+        perm,
+        first,
+        children.as_slice(),
+        &mut rows,
+        &mut seen,
+    )?;
     unmark(&rows, &mut seen);
     rows.sort_unstable();
     let rest = rest_of(alloc, &rows, columns)?;

@@ -13,9 +13,9 @@ use crate::lists::NumberList;
 use crate::refusal::FrontsRefusal;
 use crate::rounds::rounds_of;
 use crate::row_tree::{row_order, row_system};
+use activation::laws::once_law;
 use activation::{Core, CoreRefusal, Simulator};
 use assembly_tree::Assembly;
-use activation::laws::once_law;
 use std::alloc::Global;
 
 /// The rounds of the supernodes, and the greatest number of rows that they use.
@@ -44,7 +44,10 @@ fn row_core(
     let system = row_system(alloc, assembly)?;
     match Core::new(alloc, &system, order, bound, workers) {
         Ok(core) => Ok(core),
-        Err(CoreRefusal::BoundBelow { bound, peak }) => Err(FrontsRefusal::BoundBelow { bound, peak }),
+        Err(CoreRefusal::BoundBelow { bound, peak }) => Err(FrontsRefusal::BoundBelow {
+            bound,
+            peak,
+        }),
         Err(CoreRefusal::NoMemory) => Err(FrontsRefusal::NoMemory),
         Err(CoreRefusal::Order(_)) => unreachable!(),
     }

@@ -60,15 +60,19 @@ fn make_fronts<R: Threads + Sync, G: Gate>(
         (IsMade (renumbered (is_joined pattern.now) perm.now) (length perm.now)
         (slice_index_or jobs.items i e).first (slice_index_or jobs.items i e).columns)) }
 {
-    thread::map_vec(rt, jobs, &|job: Job| -> Result<Made, NoMemory>
-        requires { (length perm.now ≡ length pattern.now)
-            × IsJob (renumbered (is_joined pattern.now) perm.now) (length perm.now) job }
-        ensures { IfOk result
-            (IsMade (renumbered (is_joined pattern.entry.now) perm.entry.now) (length perm.entry.now) job.first job.columns) }
-    {
-        gate.enter(job.place);
-        make_front(alloc, pattern, perm, job)
-    })
+    thread::map_vec(
+        rt,
+        jobs,
+        &|job: Job| -> Result<Made, NoMemory>
+            requires { (length perm.now ≡ length pattern.now)
+                × IsJob (renumbered (is_joined pattern.now) perm.now) (length perm.now) job }
+            ensures { IfOk result
+                (IsMade (renumbered (is_joined pattern.entry.now) perm.entry.now) (length perm.entry.now) job.first job.columns) }
+        {
+            gate.enter(job.place);
+            make_front(alloc, pattern, perm, job)
+        },
+    )
 }
 
 // Runs round after round.

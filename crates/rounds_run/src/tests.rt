@@ -128,7 +128,15 @@ const CASES: &[Case] = &[
 
 fn check_case<R: Threads + Sync + Abort>(rt: &R, alloc: Global, case: &Case) -> Result<(), Fail> {
     assert!(rt; 1 <= case.workers && case.workers <= 4096);
-    let made = fronts(rt, alloc, case.matrix, case.order, case.bound, case.workers, &NoGate)??;
+    let made = fronts(
+        rt,
+        alloc,
+        case.matrix,
+        case.order,
+        case.bound,
+        case.workers,
+        &NoGate,
+    )??;
     assert_eq!(rt; made.len() as usize, case.rows.len());
     assert_eq!(rt; made.rounds() as usize, case.rounds.len());
     assert_eq!(rt; made.used(), case.used);

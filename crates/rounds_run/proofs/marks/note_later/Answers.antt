@@ -16,23 +16,23 @@ loop-vertex-preserved c =
     let first = c.args.first in
     elim c.if-column-first.branch [
       | then-column-first+in_ok-note w ↦ rw (w.list-is, w.seen-is) (record {
-          marked = w.in_ok-note.ensures.marked;
-          adds = λ x.
-              let test = is_later order first x in
-              adds_more (has w.note.new.list.items x) (has c.loop-vertex.list.items x) (has c.args.list.now.items x)
-              (list_any test (take i vertices)) (test v)
-              (w.in_ok-note.ensures.adds x ∙ ap (λ b. has c.loop-vertex.list.items x || b)
-              (sym (later_yes order first x v c.place-column.result c.place-column.ensures.value w.if-column-first.true)))
-              (c.loop-vertex.invariant.adds x)
-              ∙ ap (λ b. has c.args.list.now.items x || b) (sym (list_any_more test vertices i 0 c.loop-vertex-test.true));
-        })
+        marked = w.in_ok-note.ensures.marked;
+        adds = λ x.
+            let test = is_later order first x in
+            adds_more (has w.note.new.list.items x) (has c.loop-vertex.list.items x) (has c.args.list.now.items x)
+            (list_any test (take i vertices)) (test v)
+            (w.in_ok-note.ensures.adds x ∙ ap (λ b. has c.loop-vertex.list.items x || b)
+            (sym (later_yes order first x v c.place-column.result c.place-column.ensures.value w.if-column-first.true)))
+            (c.loop-vertex.invariant.adds x)
+            ∙ ap (λ b. has c.args.list.now.items x || b) (sym (list_any_more test vertices i 0 c.loop-vertex-test.true));
+      })
       | else-column-first w ↦ rw (w.list-is, w.seen-is) (record {
-          marked = c.loop-vertex.invariant.marked;
-          adds = λ x.
-              let test = is_later order first x in
-              adds_none (has c.loop-vertex.list.items x) (has c.args.list.now.items x) (list_any test (take i vertices)) (test v)
-              (later_no order first x v c.place-column.result c.place-column.ensures.value w.if-column-first.false)
-              (c.loop-vertex.invariant.adds x)
-              ∙ ap (λ b. has c.args.list.now.items x || b) (sym (list_any_more test vertices i 0 c.loop-vertex-test.true));
-        })
+        marked = c.loop-vertex.invariant.marked;
+        adds = λ x.
+            let test = is_later order first x in
+            adds_none (has c.loop-vertex.list.items x) (has c.args.list.now.items x) (list_any test (take i vertices)) (test v)
+            (later_no order first x v c.place-column.result c.place-column.ensures.value w.if-column-first.false)
+            (c.loop-vertex.invariant.adds x)
+            ∙ ap (λ b. has c.args.list.now.items x || b) (sym (list_any_more test vertices i 0 c.loop-vertex-test.true));
+      })
     ]
