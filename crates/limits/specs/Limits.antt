@@ -1,7 +1,7 @@
 -- The limits, each once.
 use Rattle.std.specs.Prelude.{ℕ, ◌^◌, List, codes}
 use Rattle.limits.specs.declared.name.LimitName.{LimitName}
-use Rattle.limits.specs.declared.name.LimitName.TheVariants.{Bytes, Order, Entries, Mindeg, Tasks, Positions, Size, Total, Time}
+use Rattle.limits.specs.declared.name.LimitName.TheVariants.{Bytes, Order, Entries, Mindeg, Tasks, Positions, Size, Total, Time, Arcs, Steps}
 
 -- bytes of one file
 abbrev pub most_bytes : ℕ
@@ -35,6 +35,14 @@ most_total = 2 ^ 60
 abbrev pub most_time : ℕ
 most_time = 2 ^ 40
 
+-- arcs of a task graph: two for a task, and one
+abbrev pub most_arcs : ℕ
+most_arcs = 2000001
+
+-- steps of all staircases of a term
+abbrev pub most_steps : ℕ
+most_steps = 10000000
+
 -- workers of a run, or of a check
 abbrev pub most_workers : ℕ
 most_workers = 4096
@@ -50,6 +58,8 @@ most Positions = most_positions
 most Size = most_size
 most Total = most_total
 most Time = most_time
+most Arcs = most_arcs
+most Steps = most_steps
 
 -- the word for a limit in reports
 abbrev pub word_of : LimitName → List ℕ
@@ -62,3 +72,5 @@ word_of Positions = codes "positions"
 word_of Size = codes "size"
 word_of Total = codes "total"
 word_of Time = codes "time"
+word_of Arcs = codes "arcs"
+word_of Steps = codes "steps"

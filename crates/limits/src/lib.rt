@@ -37,5 +37,11 @@ pub const MOST_TOTAL: u64 = 1_152_921_504_606_846_976;
 /// One duration: 2^40.
 pub const MOST_TIME: u64 = 1_099_511_627_776;
 
+/// Arcs of a task graph.
+pub const MOST_ARCS: u64 = 2_000_001;
+
+/// Steps of all staircases of a term.
+pub const MOST_STEPS: u64 = 10_000_000;
+
 /// Workers of a run, or of a check.
 pub const MOST_WORKERS: u32 = 4_096;

@@ -2,8 +2,8 @@ ghost use Rattle.std.specs.Prelude.{◌≡◌};
 ghost use Rattle.limits.specs.Limits.{most, word_of};
 
 use crate::{
-    MOST_BYTES, MOST_ENTRIES, MOST_MINDEG, MOST_ORDER, MOST_POSITIONS, MOST_SIZE, MOST_TASKS,
-    MOST_TIME, MOST_TOTAL,
+    MOST_ARCS, MOST_BYTES, MOST_ENTRIES, MOST_MINDEG, MOST_ORDER, MOST_POSITIONS, MOST_SIZE,
+    MOST_STEPS, MOST_TASKS, MOST_TIME, MOST_TOTAL,
 };
 use std::fmt::{self, Display, Formatter, Write};
 
@@ -28,6 +28,10 @@ pub enum LimitName {
     Total,
     /// One duration.
     Time,
+    /// Arcs of a task graph.
+    Arcs,
+    /// Steps of all staircases of a term.
+    Steps,
 }
 
 impl LimitName {
@@ -45,6 +49,8 @@ impl LimitName {
             LimitName::Size => MOST_SIZE,
             LimitName::Total => MOST_TOTAL,
             LimitName::Time => MOST_TIME,
+            LimitName::Arcs => MOST_ARCS,
+            LimitName::Steps => MOST_STEPS,
         }
     }
 
@@ -62,6 +68,8 @@ impl LimitName {
             LimitName::Size => "size",
             LimitName::Total => "total",
             LimitName::Time => "time",
+            LimitName::Arcs => "arcs",
+            LimitName::Steps => "steps",
         }
     }
 }

@@ -13,6 +13,8 @@ fn limits_and_their_words(rt: HostRuntime) -> Result<(), Fail> {
         (LimitName::Size, 1_099_511_627_776, "size"),
         (LimitName::Total, 1_152_921_504_606_846_976, "total"),
         (LimitName::Time, 1_099_511_627_776, "time"),
+        (LimitName::Arcs, 2_000_001, "arcs"),
+        (LimitName::Steps, 10_000_000, "steps"),
     ] {
         assert_eq!(rt; name.most(), most);
         assert_eq!(rt; name.word(), word);
