@@ -1,0 +1,9 @@
+pub mod Ends
+pub mod Steps
+pub mod Whole
+pub mod Forests
+pub mod Works
+pub mod Adding
+pub mod Weights
+pub mod Rows
+pub mod Carried

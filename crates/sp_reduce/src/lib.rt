@@ -1,0 +1,20 @@
+//! Task graphs reduced to series-parallel terms, or to an irreducible rest (Valdes, Tarjan and Lawler 1982).
+//!
+//! The definitions stand in specs/: `Reductions`, `Reduced`.
+#![tactic(auto)]
+
+mod carrying;
+mod link;
+mod piece;
+mod rounds;
+mod work;
+
+pub use carrying::carry;
+pub use link::{Link, Taken};
+pub use piece::Piece;
+pub use rounds::reduce_links;
+use std::alloc::AllocError;
+pub use work::add_link;
+
+/// Want of memory: an allocation was refused.
+pub type NoMemory = AllocError;
