@@ -1,7 +1,7 @@
 -- A piece more, and links that change, keep the terms of a forest.
 use Rattle.std.proofs.Common.{◌≡◌, ◌≢◌, ℕ, zero, suc, ◌+◌, ◌<◌, ◌≤◌, Bool, true, false, cond, refl, sym, subst, ap, arith, ◌∙◌, List, [], ◌∷◌, ◌++◌, length, Option, Some, None, get_or, set, length-append, inl, inr}
 use Rattle.std.specs.List.{sum_by}
-use Rattle.std.proofs.lemmas.List.{set_comm, set-set, set-get_or, length-set, get_or-set_same, get_or-set_other, set-append_left, get_or_append_left}
+use Rattle.std.proofs.lemmas.List.{set_comm, set-set, set-get_or, length-set, get_or-set_same, get_or-set_other, set-append_left, get_or_append_left, get_or_push, append_assoc}
 use Rattle.std.proofs.lemmas.List.Sums.{sum_by-cons, sum_by-append}
 use Rattle.std.proofs.lemmas.Bool.{cases_eq}
 use Rattle.mp_system.specs.declared.system.Item.{Item}
@@ -14,7 +14,7 @@ use Rattle.sp_reduce.specs.Nets.{Net, hold, both, hits}
 use Rattle.sp_reduce.specs.NetGraphs.{Makes, Fits, arc_weight}
 use Rattle.sp_reduce.specs.Forests.{Edge, dead, edge_weight, total, arcs_of, IsForest, planted}
 use Rattle.sp_reduce.specs.Work.{no_link, link_at, link, hit, link_weight, sum_links, IsLink, IsTaken}
-use Rattle.sp_reduce.specs.Pieces.{net_at, piece_net, grown, nets_of, edge_of, edges_of, IsCarried}
+use Rattle.sp_reduce.specs.Pieces.{net_at, piece_net, grown, nets_of, edge_of, edges_of, IsMade, piece_at, AreMade, IsCarried}
 use Rattle.sp_reduce.proofs.Forests.{forest-parallel, forest-series}
 use Rattle.sp_reduce.proofs.Works.{hits-end, end-some, counts-same}
 
@@ -47,6 +47,14 @@ new-net ps p at e =
 pub old-net : (ps : List Piece) (p : Piece) (i : ℕ) → i < length ps → net_at (nets_of (ps ++ p ∷ [])) i ≡ net_at (nets_of ps) i
 old-net ps p i h = ap (λ (ns : List Net). get_or ns i (hold 0)) (nets-push ps p) ∙ get_or_append_left (nets_of ps) (piece_net (nets_of ps) p ∷ []) (hold 0) i (omega (arith, nets-length ps))
 
+-- a piece of earlier ones more
+pub made-push : (ps : List Piece) (p : Piece) → AreMade ps → IsMade (length ps) p → AreMade (ps ++ p ∷ [])
+made-push ps p made new i lt = elim (cases_eq i (length ps)) [
+  | inl e ↦ subst (λ (k : ℕ). IsMade k (piece_at (ps ++ p ∷ []) k)) (sym e) (subst (IsMade (length ps)) (sym (get_or_push ps p (Hold 0) (length ps) refl)) new)
+  | inr ne ↦ (let short : i < length ps = omega (arith, lt, ne, length-append ps (p ∷ [])) in
+      subst (IsMade i) (sym (get_or_append_left ps (p ∷ []) (Hold 0) i short)) (made i short))
+]
+
 -- ---- edges
 
 abbrev Within : List Piece → List Link → List ℕ → Type 0
@@ -76,7 +84,7 @@ edges-set nets (x ∷ ls) (y ∷ ns) (suc i) l n e = ap (λ (es : List Edge). ed
 edges-kill : (nets : List Net) (ls : List Link) (ns : List ℕ) (i : ℕ) → length ns ≡ length ls → edges_of nets (set ls i no_link) ns ≡ set (edges_of nets ls ns) i dead
 edges-kill nets ls ns i e = ap (edges_of nets (set ls i no_link)) (sym (set-get_or ns i 0)) ∙ edges-set nets ls ns i no_link (get_or ns i 0) e
 
-edges-node : (nets : List Net) (ls : List Link) (ns : List ℕ) (i n : ℕ) → length ns ≡ length ls → edges_of nets ls (set ns i n) ≡ set (edges_of nets ls ns) i (edge_of nets (link_at ls i) n)
+pub edges-node : (nets : List Net) (ls : List Link) (ns : List ℕ) (i n : ℕ) → length ns ≡ length ls → edges_of nets ls (set ns i n) ≡ set (edges_of nets ls ns) i (edge_of nets (link_at ls i) n)
 edges-node nets ls ns i n e = ap (λ (xs : List Link). edges_of nets xs (set ns i n)) (sym (set-get_or ls i no_link)) ∙ edges-set nets ls ns i (link_at ls i) n e
 
 pub get-edge : (nets : List Net) (ls : List Link) (ns : List ℕ) (i : ℕ) → i < length ls → get_or (edges_of nets ls ns) i dead ≡ edge_of nets (link_at ls i) (get_or ns i 0)
@@ -160,6 +168,7 @@ module _ (graph : List Item) (ps : List Piece) (links : List Link) (nodes : List
       ∙ (λ k. set (edges-push ps q links nodes h.within k) i (record { alive = true; from = end_of p; net = new-net ps q (length ps) refl k; to = end_of s }))) in
       record {
         lens = len ∙ sym (length-set (set links i new) j no_link);
+        made = made-push ps q h.made (h.within i first.within first.alive, h.within j second.within second.alive);
         within = λ y lt a. elim (cases_eq y i) [
           | inl e ↦ omega (arith, ap (λ (z : ℕ). get_or (set nodes i (length ps)) z 0) e, get_or-set_same nodes i (length ps) 0 (omega (arith, h.lens, first.within)), length-append ps (q ∷ []))
           | inr ne ↦ omega (arith, get_or-set_other nodes i y (length ps) 0 ne, length-append ps (q ∷ []), others y lt a ne)
@@ -241,6 +250,8 @@ module _ (graph : List Item) (ps : List Piece) (links : List Link) (nodes : List
         ∙ (λ z. set ((edges-push ps1 y links nodes (within-push x) ∙ edges-push ps x links nodes h.within) z) k (here z)))) in
         record {
           lens = len_i ∙ sym (length-set (set links i no_link) j no_link);
+          made = made-push ps1 y (made-push ps x h.made (h.within i first.within first.alive, h.within j second.within second.alive))
+              (omega (arith, long, h.within k twin.within twin.alive), omega (arith, long));
           within = λ u lt a. elim (cases_eq u k) [
             | inl e ↦ omega (arith, ap (λ (z : ℕ). get_or (set nodes k m) z 0) e, get_or-set_same nodes k m 0 (omega (arith, h.lens, twin.within)), length-append ps1 (y ∷ []), long, m_is)
             | inr ne ↦ omega (arith, get_or-set_other nodes k u m 0 ne, length-append ps1 (y ∷ []), long, left u lt a)

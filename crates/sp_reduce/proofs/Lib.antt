@@ -7,3 +7,4 @@ pub mod Adding
 pub mod Weights
 pub mod Rows
 pub mod Carried
+pub mod Planted

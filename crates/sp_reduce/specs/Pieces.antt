@@ -35,8 +35,21 @@ edges_of nets [] nodes = []
 edges_of nets (l ∷ ls) [] = edge_of nets l 0 ∷ edges_of nets ls []
 edges_of nets (l ∷ ls) (n ∷ ns) = edge_of nets l n ∷ edges_of nets ls ns
 
+-- a piece at this place is made of earlier ones
+abbrev pub IsMade : ℕ → Piece → Type 0
+IsMade i (Hold n) = Unit {0}
+IsMade i (Series a v b) = (a < i) × (b < i)
+IsMade i (Both a b) = (a < i) × (b < i)
+
+abbrev pub piece_at : List Piece → ℕ → Piece
+piece_at ps i = slice_index_or ps i (Hold 0)
+
+abbrev pub AreMade : List Piece → Type 0
+AreMade ps = (i : ℕ) → i < length ps → IsMade i (piece_at ps i)
+
 -- each link that is alive carries a piece, and these are the terms of a forest of the graph, with the arcs that are still to come
 pub record IsCarried (graph rest : List Item) (pieces : List Piece) (links : List Link) (nodes : List ℕ) : Type 0 where
   pub lens : length nodes ≡ length links
+  pub made : AreMade pieces
   pub within : (x : ℕ) → x < length links → (link_at links x).alive ≡ true → slice_index nodes x < length pieces
   pub forest : IsForest graph (edges_of (nets_of pieces) links nodes ++ planted rest)

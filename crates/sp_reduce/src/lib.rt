@@ -3,6 +3,7 @@
 //! The definitions stand in specs/: `Reductions`, `Reduced`.
 #![tactic(auto)]
 
+mod building;
 mod carrying;
 mod link;
 mod piece;
@@ -12,9 +13,10 @@ mod work;
 pub use carrying::carry;
 pub use link::{Link, Taken};
 pub use piece::Piece;
+pub use building::add_arc;
 pub use rounds::reduce_links;
 use std::alloc::AllocError;
-pub use work::add_link;
+
 
 /// Want of memory: an allocation was refused.
 pub type NoMemory = AllocError;
