@@ -8,3 +8,6 @@ pub mod Weights
 pub mod Rows
 pub mod Carried
 pub mod Planted
+pub mod Links
+pub mod Shaped
+pub mod Writings

@@ -5,3 +5,5 @@ pub mod NetGraphs
 pub mod Forests
 pub mod Work
 pub mod Pieces
+pub mod Shapes
+pub mod Writing

@@ -7,12 +7,14 @@ mod building;
 mod carrying;
 mod link;
 mod piece;
+mod postfix;
 mod rounds;
 mod work;
 
 pub use carrying::carry;
 pub use link::{Link, Taken};
 pub use piece::Piece;
+pub use postfix::{Written, write_term};
 pub use building::add_arc;
 pub use rounds::reduce_links;
 use std::alloc::AllocError;

@@ -8,3 +8,4 @@ pub mod StatedLemmas
 pub mod FileLemmas
 pub mod CountLemmas
 pub mod ReadLemmas
+pub mod RankLemmas

@@ -1,6 +1,6 @@
 -- Task graphs, as workflow runners have them: tasks, and arcs of data between them. Their systems, which tasks can be ordered, and
 -- the completed graph, in which an arc leads into each task and out of it.
-use Rattle.std.specs.Prelude.{◌≡◌, ◌==◌, ℕ, zero, suc, ◌+◌, ◌-◌, ◌≤◌, true, if◌then◌else◌, Option, Some, None, All, List, ◌∷◌, ◌++◌, length, map, filter, take, count_by, slice_index_or}
+use Rattle.std.specs.Prelude.{◌≡◌, ◌==◌, ℕ, zero, suc, ◌+◌, ◌-◌, ◌<◌, ◌≤◌, true, if◌then◌else◌, Option, Some, None, All, List, ◌∷◌, ◌++◌, length, map, filter, take, count_by, slice_index_or}
 use Rattle.std.specs.Prelude.{Bool}
 use Rattle.std.specs.List.{sum_by, range_with_len}
 use Rattle.limits.specs.Limits.{most_tasks, most_arcs, most_size, most_total}
@@ -81,6 +81,10 @@ pub record CanBeOrdered (arcs : List Arc) (v : ℕ) : Type 0 where
   pub list : List ℕ
   pub supplied : AreSupplied arcs list
   pub stands : stands_in list v ≡ true
+
+-- an arc leads from a lower rank to a higher one, where it leads from a task to a task
+abbrev pub Rises : (ℕ → ℕ) → Arc → Type 0
+Rises rank arc = 1 ≤ arc.from → 1 ≤ arc.to → rank arc.from < rank arc.to
 
 -- ---- shares
 
