@@ -2,6 +2,7 @@
 use Rattle.std.proofs.Common.{◌≡◌, ℕ, zero, suc, ◌+◌, ◌-◌, ◌^◌, ◌<◌, ◌≤◌, Bool, true, false, cond, min, reverse, refl, sym, ap, subst, arith, ◌∙◌, List, [], ◌∷◌, ◌++◌, length, get_or, append_assoc, length-append}
 use Rattle.std.specs.List.{All}
 use Rattle.std.proofs.lemmas.List.{reverse-append, reverse-reverse, append-nil, get_or_append_left, get_or-append-add, take_more}
+use Rattle.std.proofs.lemmas.Bool.{cases_eq}
 use Rattle.std.proofs.lemmas.List.Elements.{All-nil, All-cons, All-append}
 use Rattle.mp_system.specs.declared.system.Task.{Task}
 use Rattle.sp_terms.specs.declared.position.Position.{Position}
@@ -92,7 +93,7 @@ names-push nets (x ∷ xs) ys =
     ap (λ (ns : List ℕ). own ++ ns) (names-push nets xs ys) ∙ sym (append_assoc own (all_names nets xs) (all_names nets ys))
 
 pub sizes-push : (nets : List Net) (xs ys : List Pending) → all_sizes nets (xs ++ ys) ≡ all_sizes nets xs + all_sizes nets ys
-sizes-push nets [] ys = refl
+sizes-push nets [] ys = omega arith
 sizes-push nets (x ∷ xs) ys = omega (arith, sizes-push nets xs ys)
 
 parts-le : (t : Net) → parts_of t ≤ size_of t
@@ -148,6 +149,19 @@ own-sizes : (nets : List Net) (p : Piece) (among : Bool) → all_sizes nets (chi
 own-sizes nets (Hold size) among = refl
 own-sizes nets (Series a v b) among = omega arith
 own-sizes nets (Both a b) among = omega arith
+
+-- ---- one count more
+
+pub counts-more : (ps : List Piece) (counts : List ℕ) (j n : ℕ) → length counts ≡ j → ((i : ℕ) → i < j → get_or counts i 0 ≡ count_at ps i) → n ≡ count_at ps j
+    → (i : ℕ) → i < j + 1 → get_or (counts ++ n ∷ []) i 0 ≡ count_at ps i
+counts-more ps counts j n len old own i lt = elim (cases_eq i j) [
+  | inl e ↦ (λ z. get_or (counts ++ n ∷ []) ((e ∙ sym len) z) 0) ∙ last counts ∙ own ∙ ap (count_at ps) (sym e)
+  | inr ne ↦ get_or_append_left counts (n ∷ []) 0 i (omega (arith, lt, ne, len)) ∙ old i (omega (arith, lt, ne))
+]
+  where
+  last : (xs : List ℕ) → get_or (xs ++ n ∷ []) (length xs) 0 ≡ n
+  last [] = refl
+  last (x ∷ xs) = last xs
 
 -- ---- one piece is written
 
@@ -289,3 +303,17 @@ writing-first tasks n ps root size alone lt small known =
       places = All-cons (λ (p : Pending). p.piece < length ps) root [] lt (All-nil (λ (p : Pending). p.piece < length ps));
       known = subst (All (IsAmong n)) (sym (append-nil (names t))) known;
     }
+
+-- the same of equal lists
+pub writing-same : (tasks : ℕ → Task) (n : ℕ) (ps : List Piece) (all : List Position) (whole : List ℕ) (size : ℕ) (pend pend2 : List Pending) (positions positions2 : List Position) (named named2 : List ℕ)
+    → pend2 ≡ pend → positions2 ≡ positions → named2 ≡ named → IsWriting tasks n ps all whole size pend positions named → IsWriting tasks n ps all whole size pend2 positions2 named2
+writing-same tasks n ps all whole size pend pend2 positions positions2 named named2 e f g h =
+    subst (λ (xs : List Pending). IsWriting tasks n ps all whole size xs positions2 named2) (sym e)
+    (subst (λ (xs : List Position). IsWriting tasks n ps all whole size pend xs named2) (sym f)
+    (subst (λ (xs : List ℕ). IsWriting tasks n ps all whole size pend positions xs) (sym g) h))
+
+-- at the end all is written
+pub writing-done : (tasks : ℕ → Task) (n : ℕ) (ps : List Piece) (all : List Position) (whole : List ℕ) (size : ℕ) (pend : List Pending) (positions : List Position) (named : List ℕ)
+    → length pend ≡ 0 → IsWriting tasks n ps all whole size pend positions named → (reverse positions ≡ all) × (reverse named ≡ whole)
+writing-done tasks n ps all whole size [] positions named e h = (h.positions_are, h.names_are)
+writing-done tasks n ps all whole size (p ∷ pend) positions named e h = absurd (omega (arith, e))
