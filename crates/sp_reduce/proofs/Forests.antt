@@ -6,7 +6,7 @@ use Rattle.std.proofs.lemmas.List.Sums.{sum_by-cons, sum_by-set}
 use Rattle.mp_system.specs.declared.system.Item.{Item}
 use Rattle.sp_reduce.specs.Nets.{Net, hold, series, both, times, weigh, hits, knows}
 use Rattle.sp_reduce.specs.NetGraphs.{arc_weight, Makes, arc, IsParallel, IsSeries, IsIrreducible, IsSingle}
-use Rattle.sp_reduce.specs.Forests.{Edge, dead, edge_weight, total, arcs_of, IsForest}
+use Rattle.sp_reduce.specs.Forests.{Edge, dead, edge_weight, total, arcs_of, IsForest, planted}
 use Rattle.sp_reduce.proofs.Ends.{split, hits-le, hits-same}
 use Rattle.sp_reduce.proofs.Whole.{makes-fits, forth-parallel, forth-series, ended}
 
@@ -115,10 +115,6 @@ module _ (es : List Edge) (i j : ℕ) (p q r s : Option ℕ) (m n : Net) (lt : i
         }
 
 -- ---- the start and the end
-
-abbrev pub planted : List Item → List Edge
-planted [] = []
-planted (x ∷ xs) = record { alive = true; from = x.from; net = hold x.size; to = x.to } ∷ planted xs
 
 planted-total : (f : Option ℕ → Net → Option ℕ → ℕ) (xs : List Item) → total f (planted xs) ≡ sum_by (λ x. f x.from (hold x.size) x.to) xs
 planted-total f [] = refl

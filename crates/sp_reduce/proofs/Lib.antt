@@ -11,3 +11,6 @@ pub mod Planted
 pub mod Links
 pub mod Shaped
 pub mod Writings
+pub mod Bounds
+pub mod Finish
+pub mod Outcomes

@@ -7,3 +7,4 @@ pub mod Work
 pub mod Pieces
 pub mod Shapes
 pub mod Writing
+pub mod Outcome
