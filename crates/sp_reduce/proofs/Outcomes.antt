@@ -186,3 +186,17 @@ pub one-list : (xs : List (ℕ × ℕ)) (d : ℕ × ℕ) → length xs ≡ 1 →
 one-list [] d e a b = absurd (omega arith)
 one-list (x ∷ []) d e a b = λ i. (a i, b i) ∷ []
 one-list (x ∷ y ∷ xs) d e a b = absurd (omega arith)
+
+-- ---- one arc more
+
+pub carried-empty : (graph : List Item) (pieces : List Piece) (links : List Link) (nodes : List ℕ) → pieces ≡ [] → links ≡ [] → nodes ≡ [] → IsCarried graph graph pieces links nodes
+carried-empty graph pieces links nodes a b c =
+    subst (λ (ps : List Piece). IsCarried graph graph ps links nodes) (sym a)
+    (subst (λ (ls : List Link). IsCarried graph graph [] ls nodes) (sym b)
+    (subst (λ (ns : List ℕ). IsCarried graph graph [] [] ns) (sym c) (carried-start graph)))
+
+pub item-next : (arcs : List Arc) (d : Arc) (i : ℕ) → i < length arcs → map item_of (drop i arcs) ≡ item_of (get_or arcs i d) ∷ map item_of (drop (i + 1) arcs)
+item-next arcs d i lt = ap (map item_of) (drop_more arcs i d lt)
+
+pub ends-next : (arcs : List Arc) (d : Arc) (i : ℕ) → i < length arcs → map ends_of (drop i arcs) ≡ ends_of (get_or arcs i d) ∷ map ends_of (drop (i + 1) arcs)
+ends-next arcs d i lt = ap (map ends_of) (drop_more arcs i d lt)

@@ -8,3 +8,4 @@ pub mod Pieces
 pub mod Shapes
 pub mod Writing
 pub mod Outcome
+pub mod Refusal

@@ -4,7 +4,6 @@ use Rattle.std.specs.List.{sum_by, list_any}
 use Rattle.sp_reduce.specs.declared.link.Link.{Link}
 use Rattle.sp_reduce.specs.declared.link.Taken.{Taken}
 use Rattle.mp_system.specs.declared.system.Item.{Item}
-use Rattle.task_graph.specs.declared.arc.Arc.{Arc}
 use Rattle.task_graph.specs.Graph.{end_of}
 use Rattle.sp_reduce.specs.NetGraphs.{arc}
 
@@ -90,7 +89,3 @@ pub record IsTaken (old new : List Link) (v : ℕ) (taken : Taken) : Type 0 wher
 abbrev pub fewer_by : Option ℕ → ℕ
 fewer_by None = 1
 fewer_by (Some k) = 2
-
--- an arc leads from a lower rank to a higher one, where it leads from a task to a task
-abbrev pub Rises : (ℕ → ℕ) → Arc → Type 0
-Rises rank a = 1 ≤ a.from → 1 ≤ a.to → rank a.from < rank a.to

@@ -1,20 +1,20 @@
 //! The links of a graph, of which no two have the same ends.
 
-ghost use Rattle.std.specs.Prelude.{◌≡◌, ◌≤◌, ◌<◌, ◌+◌, ◌*◌, ◌^◌, ◌++◌, ◌∷◌, [], ℕ, List, All, length, map, slice_index, IfOk, MatchOption, nat_eq, vec_len};
+ghost use Rattle.std.specs.Prelude.{◌≡◌, ◌≤◌, ◌<◌, ◌+◌, ◌*◌, ◌^◌, ◌++◌, ◌∷◌, [], ℕ, suc, List, All, length, map, slice_index, IfOk, MatchOption, nat_eq, vec_len};
 ghost use Rattle.std.specs.HashMap as hash;
 ghost use Rattle.std.specs.Option.{ForSome};
 ghost use Rattle.mp_system.specs.declared.system.Item.{Item};
-ghost use Rattle.task_graph.specs.Graph.{IsArcWithin, end_of, item_of};
+ghost use Rattle.limits.specs.Limits.{most_arcs};
+ghost use Rattle.task_graph.specs.Graph.{IsArcWithin, Rises, end_of, item_of};
 ghost use Rattle.sp_reduce.specs.declared.link.Link.{Link};
 ghost use Rattle.sp_reduce.specs.Pieces.{IsCarried};
 ghost use Rattle.sp_reduce.specs.Reductions.{LeadsTo, ends_of};
-ghost use Rattle.sp_reduce.specs.Work.{IsWork, IsLink, Rises, link, pairs_of, sum_links, stands, AreTasks};
+ghost use Rattle.sp_reduce.specs.Work.{IsWork, IsLink, link, pairs_of, sum_links};
 
 use crate::NoMemory;
 use crate::link::Link;
 use crate::piece::Piece;
 use crate::work::{add_link, twin};
-use std::alloc::Global;
 use std::collections::HashMap;
 use task_graph::Arc;
 
@@ -52,7 +52,7 @@ fn plant(
 }
 
 // Puts one arc more among the links.
-pub fn add_arc(
+fn add_arc(
     tasks: u32,
     arc: Arc,
     links: &mut Vec<Link>,
@@ -86,6 +86,39 @@ pub fn add_arc(
         None => add_link(
             tasks, arc.from, arc.to, links, ins, outs, in_at, out_at, table,
         )?,
+    }
+    Ok(())
+}
+
+/// Puts all arcs of a graph among the links, of which there were none.
+pub fn add_arcs(
+    tasks: u32,
+    arcs: &[Arc],
+    links: &mut Vec<Link>,
+    nodes: &mut Vec<u32>,
+    ins: &mut [u32],
+    outs: &mut [u32],
+    in_at: &mut [u32],
+    out_at: &mut [u32],
+    table: &mut HashMap<u64, u32>,
+    pieces: &mut Vec<Piece>,
+) -> Result<(), NoMemory>
+    requires empty { (links.old.items ≡ []) × (nodes.old.items ≡ []) × (pieces.old.items ≡ []) }
+    requires zeros { (v : ℕ) → (slice_index ins.old v ≡ 0) × (slice_index outs.old v ≡ 0) }
+    requires lens { (length ins.old ≡ suc tasks) × (length outs.old ≡ suc tasks) × (length in_at.old ≡ suc tasks) × (length out_at.old ≡ suc tasks) }
+    requires within { All (IsArcWithin tasks) arcs.now }
+    requires few { length arcs.now ≤ most_arcs }
+    requires ranked { (rank : ℕ → ℕ) × All (Rises rank) arcs.now }
+    ensures work { IfOk result (λ _. (rank : ℕ → ℕ) × IsWork tasks rank links.new.items ins.new outs.new in_at.new out_at.new (hash.get nat_eq table.new)) }
+    ensures carried { IfOk result (λ _. IsCarried (map item_of arcs.now) [] pieces.new.items links.new.items nodes.new.items) }
+    ensures row { IfOk result (λ _. LeadsTo (map ends_of arcs.now) (pairs_of links.new.items)) }
+    ensures few { IfOk result (λ _. vec_len links.new ≤ most_arcs) }
+    ensures room { IfOk result (λ _. vec_len pieces.new + sum_links (λ x y. 1) links.new.items ≤ 2 * length arcs.now) }
+{
+    for arc in arcs {
+        add_arc(
+            tasks, *arc, links, nodes, ins, outs, in_at, out_at, table, pieces,
+        )?;
     }
     Ok(())
 }

@@ -8,17 +8,14 @@ mod carrying;
 mod link;
 mod piece;
 mod postfix;
+mod reduced;
+mod reducing;
 mod rounds;
 mod work;
 
-pub use carrying::carry;
-pub use link::{Link, Taken};
-pub use piece::Piece;
-pub use postfix::{Written, write_term};
-pub use building::add_arc;
-pub use rounds::reduce_links;
+pub use reduced::{ReduceRefusal, Reduced};
+pub use reducing::reduce;
 use std::alloc::AllocError;
-
 
 /// Want of memory: an allocation was refused.
 pub type NoMemory = AllocError;

@@ -2,6 +2,7 @@
 
 ghost use Rattle.std.specs.Prelude.{◌≡◌, ◌≢◌, ◌≤◌, ◌<◌, ◌+◌, ◌*◌, ◌^◌, [], ℕ, List, length, slice_index, IfOk, nat_eq, true, vec_len};
 ghost use Rattle.std.specs.HashMap as hash;
+ghost use Rattle.limits.specs.Limits.{most_tasks};
 ghost use Rattle.mp_system.specs.declared.system.Item.{Item};
 ghost use Rattle.sp_reduce.specs.NetGraphs.{IsIrreducible};
 ghost use Rattle.sp_reduce.specs.Pieces.{IsCarried};
@@ -13,6 +14,7 @@ use crate::carrying::carry;
 use crate::link::Link;
 use crate::piece::Piece;
 use crate::work::take_out;
+use std::alloc::Global;
 use std::collections::HashMap;
 
 // Notes a task, if it is one.
@@ -96,4 +98,17 @@ pub fn reduce_links(
         )?;
     }
     Ok(())
+}
+
+/// All tasks of a graph of so many.
+pub fn all_tasks(alloc: Global, tasks: u32) -> Result<Vec<u32>, NoMemory>
+    requires { tasks ≤ most_tasks }
+    ensures listed { IfOk result (λ todo. AreTasks tasks todo.items) }
+    ensures each { IfOk result (λ todo. (u : ℕ) → 1 ≤ u → u ≤ tasks → stands u todo.items ≡ true) }
+{
+    let mut todo = Vec::new(alloc);
+    for v in 1..tasks + 1 {
+        note(&mut todo, v)?;
+    }
+    Ok(todo)
 }
