@@ -1,8 +1,8 @@
 -- The links at the start, and what is left of them at the end: the term of the one link, or an irreducible rest.
-use Rattle.std.proofs.Common.{◌≡◌, ◌≢◌, ℕ, zero, suc, ◌+◌, ◌<◌, ◌≤◌, Bool, true, false, cond, eqb, refl, sym, ap, subst, arith, ◌∙◌, List, [], ◌∷◌, ◌++◌, length, map, drop, get_or, Option, Some, None, inl, inr}
+use Rattle.std.proofs.Common.{◌≡◌, ◌≢◌, ℕ, zero, suc, ◌+◌, ◌<◌, ◌≤◌, Bool, true, false, cond, eqb, refl, sym, ap, subst, arith, ◌∙◌, List, [], ◌∷◌, ◌++◌, length, map, drop, take, get_or, Option, Some, None, inl, inr}
 use Rattle.std.specs.Prelude.{IsPermutation}
 use Rattle.std.specs.List.{sum_by}
-use Rattle.std.proofs.lemmas.List.{drop_more, length-map}
+use Rattle.std.proofs.lemmas.List.{append-nil, drop_more, length-map, take_more}
 use Rattle.std.proofs.lemmas.List.Sums.{sum_by-cons}
 use Rattle.std.proofs.lemmas.List.Sorted.{IsPermutation-trans, IsPermutation-sym, length_permutation, sum_by-IsPermutation}
 use Rattle.mp_system.specs.declared.system.Item.{Item}
@@ -20,6 +20,7 @@ use Rattle.sp_reduce.specs.Reductions.{IsParallel, IsSeries, LeadsTo, in_order, 
 use Rattle.sp_reduce.specs.Work.{no_link, link_at, hit, link_weight, sum_links, graph_of, pairs_of, IsWork, IsLink}
 use Rattle.sp_reduce.proofs.Forests.{forest-first, forest-yes, forest-no}
 use Rattle.sp_reduce.proofs.Rows.{pairs-sum, pairs-irreducible, leads-trans, pairs-weighed}
+use Rattle.sp_reduce.proofs.Planted.{pairs-append}
 use Rattle.sp_reduce.proofs.Carried.{edges-sum, edges-length, live-edge}
 
 -- ---- the start
@@ -55,16 +56,14 @@ links-le-length g one (l ∷ ls) = omega (arith, links-le-length g one ls, sum_b
 
 -- ---- the graph that is left
 
-arc_of : ℕ × ℕ → Item
+abbrev arc_of : ℕ × ℕ → Item
 arc_of e = arc (end_of e.0) 0 (end_of e.1)
 
 graph-pairs : (links : List Link) → graph_of links ≡ map arc_of (pairs_of links)
-unfolding arc_of
 graph-pairs [] = refl
 graph-pairs (l ∷ ls) = here l.alive (graph-pairs ls) where
   here : (b : Bool) → graph_of ls ≡ map arc_of (pairs_of ls)
       → cond b (arc (end_of l.from) 0 (end_of l.to) ∷ graph_of ls) (graph_of ls) ≡ map arc_of (cond b ((l.from, l.to) ∷ pairs_of ls) (pairs_of ls))
-  unfolding arc_of
   here true e = ap (λ (xs : List Item). arc (end_of l.from) 0 (end_of l.to) ∷ xs) e
   here false e = e
 
@@ -73,18 +72,20 @@ end-none zero e = refl
 end-none (suc v) e = absurd cc
 
 one-arc : (ps : List (ℕ × ℕ)) (n : ℕ) → map arc_of ps ≡ arc None n None ∷ [] → ps ≡ (0, 0) ∷ []
-unfolding arc_of
 one-arc [] n e = absurd cc
 one-arc (x ∷ y ∷ ps) n e = absurd (let len : length (map arc_of (x ∷ y ∷ ps)) ≡ 1 = ap length e in omega (arith, len, length-map ps arc_of))
 one-arc (x ∷ []) n e =
-    let first : end_of x.0 ≡ None = cc in
-    let second : end_of x.1 ≡ None = cc in
-    let a = end-none x.0 first in
-    let b = end-none x.1 second in
+    let same : arc_of x ≡ arc None n None = ap (λ (xs : List Item). first_of xs) e in
+    let a = end-none x.0 (ap (λ (y : Item). y.from) same) in
+    let b = end-none x.1 (ap (λ (y : Item). y.to) same) in
     λ i. (a i, b i) ∷ []
+  where
+    first_of : List Item → Item
+    first_of [] = arc None 0 None
+    first_of (y ∷ ys) = y
 
 pub not-single : (links : List Link) → (pairs_of links ≡ (0, 0) ∷ [] → ⊥) → IsSingle (graph_of links) → ⊥
-not-single links no s = no (one-arc (pairs_of links) s.0 (sym (graph-pairs links) ∙ s.1))
+not-single links other s = other (one-arc (pairs_of links) s.0 (sym (graph-pairs links) ∙ s.1))
 
 arcs-edges : (nets : List Net) (links : List Link) (nodes : List ℕ) → arcs_of (edges_of nets links nodes) ≡ graph_of links
 arcs-edges nets [] nodes = refl
@@ -122,10 +123,10 @@ module _ (arcs : List Arc) (links : List Link) (nodes : List ℕ) (pieces : List
 
   -- something else is left: no net makes the graph
   pub outcome-none : (pairs_of links ≡ (0, 0) ∷ [] → ⊥) → (t : Net) → Makes t (map item_of arcs) → ⊥
-  outcome-none no t m =
+  outcome-none other t m =
       let same = arcs-edges (nets_of pieces) links nodes in
       forest-no (map item_of arcs) (edges_of (nets_of pieces) links nodes) forest (subst nets.IsIrreducible (sym same) o.irreducible)
-      (λ s. not-single links no (subst IsSingle same s)) t m
+      (λ s. not-single links other (subst IsSingle same s)) t m
 
   pub outcome-irreducible : IsIrreducible (pairs_of links)
   outcome-irreducible = pairs-irreducible links o.irreducible
@@ -174,13 +175,12 @@ module _ (links : List Link) (i : ℕ) (lt : i < length links) where
   pub the-link : (link_at links i).alive ≡ true → pairs_of links ≡ pairs_of (drop i links) → pairs_of links ≡ (0, 0) ∷ [] → IsLink links i 0 0
   the-link live same one =
       let e : ((link_at links i).from, (link_at links i).to) ∷ pairs_of (drop (i + 1) links) ≡ (0, 0) ∷ [] = sym (same ∙ drop-alive live) ∙ one in
-      record { within = lt; alive = live; from = first e; to = second e }
-    where
-      first : {a b : ℕ} {xs : List (ℕ × ℕ)} → (a, b) ∷ xs ≡ (0, 0) ∷ [] → a ≡ 0
-      first e = cc
-
-      second : {a b : ℕ} {xs : List (ℕ × ℕ)} → (a, b) ∷ xs ≡ (0, 0) ∷ [] → b ≡ 0
-      second e = cc
+      record {
+        within = lt;
+        alive = live;
+        from = ap (λ (xs : List (ℕ × ℕ)). (get_or xs 0 (0, 0)).0) e;
+        to = ap (λ (xs : List (ℕ × ℕ)). (get_or xs 0 (0, 0)).1) e;
+      }
 
 pub one-list : (xs : List (ℕ × ℕ)) (d : ℕ × ℕ) → length xs ≡ 1 → (get_or xs 0 d).0 ≡ 0 → (get_or xs 0 d).1 ≡ 0 → xs ≡ (0, 0) ∷ []
 one-list [] d e a b = absurd (omega arith)
@@ -200,3 +200,26 @@ item-next arcs d i lt = ap (map item_of) (drop_more arcs i d lt)
 
 pub ends-next : (arcs : List Arc) (d : Arc) (i : ℕ) → i < length arcs → map ends_of (drop i arcs) ≡ ends_of (get_or arcs i d) ∷ map ends_of (drop (i + 1) arcs)
 ends-next arcs d i lt = ap (map ends_of) (drop_more arcs i d lt)
+
+-- ---- the ends that are left
+
+module _ (links : List Link) (i : ℕ) (lt : i < length links) where
+  taken : pairs_of (take (i + 1) links) ≡ pairs_of (take i links) ++ pairs_of (link_at links i ∷ [])
+  taken = ap pairs_of (take_more links i no_link lt) ∙ pairs-append (take i links) (link_at links i ∷ [])
+
+  pub take-dead : (link_at links i).alive ≡ false → pairs_of (take (i + 1) links) ≡ pairs_of (take i links)
+  take-dead dead_one =
+      taken ∙ ap (λ b. pairs_of (take i links) ++ cond b (((link_at links i).from, (link_at links i).to) ∷ []) []) dead_one
+      ∙ append-nil (pairs_of (take i links))
+
+  pub take-alive : (link_at links i).alive ≡ true → pairs_of (take (i + 1) links) ≡ pairs_of (take i links) ++ ((link_at links i).from, (link_at links i).to) ∷ []
+  take-alive live = taken ∙ ap (λ b. pairs_of (take i links) ++ cond b (((link_at links i).from, (link_at links i).to) ∷ []) []) live
+
+abbrev pub no_arc : Arc
+no_arc = record { from = 0; to = 0; size = 0 }
+
+pub hit-le : (a b : ℕ) → hit a b ≤ 1
+hit-le a b = go (eqb a b) where
+  go : (x : Bool) → cond {A = ℕ} x 1 0 ≤ 1
+  go true = omega arith
+  go false = omega arith
