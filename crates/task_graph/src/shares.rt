@@ -67,7 +67,11 @@ fn first_unfit(tasks: &[Task], arcs: &[Arc], into: &[u64], out: &[u64]) -> Optio
 }
 
 /// The lowest task whose share does not fit, if there is one.
-pub fn first_unfit_share(alloc: Global, tasks: &[Task], arcs: &[Arc]) -> Result<Option<u32>, NoMemory>
+pub fn first_unfit_share(
+    alloc: Global,
+    tasks: &[Task],
+    arcs: &[Arc],
+) -> Result<Option<u32>, NoMemory>
     requires few { length tasks.now ≤ most_tasks }
     requires within { All (IsArcWithin (length tasks.now)) arcs.now }
     requires total { sum_by extra_size tasks.now + sum_by arc_size arcs.now ≤ most_total }

@@ -25,7 +25,10 @@ pub fn read_lines(alloc: Global, bytes: &[u8]) -> Result<Stated, Refusal<GraphKi
 {
     let reader = read_with(bytes, Layout::Commented, GraphReader::new(alloc))?;
     let GraphReader {
-        tasks, lines, arcs, ..
+        tasks,
+        lines,
+        arcs,
+        ..
     } = reader;
     Ok(Stated { tasks, lines, arcs })
 }

@@ -6,7 +6,8 @@ use std::alloc::Global;
 use std::test::Fail;
 
 // Two tasks between a first and a last one.
-const FOUR: &str = "graph 1\ntasks 4\n0 0 1\n2 0 1\n3 0 1\n0 0 1\narcs 4\n1 2 5\n1 3 6\n2 4 1\n3 4 2\nend\n";
+const FOUR: &str =
+    "graph 1\ntasks 4\n0 0 1\n2 0 1\n3 0 1\n0 0 1\narcs 4\n1 2 5\n1 3 6\n2 4 1\n3 4 2\nend\n";
 
 fn read(alloc: Global, text: &str) -> Result<Graph, Fail> {
     Ok(read_graph(alloc, text.as_bytes())?)
@@ -69,13 +70,11 @@ fn an_arc_leads_into_each_task_and_out_of_it(rt: HostRuntime) -> Result<(), Fail
         arc(4, 0, 0),
     ];
     assert_eq!(rt; graph.completed_arcs(), all.as_slice());
-    let alone = read(alloc, "graph 1\ntasks 2\n0 0 1\n0 0 1\narcs 1\n0 2 3\nend\n")?;
-    let all = [
-        arc(0, 2, 3),
-        arc(0, 1, 0),
-        arc(1, 0, 0),
-        arc(2, 0, 0),
-    ];
+    let alone = read(
+        alloc,
+        "graph 1\ntasks 2\n0 0 1\n0 0 1\narcs 1\n0 2 3\nend\n",
+    )?;
+    let all = [arc(0, 2, 3), arc(0, 1, 0), arc(1, 0, 0), arc(2, 0, 0)];
     assert_eq!(rt; alone.completed_arcs(), all.as_slice());
     Ok(())
 }
