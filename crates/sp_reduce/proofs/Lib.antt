@@ -14,3 +14,4 @@ pub mod Writings
 pub mod Bounds
 pub mod Finish
 pub mod Outcomes
+pub mod Answer

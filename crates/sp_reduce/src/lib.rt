@@ -11,6 +11,8 @@ mod postfix;
 mod reduced;
 mod reducing;
 mod rounds;
+#[cfg(test)]
+mod tests;
 mod work;
 
 pub use reduced::{ReduceRefusal, Reduced};
