@@ -1,0 +1,77 @@
+-- Of a graph file: it is not both read and refused, and is read as one graph or refused with one refusal.
+use Rattle.std.proofs.Common.{◌≡◌, ℕ, ◌<◌, ◌≤◌, List, ◌⊎◌, inl, inr, length, refl, sym, ap, subst, ◌∙◌, arith}
+use Rattle.std.proofs.lemmas.Bool.{cases_order}
+use Rattle.mp_text.specs.declared.layout.Layout.TheVariants.{Commented}
+use Rattle.mp_text.specs.declared.refusals.Refusal.{Refusal}
+use Rattle.mp_text.specs.Text.{Row}
+use Rattle.mp_text.specs.Ahead.{rows_of_bytes, past_of_bytes}
+use Rattle.mp_text.specs.Grammar.{Format, IsWellFormed, Refuses, fault_at}
+use Rattle.task_graph.specs.declared.kind.GraphKind.{GraphKind}
+use Rattle.task_graph.specs.declared.kind.GraphKind.TheVariants as kinds
+use Rattle.task_graph.specs.Graph.{TaskGraph, IsAmong, CanBeOrdered, ShareFits, IsGraph}
+use Rattle.task_graph.specs.GraphFile.{graph_format, stated_by, HasFewArcs, IsOrdered, IsFirstWithout, ReadsGraph, RefusesArcs, RefusesCycle, RefusesShare, RefusesGraph, line_stating}
+use Rattle.task_graph.specs.Stated.{IsWithin}
+use Rattle.task_graph.proofs.FormLemmas.{well_formed_within}
+
+one_lowest : (fact : ℕ → Type 0) (n v w : ℕ) → IsFirstWithout fact n v → IsFirstWithout fact n w → v ≡ w
+one_lowest fact n v w one two = elim (cases_order v w) [
+  | inl same ↦ same
+  | inr (inl lt) ↦ absurd (one.fails (two.before v one.task.0 lt))
+  | inr (inr gt) ↦ absurd (two.fails (one.before w two.task.0 gt))
+]
+
+abbrev pub NotBoth : Type 0
+NotBoth = (format : Format GraphKind) (rows : List Row) (past : ℕ) (refusal : Refusal GraphKind) → IsWellFormed format rows past → Refuses format rows past refusal → ⊥
+
+abbrev pub OneRefusal : Type 0
+OneRefusal = (format : Format GraphKind) (rows : List Row) (past : ℕ) (one two : Refusal GraphKind) → Refuses format rows past one → Refuses format rows past two → one ≡ two
+
+-- what a reading says of the stated graph
+module _ (bytes : List ℕ) (graph : TaskGraph) (reads : ReadsGraph bytes graph) where
+  few_stated : HasFewArcs (stated_by bytes)
+  few_stated = subst HasFewArcs reads.stated reads.few
+
+  ordered_stated : IsOrdered (stated_by bytes)
+  ordered_stated = subst IsOrdered reads.stated reads.ordered
+
+  shares_stated : (v : ℕ) → IsAmong (length (stated_by bytes).tasks) v → ShareFits (stated_by bytes).tasks (stated_by bytes).arcs v
+  shares_stated = subst (λ (g : TaskGraph). (v : ℕ) → IsAmong (length g.tasks) v → ShareFits g.tasks g.arcs v) reads.stated reads.shares
+
+pub not_both : NotBoth → (bytes : List ℕ) (graph : TaskGraph) (refusal : Refusal GraphKind) → ReadsGraph bytes graph → RefusesGraph bytes refusal → ⊥
+not_both apart bytes graph refusal reads (inl refused) = apart graph_format (rows_of_bytes Commented bytes) (past_of_bytes bytes) refusal reads.form refused
+not_both apart bytes graph refusal reads (inr (inl arcs)) = arcs.many (few_stated bytes graph reads)
+not_both apart bytes graph refusal reads (inr (inr (inl cycle))) = cycle.first.fails (ordered_stated bytes graph reads cycle.task cycle.first.task)
+not_both apart bytes graph refusal reads (inr (inr (inr share))) = share.first.fails (shares_stated bytes graph reads share.task share.first.task)
+
+one_cycle : (bytes : List ℕ) (one two : Refusal GraphKind) → RefusesCycle bytes one → RefusesCycle bytes two → one ≡ two
+one_cycle bytes one two this that =
+    let same = one_lowest _ _ this.task that.task this.first that.first in
+    this.refusal_is ∙ ap (λ (v : ℕ). fault_at (line_stating (rows_of_bytes Commented bytes) v) kinds.Cycle) same ∙ sym that.refusal_is
+
+one_share : (bytes : List ℕ) (one two : Refusal GraphKind) → RefusesShare bytes one → RefusesShare bytes two → one ≡ two
+one_share bytes one two this that =
+    let same = one_lowest _ _ this.task that.task this.first that.first in
+    this.refusal_is ∙ ap (λ (v : ℕ). fault_at (line_stating (rows_of_bytes Commented bytes) v) kinds.Share) same ∙ sym that.refusal_is
+
+pub one_refusal : NotBoth → OneRefusal → (bytes : List ℕ) (one two : Refusal GraphKind) → RefusesGraph bytes one → RefusesGraph bytes two → one ≡ two
+one_refusal apart only bytes one two (inl this) (inl that) = only graph_format (rows_of_bytes Commented bytes) (past_of_bytes bytes) one two this that
+one_refusal apart only bytes one two (inl this) (inr (inl that)) = absurd (apart _ _ _ one that.form this)
+one_refusal apart only bytes one two (inl this) (inr (inr (inl that))) = absurd (apart _ _ _ one that.form this)
+one_refusal apart only bytes one two (inl this) (inr (inr (inr that))) = absurd (apart _ _ _ one that.form this)
+one_refusal apart only bytes one two (inr (inl this)) (inl that) = absurd (apart _ _ _ two this.form that)
+one_refusal apart only bytes one two (inr (inl this)) (inr (inl that)) = this.refusal_is ∙ sym that.refusal_is
+one_refusal apart only bytes one two (inr (inl this)) (inr (inr (inl that))) = absurd (this.many that.few)
+one_refusal apart only bytes one two (inr (inl this)) (inr (inr (inr that))) = absurd (this.many that.few)
+one_refusal apart only bytes one two (inr (inr (inl this))) (inl that) = absurd (apart _ _ _ two this.form that)
+one_refusal apart only bytes one two (inr (inr (inl this))) (inr (inl that)) = absurd (that.many this.few)
+one_refusal apart only bytes one two (inr (inr (inl this))) (inr (inr (inl that))) = one_cycle bytes one two this that
+one_refusal apart only bytes one two (inr (inr (inl this))) (inr (inr (inr that))) = absurd (this.first.fails (that.ordered this.task this.first.task))
+one_refusal apart only bytes one two (inr (inr (inr this))) (inl that) = absurd (apart _ _ _ two this.form that)
+one_refusal apart only bytes one two (inr (inr (inr this))) (inr (inl that)) = absurd (that.many this.few)
+one_refusal apart only bytes one two (inr (inr (inr this))) (inr (inr (inl that))) = absurd (that.first.fails (this.ordered that.task that.first.task))
+one_refusal apart only bytes one two (inr (inr (inr this))) (inr (inr (inr that))) = one_share bytes one two this that
+
+pub reads-is_graph : (bytes : List ℕ) (graph : TaskGraph) → ReadsGraph bytes graph → IsGraph graph
+reads-is_graph bytes graph reads =
+    let within = subst IsWithin (sym reads.stated) (well_formed_within (rows_of_bytes Commented bytes) (past_of_bytes bytes) reads.form) in
+    record { few_tasks = within.few_tasks; few_arcs = reads.few; tasks = within.tasks; arcs = within.arcs; total = within.total; ordered = reads.ordered; shares = reads.shares }

@@ -1,0 +1,11 @@
+pub mod Standing
+pub mod QueueLemmas
+pub mod CompletionLemmas
+pub mod SystemLemmas
+pub mod ReaderLaws
+pub mod FormLemmas
+pub mod StatedLemmas
+pub mod FileLemmas
+pub mod CountLemmas
+pub mod ReadLemmas
+pub mod RankLemmas

@@ -1,0 +1,69 @@
+-- What is judged of a graph after all its lines.
+use Rattle.std.proofs.Common.{◌≡◌, ℕ, ◌+◌, ◌-◌, ◌≤◌, List, length, take, get_or, ◌⊎◌, inl, inr, refl, sym, ap, subst, ◌∙◌, arith}
+use Rattle.std.proofs.lemmas.List.{take_at, length-append}
+use Rattle.limits.specs.Limits.{most_arcs}
+use Rattle.limits.specs.declared.name.LimitName.TheVariants as limits
+use Rattle.mp_text.specs.declared.layout.Layout.TheVariants.{Commented}
+use Rattle.mp_text.specs.declared.refusals.Refusal.{Refusal}
+use Rattle.mp_text.specs.declared.refusals.Refusal.TheVariants as refusals
+use Rattle.mp_text.specs.Ahead.{rows_of_bytes}
+use Rattle.mp_text.specs.Grammar.{fault_at}
+use Rattle.mp_system.specs.declared.system.Task.{Task}
+use Rattle.task_graph.specs.declared.arc.Arc.{Arc}
+use Rattle.task_graph.specs.declared.kind.GraphKind.{GraphKind}
+use Rattle.task_graph.specs.declared.kind.GraphKind.TheVariants as kinds
+use Rattle.task_graph.specs.Graph.{TaskGraph, IsAmong, IsGraph, CanBeOrdered, ShareFits, completed_arcs, added_arcs}
+use Rattle.task_graph.specs.GraphFile.{stated_by, line_stating, HasFewArcs, IsOrdered, IsFirstWithout, ReadsGraph, RefusesGraph, IsGraphRefusal}
+use Rattle.task_graph.specs.Stated.{IsStated}
+
+module _ (bytes : List ℕ) (tasks : List Task) (arcs : List Arc) (lines : List ℕ) (stated : IsStated bytes (record { tasks = tasks; arcs = arcs }) lines) where
+  pub refuses-arcs : (HasFewArcs (record { tasks = tasks; arcs = arcs }) → ⊥) → RefusesGraph bytes (refusals.Limit limits.Arcs)
+  refuses-arcs many = inr (inl (record {
+    form = stated.form;
+    many = λ few. many (subst HasFewArcs (sym stated.graph_is) few);
+    refusal_is = refl;
+  }))
+
+  module _ (few : HasFewArcs (record { tasks = tasks; arcs = arcs })) where
+    pub refuses-cycle : (task : ℕ) (refusal : Refusal GraphKind) → refusal ≡ fault_at (get_or lines (task - 1) 0) kinds.Cycle
+        → IsFirstWithout (CanBeOrdered arcs) (length tasks) task → IsGraphRefusal bytes refusal
+    refuses-cycle task refusal e first =
+        subst (IsGraphRefusal bytes) (sym e) (inr (inr (inl (record {
+          form = stated.form;
+          few = subst HasFewArcs stated.graph_is few;
+          task = task;
+          first = subst (λ (g : TaskGraph). IsFirstWithout (CanBeOrdered g.arcs) (length g.tasks) task) stated.graph_is first;
+          refusal_is = ap (λ (line : ℕ). fault_at line kinds.Cycle) (stated.lines_are task first.task);
+        }))))
+
+    module _ (ordered : (v : ℕ) → IsAmong (length tasks) v → CanBeOrdered arcs v) where
+      pub refuses-share : (task : ℕ) (refusal : Refusal GraphKind) → refusal ≡ fault_at (get_or lines (task - 1) 0) kinds.Share
+          → IsFirstWithout (ShareFits tasks arcs) (length tasks) task → IsGraphRefusal bytes refusal
+      refuses-share task refusal e first =
+          subst (IsGraphRefusal bytes) (sym e) (inr (inr (inr (record {
+            form = stated.form;
+            few = subst HasFewArcs stated.graph_is few;
+            ordered = subst IsOrdered stated.graph_is ordered;
+            task = task;
+            first = subst (λ (g : TaskGraph). IsFirstWithout (ShareFits g.tasks g.arcs) (length g.tasks) task) stated.graph_is first;
+            refusal_is = ap (λ (line : ℕ). fault_at line kinds.Share) (stated.lines_are task first.task);
+          }))))
+
+      module _ (shares : (v : ℕ) → IsAmong (length tasks) v → ShareFits tasks arcs v) where
+        pub reads : ReadsGraph bytes (record { tasks = tasks; arcs = arcs })
+        reads = record { form = stated.form; stated = stated.graph_is; few = few; ordered = ordered; shares = shares }
+
+        pub is_graph : IsGraph (record { tasks = tasks; arcs = arcs })
+        is_graph = record {
+          few_tasks = stated.within.few_tasks;
+          few_arcs = few;
+          tasks = stated.within.tasks;
+          arcs = stated.within.arcs;
+          total = stated.within.total;
+          ordered = ordered;
+          shares = shares;
+        }
+
+-- the first arcs of the completed graph are the graph's own
+pub own-arcs : (n : ℕ) (arcs all : List Arc) (own : ℕ) → all ≡ completed_arcs n arcs → own ≡ length arcs → take own all ≡ arcs
+own-arcs n arcs all own all_are own_is = ap (take own) all_are ∙ take_at arcs (added_arcs n arcs) own (sym own_is)

@@ -1,0 +1,12 @@
+use Rattle.std.proofs.Common.{sym, ◌∙◌}
+use Rattle.task_graph.proofs.FileLemmas.{not_both, one_refusal}
+use Rattle.task_graph.proofs.laws.at_most_one.Goals as goal
+
+pub returns-clause-not_both : goal.returns-clause-not_both
+returns-clause-not_both c = not_both c.exactly_one.ensures.not_both
+
+pub returns-clause-one_graph : goal.returns-clause-one_graph
+returns-clause-one_graph c = λ bytes one two this that. this.stated ∙ sym that.stated
+
+pub returns-clause-one_refusal : goal.returns-clause-one_refusal
+returns-clause-one_refusal c = one_refusal c.exactly_one.ensures.not_both c.exactly_one.ensures.one_refusal
