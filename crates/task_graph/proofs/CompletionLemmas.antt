@@ -1,16 +1,16 @@
 -- The arcs that complete a graph change no traversal and no memory: each has size 0, and leads from no task or to none.
-use Rattle.std.proofs.Common.{◌≡◌, ℕ, ◌+◌, ◌-◌, ◌≤◌, Bool, true, false, cond, not, ◌&&◌, max, List, [], ◌∷◌, ◌++◌, length, map, refl, sym, ap, subst, ◌∙◌, arith, inl, inr, ◌⊎◌}
-use Rattle.std.specs.Prelude.{◌||◌, ◌↔◌}
-use Rattle.std.specs.List.{sum_by, list_all}
-use Rattle.std.proofs.lemmas.List.{map-append, append_assoc}
+use Rattle.std.proofs.Common.{◌≡◌, ℕ, ◌+◌, ◌-◌, Bool, true, false, cond, not, ◌&&◌, max, List, [], ◌∷◌, ◌++◌, length, map, refl, sym, ap, ◌∙◌, arith, inl, inr, ◌⊎◌}
+use Rattle.std.specs.Prelude.{◌||◌}
+use Rattle.std.specs.List.{list_all}
+use Rattle.std.proofs.lemmas.List.{map-append}
 use Rattle.std.proofs.lemmas.List.Sums.{sum_by-cons, sum_by-append}
 use Rattle.std.proofs.lemmas.Bool.{or_right}
 use Rattle.mp_system.specs.declared.system.Item.{Item}
-use Rattle.mp_system.specs.System.{TaskSystem, task_at, size_if, size_where, is_input, is_output, outputs_of, need_of}
+use Rattle.mp_system.specs.System.{task_at, size_if, size_where, is_input, is_output}
 use Rattle.mp_system.specs.Memory.{is_produced, is_present, state_memory, running_memory, stands_in, peak_from, peak_of, is_ready}
 use Rattle.mp_system.specs.Traversal.{IsTraversal, IsLeast}
 use Rattle.task_graph.specs.declared.arc.Arc.{Arc}
-use Rattle.task_graph.specs.Graph.{TaskGraph, item_of, arc_between, without_into, without_out, added_arcs, completed_arcs, system_of, completed_system}
+use Rattle.task_graph.specs.Graph.{TaskGraph, item_of, arc_between, without_into, without_out, added_arcs, system_of, completed_system}
 
 record IsIdle (arc : Arc) : Type 0 where
   size : arc.size ≡ 0

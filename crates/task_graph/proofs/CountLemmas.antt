@@ -1,8 +1,8 @@
 -- Arcs counted by their ends, the arcs that are added, and sizes summed by the ends of arcs.
-use Rattle.std.proofs.Common.{◌≡◌, ◌≢◌, ℕ, ◌+◌, ◌-◌, ◌<◌, ◌≤◌, Bool, true, false, cond, eqb, List, [], ◌∷◌, ◌++◌, length, take, get_or, set, map, filter, refl, sym, ap, subst, ◌∙◌, arith, inl, inr, eq-eqb, append_assoc}
+use Rattle.std.proofs.Common.{◌≡◌, ℕ, ◌+◌, ◌-◌, ◌<◌, ◌≤◌, Bool, true, false, cond, eqb, List, [], ◌∷◌, ◌++◌, length, take, get_or, map, filter, refl, sym, ap, ◌∙◌, arith, append_assoc}
 use Rattle.std.specs.List.{sum_by, count_by, range_with_len, All}
-use Rattle.std.proofs.lemmas.List.{map-append, map-id, append-nil, length-take-le, get_or_read}
-use Rattle.std.proofs.lemmas.List.Elements.{filter_agree, All-map, All-same}
+use Rattle.std.proofs.lemmas.List.{map-append, map-id, append-nil, length-take-le}
+use Rattle.std.proofs.lemmas.List.Elements.{filter_agree, All-map}
 use Rattle.std.proofs.lemmas.List.FromFn.{filter_of_map_range_with_len_more}
 use Rattle.std.proofs.lemmas.List.Sums.{sum_by-cons, count_by-le-length, sum_by_more_le_part}
 use Rattle.task_graph.specs.declared.arc.Arc.{Arc}

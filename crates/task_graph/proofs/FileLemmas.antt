@@ -1,5 +1,5 @@
 -- Of a graph file: it is not both read and refused, and is read as one graph or refused with one refusal.
-use Rattle.std.proofs.Common.{◌≡◌, ℕ, ◌<◌, ◌≤◌, List, ◌⊎◌, inl, inr, length, refl, sym, ap, subst, ◌∙◌, arith}
+use Rattle.std.proofs.Common.{◌≡◌, ℕ, List, inl, inr, length, sym, ap, subst, ◌∙◌}
 use Rattle.std.proofs.lemmas.Bool.{cases_order}
 use Rattle.mp_text.specs.declared.layout.Layout.TheVariants.{Commented}
 use Rattle.mp_text.specs.declared.refusals.Refusal.{Refusal}
@@ -8,8 +8,8 @@ use Rattle.mp_text.specs.Ahead.{rows_of_bytes, past_of_bytes}
 use Rattle.mp_text.specs.Grammar.{Format, IsWellFormed, Refuses, fault_at}
 use Rattle.task_graph.specs.declared.kind.GraphKind.{GraphKind}
 use Rattle.task_graph.specs.declared.kind.GraphKind.TheVariants as kinds
-use Rattle.task_graph.specs.Graph.{TaskGraph, IsAmong, CanBeOrdered, ShareFits, IsGraph}
-use Rattle.task_graph.specs.GraphFile.{graph_format, stated_by, HasFewArcs, IsOrdered, IsFirstWithout, ReadsGraph, RefusesArcs, RefusesCycle, RefusesShare, RefusesGraph, line_stating}
+use Rattle.task_graph.specs.Graph.{TaskGraph, IsAmong, ShareFits, IsGraph}
+use Rattle.task_graph.specs.GraphFile.{graph_format, stated_by, HasFewArcs, IsOrdered, IsFirstWithout, ReadsGraph, RefusesCycle, RefusesShare, RefusesGraph, line_stating}
 use Rattle.task_graph.specs.Stated.{IsWithin}
 use Rattle.task_graph.proofs.FormLemmas.{well_formed_within}
 

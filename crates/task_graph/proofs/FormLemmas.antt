@@ -1,11 +1,11 @@
 -- What well-formed lines of a graph file say of the graph that they state.
-use Rattle.std.proofs.Common.{◌≡◌, ℕ, suc, ◌+◌, ◌-◌, ◌<◌, ◌≤◌, Bool, true, false, cond, not, ◌&&◌, eqb, ltb, leb, List, [], ◌∷◌, ◌++◌, length, get_or, take, drop, map, refl, sym, ap, subst, ◌∙◌, arith, Option, Some, None, append_assoc, inl, inr}
+use Rattle.std.proofs.Common.{◌≡◌, ℕ, ◌+◌, ◌-◌, ◌<◌, ◌≤◌, Bool, true, false, cond, not, ◌&&◌, eqb, ltb, leb, List, [], ◌∷◌, ◌++◌, length, get_or, take, drop, map, refl, sym, ap, subst, ◌∙◌, arith, Option, Some, None, append_assoc, inl, inr}
 use Rattle.std.specs.Prelude.{◌||◌}
 use Rattle.std.specs.List.{sum_by, All}
-use Rattle.std.proofs.lemmas.List.{length-map, get_or-map, take_all, drop_more, take-append-drop, length-take-le, take_at, drop_at, length-append, length-drop}
+use Rattle.std.proofs.lemmas.List.{length-map, get_or-map, take_all, drop_more, take-append-drop, length-take-le, take_at, drop_at, length-drop}
 use Rattle.std.proofs.lemmas.List.Sums.{sum_by-cons, sum_by_more}
 use Rattle.std.proofs.lemmas.Bool.{leb-true, eqb-true, eqb-false, lt-ltb, or_cases, cases_lt}
-use Rattle.limits.specs.Limits.{most_tasks, most_arcs, most_size, most_time, most_total}
+use Rattle.limits.specs.Limits.{most_tasks, most_arcs, most_total}
 use Rattle.mp_text.specs.declared.refusals.Refusal.{Refusal}
 use Rattle.mp_text.specs.Text.{Row}
 use Rattle.mp_text.specs.Grammar.{first_failure, ArePassed, IsWellFormed}
@@ -13,7 +13,7 @@ use Rattle.mp_system.specs.declared.system.Task.{Task}
 use Rattle.mp_system.specs.System.{IsTaskWithin, extra_size}
 use Rattle.task_graph.specs.declared.arc.Arc.{Arc}
 use Rattle.task_graph.specs.Graph.{TaskGraph, IsArcWithin, arc_size}
-use Rattle.task_graph.specs.GraphFile.{graph_format, tasks_stated, arcs_stated, task_tests, task_of, extras_of, arc_tests, arc_of, are_ends, sizes_of, is_whole, is_complete, arc_part_tests, body_tests, graph_stated}
+use Rattle.task_graph.specs.GraphFile.{graph_format, tasks_stated, arcs_stated, task_tests, task_of, extras_of, arc_tests, arc_of, sizes_of, is_whole, is_complete, arc_part_tests, graph_stated}
 use Rattle.task_graph.specs.Stated.{IsWithin}
 use Rattle.task_graph.proofs.ReaderLaws.{past_tasks}
 

@@ -1,19 +1,19 @@
 -- The queue of tasks that can be ordered, one task and one arc more at a time.
 use Rattle.std.proofs.Common.{◌≡◌, ◌≢◌, ℕ, zero, suc, ◌+◌, ◌-◌, ◌<◌, ◌≤◌, Bool, true, false, cond, not, ◌&&◌, eqb, List, [], ◌∷◌, ◌++◌, length, take, drop, get_or, set, map, refl, sym, ap, subst, ◌∙◌, arith, inl, inr, ◌⊎◌, eq-eqb, append_assoc}
 use Rattle.std.specs.Prelude.{◌||◌}
-use Rattle.std.specs.List.{list_any, sum_by, count_by, sum, All, filter, enumerate_from}
+use Rattle.std.specs.List.{count_by, sum, All}
 use Rattle.std.proofs.lemmas.List.{length-set, length-append, length_push, get_or-set_same, get_or-set_other, take_more, take_all, take-append-le, drop_more, take-append-drop, length-map, length-take-le, get_or_read, get_or-take}
 use Rattle.std.proofs.Math.Seq.{get_or-append_seam}
 use Rattle.std.proofs.lemmas.List.Elements.{All-push, All-nil}
 use Rattle.std.proofs.lemmas.List.Folds.{list_any-append}
 use Rattle.std.proofs.lemmas.List.Sums.{sum_by-cons, sum_by_more, sum_by-take-le, sum_by-set, count_by-le-length}
-use Rattle.std.proofs.lemmas.Bool.{cases_eq, cases_Bool, cases_lt, ne_eqb, eqb-true, and_parts, false_from_ne_true, true_from_ne_false}
+use Rattle.std.proofs.lemmas.Bool.{cases_eq, cases_lt, ne_eqb, eqb-true, and_parts, false_from_ne_true, true_from_ne_false}
 use Rattle.mp_system.specs.Memory.{stands_in}
 use Rattle.row_table.specs.Rows.{numbers_with}
 use Rattle.task_graph.specs.declared.arc.Arc.{Arc}
-use Rattle.task_graph.specs.Graph.{IsAmong, IsArcWithin, IsSupplied, AreSupplied, CanBeOrdered}
-use Rattle.task_graph.specs.Queue.{from_of, arc_at, is_wait, waits_of, heads_among, IsQueue, IsTaken, IsPartTaken, IsRowOf, AreJudged}
-use Rattle.task_graph.proofs.Standing.{stands-left, stands-new, stands-cases, stands-take, Place, place, push-split, count-none, count-some}
+use Rattle.task_graph.specs.Graph.{IsAmong, IsArcWithin, IsSupplied, AreSupplied}
+use Rattle.task_graph.specs.Queue.{from_of, arc_at, is_wait, waits_of, heads_among, IsTaken, IsPartTaken, IsRowOf, AreJudged}
+use Rattle.task_graph.proofs.Standing.{stands-left, stands-new, stands-cases, stands-take, place, push-split, count-none, count-some}
 
 abbrev pub no_arc : Arc
 no_arc = record { from = 0; to = 0; size = 0 }

@@ -1,6 +1,6 @@
 -- In the completed graph an arc leads into each task and out of it; and tasks that can be ordered have ranks.
-use Rattle.std.proofs.Common.{◌≡◌, ℕ, zero, suc, ◌+◌, ◌-◌, ◌<◌, ◌≤◌, Bool, true, false, cond, ◌&&◌, eqb, eq-eqb, List, [], ◌∷◌, ◌++◌, length, take, drop, get_or, map, filter, refl, sym, ap, subst, ◌∙◌, arith, inl, inr, ◌⊎◌}
-use Rattle.std.specs.List.{sum_by, count_by, range_with_len, All, position_or_len}
+use Rattle.std.proofs.Common.{◌≡◌, ℕ, zero, suc, ◌+◌, ◌-◌, ◌<◌, ◌≤◌, Bool, true, cond, ◌&&◌, eqb, eq-eqb, List, [], ◌∷◌, ◌++◌, length, take, drop, get_or, map, filter, refl, sym, ap, subst, ◌∙◌, arith, inl, inr, ◌⊎◌}
+use Rattle.std.specs.List.{count_by, range_with_len, All, position_or_len}
 use Rattle.std.proofs.lemmas.List.{length-append, take-append-drop, drop_more, length-take-le, get_or-take}
 use Rattle.std.proofs.Math.Seq.{get_or-append_seam}
 use Rattle.std.proofs.lemmas.List.Elements.{All-append, All-map}
@@ -10,9 +10,8 @@ use Rattle.std.proofs.lemmas.List.Folds.{list_any-append}
 use Rattle.std.proofs.lemmas.Bool.{cases_lt, cases_Bool, eqb-true, or_right}
 use Rattle.mp_system.specs.Memory.{stands_in}
 use Rattle.task_graph.specs.declared.arc.Arc.{Arc}
-use Rattle.task_graph.specs.Graph.{TaskGraph, IsAmong, IsGraph, IsArcWithin, Rises, AreSupplied, CanBeOrdered, is_into, is_out_of, arc_between, without_into, without_out, added_arcs, completed_arcs, completed}
+use Rattle.task_graph.specs.Graph.{TaskGraph, IsAmong, IsGraph, Rises, AreSupplied, CanBeOrdered, is_into, is_out_of, arc_between, without_into, without_out, added_arcs, completed_arcs, completed}
 use Rattle.task_graph.proofs.Standing.{place, stands-left}
-use Rattle.task_graph.proofs.SystemLemmas.{completed-within}
 
 -- ---- an arc for each task
 

@@ -1,19 +1,16 @@
 -- What is judged of a graph after all its lines.
-use Rattle.std.proofs.Common.{◌≡◌, ℕ, ◌+◌, ◌-◌, ◌≤◌, List, length, take, get_or, ◌⊎◌, inl, inr, refl, sym, ap, subst, ◌∙◌, arith}
-use Rattle.std.proofs.lemmas.List.{take_at, length-append}
-use Rattle.limits.specs.Limits.{most_arcs}
+use Rattle.std.proofs.Common.{◌≡◌, ℕ, ◌-◌, List, length, take, get_or, inl, inr, refl, sym, ap, subst, ◌∙◌}
+use Rattle.std.proofs.lemmas.List.{take_at}
 use Rattle.limits.specs.declared.name.LimitName.TheVariants as limits
-use Rattle.mp_text.specs.declared.layout.Layout.TheVariants.{Commented}
 use Rattle.mp_text.specs.declared.refusals.Refusal.{Refusal}
 use Rattle.mp_text.specs.declared.refusals.Refusal.TheVariants as refusals
-use Rattle.mp_text.specs.Ahead.{rows_of_bytes}
 use Rattle.mp_text.specs.Grammar.{fault_at}
 use Rattle.mp_system.specs.declared.system.Task.{Task}
 use Rattle.task_graph.specs.declared.arc.Arc.{Arc}
 use Rattle.task_graph.specs.declared.kind.GraphKind.{GraphKind}
 use Rattle.task_graph.specs.declared.kind.GraphKind.TheVariants as kinds
 use Rattle.task_graph.specs.Graph.{TaskGraph, IsAmong, IsGraph, CanBeOrdered, ShareFits, completed_arcs, added_arcs}
-use Rattle.task_graph.specs.GraphFile.{stated_by, line_stating, HasFewArcs, IsOrdered, IsFirstWithout, ReadsGraph, RefusesGraph, IsGraphRefusal}
+use Rattle.task_graph.specs.GraphFile.{HasFewArcs, IsOrdered, IsFirstWithout, ReadsGraph, RefusesGraph, IsGraphRefusal}
 use Rattle.task_graph.specs.Stated.{IsStated}
 
 module _ (bytes : List ℕ) (tasks : List Task) (arcs : List Arc) (lines : List ℕ) (stated : IsStated bytes (record { tasks = tasks; arcs = arcs }) lines) where

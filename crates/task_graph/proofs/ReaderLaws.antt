@@ -1,7 +1,7 @@
 -- What the reader of graph files does with a line, and with the end, is what the tests of the format say.
-use Rattle.std.specs.Prelude.{◌≡◌, ◌==◌, ℕ, ◌+◌, ◌<◌, ◌≤◌, Bool, true, false, nat_lt, List, ◌∷◌, ◌++◌, [], length, take, drop, map, refl, Err}
+use Rattle.std.specs.Prelude.{◌≡◌, ◌==◌, ℕ, ◌+◌, ◌<◌, Bool, true, false, nat_lt, List, ◌∷◌, ◌++◌, [], length, drop, refl, Err}
 use Rattle.std.proofs.Common.{sym, ap, subst, ◌∙◌, arith, eq-eqb}
-use Rattle.std.proofs.lemmas.List.{map_push, length-map, length_push, length-append, take_at, drop_at, take_all, drop_all, append_assoc}
+use Rattle.std.proofs.lemmas.List.{map_push, length-map, length_push, length-append, take_at, drop_at, drop_all, append_assoc}
 use Rattle.std.proofs.lemmas.List.Sums.{sum_by_push}
 use Rattle.std.proofs.lemmas.Bool.{ltb-true, ltb-false, le-ltb, ne_eqb}
 use Rattle.mp_text.specs.Text.{Row}
@@ -10,7 +10,7 @@ use Rattle.mp_text.specs.Reading.{Follows, tested}
 use Rattle.mp_text.specs.ReadingLaws.{tested-follows}
 use Rattle.mp_system.specs.System.{extra_size}
 use Rattle.task_graph.specs.Graph.{arc_size}
-use Rattle.task_graph.specs.GraphFile.{graph_format, graph_line_tests, graph_end_tests, header_tests, task_count_tests, tasks_stated, arc_count_tests, arcs_stated, task_tests, task_of, extras_of, arc_tests, arc_of, sizes_of, last_tests, arc_part_tests, body_tests, is_whole, is_complete}
+use Rattle.task_graph.specs.GraphFile.{graph_format, graph_line_tests, graph_end_tests, header_tests, task_count_tests, tasks_stated, arc_count_tests, arcs_stated, task_tests, task_of, extras_of, arc_tests, arc_of, sizes_of, last_tests, arc_part_tests, body_tests, is_complete}
 use Rattle.task_graph.specs.Reader.{ReaderState, IsFresh, TookTasks, TookArcs, staged_step, staged_end, staged_took, tasks_step, arcs_step, with_task, with_arc, graph_step, graph_end, took}
 use Rattle.task_graph.specs.declared.kind.GraphKind.{GraphKind}
 use Rattle.task_graph.specs.declared.kind.GraphKind.TheVariants as kinds

@@ -1,16 +1,15 @@
 -- The completed system is within the limits of systems.
-use Rattle.std.proofs.Common.{◌≡◌, ◌≢◌, ℕ, zero, suc, ◌+◌, ◌-◌, ◌<◌, ◌≤◌, Bool, true, false, cond, eqb, List, [], ◌∷◌, ◌++◌, length, get_or, map, filter, refl, sym, ap, subst, ◌∙◌, arith, Option, Some, None}
+use Rattle.std.proofs.Common.{◌≡◌, ℕ, zero, suc, ◌<◌, ◌≤◌, true, cond, eqb, List, [], ◌∷◌, length, get_or, map, refl, sym, ap, ◌∙◌, arith, Some}
 use Rattle.std.specs.List.{sum_by, All, range_with_len}
 use Rattle.std.specs.Option.{ForSome}
-use Rattle.std.proofs.lemmas.List.{length-map, map-append}
-use Rattle.std.proofs.lemmas.List.Elements.{All-append, All-map, All-filter, All-from_get_or}
+use Rattle.std.proofs.lemmas.List.{length-map}
+use Rattle.std.proofs.lemmas.List.Elements.{All-append, All-map, All-filter}
 use Rattle.std.proofs.lemmas.List.FromFn.{length-range_with_len, get_or-range_with_len}
-use Rattle.std.proofs.lemmas.List.Sums.{sum_by-cons, sum_by-append}
+use Rattle.std.proofs.lemmas.List.Sums.{sum_by-cons}
 use Rattle.mp_system.specs.declared.system.Item.{Item}
-use Rattle.mp_system.specs.System.{TaskSystem, IsTask, IsSystem, IsItemWithin, is_named, is_input, is_output, size_if, size_where, item_size}
-use Rattle.limits.specs.Limits.{most_size}
+use Rattle.mp_system.specs.System.{IsSystem, IsItemWithin, is_named, is_input, is_output, size_if, size_where, item_size}
 use Rattle.task_graph.specs.declared.arc.Arc.{Arc}
-use Rattle.task_graph.specs.Graph.{TaskGraph, IsAmong, IsGraph, IsArcWithin, end_of, item_of, is_into, is_out_of, size_into, size_out_of, arc_size, arc_between, without_into, without_out, added_arcs, completed_arcs, system_of, completed_system}
+use Rattle.task_graph.specs.Graph.{TaskGraph, IsAmong, IsGraph, IsArcWithin, end_of, item_of, size_into, size_out_of, arc_size, arc_between, without_into, without_out, added_arcs, completed_arcs, completed_system}
 use Rattle.task_graph.proofs.CompletionLemmas.{where-same}
 
 -- ---- ends

@@ -1,4 +1,4 @@
-use Rattle.std.proofs.Common.{◌≡◌, ◌∙◌, ◌≤◌, ℕ, sym, ap, map, eqb, get_or, List}
+use Rattle.std.proofs.Common.{◌∙◌, ◌≤◌, ℕ, ap, map, eqb, get_or, List}
 use Rattle.std.specs.List.{count_by}
 use Rattle.std.proofs.lemmas.List.Elements.{All-same}
 use Rattle.task_graph.specs.Queue.{to_of, from_of}

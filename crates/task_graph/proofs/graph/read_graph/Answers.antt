@@ -4,8 +4,8 @@ use Rattle.mp_text.specs.Grammar.{fault_at}
 use Rattle.task_graph.specs.declared.arc.Arc.{Arc}
 use Rattle.task_graph.specs.declared.kind.GraphKind.TheVariants as kinds
 use Rattle.mp_system.specs.declared.system.Task.{Task}
-use Rattle.task_graph.specs.Graph.{TaskGraph, IsAmong, IsGraph, CanBeOrdered, ShareFits, completed_arcs}
-use Rattle.task_graph.specs.GraphFile.{IsFirstWithout, HasFewArcs, ReadsGraph}
+use Rattle.task_graph.specs.Graph.{IsAmong, IsGraph, CanBeOrdered, ShareFits, completed_arcs}
+use Rattle.task_graph.specs.GraphFile.{IsFirstWithout, ReadsGraph}
 use Rattle.task_graph.proofs.ReadLemmas.{refuses-cycle, refuses-share, reads, is_graph, own-arcs}
 use Rattle.task_graph.proofs.graph.read_graph.Goals as goal
 

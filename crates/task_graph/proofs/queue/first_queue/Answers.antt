@@ -1,4 +1,4 @@
-use Rattle.std.proofs.Common.{◌+◌, ◌≤◌, ◌∷◌, ◌++◌, [], List, ℕ, arith, subst, sym, ap, ◌∙◌, Vec, Global}
+use Rattle.std.proofs.Common.{◌+◌, List, ℕ, arith, subst, sym, ap, ◌∙◌, Vec, Global}
 use Rattle.task_graph.proofs.QueueLemmas.{IsFirst, first-none, first-skip, first-push, first-taken}
 use Rattle.task_graph.proofs.queue.first_queue.Goals as goal
 use Rattle.task_graph.proofs.queue.first_queue.Goals.{then-waits-v-eq0+in_ok-push, else-waits-v-eq0}

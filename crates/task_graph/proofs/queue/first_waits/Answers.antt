@@ -1,4 +1,4 @@
-use Rattle.std.proofs.Common.{◌≡◌, ◌+◌, length, get_or, set, arith, ◌∙◌}
+use Rattle.std.proofs.Common.{◌+◌, get_or, arith, ◌∙◌}
 use Rattle.std.proofs.lemmas.List.{length-set}
 use Rattle.task_graph.proofs.QueueLemmas.{no_arc, old-is, waits-small, waits-yes, waits-no}
 use Rattle.task_graph.proofs.queue.first_waits.Goals as goal

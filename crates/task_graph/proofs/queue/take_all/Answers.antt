@@ -1,4 +1,4 @@
-use Rattle.std.proofs.Common.{◌≡◌, ◌<◌, ◌≤◌, length, get_or, arith, sym, subst, List, ℕ}
+use Rattle.std.proofs.Common.{◌≡◌, ◌<◌, length, get_or, arith, sym, subst, List, ℕ}
 use Rattle.std.proofs.lemmas.List.{get_or_read}
 use Rattle.row_table.specs.Rows.{row_at}
 use Rattle.task_graph.specs.Queue.{IsRowOf}

@@ -1,7 +1,7 @@
-use Rattle.std.proofs.Common.{◌≡◌, ◌≢◌, ◌⊎◌, ◌≤◌, ◌<◌, ◌+◌, ◌-◌, ◌++◌, ◌∷◌, [], ℕ, List, length, get_or, set, take, sum, vec_len, arith, inl, inr, sym, ap, subst, ◌∙◌, Vec, Global}
+use Rattle.std.proofs.Common.{◌≡◌, ◌≢◌, ◌⊎◌, ◌≤◌, ◌+◌, ◌-◌, ◌++◌, ◌∷◌, [], ℕ, List, get_or, set, take, vec_len, arith, inl, inr, sym, ap, subst, ◌∙◌, Vec, Global}
 use Rattle.std.proofs.lemmas.List.{take-append-le}
-use Rattle.task_graph.specs.Queue.{arc_at, IsPartTaken, IsTaken, IsRowOf}
-use Rattle.task_graph.proofs.QueueLemmas.{waits-some, part-none, part-keep, part-push, part-all, sum-set, same-at}
+use Rattle.task_graph.specs.Queue.{arc_at, IsPartTaken, IsRowOf}
+use Rattle.task_graph.proofs.QueueLemmas.{waits-some, part-keep, part-push, part-all, sum-set, same-at}
 use Rattle.task_graph.proofs.queue.take_next.Goals as goal
 use Rattle.task_graph.proofs.queue.take_next.Goals.{then-to-ne0+then-waits-to-eq0+in_ok-push, else-to-ne0, else-to-ne0-via-then-to-ne0+else-waits-to-eq0, else-to-ne0-via-else-to-ne0}
 

@@ -1,5 +1,4 @@
-use Rattle.std.proofs.Common.{◌+◌, arith, get_or}
-use Rattle.std.specs.List.{sum_by}
+use Rattle.std.proofs.Common.{◌+◌, arith}
 use Rattle.std.proofs.lemmas.List.Sums.{get_or-le-sum_by, sum_by-le-sum_by}
 use Rattle.mp_system.specs.System.{extra_size}
 use Rattle.task_graph.specs.Graph.{size_out_of, arc_size}

@@ -1,4 +1,4 @@
-use Rattle.std.proofs.Common.{◌<◌, ◌+◌, length, get_or, arith, ◌∙◌}
+use Rattle.std.proofs.Common.{◌<◌, length, get_or, arith, ◌∙◌}
 use Rattle.std.proofs.lemmas.List.{get_or_read}
 use Rattle.task_graph.proofs.CountLemmas.{out-fits}
 use Rattle.task_graph.proofs.QueueLemmas.{no_arc}
