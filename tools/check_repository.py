@@ -9,7 +9,9 @@ usage: check_repository.py [PROGRAM]
   `<!-- not run: REASON -->` on the line before it.
 - Each file or folder that a page names, in a link or as code, is in the repository; of other
   blocks each that stands in tools/, bench/, docs/ or examples/.
-- Each function and each clause that a table of proved clauses names stands in its crate's sources.
+- docs/PROVED.md names what is proved: each function and each clause of its tables stands in a public
+  contract of the crate; its table of a function has every clause of it, and its table of crates every
+  crate of crates.txt.
 
 PROGRAM is the built program, crates/memplan/out/memplan if nothing else is said. It is there after
 `rt ci`, which builds and runs it, and after the first `./memplan`. Nothing is written into the
@@ -26,6 +28,8 @@ from typing import NamedTuple, Optional
 
 ROOT = Path(__file__).resolve().parent.parent
 SECONDS = 60
+
+PROVED = "docs/PROVED.md"
 
 COMPLAINTS = {2: "usage", 6: "read fault", 7: "write fault", 8: "no memory"}
 # What a name as code must end with to be taken for a file.
@@ -296,6 +300,11 @@ class Contracts:
             if function and (found := re.match(r"\s+(?:ensures|requires) (\w+) \{", line)):
                 self.clauses[function].add(found[1])
 
+    def of(self, function: str) -> set[str]:
+        """The clauses of all public functions of this name."""
+        named = [it for it in self.clauses if it.endswith(f"::{function}")]
+        return {clause for it in named for clause in self.clauses[it]}
+
     def holds(self, owner: str, name: str) -> bool:
         """Whether a function has the clause, or a type or a module the function."""
         if f"{owner}::{name}" in self.items:
@@ -318,21 +327,51 @@ def check_cell(contracts: Contracts, cell: str) -> Iterator[tuple[str, bool]]:
             owners = names
 
 
-def check_clauses(name: str, page: list[str]) -> Iterator[Finding]:
-    for table in tables(page):
-        if table.head[0] == "crate" and table.head[-1].startswith("clauses"):
-            for number, cells in table.rows:
-                contracts = Contracts(SPAN.findall(cells[0]))
-                for word, is_there in check_cell(contracts, cells[-1]):
-                    place = f"{name}:{number}: {cells[0]}: {word}"
-                    yield Finding(place, None if is_there else "no source has it")
-        elif table.head[0] == "clause":
-            crate, function = SPAN.findall(table.before)[:2]
-            contracts = Contracts([crate])
-            for number, cells in table.rows:
-                for clause in SPAN.findall(cells[0]):
-                    fault = None if contracts.holds(function, clause) else f"{function} has none"
-                    yield Finding(f"{name}:{number}: clause {clause}", fault)
+def first_names(table: Table) -> list[tuple[int, str]]:
+    """What the first cells of a table's rows name, with the lines of the rows."""
+    return [(number, word) for number, cells in table.rows for word in SPAN.findall(cells[0])]
+
+
+def check_all_named(what: str, wanted: set[str], table: Table) -> Iterator[Finding]:
+    named = {word for _, word in first_names(table)}
+    for word in sorted(wanted):
+        yield Finding(f"{PROVED}: {what} {word}", None if word in named else "no row names it")
+
+
+def check_crates(table: Table) -> Iterator[Finding]:
+    for number, cells in table.rows:
+        contracts = Contracts(SPAN.findall(cells[0]))
+        for word, is_there in check_cell(contracts, cells[-1]):
+            place = f"{PROVED}:{number}: {cells[0]}: {word}"
+            yield Finding(place, None if is_there else "no public contract has it")
+    lines = (ROOT / "crates.txt").read_text(encoding="utf-8").split("\n")
+    listed = {line.split(":")[0].split()[0] for line in lines if re.match(r"\w+[ \w]*:", line)}
+    yield from check_all_named("crate", listed, table)
+
+
+def check_function(table: Table) -> Iterator[Finding]:
+    """The line before the table names a crate and its function."""
+    crate, function = SPAN.findall(table.before)[:2]
+    contracts = Contracts([crate])
+    for number, clause in first_names(table):
+        fault = None if contracts.holds(function, clause) else f"{function} has none"
+        yield Finding(f"{PROVED}:{number}: clause {clause}", fault)
+    yield from check_all_named(f"clause of {function}", contracts.of(function), table)
+
+
+def check_proved() -> Iterator[Finding]:
+    """Each kind of table stands there once at least, or nothing would be looked up."""
+    file = ROOT / PROVED
+    page = file.read_text(encoding="utf-8").split("\n") if file.is_file() else []
+    found = list(tables(page))
+    crates = [it for it in found if it.head[0] == "crate" and it.head[-1].startswith("clauses")]
+    functions = [it for it in found if it.head[0] == "clause"]
+    for what, some in (("of crates", crates), ("of a function", functions)):
+        yield Finding(f"{PROVED}: a table {what}", None if some else "there is none")
+    for table in crates:
+        yield from check_crates(table)
+    for table in functions:
+        yield from check_function(table)
 
 
 def findings(program: Path) -> Iterator[Finding]:
@@ -342,8 +381,8 @@ def findings(program: Path) -> Iterator[Finding]:
     for name in pages:
         page = (ROOT / name).read_text(encoding="utf-8").split("\n")
         yield from check_names(name, page, places)
-        yield from check_clauses(name, page)
         yield from check_runs(name, page, program)
+    yield from check_proved()
 
 
 def main() -> int:
