@@ -10,8 +10,11 @@ usage: check_repository.py [PROGRAM]
 - Each file or folder that a page names, in a link or as code, is in the repository; of other
   blocks each that stands in tools/, bench/, docs/ or examples/.
 - docs/PROVED.md names what is proved: each function and each clause of its tables stands in a public
-  contract of the crate; its table of a function has every clause of it, and its table of crates every
-  crate of crates.txt.
+  contract of the crate; its table of a function has every clause of it, and its table of crates
+  every crate of crates.txt.
+- docs/DEFINITIONS.md: each quoted block (```antt) stands in a file of specs/ as it is; the tables of
+  files have exactly what the contract of the top call reaches, and the examples that they name are
+  computed in specs/.
 
 PROGRAM is the built program, crates/memplan/out/memplan if nothing else is said. It is there after
 `rt ci`, which builds and runs it, and after the first `./memplan`. Nothing is written into the
@@ -26,10 +29,14 @@ from collections.abc import Iterator
 from pathlib import Path
 from typing import NamedTuple, Optional
 
+sys.dont_write_bytecode = True
+from reached_specs import TOP_CALL, reached_by  # noqa: E402: so that nothing is written beside it
+
 ROOT = Path(__file__).resolve().parent.parent
 SECONDS = 60
 
 PROVED = "docs/PROVED.md"
+DEFINITIONS = "docs/DEFINITIONS.md"
 
 COMPLAINTS = {2: "usage", 6: "read fault", 7: "write fault", 8: "no memory"}
 # What a name as code must end with to be taken for a file.
@@ -374,6 +381,53 @@ def check_proved() -> Iterator[Finding]:
         yield from check_function(table)
 
 
+# What is defined
+
+
+def check_quotes(page: list[str]) -> Iterator[Finding]:
+    """The block that a fence opens with ```antt is part of a file of definitions."""
+    texts = [file.read_text(encoding="utf-8") for file in (ROOT / "crates").glob("*/specs/*.antt")]
+    for fence in fences(page):
+        if page[fence.number - 2].strip() == "```antt":
+            block = "\n".join(fence.lines) + "\n"
+            fault = None if any(block in text for text in texts) else "no file of specs/ has it"
+            yield Finding(f"{DEFINITIONS}:{fence.number}: {fence.lines[0]}", fault)
+
+
+def check_examples(number: int, crate: str, cell: str) -> Iterator[Finding]:
+    """Names of lines of the crate's `specs/Samples.antt`, or of that of a crate before them."""
+    for group in cell.split(";"):
+        owner, names = crate, SPAN.findall(group)
+        if re.match(r"\s*`\w+`: ", group):
+            owner, names = names[0], names[1:]
+        samples = ROOT / "crates" / owner / "specs/Samples.antt"
+        text = samples.read_text(encoding="utf-8") if samples.is_file() else ""
+        for name in names:
+            is_there = re.search(rf"^{name} =", text, re.M)
+            fault = None if is_there else f"{owner} computes no such line"
+            yield Finding(f"{DEFINITIONS}:{number}: {name}", fault)
+
+
+def check_definitions() -> Iterator[Finding]:
+    file = ROOT / DEFINITIONS
+    page = file.read_text(encoding="utf-8").split("\n") if file.is_file() else []
+    yield from check_quotes(page)
+    listed = set()
+    for table in tables(page):
+        if table.head[0] != "file":
+            continue
+        crate = SPAN.findall(table.before)[-1]
+        for number, cells in table.rows:
+            listed |= {f"{crate}/{name}" for name in SPAN.findall(cells[0])}
+            yield from check_examples(number, crate, cells[-1])
+    reached = {str(it.relative_to(ROOT / "crates")) for it in reached_by(*TOP_CALL)}
+    for name in sorted(listed | reached):
+        fault = None if name in listed else "no table has it, and the top call reaches it"
+        if name not in reached:
+            fault = "a table has it, and the top call does not reach it"
+        yield Finding(f"{DEFINITIONS}: {name}", fault)
+
+
 def findings(program: Path) -> Iterator[Finding]:
     files = files_of_repository()
     places = Places(files)
@@ -383,6 +437,7 @@ def findings(program: Path) -> Iterator[Finding]:
         yield from check_names(name, page, places)
         yield from check_runs(name, page, program)
     yield from check_proved()
+    yield from check_definitions()
 
 
 def main() -> int:
