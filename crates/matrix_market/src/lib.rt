@@ -16,7 +16,7 @@ mod tests;
 
 pub use kind::MatrixKind;
 pub use pattern::Pattern;
-pub use reader::read_pattern;
+pub use reader::{read_pattern, read_pattern_owned};
 use std::alloc::AllocError;
 
 /// Want of memory: an allocation was refused.

@@ -139,3 +139,13 @@ pub fn read_pattern(alloc: Global, bytes: &[u8]) -> Result<Pattern, Refusal<Matr
     let pattern = Pattern::from_pairs(alloc, entries.order, entries.pairs)?;
     Ok(pattern)
 }
+
+/// The pattern as `read_pattern` gives it, of a text that is handed over: the text is let go before the pattern is made, so that the
+/// two are never held together.
+pub fn read_pattern_owned(alloc: Global, text: Vec<u8>) -> Result<Pattern, Refusal<MatrixKind>>
+    ensures { MatchResult result (λ pattern. ReadsPattern text.items pattern) (IsMatrixRefusal text.items) }
+{
+    let entries = read_entries(alloc, &text)?;
+    drop(text);
+    Ok(Pattern::from_pairs(alloc, entries.order, entries.pairs)?)
+}

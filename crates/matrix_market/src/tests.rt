@@ -4,7 +4,7 @@ ghost use Rattle.std.specs.Prelude.{◌≡◌};
 ghost use Rattle.std.specs.List.{list_any};
 ghost use Rattle.matrix_market.specs.Pattern.{names, are_named};
 
-use crate::{Pattern, read_pattern};
+use crate::{Pattern, read_pattern, read_pattern_owned};
 use std::process::Abort;
 use std::test::Fail;
 
@@ -50,6 +50,8 @@ fn reads(rt: HostRuntime) -> Result<(), Fail> {
     ];
     for (text, wanted) in rows {
         check_rows(&rt, &read_pattern(alloc, text.as_bytes())?, wanted);
+        let owned = Vec::from_slice(alloc, text.as_bytes())?;
+        check_rows(&rt, &read_pattern_owned(alloc, owned)?, wanted);
     }
     Ok(())
 }
