@@ -1,0 +1,17 @@
+pub mod Ends
+pub mod Steps
+pub mod Whole
+pub mod Forests
+pub mod Works
+pub mod Adding
+pub mod Weights
+pub mod Rows
+pub mod Carried
+pub mod Planted
+pub mod Links
+pub mod Shaped
+pub mod Writings
+pub mod Bounds
+pub mod Finish
+pub mod Outcomes
+pub mod Answer

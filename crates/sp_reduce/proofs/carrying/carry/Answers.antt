@@ -1,0 +1,42 @@
+use Rattle.std.proofs.Common.{◌≡◌, ℕ, ◌+◌, List, [], ◌∷◌, ◌++◌, length, get_or, set, sym, ap, subst, ◌∙◌, arith, Some}
+use Rattle.mp_system.specs.declared.system.Item.{Item}
+use Rattle.sp_reduce.specs.declared.link.Link.{Link}
+use Rattle.sp_reduce.specs.declared.piece.Piece.{Piece}
+use Rattle.sp_reduce.specs.declared.piece.Piece.TheVariants.{Series, Both}
+use Rattle.sp_reduce.specs.Work.{no_link, link, IsLink, AreLeft}
+use Rattle.sp_reduce.specs.Pieces.{IsCarried}
+use Rattle.sp_reduce.proofs.Carried.{carried-joined, carried-merged}
+use Rattle.sp_reduce.proofs.carrying.carry.Goals as goal
+
+pub returns-in-None-clause-carried : goal.returns-in-None-clause-carried
+returns-in-None-clause-carried c = λ graph old new t h.
+    let i = c.args.taken.first in
+    let j = c.args.taken.second in
+    let p = c.args.taken.from in
+    let s = c.args.taken.to in
+    let ps = c.args.pieces.now.items in
+    let nodes = c.args.nodes.now in
+    let left : new ≡ set (set old i (link p s)) j no_link = subst (AreLeft old new i j p s) c.in-None.is t.left in
+    let len : c.len-series.result ≡ length ps = omega (arith, c.len-series.ensures, c.args.pieces.now.ok) in
+    let done = carried-joined graph ps old nodes h c.args.task i j p s t.task t.first t.second t.apart t.one_in t.one_out in
+    subst (λ (ls : List Link). IsCarried graph [] c.push.new.self.items ls (set nodes i c.len-series.result)) (sym left)
+    (subst (λ (m : ℕ). IsCarried graph [] c.push.new.self.items (set (set old i (link p s)) j no_link) (set nodes i m)) (sym len)
+    (subst (λ (xs : List Piece). IsCarried graph [] xs (set (set old i (link p s)) j no_link) (set nodes i (length ps))) (sym c.in_ok-push.ensures.items) done))
+
+pub returns-in_ok-push-in-Some-clause-carried : goal.returns-in_ok-push-in-Some-clause-carried
+returns-in_ok-push-in-Some-clause-carried c = λ graph old new t h.
+    let i = c.args.taken.first in
+    let j = c.args.taken.second in
+    let p = c.args.taken.from in
+    let s = c.args.taken.to in
+    let k = c.in-Some.twin in
+    let ps = c.args.pieces.now.items in
+    let nodes = c.args.nodes.now in
+    let left : IsLink old k p s × (new ≡ set (set old i no_link) j no_link) = subst (AreLeft old new i j p s) c.in-Some.is t.left in
+    let len : c.len-series.result ≡ length ps = omega (arith, c.len-series.ensures, c.args.pieces.now.ok) in
+    let first : Piece = Series (get_or nodes i 0) c.args.task (get_or nodes j 0) in
+    let done = carried-merged graph ps old nodes h c.args.task i j p s t.task t.first t.second t.apart t.one_in t.one_out k left.0 t.other_from t.other_to (c.len-series.result + 1) (omega (arith, len)) in
+    let items : c.push-in-Some.new.self.items ≡ (ps ++ first ∷ []) ++ Both (get_or nodes k 0) (length ps) ∷ [] =
+    c.in_ok-push-in-Some.ensures.items ∙ (λ z. c.in_ok-push.ensures.items z ++ Both (get_or nodes k 0) (len z) ∷ []) in
+    subst (λ (ls : List Link). IsCarried graph [] c.push-in-Some.new.self.items ls (set nodes k (c.len-series.result + 1))) (sym left.1)
+    (subst (λ (xs : List Piece). IsCarried graph [] xs (set (set old i no_link) j no_link) (set nodes k (c.len-series.result + 1))) (sym items) done)

@@ -1,0 +1,11 @@
+pub mod Reductions
+pub mod Reduced
+pub mod Nets
+pub mod NetGraphs
+pub mod Forests
+pub mod Work
+pub mod Pieces
+pub mod Shapes
+pub mod Writing
+pub mod Outcome
+pub mod Refusal

@@ -1,0 +1,91 @@
+-- What the reduction keeps: links with numbered ends, 0 for none, counts, one link at hand for each end, and a table of links by their ends.
+use Rattle.std.specs.Prelude.{◌≡◌, ◌≢◌, ℕ, zero, suc, ◌+◌, ◌*◌, ◌^◌, ◌<◌, ◌≤◌, nat_eq, cond, Bool, true, false, List, [], ◌∷◌, length, slice_index, slice_index_or, slice_set, Option, Some, None}
+use Rattle.std.specs.List.{sum_by, list_any}
+use Rattle.sp_reduce.specs.declared.link.Link.{Link}
+use Rattle.sp_reduce.specs.declared.link.Taken.{Taken}
+use Rattle.mp_system.specs.declared.system.Item.{Item}
+use Rattle.task_graph.specs.Graph.{end_of}
+use Rattle.sp_reduce.specs.NetGraphs.{arc}
+
+abbrev pub no_link : Link
+no_link = record { alive = false; from = 0; to = 0 }
+
+abbrev pub link_at : List Link → ℕ → Link
+link_at links i = slice_index_or links i no_link
+
+abbrev pub hit : ℕ → ℕ → ℕ
+hit u v = cond (nat_eq u v) 1 0
+
+abbrev pub link_weight : (ℕ → ℕ → ℕ) → Link → ℕ
+link_weight g l = cond l.alive (g l.from l.to) 0
+
+abbrev pub sum_links : (ℕ → ℕ → ℕ) → List Link → ℕ
+sum_links g links = sum_by (link_weight g) links
+
+-- the links' graph
+abbrev pub graph_of : List Link → List Item
+graph_of [] = []
+graph_of (l ∷ ls) = cond l.alive (arc (end_of l.from) 0 (end_of l.to) ∷ graph_of ls) (graph_of ls)
+
+abbrev pub key_of : ℕ → ℕ → ℕ
+key_of p q = p * 2 ^ 32 + q
+
+pub record IsWork (n : ℕ) (rank : ℕ → ℕ) (links : List Link) (ins outs in_at out_at : List ℕ) (table : ℕ → Option ℕ) : Type 0 where
+  pub lens : (length ins ≡ suc n) × (length outs ≡ suc n) × (length in_at ≡ suc n) × (length out_at ≡ suc n)
+  pub inside : (x : ℕ) → x < length links → (link_at links x).alive ≡ true → ((link_at links x).from ≤ n) × ((link_at links x).to ≤ n)
+  pub rising : (x : ℕ) → x < length links → (link_at links x).alive ≡ true → 1 ≤ (link_at links x).from → 1 ≤ (link_at links x).to → rank (link_at links x).from < rank (link_at links x).to
+  pub ins_are : (v : ℕ) → v ≤ n → slice_index ins v ≡ sum_links (λ p q. hit q v) links
+  pub outs_are : (v : ℕ) → v ≤ n → slice_index outs v ≡ sum_links (λ p q. hit p v) links
+  pub in_at_is : (v : ℕ) → v ≤ n → 1 ≤ slice_index ins v → (slice_index in_at v < length links) × ((link_at links (slice_index in_at v)).alive ≡ true) × ((link_at links (slice_index in_at v)).to ≡ v)
+  pub out_at_is : (v : ℕ) → v ≤ n → 1 ≤ slice_index outs v → (slice_index out_at v < length links) × ((link_at links (slice_index out_at v)).alive ≡ true) × ((link_at links (slice_index out_at v)).from ≡ v)
+  pub keyed : (x : ℕ) → x < length links → (link_at links x).alive ≡ true → table (key_of (link_at links x).from (link_at links x).to) ≡ Some x
+
+-- no link has these ends
+abbrev pub HasNone : List Link → ℕ → ℕ → Type 0
+HasNone links p q = (x : ℕ) → x < length links → (link_at links x).alive ≡ true → (link_at links x).from ≡ p → (link_at links x).to ≡ q → ⊥
+
+pub record IsLink (links : List Link) (x p q : ℕ) : Type 0 where
+  pub within : x < length links
+  pub alive : (link_at links x).alive ≡ true
+  pub from : (link_at links x).from ≡ p
+  pub to : (link_at links x).to ≡ q
+
+abbrev pub stands : ℕ → List ℕ → Bool
+stands u ts = list_any (λ t. nat_eq t u) ts
+
+abbrev pub AreTasks : ℕ → List ℕ → Type 0
+AreTasks n ts = (x : ℕ) → x < length ts → (1 ≤ slice_index ts x) × (slice_index ts x ≤ n)
+
+-- each task that can be taken out stands in the list
+abbrev pub AreNoted : ℕ → List ℕ → List ℕ → List ℕ → Type 0
+AreNoted n ins outs ts = (u : ℕ) → 1 ≤ u → u ≤ n → slice_index ins u ≡ 1 → slice_index outs u ≡ 1 → stands u ts ≡ true
+
+-- the ends of the links that are alive
+abbrev pub pairs_of : List Link → List (ℕ × ℕ)
+pairs_of [] = []
+pairs_of (l ∷ ls) = cond l.alive ((l.from, l.to) ∷ pairs_of ls) (pairs_of ls)
+
+abbrev pub link : ℕ → ℕ → Link
+link p q = record { alive = true; from = p; to = q }
+
+-- what is left of the links of a task that is taken out: one from end to end, or none where it has a twin
+abbrev pub AreLeft : List Link → List Link → ℕ → ℕ → ℕ → ℕ → Option ℕ → Type 0
+AreLeft old new i j p s None = new ≡ slice_set (slice_set old i (link p s)) j no_link
+AreLeft old new i j p s (Some k) = IsLink old k p s × (new ≡ slice_set (slice_set old i no_link) j no_link)
+
+-- a task was taken out: the one link into it and the one out of it became one
+pub record IsTaken (old new : List Link) (v : ℕ) (taken : Taken) : Type 0 where
+  pub task : 1 ≤ v
+  pub first : IsLink old taken.first taken.from v
+  pub second : IsLink old taken.second v taken.to
+  pub apart : taken.first ≢ taken.second
+  pub other_from : taken.from ≢ v
+  pub other_to : taken.to ≢ v
+  pub one_in : sum_links (λ p q. hit q v) old ≡ 1
+  pub one_out : sum_links (λ p q. hit p v) old ≡ 1
+  pub left : AreLeft old new taken.first taken.second taken.from taken.to taken.twin
+
+-- how many links fewer there are
+abbrev pub fewer_by : Option ℕ → ℕ
+fewer_by None = 1
+fewer_by (Some k) = 2

@@ -1,0 +1,23 @@
+//! Task graphs reduced to series-parallel terms, or to an irreducible rest (Valdes, Tarjan and Lawler 1982).
+//!
+//! The definitions stand in specs/: `Reductions`, `Reduced`.
+#![tactic(auto)]
+
+mod building;
+mod carrying;
+mod link;
+mod piece;
+mod postfix;
+mod reduced;
+mod reducing;
+mod rounds;
+#[cfg(test)]
+mod tests;
+mod work;
+
+pub use reduced::{ReduceRefusal, Reduced};
+pub use reducing::reduce;
+use std::alloc::AllocError;
+
+/// Want of memory: an allocation was refused.
+pub type NoMemory = AllocError;
