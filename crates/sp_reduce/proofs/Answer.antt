@@ -19,7 +19,7 @@ use Rattle.sp_reduce.specs.NetGraphs.{Makes}
 use Rattle.sp_reduce.specs.Outcome.{IsOutcome}
 use Rattle.sp_reduce.specs.Pieces.{net_at, nets_of}
 use Rattle.sp_reduce.specs.Reduced.{HasSystem}
-use Rattle.sp_reduce.specs.Reductions.{LeadsTo, in_order, by_ends, ends_of, IsRestOf}
+use Rattle.sp_reduce.specs.Reductions.{in_order, by_ends, ends_of, IsRestOf}
 use Rattle.sp_reduce.specs.Refusal.{HasNoTerm}
 use Rattle.sp_reduce.specs.Shapes.{term_of_net, size_of}
 use Rattle.sp_reduce.specs.Work.{IsLink, pairs_of}

@@ -1,5 +1,5 @@
 -- The positions of the term of a net: their limits, their sums, and how many they are.
-use Rattle.std.proofs.Common.{◌≡◌, ℕ, zero, suc, ◌+◌, ◌*◌, ◌≤◌, Bool, true, false, cond, leb, refl, sym, ap, arith, ◌∙◌, List, [], ◌∷◌, ◌++◌, length, Option, Some, length-append}
+use Rattle.std.proofs.Common.{◌≡◌, ℕ, ◌+◌, ◌*◌, ◌≤◌, Bool, true, false, cond, leb, refl, ap, arith, List, [], ◌∷◌, ◌++◌, length, Option, Some, length-append}
 use Rattle.std.specs.List.{sum_by, All}
 use Rattle.std.proofs.lemmas.List.{append-nil}
 use Rattle.std.proofs.lemmas.List.Sums.{sum_by-cons, sum_by-append}
@@ -13,7 +13,7 @@ use Rattle.sp_terms.specs.Postfix.{postfix, all_postfix, at_task}
 use Rattle.sp_terms.specs.declared.position.Position.{Position}
 use Rattle.sp_terms.specs.declared.position.Position.TheVariants.{Hold, Par}
 use Rattle.sp_terms.specs.Values.{added_size, added_tasks, IsWithinLimits}
-use Rattle.sp_reduce.specs.Nets.{Net, hold, series, both, names, times, weigh, hits}
+use Rattle.sp_reduce.specs.Nets.{Net, hold, series, both, names, times, weigh}
 use Rattle.sp_reduce.specs.Shapes.{shape_of, parts_of, holds_of, size_of}
 use Rattle.sp_reduce.proofs.Ends.{hits-self}
 use Rattle.sp_reduce.proofs.Shaped.{counted-parts, parts-front}
@@ -101,10 +101,25 @@ module _ (tasks : ℕ → Task) where
       let one : AreBound (pa ++ (pb ++ own ∷ [])) (series a v b) = record {
         within = All-append IsWithinLimits pa (pb ++ own ∷ []) x.within (All-append IsWithinLimits pb (own ∷ []) y.within
             (All-cons IsWithinLimits own [] (k.extra, k.time.0, k.time.1) (All-nil IsWithinLimits)));
-        tasks_are = omega (arith, sum_by-append added_tasks pa (pb ++ own ∷ []), push-sum added_tasks pb own, x.tasks_are, y.tasks_are,
-            length-append (names a) (names b ++ v ∷ []), length-append (names b) (v ∷ []));
-        sizes = omega (arith, sum_by-append added_size pa (pb ++ own ∷ []), push-sum added_size pb own, x.sizes, y.sizes,
-            extras-append (names a) (names b ++ v ∷ []), extras-append (names b) (v ∷ []), sum_by-cons (λ u. (tasks u).extra) v []);
+        tasks_are = omega (
+          arith,
+          sum_by-append added_tasks pa (pb ++ own ∷ []),
+          push-sum added_tasks pb own,
+          x.tasks_are,
+          y.tasks_are,
+          length-append (names a) (names b ++ v ∷ []),
+          length-append (names b) (v ∷ []),
+        );
+        sizes = omega (
+          arith,
+          sum_by-append added_size pa (pb ++ own ∷ []),
+          push-sum added_size pb own,
+          x.sizes,
+          y.sizes,
+          extras-append (names a) (names b ++ v ∷ []),
+          extras-append (names b) (v ∷ []),
+          sum_by-cons (λ u. (tasks u).extra) v [],
+        );
         few = omega (arith, length-append pa (pb ++ own ∷ []), length-append pb (own ∷ []), x.few, y.few);
       } in
       (one, more one)
@@ -126,10 +141,12 @@ module _ (tasks : ℕ → Task) where
       } in
       let split : all ≡ qa ++ qb = parts-front tasks a ((shape_of tasks b).among no_parts) in
       let two : 2 ≤ n = omega (arith, counted-parts tasks a ((shape_of tasks b).among no_parts), counted-parts tasks b no_parts, parts-some a, parts-some b) in
-      let here : AreBound all (both a b) = rw split inner in
-      (record {
-        within = All-append IsWithinLimits all (Par n ∷ []) here.within (All-cons IsWithinLimits (Par n) [] two (All-nil IsWithinLimits));
-        tasks_are = omega (arith, push-sum added_tasks all (Par n), here.tasks_are);
-        sizes = omega (arith, push-sum added_size all (Par n), here.sizes);
-        few = omega (arith, length-append all (Par n ∷ []), ap length split, length-append qa qb, x.few, y.few);
-      }, here)
+      let here : AreBound all (both a b) = rw split inner in (
+        record {
+          within = All-append IsWithinLimits all (Par n ∷ []) here.within (All-cons IsWithinLimits (Par n) [] two (All-nil IsWithinLimits));
+          tasks_are = omega (arith, push-sum added_tasks all (Par n), here.tasks_are);
+          sizes = omega (arith, push-sum added_size all (Par n), here.sizes);
+          few = omega (arith, length-append all (Par n ∷ []), ap length split, length-append qa qb, x.few, y.few);
+        },
+        here,
+      )

@@ -1,19 +1,16 @@
 -- A piece more, and links that change, keep the terms of a forest.
-use Rattle.std.proofs.Common.{◌≡◌, ◌≢◌, ℕ, zero, suc, ◌+◌, ◌<◌, ◌≤◌, Bool, true, false, cond, refl, sym, subst, ap, arith, ◌∙◌, List, [], ◌∷◌, ◌++◌, length, Option, Some, None, get_or, set, length-append, inl, inr}
-use Rattle.std.specs.List.{sum_by}
-use Rattle.std.proofs.lemmas.List.{set_comm, set-set, set-get_or, length-set, get_or-set_same, get_or-set_other, set-append_left, get_or_append_left, get_or_push, append_assoc}
-use Rattle.std.proofs.lemmas.List.Sums.{sum_by-cons, sum_by-append}
+use Rattle.std.proofs.Common.{◌≡◌, ◌≢◌, ℕ, zero, suc, ◌+◌, ◌<◌, ◌≤◌, Bool, true, false, cond, refl, sym, subst, ap, arith, ◌∙◌, List, [], ◌∷◌, ◌++◌, length, Option, Some, get_or, set, length-append, inl, inr}
+use Rattle.std.proofs.lemmas.List.{set_comm, set-set, set-get_or, length-set, get_or-set_same, get_or-set_other, get_or_append_left, get_or_push}
+use Rattle.std.proofs.lemmas.List.Sums.{sum_by-cons}
 use Rattle.std.proofs.lemmas.Bool.{cases_eq}
 use Rattle.mp_system.specs.declared.system.Item.{Item}
 use Rattle.task_graph.specs.Graph.{end_of}
 use Rattle.sp_reduce.specs.declared.link.Link.{Link}
-use Rattle.sp_reduce.specs.declared.link.Taken.{Taken}
 use Rattle.sp_reduce.specs.declared.piece.Piece.{Piece}
 use Rattle.sp_reduce.specs.declared.piece.Piece.TheVariants.{Hold, Series, Both}
 use Rattle.sp_reduce.specs.Nets.{Net, hold, both, hits}
-use Rattle.sp_reduce.specs.NetGraphs.{Makes, Fits, arc_weight}
-use Rattle.sp_reduce.specs.Forests.{Edge, dead, edge_weight, total, arcs_of, IsForest, planted}
-use Rattle.sp_reduce.specs.Work.{no_link, link_at, link, hit, link_weight, sum_links, IsLink, IsTaken}
+use Rattle.sp_reduce.specs.Forests.{Edge, dead, edge_weight, total, IsForest}
+use Rattle.sp_reduce.specs.Work.{no_link, link_at, link, hit, link_weight, sum_links, IsLink}
 use Rattle.sp_reduce.specs.Pieces.{net_at, piece_net, grown, nets_of, edge_of, edges_of, IsMade, piece_at, AreMade, IsCarried}
 use Rattle.sp_reduce.proofs.Forests.{forest-parallel, forest-series}
 use Rattle.sp_reduce.proofs.Works.{hits-end, end-some, counts-same}
@@ -162,7 +159,7 @@ module _ (graph : List Item) (ps : List Piece) (links : List Link) (nodes : List
       let new : Link = link p s in
       let len : length (set nodes i (length ps)) ≡ length (set links i new) = length-set nodes i (length ps) ∙ h.lens ∙ sym (length-set links i new) in
       let edges : edges_of nets (set (set links i new) j no_link) (set nodes i (length ps))
-          ≡ set (set (edges_of (nets_of ps) links nodes) i (record { alive = true; from = end_of p; net = piece_net (nets_of ps) q; to = end_of s })) j dead =
+      ≡ set (set (edges_of (nets_of ps) links nodes) i (record { alive = true; from = end_of p; net = piece_net (nets_of ps) q; to = end_of s })) j dead =
       edges-kill nets (set links i new) (set nodes i (length ps)) j len
       ∙ ap (λ (xs : List Edge). set xs j dead) (edges-set nets links nodes i new (length ps) h.lens
       ∙ (λ k. set (edges-push ps q links nodes h.within k) i (record { alive = true; from = end_of p; net = new-net ps q (length ps) refl k; to = end_of s }))) in

@@ -1,37 +1,36 @@
 -- The net that makes the completed graph is a term with its system; and where no net does, no term has it.
-use Rattle.std.proofs.Common.{◌≡◌, ◌≢◌, ℕ, zero, suc, ◌+◌, ◌-◌, ◌*◌, ◌<◌, ◌≤◌, ◌^◌, Bool, true, false, cond, leb, eqb, eq-eqb, refl, sym, ap, subst, arith, ◌∙◌, List, [], ◌∷◌, ◌++◌, length, map, get_or, take, Option, Some, None, inl, inr}
+use Rattle.std.proofs.Common.{◌≡◌, ◌≢◌, ℕ, zero, suc, ◌+◌, ◌-◌, ◌<◌, ◌≤◌, ◌^◌, Bool, true, false, cond, eqb, eq-eqb, refl, sym, ap, subst, arith, ◌∙◌, List, [], ◌∷◌, ◌++◌, length, map, get_or, take, Option, Some, None, inl, inr}
 use Rattle.std.specs.Prelude.{IsPermutation}
 use Rattle.std.specs.List.{sum_by, count_by, All, range_with_len, position_or_len}
 use Rattle.std.proofs.lemmas.List.{length-map, length-append, get_or-take, length-take-le}
 use Rattle.std.proofs.lemmas.List.Sums.{sum_by-cons, sum_by-append, get_or-le-sum_by, sum_by_more_le, position_or_len_is}
 use Rattle.std.proofs.lemmas.List.Elements.{All-head, All-tail}
 use Rattle.std.proofs.lemmas.List.FromFn.{length-range_with_len, get_or-range_with_len}
-use Rattle.std.proofs.lemmas.Bool.{ne_eqb, le-leb, eqb-true, cases_Bool, false_from_ne_true}
+use Rattle.std.proofs.lemmas.Bool.{ne_eqb, le-leb, eqb-true, cases_Bool}
 use Rattle.limits.specs.Limits.{most_size}
 use Rattle.mp_system.specs.declared.system.Task.{Task}
 use Rattle.mp_system.specs.declared.system.Item.{Item}
 use Rattle.mp_system.specs.System.{TaskSystem, IsSystem, IsTask, IsTaskWithin, IsItemWithin, is_named, is_input, is_output, size_where, extra_size, item_size}
 use Rattle.mp_system.specs.System as systems
-use Rattle.mp_system.specs.Renaming.{name_in, renamed}
+use Rattle.mp_system.specs.Renaming.{name_in}
 use Rattle.sp_terms.specs.Term.{Term, Parts, no_parts, part}
 use Rattle.sp_terms.specs.Term as terms
-use Rattle.sp_terms.specs.SystemOfTerm.{task_count, task_count_of_parts, tasks_of_term, tasks_of_parts, items_of_term}
+use Rattle.sp_terms.specs.SystemOfTerm.{task_count, task_count_of_parts, tasks_of_term, tasks_of_parts}
 use Rattle.sp_terms.specs.Postfix.{Denotes, postfix}
-use Rattle.sp_terms.specs.declared.position.Position.{Position}
 use Rattle.sp_terms.specs.Values.{stack_from, last_term, term_of, Leaves, IsTerms}
 use Rattle.task_graph.specs.declared.arc.Arc.{Arc}
 use Rattle.task_graph.specs.Graph.{TaskGraph, IsAmong, IsArcWithin, IsGraph, is_into, item_of, end_of, task_at, completed_arcs, completed_system}
-use Rattle.sp_reduce.specs.Nets.{Net, hold, series, both, names, times, arcs, weigh, count, hits, into}
+use Rattle.sp_reduce.specs.Nets.{Net, hold, series, both, names, times, arcs, hits, into}
 use Rattle.sp_reduce.specs.NetGraphs.{arc_weight, counted, Makes}
 use Rattle.sp_reduce.specs.Reduced.{HasSystem, HasParts}
-use Rattle.sp_reduce.specs.Shapes.{shape_of, term_of_net, named, holds_of, size_of}
+use Rattle.sp_reduce.specs.Shapes.{term_of_net, named, holds_of, size_of}
 use Rattle.sp_reduce.proofs.Ends.{split, into-known, into-task, hits-same}
 use Rattle.sp_reduce.proofs.Whole.{makes-fits, weigh-arcs, exact, exact-self, same_size}
-use Rattle.sp_reduce.proofs.Works.{hits-end, hit-self}
+use Rattle.sp_reduce.proofs.Works.{hits-end}
 use Rattle.sp_reduce.proofs.Weights.{weighed}
 use Rattle.sp_reduce.proofs.Links.{items-made}
 use Rattle.sp_reduce.proofs.Shaped.{tasks-are, items-are, size_if, size_in, size_out, ShareFits, allowed}
-use Rattle.sp_reduce.proofs.Bounds.{data_of, weigh-data, weigh-holds, size-holds, bad, small, AreBound, bounds}
+use Rattle.sp_reduce.proofs.Bounds.{weigh-data, weigh-holds, size-holds, bad, small, AreBound, bounds}
 
 -- ---- sums over numbers
 

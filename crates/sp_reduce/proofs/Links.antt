@@ -1,5 +1,5 @@
 -- A term renamed is a net: its arcs are the items, and no name stands twice.
-use Rattle.std.proofs.Common.{◌≡◌, ℕ, ◌+◌, ◌<◌, ◌≤◌, refl, sym, ap, arith, ◌∙◌, List, [], ◌∷◌, ◌++◌, length, map, Option, Some, None, option_map}
+use Rattle.std.proofs.Common.{◌≡◌, ℕ, ◌+◌, ◌<◌, ◌≤◌, refl, sym, ap, arith, ◌∙◌, List, ◌++◌, map, Option, Some, None, option_map}
 use Rattle.std.specs.Prelude.{IsPermutation}
 use Rattle.std.specs.List.{sum_by}
 use Rattle.std.proofs.lemmas.List.{append-nil, map-append}
@@ -9,7 +9,7 @@ use Rattle.mp_system.specs.Renaming.{renamed}
 use Rattle.sp_terms.specs.Term.{Term, Parts, no_parts, part}
 use Rattle.sp_terms.specs.Term as terms
 use Rattle.sp_terms.specs.SystemOfTerm.{task_count, task_count_of_parts, own_number, items_of_term, items_of_parts}
-use Rattle.sp_reduce.specs.Nets.{Net, arcs, times, IsDistinct, hits, weigh}
+use Rattle.sp_reduce.specs.Nets.{arcs, times, IsDistinct, hits}
 use Rattle.sp_reduce.specs.NetGraphs.{arc_weight, Makes}
 use Rattle.sp_reduce.specs.Reduced.{HasOne, HasParts, AllHaveParts}
 use Rattle.sp_reduce.specs.Shapes.{named, all_named}

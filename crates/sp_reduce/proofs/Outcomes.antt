@@ -1,25 +1,25 @@
 -- The links at the start, and what is left of them at the end: the term of the one link, or an irreducible rest.
-use Rattle.std.proofs.Common.{◌≡◌, ◌≢◌, ℕ, zero, suc, ◌+◌, ◌<◌, ◌≤◌, Bool, true, false, cond, eqb, refl, sym, ap, subst, arith, ◌∙◌, List, [], ◌∷◌, ◌++◌, length, map, drop, take, get_or, Option, Some, None, inl, inr}
+use Rattle.std.proofs.Common.{◌≡◌, ℕ, zero, suc, ◌+◌, ◌<◌, ◌≤◌, Bool, true, false, cond, eqb, refl, sym, ap, subst, arith, ◌∙◌, List, [], ◌∷◌, ◌++◌, length, map, drop, take, get_or, Option, None}
 use Rattle.std.specs.Prelude.{IsPermutation}
 use Rattle.std.specs.List.{sum_by}
 use Rattle.std.proofs.lemmas.List.{append-nil, drop_more, length-map, take_more}
 use Rattle.std.proofs.lemmas.List.Sums.{sum_by-cons}
-use Rattle.std.proofs.lemmas.List.Sorted.{IsPermutation-trans, IsPermutation-sym, length_permutation, sum_by-IsPermutation}
+use Rattle.std.proofs.lemmas.List.Sorted.{IsPermutation-trans, length_permutation, sum_by-IsPermutation}
 use Rattle.mp_system.specs.declared.system.Item.{Item}
 use Rattle.task_graph.specs.declared.arc.Arc.{Arc}
 use Rattle.task_graph.specs.Graph.{end_of, item_of}
 use Rattle.sp_reduce.specs.declared.link.Link.{Link}
 use Rattle.sp_reduce.specs.declared.piece.Piece.{Piece}
-use Rattle.sp_reduce.specs.Nets.{Net, hits}
+use Rattle.sp_reduce.specs.Nets.{Net}
 use Rattle.sp_reduce.specs.NetGraphs.{arc, Makes, IsSingle}
 use Rattle.sp_reduce.specs.NetGraphs as nets
-use Rattle.sp_reduce.specs.Forests.{Edge, dead, arcs_of, total, IsForest}
+use Rattle.sp_reduce.specs.Forests.{Edge, dead, arcs_of, IsForest}
 use Rattle.sp_reduce.specs.Outcome.{IsOutcome}
-use Rattle.sp_reduce.specs.Pieces.{net_at, nets_of, edge_of, edges_of, IsCarried}
-use Rattle.sp_reduce.specs.Reductions.{IsParallel, IsSeries, LeadsTo, in_order, IsIrreducible, ends_of}
+use Rattle.sp_reduce.specs.Pieces.{net_at, nets_of, edges_of, IsCarried}
+use Rattle.sp_reduce.specs.Reductions.{IsIrreducible, ends_of}
 use Rattle.sp_reduce.specs.Work.{no_link, link_at, hit, link_weight, sum_links, graph_of, pairs_of, IsWork, IsLink}
 use Rattle.sp_reduce.proofs.Forests.{forest-first, forest-yes, forest-no}
-use Rattle.sp_reduce.proofs.Rows.{pairs-sum, pairs-irreducible, leads-trans, pairs-weighed}
+use Rattle.sp_reduce.proofs.Rows.{pairs-sum, pairs-irreducible}
 use Rattle.sp_reduce.proofs.Planted.{pairs-append}
 use Rattle.sp_reduce.proofs.Carried.{edges-sum, edges-length, live-edge}
 

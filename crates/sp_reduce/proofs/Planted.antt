@@ -1,6 +1,5 @@
 -- One arc more among the links: a new link, or a part of the term of its twin.
-use Rattle.std.proofs.Common.{◌≡◌, ◌≢◌, ℕ, suc, ◌+◌, ◌<◌, ◌≤◌, Bool, true, false, cond, refl, sym, subst, ap, arith, ◌∙◌, List, [], ◌∷◌, ◌++◌, length, Option, Some, get_or, set, length-append, inl, inr, append_assoc}
-use Rattle.std.specs.Prelude.{IsPermutation}
+use Rattle.std.proofs.Common.{◌≡◌, ℕ, ◌+◌, ◌<◌, Bool, true, false, cond, refl, sym, subst, ap, arith, ◌∙◌, List, [], ◌∷◌, ◌++◌, length, Option, Some, get_or, set, length-append, inl, inr, append_assoc}
 use Rattle.std.specs.List.{sum_by}
 use Rattle.std.proofs.lemmas.List.{length-set, get_or-set_same, get_or-set_other, set-append_left, get_or_append_left, get_or_push}
 use Rattle.std.proofs.Math.Seq.{get_or-append_seam, set-append_seam}
@@ -15,13 +14,13 @@ use Rattle.sp_reduce.specs.declared.piece.Piece.TheVariants.{Hold, Both}
 use Rattle.sp_reduce.specs.Nets.{Net, hold, both, times, hits}
 use Rattle.sp_reduce.specs.NetGraphs.{arc, Fits}
 use Rattle.sp_reduce.specs.Forests.{Edge, dead, edge_weight, total, arcs_of, IsForest, planted}
-use Rattle.sp_reduce.specs.Reductions.{IsParallel, LeadsTo, in_order, by_parallel}
-use Rattle.sp_reduce.specs.Work.{no_link, link_at, link, link_weight, sum_links, pairs_of, IsLink}
-use Rattle.sp_reduce.specs.Pieces.{net_at, piece_net, nets_of, edge_of, edges_of, IsCarried}
+use Rattle.sp_reduce.specs.Reductions.{LeadsTo, in_order, by_parallel}
+use Rattle.sp_reduce.specs.Work.{no_link, link_at, link, link_weight, pairs_of, IsLink}
+use Rattle.sp_reduce.specs.Pieces.{net_at, nets_of, edge_of, edges_of, IsCarried}
 use Rattle.sp_reduce.proofs.Forests.{forest-parallel}
 use Rattle.sp_reduce.proofs.Works.{alive-weight}
 use Rattle.sp_reduce.proofs.Rows.{pairs-weighed, pairs-sum}
-use Rattle.sp_reduce.proofs.Carried.{made-push, new-net, old-net, edges-push, edges-set, edges-node, edges-length, live-edge}
+use Rattle.sp_reduce.proofs.Carried.{made-push, new-net, old-net, edges-push, edges-node, edges-length, live-edge}
 
 -- ---- a dead edge counts for nothing
 
@@ -68,8 +67,11 @@ module _ (graph rest : List Item) (ps : List Piece) (links : List Link) (nodes :
         within = λ y lt a. elim (cases_eq y (length links)) [
           | inl e ↦ omega (arith, ap (λ (z : ℕ). get_or (nodes ++ length ps ∷ []) z 0) e, get_or_push nodes (length ps) 0 (length links) h.lens, length-append ps (x ∷ []))
           | inr ne ↦ (let short : y < length links = omega (arith, lt, ne, length-append links (link p q ∷ [])) in
-              omega (arith, get_or_append_left nodes (length ps ∷ []) 0 y (omega (arith, short, h.lens)),
-              within-one y short (sym (ap (λ (z : Link). z.alive) (get_or_append_left links (link p q ∷ []) no_link y short)) ∙ a)))
+              omega (
+                arith,
+                get_or_append_left nodes (length ps ∷ []) 0 y (omega (arith, short, h.lens)),
+                within-one y short (sym (ap (λ (z : Link). z.alive) (get_or_append_left links (link p q ∷ []) no_link y short)) ∙ a),
+              ))
         ];
         forest = subst (IsForest graph) (sym (ap (λ (xs : List Edge). xs ++ planted rest) edges ∙ append_assoc es (own ∷ []) (planted rest))) h.forest;
       }
@@ -89,9 +91,9 @@ module _ (graph rest : List Item) (ps : List Piece) (links : List Link) (nodes :
         let joined : Edge = record { alive = true; from = end_of p; net = both (net_at (nets_of ps) (get_or nodes k 0)) (hold size); to = end_of q } in
         let long : length ps1 ≡ length ps + 1 = length-append ps (x ∷ []) in
         let made = forest-parallel (es ++ own ∷ planted rest) k (length es) (end_of p) (end_of q) (end_of p) (end_of q) (net_at (nets_of ps) (get_or nodes k 0)) (hold size)
-            (omega (arith, length-append es (own ∷ planted rest), len, twin.within)) (omega (arith, length-append es (own ∷ planted rest))) (omega (arith, len, twin.within))
-            (get_or_append_left es (own ∷ planted rest) dead k (omega (arith, len, twin.within)) ∙ live-edge (nets_of ps) links nodes k p q twin)
-            (get_or-append_seam es own (planted rest) dead) graph h.forest refl refl in
+        (omega (arith, length-append es (own ∷ planted rest), len, twin.within)) (omega (arith, length-append es (own ∷ planted rest))) (omega (arith, len, twin.within))
+        (get_or_append_left es (own ∷ planted rest) dead k (omega (arith, len, twin.within)) ∙ live-edge (nets_of ps) links nodes k p q twin)
+        (get_or-append_seam es own (planted rest) dead) graph h.forest refl refl in
         let written : set (set (es ++ own ∷ planted rest) k joined) (length es) dead ≡ set es k joined ++ dead ∷ planted rest =
         ap (λ (zs : List Edge). set zs (length es) dead) (set-append_left es (own ∷ planted rest) k joined (omega (arith, len, twin.within)))
         ∙ ap (λ (n : ℕ). set (set es k joined ++ own ∷ planted rest) n dead) (sym (length-set es k joined)) ∙ set-append_seam (set es k joined) own (planted rest) dead in

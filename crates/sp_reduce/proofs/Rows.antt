@@ -1,9 +1,9 @@
 -- The steps of the program are reductions, and where it stops none applies.
-use Rattle.std.proofs.Common.{◌≡◌, ◌≢◌, ℕ, zero, suc, ◌+◌, ◌<◌, ◌≤◌, Bool, true, false, cond, min, ◌&&◌, eqb, eq-eqb, List, [], ◌∷◌, ◌++◌, length, set, refl, sym, ap, subst, ◌∙◌, arith, Option, Some, None}
+use Rattle.std.proofs.Common.{◌≡◌, ℕ, ◌+◌, ◌<◌, ◌≤◌, Bool, true, false, cond, min, ◌&&◌, eqb, eq-eqb, List, [], ◌∷◌, length, set, refl, sym, ap, ◌∙◌, arith, Option, Some}
 use Rattle.std.specs.Prelude.{IsPermutation}
 use Rattle.std.specs.List.{sum_by}
-use Rattle.std.proofs.lemmas.List.Sums.{sum_by-cons, sum_by-set, sum_by-append}
-use Rattle.std.proofs.lemmas.List.Sorted.{IsPermutation-trans, IsPermutation-sym, sum_by-IsPermutation}
+use Rattle.std.proofs.lemmas.List.Sums.{sum_by-cons, sum_by-set}
+use Rattle.std.proofs.lemmas.List.Sorted.{IsPermutation-trans, sum_by-IsPermutation}
 use Rattle.std.proofs.lemmas.Bool.{eqb-true}
 use Rattle.task_graph.specs.Graph.{end_of}
 use Rattle.sp_reduce.specs.declared.link.Link.{Link}
@@ -13,8 +13,8 @@ use Rattle.sp_reduce.specs.NetGraphs as nets
 use Rattle.sp_reduce.specs.Reductions.{IsParallel, IsSeries, LeadsTo, in_order, by_parallel, by_series, IsIrreducible}
 use Rattle.sp_reduce.specs.Work.{no_link, link_at, hit, link, link_weight, sum_links, graph_of, pairs_of, IsWork, IsLink}
 use Rattle.sp_reduce.proofs.Weights.{weighed}
-use Rattle.sp_reduce.proofs.Ends.{hits-self, hits-le}
-use Rattle.sp_reduce.proofs.Works.{Meets, two_sums, changed-other, changed-len, alive-weight, not_i, not_j, graph-sum, hits-end, counts-same, hit-self}
+use Rattle.sp_reduce.proofs.Ends.{hits-self}
+use Rattle.sp_reduce.proofs.Works.{Meets, two_sums, changed-other, changed-len, alive-weight, not_i, not_j, graph-sum, hits-end, counts-same}
 
 -- ---- pairs
 

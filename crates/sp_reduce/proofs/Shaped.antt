@@ -1,23 +1,16 @@
 -- The term of a net: its tasks, its items, its memories, and its positions.
-use Rattle.std.proofs.Common.{◌≡◌, ℕ, zero, suc, ◌+◌, ◌-◌, ◌*◌, ◌<◌, ◌≤◌, refl, sym, ap, subst, arith, ◌∙◌, List, [], ◌∷◌, ◌++◌, length, map, get_or, Option, Some, None, option_map, append_assoc, length-append}
-use Rattle.std.specs.List.{sum_by, All}
+use Rattle.std.proofs.Common.{◌≡◌, ℕ, zero, suc, ◌+◌, ◌<◌, ◌≤◌, refl, sym, ap, subst, arith, ◌∙◌, List, [], ◌∷◌, ◌++◌, length, map, get_or, Option, Some, option_map, append_assoc, length-append}
 use Rattle.std.proofs.lemmas.List.{append-nil, map-append, get_or_append_left, get_or-append-add}
-use Rattle.std.proofs.lemmas.List.Sums.{sum_by-cons, sum_by-append}
-use Rattle.std.proofs.lemmas.List.Elements.{All-nil, All-cons, All-append}
 use Rattle.mp_system.specs.declared.system.Task.{Task}
 use Rattle.mp_system.specs.declared.system.Item.{Item}
 use Rattle.mp_system.specs.Renaming.{renamed}
-use Rattle.mp_system.specs.System.{extra_size}
-use Rattle.sp_terms.specs.Term.{Term, Parts, no_parts, part, count, Direction, forward, backward, first_memory, first_memory_of_parts, IsAllowed, AreAllowed}
+use Rattle.sp_terms.specs.Term.{Term, Parts, no_parts, count, Direction, forward, backward, first_memory, first_memory_of_parts, IsAllowed, AreAllowed}
 use Rattle.sp_terms.specs.SystemOfTerm.{task_count, task_count_of_parts, tasks_of_term, tasks_of_parts, items_of_term, items_of_parts}
-use Rattle.sp_terms.specs.Postfix.{postfix, all_postfix, at_task}
+use Rattle.sp_terms.specs.Postfix.{postfix, all_postfix}
 use Rattle.sp_terms.specs.declared.position.Position.{Position}
-use Rattle.sp_terms.specs.declared.position.Position.TheVariants.{Hold, Par}
-use Rattle.sp_terms.specs.Values.{added_size, added_tasks, IsWithinLimits}
-use Rattle.limits.specs.Limits.{most_size, most_time}
 use Rattle.sp_reduce.specs.Nets.{Net, hold, series, both, arcs, names, times, IsDistinct, weigh, hits, knows}
-use Rattle.sp_reduce.specs.Shapes.{Shape, shape_of, parts_of, holds_of}
-use Rattle.sp_reduce.proofs.Ends.{split, hits-self, hits-le, hits-same, knows-series, knows-both, one_place, distinct-left, distinct-right, distinct-one, distinct-two}
+use Rattle.sp_reduce.specs.Shapes.{shape_of, parts_of}
+use Rattle.sp_reduce.proofs.Ends.{hits-self, knows-series, knows-both, one_place, distinct-left, distinct-right, distinct-one, distinct-two}
 
 module _ (tasks : ℕ → Task) where
   abbrev whole : Net → Term
@@ -88,14 +81,16 @@ module _ (tasks : ℕ → Task) where
         let left = (items-are base from (Some own) a (agree-left base (names a) (names b ++ v ∷ []) h)).0 in
         let start : base + length (names a) ≡ base + task_count (whole a) = omega (arith, ca) in
         let right = (items-are (base + task_count (whole a)) (Some own) to b
-            (subst (λ (k : ℕ). Agree k (names b)) start (agree-left (base + length (names a)) (names b) (v ∷ []) (agree-right base (names a) (names b ++ v ∷ []) h)))).0 in
+        (subst (λ (k : ℕ). Agree k (names b)) start (agree-left (base + length (names a)) (names b) (v ∷ []) (agree-right base (names a) (names b ++ v ∷ []) h)))).0 in
         let e : map (renamed f) (items_of_term base from (Some own) (whole a) ++ items_of_term (base + task_count (whole a)) (Some own) to (whole b))
-            ≡ arcs (option_map f from) (Some v) a ++ arcs (Some v) (option_map f to) b =
+        ≡ arcs (option_map f from) (Some v) a ++ arcs (Some v) (option_map f to) b =
         map-append (renamed f) (items_of_term base from (Some own) (whole a)) (items_of_term (base + task_count (whole a)) (Some own) to (whole b))
-        ∙ (λ i. left i ++ right i) ∙ (λ i. arcs (option_map f from) (Some (mid i)) a ++ arcs (Some (mid i)) (option_map f to) b) in
-        (e, λ ts. map-append (renamed f) (items_of_term base from (Some own) (whole a) ++ items_of_term (base + task_count (whole a)) (Some own) to (whole b))
-        (items_of_parts (base + task_count (whole (series a v b))) from to ts)
-        ∙ (λ i. e i ++ map (renamed f) (items_of_parts (base + (counts (series a v b)).0 i) from to ts)))
+        ∙ (λ i. left i ++ right i) ∙ (λ i. arcs (option_map f from) (Some (mid i)) a ++ arcs (Some (mid i)) (option_map f to) b) in (
+          e,
+          λ ts. map-append (renamed f) (items_of_term base from (Some own) (whole a) ++ items_of_term (base + task_count (whole a)) (Some own) to (whole b))
+              (items_of_parts (base + task_count (whole (series a v b))) from to ts)
+              ∙ (λ i. e i ++ map (renamed f) (items_of_parts (base + (counts (series a v b)).0 i) from to ts)),
+        )
     items-are base from to (both a b) h =
         let len = length-append (names a) (names b) in
         let left = (items-are base from to a (agree-left base (names a) (names b) h)).1 in
@@ -103,7 +98,7 @@ module _ (tasks : ℕ → Task) where
         let p = option_map f from in
         let q = option_map f to in
         let all : (ts : Parts) → map (renamed f) (items_of_parts base from to (among a (among b ts)))
-            ≡ (arcs p q a ++ arcs p q b) ++ map (renamed f) (items_of_parts (base + length (names a ++ names b)) from to ts) =
+        ≡ (arcs p q a ++ arcs p q b) ++ map (renamed f) (items_of_parts (base + length (names a ++ names b)) from to ts) =
         λ ts. left (among b ts) ∙ ap (λ (xs : List Item). arcs p q a ++ xs) (right ts)
         ∙ sym (append_assoc (arcs p q a) (arcs p q b) (map (renamed f) (items_of_parts (base + length (names a) + length (names b)) from to ts)))
         ∙ (let e : base + length (names a) + length (names b) ≡ base + length (names a ++ names b) = omega (arith, len) in
@@ -193,15 +188,15 @@ module _ (tasks : ℕ → Task) where
       let out = memory-out (Some w) to b nb in
       let before = no-out (Some w) from (Some w) a (omega arith) in
       let x = allowed from (Some w) a (distinct-left a w b d) (omega (arith, knows-series from a w b)) na
-          (λ v there. let k = fits v (omega arith) in
-          let p = no-in (Some v) (Some w) to b (omega (arith, d v, one_place to (Some v) (series a w b) d f)) in
-          let q = no-out (Some v) (Some w) to b (omega (arith, d v)) in
-          (omega (arith, k.0, p), omega (arith, k.1, q))) in
+      (λ v there. let k = fits v (omega arith) in
+      let p = no-in (Some v) (Some w) to b (omega (arith, d v, one_place to (Some v) (series a w b) d f)) in
+      let q = no-out (Some v) (Some w) to b (omega (arith, d v)) in
+      (omega (arith, k.0, p), omega (arith, k.1, q))) in
       let y = allowed (Some w) to b (distinct-right a w b d) nb (omega (arith, knows-series to a w b))
-          (λ v there. let k = fits v (omega arith) in
-          let p = no-in (Some v) from (Some w) a (omega (arith, d v)) in
-          let q = no-out (Some v) from (Some w) a (omega (arith, d v, one_place from (Some v) (series a w b) d e)) in
-          (omega (arith, k.0, p), omega (arith, k.1, q))) in
+      (λ v there. let k = fits v (omega arith) in
+      let p = no-in (Some v) from (Some w) a (omega (arith, d v)) in
+      let q = no-out (Some v) from (Some w) a (omega (arith, d v, one_place from (Some v) (series a w b) d e)) in
+      (omega (arith, k.0, p), omega (arith, k.1, q))) in
       let all : IsAllowed ((shape_of tasks (series a w b)).whole) = (
         omega (arith, own.0, into, rest, (memories tasks backward a).0),
         omega (arith, own.1, out, before, (memories tasks forward b).0),
@@ -211,15 +206,15 @@ module _ (tasks : ℕ → Task) where
       (all, λ ts h. (all, h), λ ts. omega arith)
   allowed from to (both a b) d e f fits =
       let x = allowed from to a (distinct-one a b d) (omega (arith, knows-both from a b)) (omega (arith, knows-both to a b))
-          (λ v there. let k = fits v (omega arith) in
-          let p = no-in (Some v) from to b (omega (arith, d v, one_place to (Some v) (both a b) d f)) in
-          let q = no-out (Some v) from to b (omega (arith, d v, one_place from (Some v) (both a b) d e)) in
-          (omega (arith, k.0, p), omega (arith, k.1, q))) in
+      (λ v there. let k = fits v (omega arith) in
+      let p = no-in (Some v) from to b (omega (arith, d v, one_place to (Some v) (both a b) d f)) in
+      let q = no-out (Some v) from to b (omega (arith, d v, one_place from (Some v) (both a b) d e)) in
+      (omega (arith, k.0, p), omega (arith, k.1, q))) in
       let y = allowed from to b (distinct-two a b d) (omega (arith, knows-both from a b)) (omega (arith, knows-both to a b))
-          (λ v there. let k = fits v (omega arith) in
-          let p = no-in (Some v) from to a (omega (arith, d v, one_place to (Some v) (both a b) d f)) in
-          let q = no-out (Some v) from to a (omega (arith, d v, one_place from (Some v) (both a b) d e)) in
-          (omega (arith, k.0, p), omega (arith, k.1, q))) in (
+      (λ v there. let k = fits v (omega arith) in
+      let p = no-in (Some v) from to a (omega (arith, d v, one_place to (Some v) (both a b) d f)) in
+      let q = no-out (Some v) from to a (omega (arith, d v, one_place from (Some v) (both a b) d e)) in
+      (omega (arith, k.0, p), omega (arith, k.1, q))) in (
         (omega (arith, x.2 ((shape_of tasks b).among no_parts), y.2 no_parts), x.1 ((shape_of tasks b).among no_parts) (y.1 no_parts tt)),
         λ ts h. x.1 ((shape_of tasks b).among ts) (y.1 ts h),
         λ ts. omega (arith, x.2 ((shape_of tasks b).among ts), y.2 ts),

@@ -6,7 +6,6 @@ use Rattle.std.proofs.lemmas.Bool.{cases_eq, ne_eqb}
 use Rattle.std.proofs.lemmas.List.{get_or-set_other, get_or-set_same, length-set}
 use Rattle.std.proofs.lemmas.List.Sums.{sum_by-cons, sum_by-set}
 use Rattle.sp_reduce.specs.declared.link.Link.{Link}
-use Rattle.mp_system.specs.declared.system.Item.{Item}
 use Rattle.sp_reduce.specs.Nets.{hits, pair, into, out_of}
 use Rattle.sp_reduce.proofs.Ends.{split, hits-le, hits-same}
 use Rattle.sp_reduce.specs.NetGraphs.{arc, arc_weight, counted, IsIrreducible}

@@ -1,13 +1,12 @@
 -- Positions are written one piece after another.
-use Rattle.std.proofs.Common.{inl, inr, ◌≡◌, ℕ, zero, suc, ◌+◌, ◌-◌, ◌^◌, ◌<◌, ◌≤◌, Bool, true, false, cond, min, reverse, refl, sym, ap, subst, arith, ◌∙◌, List, [], ◌∷◌, ◌++◌, length, get_or, append_assoc, length-append}
+use Rattle.std.proofs.Common.{inl, inr, ◌≡◌, ℕ, zero, suc, ◌+◌, ◌-◌, ◌^◌, ◌<◌, ◌≤◌, Bool, true, false, min, reverse, refl, sym, ap, subst, arith, ◌∙◌, List, [], ◌∷◌, ◌++◌, length, get_or, append_assoc, length-append}
 use Rattle.std.specs.List.{All}
-use Rattle.std.proofs.lemmas.List.{reverse-append, reverse-reverse, append-nil, get_or_append_left, get_or-append-add, take_more}
+use Rattle.std.proofs.lemmas.List.{reverse-append, append-nil, get_or_append_left, get_or-append-add}
 use Rattle.std.proofs.lemmas.Bool.{cases_eq}
 use Rattle.std.proofs.lemmas.List.Elements.{All-nil, All-cons, All-append}
 use Rattle.mp_system.specs.declared.system.Task.{Task}
 use Rattle.sp_terms.specs.declared.position.Position.{Position}
 use Rattle.sp_terms.specs.declared.position.Position.TheVariants.{Par}
-use Rattle.sp_terms.specs.declared.position.Position.TheVariants as at
 use Rattle.sp_terms.specs.Term.{no_parts, count}
 use Rattle.sp_terms.specs.Postfix.{at_task, postfix, all_postfix}
 use Rattle.task_graph.specs.Graph.{IsAmong}
@@ -159,9 +158,9 @@ counts-more ps counts j n len old own i lt = elim (cases_eq i j) [
   | inr ne ↦ get_or_append_left counts (n ∷ []) 0 i (omega (arith, lt, ne, len)) ∙ old i (omega (arith, lt, ne))
 ]
   where
-  last : (xs : List ℕ) → get_or (xs ++ n ∷ []) (length xs) 0 ≡ n
-  last [] = refl
-  last (x ∷ xs) = last xs
+    last : (xs : List ℕ) → get_or (xs ++ n ∷ []) (length xs) 0 ≡ n
+    last [] = refl
+    last (x ∷ xs) = last xs
 
 -- ---- one piece is written
 

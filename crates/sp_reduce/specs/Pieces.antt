@@ -1,6 +1,6 @@
 -- No public clause names this.
 -- Terms in a list of pieces, each made of earlier ones, and the links that carry them.
-use Rattle.std.specs.Prelude.{◌≡◌, ℕ, ◌<◌, cond, true, List, [], ◌∷◌, ◌++◌, length, map, slice_index, slice_index_or}
+use Rattle.std.specs.Prelude.{◌≡◌, ℕ, ◌<◌, cond, true, List, [], ◌∷◌, ◌++◌, length, slice_index, slice_index_or}
 use Rattle.mp_system.specs.declared.system.Item.{Item}
 use Rattle.task_graph.specs.Graph.{end_of}
 use Rattle.sp_reduce.specs.declared.link.Link.{Link}

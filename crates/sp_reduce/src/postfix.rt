@@ -109,7 +109,12 @@ fn push_two(
 }
 
 /// The positions of the term of a piece, and the names of its tasks in their order.
-pub fn write_term(alloc: Global, tasks: &[Task], pieces: &[Piece], root: u32) -> Result<Written, NoMemory>
+pub fn write_term(
+    alloc: Global,
+    tasks: &[Task],
+    pieces: &[Piece],
+    root: u32,
+) -> Result<Written, NoMemory>
     requires made { AreMade pieces.now }
     requires root { root < length pieces.now }
     requires names { All (IsAmong (length tasks.now)) (names (net_at (nets_of pieces.now) root)) }

@@ -9,7 +9,8 @@ use std::test::Fail;
 use task_graph::{Graph, read_graph, system_of_graph};
 
 // Two tasks between a first and a last one.
-const FOUR: &str = "graph 1\ntasks 4\n0 0 1\n2 0 1\n3 0 1\n0 0 1\narcs 4\n1 2 5\n1 3 6\n2 4 1\n3 4 2\nend\n";
+const FOUR: &str =
+    "graph 1\ntasks 4\n0 0 1\n2 0 1\n3 0 1\n0 0 1\narcs 4\n1 2 5\n1 3 6\n2 4 1\n3 4 2\nend\n";
 
 fn read(alloc: Global, text: &str) -> Result<Graph, Fail> {
     Ok(read_graph(alloc, text.as_bytes())?)
@@ -33,7 +34,10 @@ fn rest_of(alloc: Global, text: &str) -> Result<Vec<(u32, u32)>, Fail> {
 fn name_at(names: &[u32], end: Option<u32>) -> u32 {
     match end {
         None => 0,
-        Some(task) => names.get(task.saturating_sub(1) as usize).copied().unwrap_or(0),
+        Some(task) => names
+            .get(task.saturating_sub(1) as usize)
+            .copied()
+            .unwrap_or(0),
     }
 }
 
@@ -41,7 +45,11 @@ fn name_at(names: &[u32], end: Option<u32>) -> u32 {
 fn rows_of(alloc: Global, items: &[Item], names: &[u32]) -> Result<Vec<(u32, u32, u64)>, NoMemory> {
     let mut rows = Vec::new(alloc);
     for item in items {
-        rows.push((name_at(names, item.from), name_at(names, item.to), item.size))?;
+        rows.push((
+            name_at(names, item.from),
+            name_at(names, item.to),
+            item.size,
+        ))?;
     }
     rows.sort()?;
     Ok(rows)
@@ -72,7 +80,8 @@ fn a_term_and_its_names(rt: HostRuntime) -> Result<(), Fail> {
     let reduced = reduced(alloc, &graph)?;
     let mut report = Report::new(alloc);
     print_workflow(&reduced.terms, &mut report)?;
-    let text = "workflow 1\ntasks 4\ndata 0\ndata 6\ndata 2\ntask 3 1\ndata 5\ndata 1\ntask 2 1\npar 2\ndata 0\ntask 0 1\ntask 0 1\nend\n";
+    let text =
+        "workflow 1\ntasks 4\ndata 0\ndata 6\ndata 2\ntask 3 1\ndata 5\ndata 1\ntask 2 1\npar 2\ndata 0\ntask 0 1\ntask 0 1\nend\n";
     assert_eq!(rt; report.bytes(), text.as_bytes());
     assert_eq!(rt; reduced.names.as_slice(), [3, 2, 4, 1].as_slice());
     assert!(rt; has_its_system(alloc, &graph, &reduced)?);

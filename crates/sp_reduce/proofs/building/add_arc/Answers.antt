@@ -1,4 +1,4 @@
-use Rattle.std.proofs.Common.{◌∷◌, ◌++◌, ℕ, List, sym, ap, subst}
+use Rattle.std.proofs.Common.{◌∷◌, ◌++◌, List, sym, subst}
 use Rattle.sp_reduce.specs.declared.link.Link.{Link}
 use Rattle.sp_reduce.specs.Reductions.{LeadsTo, ends_of}
 use Rattle.sp_reduce.specs.Work.{IsLink, pairs_of}

@@ -1,4 +1,4 @@
-use Rattle.std.proofs.Common.{◌≡◌, ◌≤◌, ◌+◌, ◌*◌, ◌++◌, ℕ, length, map, drop, vec_len}
+use Rattle.std.proofs.Common.{◌≡◌, ◌≤◌, ◌+◌, ◌*◌, ◌++◌, ℕ, map, drop, vec_len}
 use Rattle.std.specs.Prelude.{All, nat_eq}
 use Rattle.std.specs.HashMap as hash
 use Rattle.task_graph.specs.Graph.{Rises, item_of}

@@ -1,4 +1,4 @@
-use Rattle.std.proofs.Common.{◌≡◌, ◌<◌, ◌+◌, ◌-◌, ◌^◌, ◌++◌, [], ◌∷◌, ℕ, arith, refl, sym, ap, subst, ◌∙◌, List, length, get_or, min}
+use Rattle.std.proofs.Common.{◌≡◌, ◌<◌, ◌+◌, ◌-◌, ◌^◌, ℕ, arith, ap, subst, ◌∙◌, List, length, get_or, min}
 use Rattle.std.proofs.lemmas.List.{get_or_read}
 use Rattle.sp_reduce.specs.declared.piece.Piece.TheVariants.{Both}
 use Rattle.sp_reduce.specs.Pieces.{IsMade}
@@ -27,5 +27,5 @@ loop-piece-preserved c =
     record {
       len = omega (arith, c.loop-piece.invariant.len, c.in_ok-push.ensures.len, c.loop-piece.counts.ok.0, c.push.new.self.ok.0);
       counts = λ i lt. ap (λ (xs : List ℕ). get_or xs i 0) c.in_ok-push.ensures.items
-        ∙ counts-more ps counts j c.match-piece.count c.loop-piece.invariant.len c.loop-piece.invariant.counts own i lt;
+          ∙ counts-more ps counts j c.match-piece.count c.loop-piece.invariant.len c.loop-piece.invariant.counts own i lt;
     }

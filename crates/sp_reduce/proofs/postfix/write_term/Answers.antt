@@ -6,7 +6,7 @@ use Rattle.sp_reduce.specs.Nets.{names}
 use Rattle.sp_reduce.specs.Pieces.{net_at, nets_of, piece_at}
 use Rattle.sp_reduce.specs.Shapes.{size_of, term_of_net}
 use Rattle.sp_reduce.specs.Writing.{all_sizes, children, own_positions, own_names}
-use Rattle.sp_reduce.proofs.Writings.{IsWriting, writing-same, writing-done, writing-first, place-next, known-next, sizes-fall, written}
+use Rattle.sp_reduce.proofs.Writings.{writing-same, writing-done, writing-first, place-next, known-next, sizes-fall, written}
 use Rattle.sp_reduce.proofs.postfix.write_term.Goals as goal
 
 pub loop-next-init : goal.loop-next-init
@@ -30,7 +30,7 @@ write_next-requires-clause-place c =
     let rest = c.pop.new.self.items in
     let next = c.in-Some.next in
     let h = writing-same tasks n ps (postfix (term_of_net tasks t)) (names t) (size_of t) c.loop-next.pending.items (rest ++ next ∷ []) c.loop-next.positions.items c.loop-next.positions.items
-      c.loop-next.names.items c.loop-next.names.items (sym c.in-Some.ensures.items) refl refl c.loop-next.invariant in
+    c.loop-next.names.items c.loop-next.names.items (sym c.in-Some.ensures.items) refl refl c.loop-next.invariant in
     let lt : next.piece < length ps = place-next tasks n ps c.requires.made (postfix (term_of_net tasks t)) (names t) (size_of t) rest next c.loop-next.positions.items c.loop-next.names.items h in
     (lt, omega (arith, lt, c.deref.ensures.len, c.in_ok-counts.ensures.len, ap length c.deref.ensures.value))
 
@@ -43,7 +43,7 @@ write_next-requires-clause-known c =
     let rest = c.pop.new.self.items in
     let next = c.in-Some.next in
     let h = writing-same tasks n ps (postfix (term_of_net tasks t)) (names t) (size_of t) c.loop-next.pending.items (rest ++ next ∷ []) c.loop-next.positions.items c.loop-next.positions.items
-      c.loop-next.names.items c.loop-next.names.items (sym c.in-Some.ensures.items) refl refl c.loop-next.invariant in
+    c.loop-next.names.items c.loop-next.names.items (sym c.in-Some.ensures.items) refl refl c.loop-next.invariant in
     known-next tasks n ps c.requires.made (postfix (term_of_net tasks t)) (names t) (size_of t) rest next c.loop-next.positions.items c.loop-next.names.items h
 
 pub loop-next-preserved : goal.loop-next-preserved
@@ -58,10 +58,10 @@ loop-next-preserved c =
     let named = c.loop-next.names.items in
     let number = get_or c.deref.result.now next.piece 0 in
     let h = writing-same tasks n ps (postfix (term_of_net tasks t)) (names t) (size_of t) c.loop-next.pending.items (rest ++ next ∷ []) positions positions named named
-      (sym c.in-Some.ensures.items) refl refl c.loop-next.invariant in
+    (sym c.in-Some.ensures.items) refl refl c.loop-next.invariant in
     let lt : next.piece < length ps = place-next tasks n ps c.requires.made (postfix (term_of_net tasks t)) (names t) (size_of t) rest next positions named h in
     let done = written tasks n ps c.requires.made (postfix (term_of_net tasks t)) (names t) (size_of t) rest next positions named h c.requires.small number
-      (ap (λ (xs : List ℕ). get_or xs next.piece 0) c.deref.ensures.value ∙ c.in_ok-counts.ensures.counts next.piece lt) in
+    (ap (λ (xs : List ℕ). get_or xs next.piece 0) c.deref.ensures.value ∙ c.in_ok-counts.ensures.counts next.piece lt) in
     writing-same tasks n ps (postfix (term_of_net tasks t)) (names t) (size_of t) (rest ++ children next.among (piece_at ps next.piece)) c.write_next.new.pending.items
     (positions ++ own_positions tasks next.among number (piece_at ps next.piece)) c.write_next.new.positions.items (named ++ own_names (piece_at ps next.piece)) c.write_next.new.names.items
     c.in_ok-write_next.ensures.pending c.in_ok-write_next.ensures.positions c.in_ok-write_next.ensures.names done
@@ -77,7 +77,7 @@ loop-next-smaller c =
     let positions = c.loop-next.positions.items in
     let named = c.loop-next.names.items in
     let h = writing-same tasks n ps (postfix (term_of_net tasks t)) (names t) (size_of t) c.loop-next.pending.items (rest ++ next ∷ []) positions positions named named
-      (sym c.in-Some.ensures.items) refl refl c.loop-next.invariant in
+    (sym c.in-Some.ensures.items) refl refl c.loop-next.invariant in
     let less = sizes-fall tasks n ps c.requires.made (postfix (term_of_net tasks t)) (names t) (size_of t) rest next positions named h in
     let r : all_sizes (nets_of ps) c.write_next.new.pending.items < all_sizes (nets_of ps) c.loop-next.pending.items =
     omega (arith, less, ap (all_sizes (nets_of ps)) c.in_ok-write_next.ensures.pending, ap (all_sizes (nets_of ps)) c.in-Some.ensures.items) in

@@ -1,9 +1,9 @@
-use Rattle.std.proofs.Common.{◌≡◌, ◌∷◌, [], ℕ, List, length, sym, ap, subst, ◌∙◌}
+use Rattle.std.proofs.Common.{◌≡◌, ◌∷◌, [], ℕ, List, sym, ap, subst, ◌∙◌}
 use Rattle.std.specs.Prelude.{IsPermutation}
 use Rattle.task_graph.specs.declared.arc.Arc.{Arc}
 use Rattle.sp_terms.specs.Values.{term_of}
 use Rattle.sp_terms.specs.declared.position.Position.{Position}
-use Rattle.task_graph.specs.Graph.{completed_arcs, completed_system}
+use Rattle.task_graph.specs.Graph.{completed_system}
 use Rattle.sp_reduce.specs.declared.link.Link.{Link}
 use Rattle.sp_reduce.specs.Outcome.{IsOutcome}
 use Rattle.sp_reduce.specs.Reduced.{HasSystem}
@@ -45,8 +45,8 @@ returns-in-Some-clause-reduced c =
     let left = c.in_ok-outcome.outcome in
     let written = c.in_ok-positions-in-Some.field-0 in
     let has = (found graph c.completed_arcs.result.now c.deref-2.result.now left.links.items left.nodes.items c.deref-in-Some.result.now left.pieces.items c.tasks-tasks.result.now
-      c.in-Some.link c.index-root.result.now is (c.system_law.ensures graph is) (c.completed_law.ensures.within graph is) (c.completed_law.ensures.into graph) c.terms_law.ensures.form
-      c.completed_arcs.ensures.value c.in_ok-outcome.ensures c.deref-2.ensures.value c.in-Some.ensures c.index-root.ensures c.deref-in-Some.ensures.value c.tasks-tasks.ensures.value).system written.positions.items written.names.items c.in_ok-positions-in-Some.ensures.positions c.in_ok-positions-in-Some.ensures.names in
+    c.in-Some.link c.index-root.result.now is (c.system_law.ensures graph is) (c.completed_law.ensures.within graph is) (c.completed_law.ensures.into graph) c.terms_law.ensures.form
+    c.completed_arcs.ensures.value c.in_ok-outcome.ensures c.deref-2.ensures.value c.in-Some.ensures c.index-root.ensures c.deref-in-Some.ensures.value c.tasks-tasks.ensures.value).system written.positions.items written.names.items c.in_ok-positions-in-Some.ensures.positions c.in_ok-positions-in-Some.ensures.names in
     subst (λ (ps : List Position). HasSystem written.names.items (term_of ps) (completed_system graph)) (sym c.new.ensures) has
 
 pub returns-clause-refused : goal.returns-clause-refused

@@ -23,8 +23,8 @@ returns c =
     let links_are = written_back first.links.len last.links first.links.items (omega (arith, links_len, first.links.ok.0)) (omega (arith, links_len)) in
     let nodes_are = written_back first.nodes.len last.nodes first.nodes.items (omega (arith, nodes_len, first.nodes.ok.0)) (omega (arith, nodes_len)) in
     let carried = c.in_ok-reduce_links.ensures.carried (map item_of arcs)
-      (subst (λ (ls : List Link). IsCarried (map item_of arcs) [] first.pieces.items ls c.deref_mut-6.result.now) (sym c.deref_mut-5.ensures.value)
-      (subst (λ (ns : List ℕ). IsCarried (map item_of arcs) [] first.pieces.items first.links.items ns) (sym c.deref_mut-6.ensures.value) c.in_ok-add_arcs.ensures.carried)) in
+    (subst (λ (ls : List Link). IsCarried (map item_of arcs) [] first.pieces.items ls c.deref_mut-6.result.now) (sym c.deref_mut-5.ensures.value)
+    (subst (λ (ns : List ℕ). IsCarried (map item_of arcs) [] first.pieces.items first.links.items ns) (sym c.deref_mut-6.ensures.value) c.in_ok-add_arcs.ensures.carried)) in
     let whole : IsOutcome arcs last.links last.nodes last.pieces.items = record {
       row = leads-trans (map ends_of arcs) (pairs_of first.links.items) (pairs_of last.links) c.in_ok-add_arcs.ensures.row
           (subst (λ (ls : List Link). LeadsTo (pairs_of ls) (pairs_of last.links)) c.deref_mut-5.ensures.value c.in_ok-reduce_links.ensures.row);

@@ -1,6 +1,6 @@
-use Rattle.std.proofs.Common.{◌≡◌, ℕ, List, length, true, inl, inr, sym, ap, subst, arith}
+use Rattle.std.proofs.Common.{◌≡◌, ℕ, length, true, inl, inr, sym, ap, subst, arith}
 use Rattle.std.proofs.lemmas.Bool.{cases_eq}
-use Rattle.sp_reduce.specs.Work.{stands, AreTasks}
+use Rattle.sp_reduce.specs.Work.{stands}
 use Rattle.sp_reduce.proofs.rounds.all_tasks.Goals as goal
 
 pub loop-v-init : goal.loop-v-init

@@ -5,7 +5,7 @@ use Rattle.std.proofs.lemmas.Bool.{ne_eqb}
 use Rattle.sp_reduce.specs.declared.link.Link.{Link}
 use Rattle.std.proofs.lemmas.List.Sorted.{IsPermutation-refl}
 use Rattle.sp_reduce.specs.Reductions.{in_order, by_parallel, by_series}
-use Rattle.sp_reduce.specs.Work.{key_of, link_at, link, pairs_of, no_link}
+use Rattle.sp_reduce.specs.Work.{key_of, link_at, pairs_of, no_link}
 use Rattle.sp_reduce.proofs.Works.{meets, joined_work, merged_work, some_out, joined_others, joined_zero, joined_fewer, merged_others, merged_zero, merged_fewer}
 use Rattle.sp_reduce.proofs.Rows.{leads-series, leads-parallel}
 use Rattle.sp_reduce.proofs.work.take_out.Goals as goal
