@@ -1,6 +1,6 @@
 -- No public clause names this.
 -- What a step over files says of their texts: a value, or why there is none.
-use Rattle.std.specs.Prelude.{◌≡◌, ℕ, ◌<◌, ◌≤◌, All, List, [], ◌∷◌, ◌++◌, Option, Some, None, Ok, Err, Result, MatchResult, codes, length}
+use Rattle.std.specs.Prelude.{◌≡◌, ◌≢◌, ℕ, ◌<◌, ◌≤◌, All, Contains, slice_index, List, [], ◌∷◌, ◌++◌, Option, Some, None, Ok, Err, Result, MatchResult, codes, length}
 use Rattle.mp_outside.specs.Outside.{Rose}
 use Rattle.mp_text.specs.declared.refusals.Refusal.{Refusal}
 use Rattle.mp_text.specs.declared.refusals.Refusal.TheVariants as refusals
@@ -161,6 +161,12 @@ priority_beside order (priorities.Given numbers) = numbers.items
 -- each is one of the positions, which are counted from 1
 abbrev pub AreWithin : ℕ → List ℕ → Type 0
 AreWithin most = All (λ k. (1 ≤ k) × (k ≤ most))
+
+-- each of the numbers from 1 to as many as there are names is one of them, once
+pub record AreNames (names : List ℕ) : Type 0 where
+  pub within : AreWithin (length names) names
+  pub once : (i j : ℕ) → i < j → j < length names → slice_index names i ≢ slice_index names j
+  pub each : (v : ℕ) → 1 ≤ v → v ≤ length names → Contains names v
 
 -- the term of an input, and the positions that a report numbers
 abbrev pub IsNumbered : Input → List (List ℕ) → NumberedTerm → Type 0

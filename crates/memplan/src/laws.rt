@@ -9,6 +9,7 @@ ghost use Rattle.memplan.specs.Commands.{IsAnswer, IsDecided};
 ghost use Rattle.memplan.specs.Check.{IsCertified};
 ghost use Rattle.memplan.specs.Files.{Answer, HasValue, IsRefused, IsSystemOf, IsSystemWithTerm, IsTreeOf};
 ghost use Rattle.memplan.specs.Demo.{IsDemoOf, IsShown};
+ghost use Rattle.memplan.specs.Judged.{AreWithin};
 ghost use Rattle.memplan.specs.Plan.{IsBestPlan};
 ghost use Rattle.memplan.specs.Request.{FileRole, IsInRange, IsMakeable, Input, OrderSource, PlanFormat, Request, Simulation, TreeInput, Upgrade, check, demo, input_files, planning, segments, simulate, spill, tree_input_files, upgrade};
 ghost use Rattle.memplan.specs.Segments.{IsNumberedTerm, IsReached};
@@ -31,8 +32,8 @@ use sp_terms::laws as term_laws;
 use symbolic::laws as front_laws;
 use tree_input::laws as tree_laws;
 
-// The texts of an input are of one tree, one system and one term, within the limits, and they are as many as its files; its positions have
-// one numbering.
+// The texts of an input are of one tree, one system and one term, within the limits, and they are as many as its files; their numbers
+// stand for the same positions.
 fn one_input()
     ensures tree { (input : TreeInput) (texts : List (List ℕ)) (one two : List Node) → IsTreeOf input texts one → IsTreeOf input texts two →
         (one ≡ two) × IsTree one × (length texts ≡ length (tree_input_files input)) }
@@ -42,7 +43,8 @@ fn one_input()
     ensures term { (input : Input) (texts : List (List ℕ)) (system same : TaskSystem) (one two : List Position) →
         IsSystemWithTerm input texts system one → IsSystemWithTerm input texts same two → one ≡ two }
     ensures numbered { (input : Input) (texts : List (List ℕ)) (one two : List Position) (numbered same : List ℕ) →
-        IsNumberedTerm input texts one numbered → IsNumberedTerm input texts two same → (one ≡ two) × (numbered ≡ same) }
+        IsNumberedTerm input texts one numbered → IsNumberedTerm input texts two same →
+        (one ≡ two) × (numbered ≡ same) × AreWithin (length one) numbered }
 {
     tree_laws::exactly_one();
     tree_laws::read_is_tree();

@@ -2,11 +2,10 @@
 
 ghost use Rattle.std.specs.Prelude.{◌≡◌, ◌≤◌, ◌<◌, ◌^◌, ◌+◌, ℕ, List, All, IfOk, length, map};
 ghost use Rattle.std.specs.List.{range_with_len};
-ghost use Rattle.ordering.specs.Perm.{IsPerm};
 ghost use Rattle.tree_input.specs.Forest.{Forest, IsForestOf, all_numbers};
 ghost use Rattle.tree_input.specs.TreeTerm.{forest_positions};
 ghost use Rattle.memplan.specs.Files.{IsFirstRefusal};
-ghost use Rattle.memplan.specs.Judged.{AreJudged, IsNumbered, AreWithin};
+ghost use Rattle.memplan.specs.Judged.{AreJudged, IsNumbered, AreNames, AreWithin};
 ghost use Rattle.memplan.specs.Segments.{node_positions, position_of, task_positions};
 ghost use Rattle.memplan.specs.Request.{input_files};
 ghost use Rattle.memplan.specs.RequestViews.{input_view};
@@ -44,7 +43,7 @@ fn task_positions(alloc: Global, terms: &Terms) -> Result<Vec<u32>, AllocError>
 
 // The positions of the tasks by their names, where each of 1, 2, .. names one.
 fn by_name(alloc: Global, names: &[u32], positions: &[u32]) -> Result<Vec<u32>, AllocError>
-    requires perm { IsPerm (length names.now) names.now }
+    requires names { AreNames names.now }
     requires many { length positions.now ≡ length names.now }
     ensures { IfOk result (λ named. named.items
         ≡ map (λ v. position_of v names.now positions.now) (range_with_len 1 (length names.now))) }
