@@ -11,7 +11,7 @@ pub mod OneInput
 pub mod OneFile
 pub mod UpgradeLemmas
 pub mod SpillLemmas
-pub mod StairsLemmas
 pub mod StairPages
+pub mod StairsLemmas
 pub mod OneReport
 pub mod SoundAnswer

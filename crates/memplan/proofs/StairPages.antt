@@ -2,7 +2,7 @@
 use Rattle.std.proofs.Common.{◌≡◌, ◌∙◌, ℕ, zero, suc, ◌+◌, ◌-◌, ◌<◌, ◌≤◌, Bool, true, ◌&&◌, List, [], ◌∷◌, ◌++◌, length, map, take, get_or, decimal, refl, sym, ap, ap₂, subst, arith, append_assoc}
 use Rattle.std.specs.List.{enumerate_from, flat_map, list_all}
 use Rattle.std.proofs.lemmas.Grind.{flat_map-append}
-use Rattle.std.proofs.lemmas.List.{append-nil, take_more, take_all, map-append, get_or-map}
+use Rattle.std.proofs.lemmas.List.{append-nil, take_more, take_all, map-append, get_or-map, length-map}
 use Rattle.std.proofs.lemmas.List.Folds.{list_all-append}
 use Rattle.std.proofs.lemmas.List.FromFn.{length-enumerate_from, get_or-enumerate_from}
 use Rattle.hill_valley.specs.declared.steps.Step.{Step}
@@ -69,6 +69,9 @@ framed_lines more one last lines a b c ea eb ec =
 
 -- ---- the rows
 
+pub length-rows : (ps : List Position) (all : List BothSteps) (numbered : List ℕ) → length (rows_of ps all numbered) ≡ length numbered
+length-rows ps all numbered = length-map (enumerate_from 1 numbered) (row_at ps all) ∙ length-enumerate_from 1 numbered
+
 -- of the first numbers
 abbrev pub rows_before : List Position → List BothSteps → List ℕ → ℕ → List (List (List ℕ))
 rows_before ps all numbered i = flat_map row_lines (map (row_at ps all) (take i (enumerate_from 1 numbered)))
@@ -93,12 +96,12 @@ module _ (ps : List Position) (stairs : List Stairs) (numbered : List ℕ) (i : 
 
   -- a loop prints one row more
   pub row_printed : ((xs ys : List (List (List ℕ))) → text_of_lines (xs ++ ys) ≡ text_of_lines xs ++ text_of_lines ys)
-      → (values : List Values) (v : Values) (s d : Stairs) → get_or numbered i 0 - 1 < length stairs
+      → (v : Values) (s d : Stairs) → get_or numbered i 0 - 1 < length stairs
       → v ≡ values_of (term_at ps (get_or numbered i 0 - 1)) → s ≡ get_or stairs (get_or numbered i 0 - 1) d
       → (old before after : List ℕ) → before ≡ old ++ text_of_lines (rows_before ps (all_of stairs) numbered i)
       → after ≡ before ++ text_of_lines (both_lines (i + 1) v.initial v.fin (both_of s))
       → after ≡ old ++ text_of_lines (rows_before ps (all_of stairs) numbered (i + 1))
-  row_printed parts values v s d few v_is s_is old before after was is =
+  row_printed parts v s d few v_is s_is old before after was is =
       let all = all_of stairs in
       let k = get_or numbered i 0 in
       let row = row_at ps all (i + 1, k) in

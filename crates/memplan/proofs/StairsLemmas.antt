@@ -17,6 +17,7 @@ use Rattle.memplan.specs.Request.{Input, tree_input, workflow_named, input_files
 use Rattle.memplan.specs.Segments.{IsNumberedTerm, IsSegmentsAnswer, IsSegmentsOf, IsReached, Row, no_steps, row_at, rows_of, segments_answer, steps_in}
 use Rattle.memplan.specs.declared.status.Status.TheVariants.{Done}
 use Rattle.memplan.proofs.InputLemmas.{tree_accepted}
+use Rattle.memplan.proofs.StairPages.{length-rows}
 
 -- ---- rows
 
@@ -32,9 +33,6 @@ row_is : (ps : List Position) (all : List BothSteps) (numbered : List ℕ) (i : 
 row_is ps all numbered i d h =
     get_or-map (row_at ps all) (enumerate_from 1 numbered) i (0, 0) d (omega (arith, h, length-enumerate_from 1 numbered))
     ∙ ap (row_at ps all) (get_or-enumerate_from 1 numbered i (0, 0) h ∙ ap (λ (n : ℕ). (n, get_or numbered i 0)) (omega arith))
-
-pub length-rows : (ps : List Position) (all : List BothSteps) (numbered : List ℕ) → length (rows_of ps all numbered) ≡ length numbered
-length-rows ps all numbered = length-map (enumerate_from 1 numbered) (row_at ps all) ∙ length-enumerate_from 1 numbered
 
 each_row : (ps : List Position) (all : List BothSteps) (numbered : List ℕ) → AreStairs ps all → AreWithin (length ps) numbered
     → (row : Row) → Contains (rows_of ps all numbered) row → AreStairsOf row.term row.steps
