@@ -6,9 +6,12 @@ pub mod SimulationLemmas
 pub mod RunLemmas
 pub mod PageLemmas
 pub mod DemoLemmas
+pub mod NumberLemmas
 pub mod OneInput
 pub mod OneFile
 pub mod UpgradeLemmas
 pub mod SpillLemmas
+pub mod StairPages
+pub mod StairsLemmas
 pub mod OneReport
 pub mod SoundAnswer

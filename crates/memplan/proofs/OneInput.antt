@@ -1,5 +1,6 @@
 -- The texts of an input are read as one tree, one system and one term, within the limits.
-use Rattle.std.proofs.Common.{◌≡◌, ◌∙◌, ℕ, Bool, List, [], ◌∷◌, ◌++◌, Option, Some, None, length, refl, sym, ap, ap₂, subst, arith}
+use Rattle.std.proofs.Common.{◌≡◌, ◌∙◌, ℕ, Bool, List, [], ◌∷◌, ◌++◌, Option, Some, None, length, refl, sym, ap, ap₂, subst, arith, IsPermutation}
+use Rattle.std.specs.List.{range_with_len}
 use Rattle.std.proofs.lemmas.List.FromFn.{length-range_with_len}
 use Rattle.matrix_market.specs.MatrixFile.{ReadsPattern}
 use Rattle.matrix_market.specs.Pattern.{IsPattern, is_joined}
@@ -16,11 +17,14 @@ use Rattle.sp_terms.specs.WorkflowFile.{ReadsWorkflow}
 use Rattle.symbolic.specs.FrontTree.{IsFrontTree}
 use Rattle.symbolic.specs.declared.options.FrontOptions.{FrontOptions}
 use Rattle.tree_input.specs.declared.node.Node.{Node}
-use Rattle.tree_input.specs.Forest.{Forest, IsForestOf}
+use Rattle.tree_input.specs.Forest.{Forest, IsForestOf, all_numbers}
 use Rattle.tree_input.specs.Tree.{IsTree, system_of_nodes}
 use Rattle.tree_input.specs.TreeFile.{ReadsTree}
 use Rattle.tree_input.specs.TreeTerm.{forest_positions}
 use Rattle.memplan.specs.Files.{IsOrderOf, IsMatrixTree, IsTreeOf, IsSystemOf, IsSystemWithTerm}
+use Rattle.memplan.specs.Judged.{AreWithin}
+use Rattle.memplan.specs.Segments.{IsNumberedTerm, node_positions}
+use Rattle.memplan.proofs.NumberLemmas.{forest_within, range_within}
 use Rattle.memplan.specs.Request.{Ordering, natural, min_degree, perm_named, Matrix, TreeInput, tree_named, matrix_named, Input, tree_input, workflow_named, ordering_files, matrix_files, tree_input_files, input_files}
 
 -- lists that are cut at the same place
@@ -44,6 +48,7 @@ pub record Parts : Type 0 where
   pub tree : (bytes : List ℕ) (nodes : List Node) → ReadsTree bytes nodes → IsTree nodes
   pub tree_system : (nodes : List Node) → IsTree nodes → IsSystem (system_of_nodes nodes)
   pub forests : (nodes : List Node) (f g : Forest) → IsForestOf nodes f → IsForestOf nodes g → f ≡ g
+  pub forest_each : (nodes : List Node) (f : Forest) → IsTree nodes → IsForestOf nodes f → IsPermutation (all_numbers f) (range_with_len 1 (length nodes))
   pub patterns : OneValue ReadsPattern
   pub perms : (n : ℕ) → OneValue (ReadsPerm n)
   pub min_degrees : (joined : ℕ → ℕ → Bool) (n : ℕ) (one two : List ℕ) → IsMinimumDegreeOrder joined n one → IsMinimumDegreeOrder joined n two → one ≡ two
@@ -109,6 +114,26 @@ module _ (p : Parts) where
   one_list_of_positions (workflow_named name) [] s t ps qs is other = absurd is
   one_list_of_positions (workflow_named name) (text ∷ []) s t ps qs (u, w, d, e) (v, w', d', e') = p.workflows text ps qs w.1 w'.1
   one_list_of_positions (workflow_named name) (text ∷ more ∷ texts) s t ps qs is other = absurd is
+
+  pub one_numbered_term : (input : Input) (texts : List (List ℕ)) (ps qs : List Position) (ks ls : List ℕ) → IsNumberedTerm input texts ps ks → IsNumberedTerm input texts qs ls
+      → (ps ≡ qs) × (ks ≡ ls) × AreWithin (length ps) ks
+  one_numbered_term (tree_input input) texts ps qs ks ls (nodes, f, is, forest, at, numbers) (nodes', g, is', forest', at', numbers') =
+      let same = (one_tree input texts nodes nodes' is is').0 in
+      let forests = p.forests nodes f g forest (subst (λ (ns : List Node). IsForestOf ns g) (sym same) forest') in
+      let terms = at ∙ ap₂ (λ (ns : List Node) (h : Forest). forest_positions ns h) same forests ∙ sym at' in
+      let one = one_tree input texts nodes nodes is is in (
+        terms,
+        numbers ∙ ap₂ (λ (h : Forest) (rs : List Position). node_positions (all_numbers h) rs) forests terms ∙ sym numbers',
+        subst (AreWithin (length ps)) (sym numbers) (forest_within nodes f ps at (p.forest_each nodes f one.1 forest)),
+      )
+  one_numbered_term (workflow_named name) [] ps qs ks ls is is' = absurd is
+  one_numbered_term (workflow_named name) (text ∷ []) ps qs ks ls (w, numbers) (w', numbers') =
+      let same = p.workflows text ps qs w.1 w'.1 in (
+        same,
+        numbers ∙ ap (λ (rs : List Position). range_with_len 1 (length rs)) same ∙ sym numbers',
+        subst (AreWithin (length ps)) (sym numbers) (range_within (length ps)),
+      )
+  one_numbered_term (workflow_named name) (text ∷ more ∷ texts) ps qs ks ls is is' = absurd is
 
 -- what is known of systems
 abbrev pub Systems : Type 0

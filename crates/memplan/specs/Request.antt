@@ -81,6 +81,8 @@ pub data Request : Type 0 where
   upgrade : Upgrade → Request
   -- what must go to disk where an order of the input's tasks runs within a bound
   spill : Input → OrderSource → ℕ → Request
+  -- how low memory can come in each subtree of a tree, or at each position of a workflow
+  segments : Input → Request
 
 -- ---- the options of a matrix
 
@@ -257,3 +259,4 @@ files_of (simulate input source s) = input_files input ++ source_file source ∷
 files_of (demo made) = []
 files_of (upgrade u) = upgrade_files u
 files_of (spill input source bound) = input_files input ++ source_file source ∷ []
+files_of (segments input) = input_files input

@@ -5,6 +5,7 @@ pub mod demo;
 pub mod plan;
 pub mod post;
 pub mod replay;
+pub mod segments;
 pub mod simulate;
 pub mod spill;
 pub mod tree;
@@ -26,7 +27,7 @@ use std::thread::Threads;
 
 // Each command, with the names of its options.
 #[rattlefmt::skip]
-static COMMANDS: [Shape; 9] = [
+static COMMANDS: [Shape; 10] = [
     Shape {
         name: "replay",
         options: &["order", "plan", "workflow", "tree", "matrix", "perm", "ordering", "shape", "amalgamate", "inplace"],
@@ -66,6 +67,10 @@ static COMMANDS: [Shape; 9] = [
         name: "spill",
         options: &["order", "plan", "bound", "workflow", "tree", "matrix", "perm", "ordering", "shape", "amalgamate", "inplace"],
     },
+    Shape {
+        name: "segments",
+        options: &["workflow", "tree", "matrix", "perm", "ordering", "shape", "amalgamate", "inplace"],
+    },
 ];
 
 fn command_of<'a>(line: &Line<'a>) -> Option<Request<'a>>
@@ -82,6 +87,7 @@ fn command_of<'a>(line: &Line<'a>) -> Option<Request<'a>>
         "demo" => demo::demo_of(line),
         "upgrade" => upgrade::upgrade_of(line),
         "spill" => spill::spill_of(line),
+        "segments" => segments::segments_of(line),
         _ => None,
     }
 }
@@ -120,5 +126,6 @@ pub fn report<R: Threads + Sync, F: Files, G: Gate>(
         Request::Demo(made) => Ok(demo::report_demo(rt, alloc, made, gate)?),
         Request::Upgrade(asked) => upgrade::report_upgrade(alloc, files, asked),
         Request::Spill(asked) => spill::report_spill(alloc, files, asked),
+        Request::Segments(input) => segments::report_segments(alloc, files, input),
     }
 }

@@ -1,5 +1,6 @@
 //! Loads and writes that fail, files that are not held, and sinks that are full.
 
+use super::segments::OF_FIVE;
 use super::simulations::TIGHT;
 use super::spills::BOTH;
 use super::{
@@ -22,6 +23,8 @@ const PLANNING: &str = "plan --tree t";
 const SIMULATE: &str = "simulate --tree t --order o --priority p --bound 11 --workers 2";
 
 const SPILL: &str = "spill --tree t --order o --bound 10";
+
+const SEGMENTS: &str = "segments --tree t";
 
 // What a run without faults prints. A plan may be any of least peak: whether it is one is tested elsewhere.
 fn printed(
@@ -70,6 +73,7 @@ fn each_load_fails_in_turn(rt: HostRuntime) -> Result<(), Fail> {
     check_loads(&rt, alloc, PLANNING, tree, text)?;
     check_loads(&rt, alloc, SIMULATE, tree + numbers + numbers, TIGHT)?;
     check_loads(&rt, alloc, SPILL, tree + numbers, BOTH)?;
+    check_loads(&rt, alloc, SEGMENTS, tree, OF_FIVE)?;
     Ok(())
 }
 
@@ -83,9 +87,10 @@ const NOT_HELD: &[Case] = &[
     (&["replay --tree none --order o", "replay --tree none --plan o", "check --tree none --plan o", "replay --workflow none --order o",
             "replay --matrix none --order o", "plan --tree none", "post --tree none", "tree --matrix none", "upgrade --tree none",
             "upgrade --workflow none", "upgrade --plan none --priority o", "spill --tree none --order o --bound 0",
-            "spill --workflow none --plan o --bound 0"],
+            "spill --workflow none --plan o --bound 0", "segments --tree none", "segments --workflow none", "segments --matrix none"],
         &[("o", "x")], ReadFault, ""),
-    (&["tree --matrix m --perm none", "plan --matrix m --perm none", "post --matrix m --perm none"], &[("m", ARROW)], ReadFault, ""),
+    (&["tree --matrix m --perm none", "plan --matrix m --perm none", "post --matrix m --perm none",
+            "segments --matrix m --perm none"], &[("m", ARROW)], ReadFault, ""),
     (&["tree --matrix m --perm none", "replay --matrix m --perm none --order none"], &[("m", "")], Format,
         "refused format matrix banner 1\n"),
     (&["replay --matrix m --perm p --order none", "plan --matrix m --perm p", "tree --matrix m --perm p"],
@@ -168,6 +173,7 @@ fn sinks_that_fail_and_that_are_full(rt: HostRuntime) -> Result<(), Fail> {
         (PLANNING, plan.written()),
         (SIMULATE, TIGHT.as_bytes()),
         (SPILL, BOTH.as_bytes()),
+        (SEGMENTS, OF_FIVE.as_bytes()),
     ];
     for (run, text) in texts {
         check_writes(&rt, rt.alloc(), run, 1, text)?;

@@ -126,6 +126,23 @@ const SPILL: &[&str] = &[
     "spill t --order o --bound 11",
 ];
 
+// Without fault: `segments --tree t`.
+const SEGMENTS: &[&str] = &[
+    "segments",
+    "segments t",
+    "segments --tree",
+    "segments --tree t --tree t",
+    "segments --tree t --workflow t",
+    "segments --tree t --matrix t",
+    "segments --tree t --order o",
+    "segments --tree t --plan o",
+    "segments --tree t --bound 11",
+    "segments --tree t --print json",
+    "segments --tree t --shape square",
+    "segments --workflow t --inplace yes",
+    "segments --perm o",
+];
+
 const UPGRADE: &[&str] = &[
     "upgrade",
     "upgrade --tree",
@@ -155,6 +172,7 @@ const USAGE: &[Case] = &[
     (SIMULATE, &[("t", FIVE), ("o", ORDER)], Usage, ""),
     (UPGRADE, &[("t", FIVE), ("p", PLAN), ("o", ORDER)], Usage, ""),
     (SPILL, &[("t", FIVE), ("o", ORDER)], Usage, ""),
+    (SEGMENTS, &[("t", FIVE), ("o", ORDER)], Usage, ""),
 ];
 
 #[test]

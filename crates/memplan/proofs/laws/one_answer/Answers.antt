@@ -32,5 +32,7 @@ returns c =
       schedule = c.schedule_law.ensures.one;
       demos = c.one_demo.ensures.one;
       upgrades = c.one_upgrade.ensures.one;
+      numbered = c.one_input.ensures.numbered;
+      stairs = c.one_staircase.ensures.one_of_all;
     } in
     one reports c.one_file.ensures.not_both c.one_file.ensures.one_refusal

@@ -1,4 +1,4 @@
-use Rattle.memplan.proofs.OneInput.{Parts, one_tree, one_system, one_list_of_positions}
+use Rattle.memplan.proofs.OneInput.{Parts, one_tree, one_system, one_list_of_positions, one_numbered_term}
 use Rattle.memplan.proofs.laws.one_input.Goals as goal
 
 pub returns : goal.returns
@@ -8,6 +8,7 @@ returns c =
       tree = c.read_is_tree.ensures;
       tree_system = c.tree_system.ensures.system;
       forests = c.forest_law.ensures.one;
+      forest_each = c.forest_law.ensures.each;
       patterns = c.exactly_one-2.ensures.one_pattern;
       perms = c.exactly_one_perm.ensures.one_order;
       perm = c.read_is_perm.ensures;
@@ -19,4 +20,4 @@ returns c =
       denotes = c.terms_law.ensures.denotes;
       term_system = c.terms_law.ensures.system;
     } in
-    record { tree = one_tree parts; system = one_system parts; term = one_list_of_positions parts }
+    record { tree = one_tree parts; system = one_system parts; term = one_list_of_positions parts; numbered = one_numbered_term parts }

@@ -1,9 +1,10 @@
 use Rattle.std.proofs.Common.{[], inl, inr}
-use Rattle.memplan.specs.Request.{check, planning, simulate, demo, upgrade, spill, files_of}
+use Rattle.memplan.specs.Request.{check, planning, simulate, demo, upgrade, spill, segments, files_of}
 use Rattle.memplan.proofs.RunLemmas.{first_refusal}
 use Rattle.memplan.proofs.SoundAnswer.{certified, best, simulated}
 use Rattle.memplan.proofs.UpgradeLemmas.{upgraded}
 use Rattle.memplan.proofs.SpillLemmas.{spilled}
+use Rattle.memplan.proofs.StairsLemmas.{reached}
 use Rattle.memplan.proofs.laws.what_answers_say.Goals as goal
 
 pub returns-clause-certified : goal.returns-clause-certified
@@ -42,4 +43,10 @@ pub returns-clause-spilled : goal.returns-clause-spilled
 returns-clause-spilled c = λ input source bound texts answer is done. elim is [
   | inl refused ↦ absurd (first_refusal (files_of (spill input source bound)) [] texts answer refused done)
   | inr report ↦ spilled input source bound texts answer report done
+]
+
+pub returns-clause-reached : goal.returns-clause-reached
+returns-clause-reached c = λ input texts answer is done. elim is [
+  | inl refused ↦ absurd (first_refusal (files_of (segments input)) [] texts answer refused done)
+  | inr report ↦ reached c.one_staircase.ensures.each (λ i ts ps ks of_term. (c.one_input.ensures.numbered i ts ps ps ks ks of_term of_term).2) input texts answer report done
 ]
