@@ -10,5 +10,6 @@ pub mod OneInput
 pub mod OneFile
 pub mod UpgradeLemmas
 pub mod SpillLemmas
+pub mod FrontLemmas
 pub mod OneReport
 pub mod SoundAnswer

@@ -12,6 +12,7 @@ pub mod Simulate
 pub mod Demo
 pub mod Upgrade
 pub mod Spill
+pub mod Fronts
 pub mod Commands
 pub mod Clauses
 pub mod Pages

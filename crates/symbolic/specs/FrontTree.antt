@@ -4,7 +4,7 @@ use Rattle.std.specs.Prelude.{◌≡◌, ℕ, Bool, List, Option, Some, None, le
 use Rattle.matrix_market.specs.Pattern.{is_joined}
 use Rattle.ordering.specs.Perm.{vertex_at}
 use Rattle.ordering.specs.Fill.{renumbered, parents_of, counts_of}
-use Rattle.elim_tree.specs.Postorders.{IsPostorder}
+use Rattle.elim_tree.specs.Postorders.{IsPostorder, IsPostordered}
 use Rattle.assembly_tree.specs.Amalgamation.{amalgamated}
 use Rattle.assembly_tree.specs.Assembly.{AssemblyTree}
 use Rattle.assembly_tree.specs.Fronts.{fronts_of}
@@ -15,6 +15,12 @@ use Rattle.symbolic.specs.declared.options.FrontOptions.{FrontOptions}
 -- the pattern of a matrix by columns: its vertices in the order in which they are eliminated
 abbrev pub columns : List (List ℕ) → List ℕ → ℕ → ℕ → Bool
 columns rows order = renumbered (is_joined rows) order
+
+-- the columns of a matrix with these rows, eliminated in this order, are renumbered along the postorder of their elimination tree, and cut into
+-- fundamental supernodes
+pub record IsAnalysis (rows : List (List ℕ)) (order perm : List ℕ) (assembly : AssemblyTree) : Type 0 where
+  pub postordered : IsPostordered (is_joined rows) order perm
+  pub supernodes : AreSupernodes (parents_of (columns rows perm) (length perm)) (counts_of (columns rows perm) (length perm)) assembly
 
 -- merged where that adds at most so many explicit zeros
 abbrev pub relaxed : Option ℕ → AssemblyTree → AssemblyTree

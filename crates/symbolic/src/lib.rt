@@ -17,7 +17,7 @@ mod options;
 #[cfg(test)]
 mod tests;
 
-pub use analysis::front_tree;
+pub use analysis::{Analysis, analyse, front_tree};
 pub use options::FrontOptions;
 use std::alloc::AllocError;
 

@@ -26,4 +26,5 @@ returns-in_default-clause-value c =
       other word (codes "demo") (λ e. none.not-demo (same ∙ e)),
       other word (codes "upgrade") (λ e. none.not-upgrade (same ∙ e)),
       other word (codes "spill") (λ e. none.not-spill (same ∙ e)),
+      other word (codes "fronts") (λ e. none.not-fronts (same ∙ e)),
     ) refl

@@ -1,5 +1,5 @@
 use Rattle.std.proofs.Common.{[], inl, inr}
-use Rattle.memplan.specs.Request.{check, planning, simulate, demo, upgrade, spill, files_of}
+use Rattle.memplan.specs.Request.{check, planning, simulate, demo, upgrade, spill, fronts, files_of}
 use Rattle.memplan.proofs.RunLemmas.{first_refusal}
 use Rattle.memplan.proofs.SoundAnswer.{certified, best, simulated}
 use Rattle.memplan.proofs.UpgradeLemmas.{upgraded}
@@ -42,4 +42,10 @@ pub returns-clause-spilled : goal.returns-clause-spilled
 returns-clause-spilled c = λ input source bound texts answer is done. elim is [
   | inl refused ↦ absurd (first_refusal (files_of (spill input source bound)) [] texts answer refused done)
   | inr report ↦ spilled input source bound texts answer report done
+]
+
+pub returns-clause-factored : goal.returns-clause-factored
+returns-clause-factored c = λ m bound workers texts answer is done. elim is [
+  | inl refused ↦ absurd (first_refusal (files_of (fronts m bound workers)) [] texts answer refused done)
+  | inr report ↦ c.one_fronts.ensures.factored m bound workers texts answer report done
 ]
