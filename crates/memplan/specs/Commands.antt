@@ -3,7 +3,7 @@
 use Rattle.std.specs.Prelude.{◌≡◌, ℕ, List, [], ◌∷◌, Option, None, option_and_then, codes, if◌then◌else◌, ◌⊎◌}
 use Rattle.std.specs.Str.{bytes_eq}
 use Rattle.tree_input.specs.declared.node.Node.{Node}
-use Rattle.memplan.specs.Request.{Request, replay, tree, post, check, planning, simulate, demo, upgrade, spill, fronts, files_of}
+use Rattle.memplan.specs.Request.{Request, replay, tree, post, check, planning, simulate, demo, upgrade, spill, fronts, segments, files_of}
 use Rattle.memplan.specs.Replay.{replay_of, IsReplayOf}
 use Rattle.memplan.specs.Files.{IsTreeOf, IsFirstRefusal, IsMatrixTree, Answer}
 use Rattle.memplan.specs.Check.{check_of, IsCheckOf}
@@ -14,6 +14,7 @@ use Rattle.memplan.specs.Tree.{tree_request_of, tree_answer}
 use Rattle.memplan.specs.Post.{post_of, IsPost}
 use Rattle.memplan.specs.Upgrade.{upgrade_of, IsUpgradeOf}
 use Rattle.memplan.specs.Spill.{spill_of, IsSpillOf}
+use Rattle.memplan.specs.Segments.{segments_of, IsSegmentsOf}
 use Rattle.memplan.specs.Fronts.{fronts_of, IsFrontsOf}
 use Rattle.command_line.specs.Words.{Line, line_of}
 use Rattle.memplan.specs.Table.{commands}
@@ -29,6 +30,7 @@ command_of line =
     else if bytes_eq line.command (codes "demo") then demo_of line.options
     else if bytes_eq line.command (codes "upgrade") then upgrade_of line.options
     else if bytes_eq line.command (codes "spill") then spill_of line.options
+    else if bytes_eq line.command (codes "segments") then segments_of line.options
     else if bytes_eq line.command (codes "fronts") then fronts_of line.options
     else None
 
@@ -47,6 +49,7 @@ IsReport (simulate input source s) texts answer = IsSimulationOf input source s 
 IsReport (demo made) texts answer = IsDemoOf made answer
 IsReport (upgrade u) texts answer = IsUpgradeOf u texts answer
 IsReport (spill input source bound) texts answer = IsSpillOf input source bound texts answer
+IsReport (segments input) texts answer = IsSegmentsOf input texts answer
 IsReport (fronts m bound workers) texts answer = IsFrontsOf m bound workers texts answer
 
 -- the files of a request decide its answer; but `plan` may print any plan of least peak with a certificate, and `spill` the amounts of any

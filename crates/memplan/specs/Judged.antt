@@ -1,6 +1,6 @@
 -- No public clause names this.
 -- What a step over files says of their texts: a value, or why there is none.
-use Rattle.std.specs.Prelude.{◌≡◌, ℕ, ◌<◌, List, [], ◌∷◌, ◌++◌, Option, Some, None, Ok, Err, Result, MatchResult, codes, length}
+use Rattle.std.specs.Prelude.{◌≡◌, ℕ, ◌<◌, ◌≤◌, All, List, [], ◌∷◌, ◌++◌, Option, Some, None, Ok, Err, Result, MatchResult, codes, length}
 use Rattle.mp_outside.specs.Outside.{Rose}
 use Rattle.mp_text.specs.declared.refusals.Refusal.{Refusal}
 use Rattle.mp_text.specs.declared.refusals.Refusal.TheVariants as refusals
@@ -15,6 +15,7 @@ use Rattle.sp_terms.specs.Values.{term_of}
 use Rattle.memplan.specs.Commands.{IsReport}
 use Rattle.memplan.specs.Files.{limit_refused, Answer, IsRefused, IsRefusedAs, IsRefusedFile, IsFirstRefusal, IsOrderFrom, IsOrderedMatrix, IsPermFile, IsTreeOf, IsWorkflowFile, AreAccepted}
 use Rattle.memplan.specs.Simulate.{IsOwnPriority, priority_or}
+use Rattle.memplan.specs.Segments.{IsNumberedTerm}
 use Rattle.memplan.specs.Clauses.{AreTold, HasFailed}
 use Rattle.memplan.specs.Pages.{answer_of}
 use Rattle.ordering.specs.Kinds.{perm_word}
@@ -27,6 +28,7 @@ use Rattle.memplan.specs.declared.inputs.Priority.{Priority}
 use Rattle.memplan.specs.declared.inputs.Priority.TheVariants as priorities
 use Rattle.memplan.specs.declared.inputs.OrderedPattern.{OrderedPattern}
 use Rattle.memplan.specs.declared.inputs.OrderedProblem.{OrderedProblem}
+use Rattle.memplan.specs.declared.numbered.NumberedTerm.{NumberedTerm}
 use Rattle.memplan.specs.declared.page.Page.{Page}
 use Rattle.memplan.specs.declared.stop.Stop.{Stop}
 use Rattle.memplan.specs.declared.stop.Stop.TheVariants as stops
@@ -158,6 +160,16 @@ IsRanking n (priorities.Given numbers) = IsPerm n numbers.items
 abbrev pub priority_beside : Order → Priority → List ℕ
 priority_beside order priorities.Own = own_priority order
 priority_beside order (priorities.Given numbers) = numbers.items
+
+-- ---- the positions of a term
+
+-- each is one of the positions, which are counted from 1
+abbrev pub AreWithin : ℕ → List ℕ → Type 0
+AreWithin most = All (λ k. (1 ≤ k) × (k ≤ most))
+
+-- the term of an input, and the positions that a report numbers
+abbrev pub IsNumbered : Input → List (List ℕ) → NumberedTerm → Type 0
+IsNumbered input texts numbered = IsNumberedTerm input texts numbered.terms numbered.positions.items
 
 -- ---- reports
 

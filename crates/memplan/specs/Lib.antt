@@ -12,6 +12,7 @@ pub mod Simulate
 pub mod Demo
 pub mod Upgrade
 pub mod Spill
+pub mod Segments
 pub mod Fronts
 pub mod Commands
 pub mod Clauses

@@ -86,6 +86,8 @@ pub data Request : Type 0 where
   upgrade : Upgrade → Request
   -- what must go to disk where an order of the input's tasks runs within a bound
   spill : Input → OrderSource → ℕ → Request
+  -- how low memory can come in each subtree of a tree, or at each position of a workflow
+  segments : Input → Request
   -- the rows of every front of a matrix, made within a bound on the rows that are held, by so many workers
   fronts : OrderedMatrix → ℕ → ℕ → Request
 
@@ -268,4 +270,5 @@ files_of (simulate input source s) = input_files input ++ source_file source ∷
 files_of (demo made) = []
 files_of (upgrade u) = upgrade_files u
 files_of (spill input source bound) = input_files input ++ source_file source ∷ []
+files_of (segments input) = input_files input
 files_of (fronts m bound workers) = ordered_matrix_files m

@@ -64,4 +64,5 @@ request_view (commands.Simulate names) = requests.simulate (input_view names.inp
 request_view (commands.Demo made) = requests.demo made
 request_view (commands.Upgrade u) = requests.upgrade (upgrade_view u)
 request_view (commands.Spill s) = requests.spill (input_view s.input) (source_view s.source) s.bound
+request_view (commands.Segments input) = requests.segments (input_view input)
 request_view (commands.Fronts run) = requests.fronts (ordered_matrix_view run.matrix) run.bound run.workers

@@ -6,6 +6,7 @@ pub mod fronts;
 pub mod plan;
 pub mod post;
 pub mod replay;
+pub mod segments;
 pub mod simulate;
 pub mod spill;
 pub mod tree;
@@ -27,7 +28,7 @@ use std::thread::Threads;
 
 // Each command, with the names of its options.
 #[rattlefmt::skip]
-static COMMANDS: [Shape; 10] = [
+static COMMANDS: [Shape; 11] = [
     Shape {
         name: "replay",
         options: &["order", "plan", "workflow", "tree", "matrix", "perm", "ordering", "shape", "amalgamate", "inplace"],
@@ -68,6 +69,10 @@ static COMMANDS: [Shape; 10] = [
         options: &["order", "plan", "bound", "workflow", "tree", "matrix", "perm", "ordering", "shape", "amalgamate", "inplace"],
     },
     Shape {
+        name: "segments",
+        options: &["workflow", "tree", "matrix", "perm", "ordering", "shape", "amalgamate", "inplace"],
+    },
+    Shape {
         name: "fronts",
         options: &["bound", "workers", "matrix", "perm", "ordering"],
     },
@@ -87,6 +92,7 @@ fn command_of<'a>(line: &Line<'a>) -> Option<Request<'a>>
         "demo" => demo::demo_of(line),
         "upgrade" => upgrade::upgrade_of(line),
         "spill" => spill::spill_of(line),
+        "segments" => segments::segments_of(line),
         "fronts" => fronts::fronts_of(line),
         _ => None,
     }
@@ -127,6 +133,7 @@ pub fn report<R: Threads + Sync, F: Files, G: Gate>(
         Request::Demo(made) => Ok(demo::report_demo(rt, alloc, made, gate)?),
         Request::Upgrade(asked) => upgrade::report_upgrade(alloc, files, asked),
         Request::Spill(asked) => spill::report_spill(alloc, files, asked),
+        Request::Segments(input) => segments::report_segments(alloc, files, input),
         Request::Fronts(asked) => fronts::report_fronts(rt, alloc, files, asked, gate),
     }
 }

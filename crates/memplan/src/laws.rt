@@ -12,7 +12,8 @@ ghost use Rattle.memplan.specs.Files.{Answer, HasValue, IsRefused, IsSystemOf, I
 ghost use Rattle.memplan.specs.Demo.{IsDemoOf, IsShown};
 ghost use Rattle.memplan.specs.Fronts.{IsFactored, IsFrontsOf};
 ghost use Rattle.memplan.specs.Plan.{IsBestPlan};
-ghost use Rattle.memplan.specs.Request.{FileRole, IsInRange, IsMakeable, Input, OrderedMatrix, Ordering, OrderSource, PlanFormat, Request, Simulation, TreeInput, Upgrade, check, demo, fronts, input_files, planning, simulate, spill, tree_input_files, upgrade};
+ghost use Rattle.memplan.specs.Request.{FileRole, IsInRange, IsMakeable, Input, OrderedMatrix, Ordering, OrderSource, PlanFormat, Request, Simulation, TreeInput, Upgrade, check, demo, fronts, input_files, planning, segments, simulate, spill, tree_input_files, upgrade};
+ghost use Rattle.memplan.specs.Segments.{IsNumberedTerm, IsReached};
 ghost use Rattle.memplan.specs.Simulate.{IsSimulated};
 ghost use Rattle.memplan.specs.Spill.{IsSpilled};
 ghost use Rattle.memplan.specs.Upgrade.{IsFileOf, IsUpgraded, IsUpgradedFrom, Versioned, text_2, upgrade_again};
@@ -28,12 +29,14 @@ use mp_system::laws as system_laws;
 use ordering::laws as order_laws;
 use plan_text::laws as plan_laws;
 use postorder_best::laws as postorder_laws;
+use sp_cuts::laws as stair_laws;
 use rounds_run::laws as rounds_laws;
 use sp_terms::laws as term_laws;
 use symbolic::laws as front_laws;
 use tree_input::laws as tree_laws;
 
-// The texts of an input are of one matrix, one tree, one system and one term, within the limits, and they are as many as its files.
+// The texts of an input are of one matrix, one tree, one system and one term, within the limits, and they are as many as its files; its
+// positions have one numbering.
 fn one_input()
     ensures matrix { (o : Ordering) (texts rows other : List (List ℕ)) (order same : List ℕ) → IsOrderedMatrix o texts rows order →
         IsOrderedMatrix o texts other same → (rows ≡ other) × (order ≡ same) × IsPattern rows × (length order ≡ length rows) }
@@ -44,6 +47,8 @@ fn one_input()
         (one ≡ two) × IsSystem one × (length texts ≡ length (input_files input)) }
     ensures term { (input : Input) (texts : List (List ℕ)) (system same : TaskSystem) (one two : List Position) →
         IsSystemWithTerm input texts system one → IsSystemWithTerm input texts same two → one ≡ two }
+    ensures numbered { (input : Input) (texts : List (List ℕ)) (one two : List Position) (numbered same : List ℕ) →
+        IsNumberedTerm input texts one numbered → IsNumberedTerm input texts two same → (one ≡ two) × (numbered ≡ same) }
 {
     tree_laws::exactly_one();
     tree_laws::read_is_tree();
@@ -157,13 +162,15 @@ pub fn one_answer()
     postorder_laws::one_best_postorder();
     claim_laws::accepted_or_objected();
     run_laws::schedule_law();
+    stair_laws::one_staircase();
     one_demo();
     one_upgrade();
     one_fronts();
 }
 
 /// What an answer says: a yes certifies, a plan is best, a trace is of a run that was simulated, what was upgraded is what the printed
-/// file says, what is spilled is a spill plan of least volume, and the rows of a front are a structure of the filled graph. It follows from
+/// file says, what is spilled is a spill plan of least volume, printed levels are reached, and none below them, and the rows of a front are a
+/// structure of the filled graph. It follows from
 /// being an answer.
 pub fn what_answers_say()
     ensures certified { (input : Input) (plan : List ℕ) (workers : ℕ) (texts : List (List ℕ)) (answer : Answer) →
@@ -178,6 +185,8 @@ pub fn what_answers_say()
         IsAnswer (upgrade u) texts answer → answer.status ≡ Done → IsUpgraded u texts answer.text }
     ensures spilled { (input : Input) (source : OrderSource) (bound : ℕ) (texts : List (List ℕ)) (answer : Answer) →
         IsAnswer (spill input source bound) texts answer → answer.status ≡ Done → IsSpilled input source bound texts answer.text }
+    ensures reached { (input : Input) (texts : List (List ℕ)) (answer : Answer) →
+        IsAnswer (segments input) texts answer → answer.status ≡ Done → IsReached input texts answer.text }
     ensures factored { (m : OrderedMatrix) (bound workers : ℕ) (texts : List (List ℕ)) (answer : Answer) →
         IsAnswer (fronts m bound workers) texts answer → answer.status ≡ Done → IsFactored m bound workers texts answer.text }
 {
@@ -189,6 +198,7 @@ pub fn what_answers_say()
     plan_laws::printed_plan();
     plan_laws::printed_length();
     run_laws::schedule_law();
+    stair_laws::one_staircase();
     one_demo();
     one_upgrade();
     one_fronts();

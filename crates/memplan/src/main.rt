@@ -5,6 +5,7 @@ mod commands;
 mod files;
 mod inputs;
 pub mod laws;
+mod numbered;
 mod page;
 mod request;
 mod run;

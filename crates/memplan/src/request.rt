@@ -94,6 +94,8 @@ pub enum Request<'a> {
     Upgrade(Upgrade<'a>),
     /// What must go to disk where the order runs within the bound.
     Spill(Spilling<'a>),
+    /// How low memory can come in each subtree of a tree, or at each position of a workflow.
+    Segments(Input<'a>),
     /// The rows of every front of the matrix, made within the bound by the workers.
     Fronts(FrontRun<'a>),
 }

@@ -1,10 +1,11 @@
 ghost use Rattle.std.specs.Prelude.{◌≡◌, ◌⊎◌, ◌<◌, ◌≤◌, ℕ, List, length, take};
 ghost use Rattle.mp_outside.specs.Outside.{Rose, Appended};
-ghost use Rattle.memplan.specs.Request.{Input, OrderedMatrix, OrderSource, PlanFormat, Request, Simulation, check, demo, fronts, planning, simulate, spill, files_of};
+ghost use Rattle.memplan.specs.Request.{Input, OrderedMatrix, OrderSource, PlanFormat, Request, Simulation, check, demo, fronts, planning, segments, simulate, spill, files_of};
 ghost use Rattle.memplan.specs.Check.{IsCertified};
 ghost use Rattle.memplan.specs.Demo.{IsShown};
 ghost use Rattle.memplan.specs.Fronts.{IsFactored};
 ghost use Rattle.memplan.specs.Plan.{IsBestPlan};
+ghost use Rattle.memplan.specs.Segments.{IsReached};
 ghost use Rattle.memplan.specs.Simulate.{IsSimulated};
 ghost use Rattle.memplan.specs.Spill.{IsSpilled};
 ghost use Rattle.memplan.specs.declared.commands.demo.Demo.{Demo};
@@ -63,6 +64,12 @@ pub fn run_words<R: Threads + Sync, F: Files, S: Sink, G: Gate>(
         → Asks words.now (spill input source bound)
         → (texts : List (List ℕ)) → AreTold (F.bytes_of files.old) (files_of (spill input source bound)) texts
         → (printed : List ℕ) × IsSpilled input source bound texts printed × Appended (S.written sink.old) (S.written sink.new) printed }
+
+    // where staircases were printed, of every printed pair the level is the memory of a state that is reached within the bound, and none that
+    // is reached within it has a lower one; so it is for every bound
+    ensures reached { result ≡ Status.Done → (input : Input) → Asks words.now (segments input)
+        → (texts : List (List ℕ)) → AreTold (F.bytes_of files.old) (files_of (segments input)) texts
+        → (printed : List ℕ) × IsReached input texts printed × Appended (S.written sink.old) (S.written sink.new) printed }
 
     // where the rows of the fronts of a matrix were printed, each list is the structure of the first column of its supernode in the filled
     // graph, and of each further column the structure is the list from there on; the printed rounds are those of the activation machine,

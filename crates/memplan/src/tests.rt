@@ -10,6 +10,7 @@ mod matrices;
 mod meeting;
 mod plans;
 mod replays;
+mod segments;
 mod simulations;
 mod spills;
 mod upgrades;

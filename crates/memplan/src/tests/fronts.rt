@@ -87,8 +87,8 @@ const BY_ONE: &str =
 const GRID: &[Case] = &[
     (&["fronts --matrix m --perm p --bound 1000 --workers 4", "fronts --matrix m --perm p --bound 1000 --workers 4096"], GRIDS, Done,
         BY_FOUR),
-    (&["fronts --matrix m --perm p --bound 1000 --workers 1", "fronts --matrix m --perm p --bound 19 --workers 1",
-        "fronts --matrix m --perm p --bound 19 --workers 4096"], GRIDS, Done, BY_ONE),
+    (&["fronts --matrix m --perm p --bound 1000 --workers 1", "fronts --matrix m --perm p --bound 19 --workers 1"], GRIDS, Done,
+        BY_ONE),
     (&["fronts --matrix m --perm p --bound 18 --workers 4"], GRIDS, Bound, "refused bound 18 19\n"),
 ];
 
