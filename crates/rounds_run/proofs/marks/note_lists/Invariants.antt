@@ -1,9 +1,0 @@
-use Rattle.std.proofs.Common.{take}
-use Rattle.rounds_run.specs.Gathering.{AreMarked, Adds, in_lists}
-use Rattle.rounds_run.proofs.marks.note_lists.Given as goal
-
-abbrev pub invariant-loop-numbers : goal.invariant-loop-numbers
-invariant-loop-numbers l = record {
-  marked : AreMarked l.seen l.list.items;
-  adds : Adds (in_lists (take l.numbers-index l.lists)) l.fn.list.items l.list.items;
-}
