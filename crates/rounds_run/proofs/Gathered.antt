@@ -1,12 +1,14 @@
 -- What is gathered for a column, in rising order, is its structure.
 use Rattle.std.proofs.Common.{◌≡◌, ◌≢◌, ◌⊎◌, ◌↔◌, ℕ, zero, suc, ◌+◌, ◌-◌, ◌<◌, ◌≤◌, inl, inr, Bool, true, false, ◌&&◌, ◌||◌, eqb, ltb, IsTrue, List, [], ◌∷◌, length, get_or, refl, sym, ap, subst, ◌∙◌, arith}
-use Rattle.std.specs.List.{list_any, IsDistinct}
-use Rattle.std.specs.List.Sorted.{IsPermutation, IsSorted, IsStrictlyIncreasing}
+use Rattle.std.specs.List.{list_any, dedup, Contains}
+use Rattle.std.specs.List.Sorted.{IsPermutation, IsSorted}
 use Rattle.std.specs.Ordering.{nat_cmp}
 use Rattle.std.proofs.lemmas.Bool.{cases_eq, eq-eqb, eqb-true, ltb-true, lt-ltb, and_parts, and_from, or_cases, or_left, or_right}
+use Rattle.std.proofs.lemmas.List.{get_or_default}
 use Rattle.std.proofs.lemmas.List.Folds.{list_any_at}
-use Rattle.std.proofs.lemmas.List.Sorted.{list_any-IsPermutation, IsNonDecreasingBy-from_sort}
-use Rattle.std.proofs.lemmas.Map.Keys.{IsDistinct-IsPermutation, IsStrictlyIncreasing-from_distinct}
+use Rattle.std.proofs.lemmas.List.Kept.{Contains-dedup_nat, Contains-from_dedup}
+use Rattle.std.proofs.lemmas.List.Sorted.{list_any-IsPermutation}
+use Rattle.std.proofs.lemmas.Map.Keys.{IsStrictlyIncreasing-dedup}
 use Rattle.matrix_market.specs.Pattern.{has, neighbours_of, is_joined, IsPattern}
 use Rattle.ordering.specs.Perm.{IsVertex, IsPerm, vertex_at, place_of}
 use Rattle.ordering.specs.Fill.{renumbered, structure_of}
@@ -16,7 +18,17 @@ use Rattle.rounds_run.specs.Gathering.{in_lists, is_later, is_gathered}
 use Rattle.rounds_run.proofs.NumberLists.{same_bool, has_at, place_in, rising_same}
 use Rattle.rounds_run.proofs.OrderlyRounds.{any_place}
 use Rattle.rounds_run.proofs.RowLists.{Laws, has_rows, rows_rise}
-use Rattle.rounds_run.proofs.Timely.{flip}
+
+-- a list without what it says twice in a row has the same numbers
+has_dedup : (xs : List ℕ) (z : ℕ) → has (dedup eqb xs) z ≡ has xs z
+has_dedup xs z =
+    same_bool _ _ (λ there. from_contains xs z (Contains-from_dedup eqb xs z (to_contains (dedup eqb xs) z there)))
+    (λ there. from_contains (dedup eqb xs) z (Contains-dedup_nat xs z (to_contains xs z there)))
+  where
+    to_contains : (ys : List ℕ) (y : ℕ) → has ys y ≡ true → Contains ys y
+    to_contains ys y there = (let place = place_in ys y there in (place.0, place.1, get_or_default ys place.0 y 0 place.1 ∙ place.2))
+    from_contains : (ys : List ℕ) (y : ℕ) → Contains ys y → has ys y ≡ true
+    from_contains ys y (k, lt, e) = subst (λ w. has ys w ≡ true) (get_or_default ys k 0 y lt ∙ e) (has_at ys k lt)
 
 -- a pattern and an order of its vertices
 pub record IsOrdered (rows : List (List ℕ)) (order : List ℕ) : Type 0 where
@@ -71,17 +83,15 @@ module _ (rows : List (List ℕ)) (order : List ℕ) (is : IsOrdered rows order)
         ]
       ])
 
-  -- the list, sorted
+  -- the list, sorted, each row once
   pub gathered_rows : (j : ℕ) → IsVertex (length order) j → (lists : List (List ℕ))
       → ((i : ℕ) → IsTrue (in_lists lists i) ↔ IsFromChild (renumbered (is_joined rows) order) (length order) j i)
       → (list sorted : List ℕ)
       → ((x : ℕ) → has list x ≡ is_gathered order (neighbours_of rows (vertex_at order j)) lists j x)
-      → IsDistinct eqb list → IsPermutation list sorted → IsSorted nat_cmp sorted
-      → sorted ≡ rows_of (renumbered (is_joined rows) order) (length order) j
-  gathered_rows j vertex lists children list sorted holds once moved rises =
-      let distinct = IsDistinct-IsPermutation eqb flip list sorted moved once in
-      let up : IsStrictlyIncreasing sorted =
-      IsStrictlyIncreasing-from_distinct sorted (IsNonDecreasingBy-from_sort (λ x. x) sorted rises) distinct in
-      rising_same sorted (rows_of (renumbered (is_joined rows) order) (length order) j) up (rows_rise _ _ laws j)
-      (λ z. sym (list_any-IsPermutation (λ y. eqb y z) list sorted moved) ∙ holds z ∙ gathered_is j vertex lists children z
-      ∙ sym (has_rows _ _ laws j z vertex))
+      → IsPermutation list sorted → IsSorted nat_cmp sorted
+      → dedup eqb sorted ≡ rows_of (renumbered (is_joined rows) order) (length order) j
+  gathered_rows j vertex lists children list sorted holds moved rises =
+      rising_same (dedup eqb sorted) (rows_of (renumbered (is_joined rows) order) (length order) j) (IsStrictlyIncreasing-dedup sorted rises)
+      (rows_rise _ _ laws j)
+      (λ z. has_dedup sorted z ∙ sym (list_any-IsPermutation (λ y. eqb y z) list sorted moved) ∙ holds z
+      ∙ gathered_is j vertex lists children z ∙ sym (has_rows _ _ laws j z vertex))

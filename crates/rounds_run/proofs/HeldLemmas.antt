@@ -1,11 +1,10 @@
 -- What is held, as tasks take the lists of their children and hand back their own.
 use Rattle.std.proofs.Common.{◌≡◌, ◌≢◌, ◌⊎◌, ◌↔◌, ℕ, zero, suc, ◌+◌, ◌-◌, ◌<◌, ◌≤◌, inl, inr, Bool, true, false, ◌||◌, cond, eqb, IsTrue, List, [], ◌∷◌, ◌++◌, length, get_or, set, take, drop, replicate, refl, sym, ap, subst, ◌∙◌, arith}
-use Rattle.std.specs.List.{All, list_any, IsDistinct}
+use Rattle.std.specs.List.{list_any, IsDistinct}
 use Rattle.std.proofs.Math.Bool.{or-false}
 use Rattle.std.proofs.lemmas.Bool.{cases_eq, cases_lt, cases_Bool, both_ways, eq-eqb, ne_eqb, eqb-true, eqb-false, or_parts, or_cases, or_left, or_right, cond-true, cond-false}
 use Rattle.std.proofs.lemmas.List.{get_or-set_same, get_or-set_other, length-set, length-replicate, get_or-replicate, get_or_default}
 use Rattle.std.proofs.lemmas.List.Folds.{list_any-append}
-use Rattle.std.proofs.lemmas.List.Elements.{All-push, All-nil}
 use Rattle.matrix_market.specs.Pattern.{has}
 use Rattle.assembly_tree.specs.declared.assembly.Super.{Super}
 use Rattle.assembly_tree.specs.Assembly.{IsSuper, super_at}
@@ -23,11 +22,10 @@ in_lists_push lists list i =
 
 -- nothing is made yet
 pub held_first : (f : Factor) (held : Held) (n : ℕ) → length f.supers ≡ n → held.rows.items ≡ replicate n [] → held.inboxes.items ≡ replicate n []
-    → held.spare.items ≡ [] → IsHeld f (λ _. false) (λ _. false) held
-held_first f held n many rows inboxes spare = record {
+    → IsHeld f (λ _. false) (λ _. false) held
+held_first f held n many rows inboxes = record {
   rows_long = ap (λ (z : List (List ℕ)). length z) rows ∙ length-replicate n [] ∙ sym many;
   inboxes_long = ap (λ (z : List (List (List ℕ))). length z) inboxes ∙ length-replicate n [] ∙ sym many;
-  spare = subst (All (λ marks. marks ≡ f.order + 1)) (sym spare) (All-nil (λ marks. marks ≡ f.order + 1));
   kept = λ s super done. absurd (both_ways _ refl done);
   handed = λ s super taken i.
       let none : get_or held.inboxes.items (s - 1) [] ≡ [] =
@@ -43,7 +41,6 @@ pub held_same : (f : Factor) (taken done also made : ℕ → Bool) (held : Held)
 held_same f taken done also made held same_taken same_done is = record {
   rows_long = is.rows_long;
   inboxes_long = is.inboxes_long;
-  spare = is.spare;
   kept = λ s super d. is.kept s super (same_done s ∙ d);
   handed = λ s super t i.
       let here = is.handed s super (same_taken s ∙ t) i in (
@@ -54,12 +51,11 @@ held_same f taken done also made held same_taken same_done is = record {
 
 -- supernode s took its lists
 pub held_taken : (f : Factor) (taken done also : ℕ → Bool) (s : ℕ) (old new : Held) → 1 ≤ s → new.rows ≡ old.rows
-    → new.inboxes.items ≡ set old.inboxes.items (s - 1) [] → All (λ marks. marks ≡ f.order + 1) new.spare.items
+    → new.inboxes.items ≡ set old.inboxes.items (s - 1) []
     → ((t : ℕ) → also t ≡ (taken t || eqb s t)) → IsHeld f taken done old → IsHeld f also done new
-held_taken f taken done also s old new low rows inboxes spare more is = record {
+held_taken f taken done also s old new low rows inboxes more is = record {
   rows_long = ap (λ z. length z.items) rows ∙ is.rows_long;
   inboxes_long = ap (λ (z : List (List (List ℕ))). length z) inboxes ∙ length-set old.inboxes.items (s - 1) [] ∙ is.inboxes_long;
-  spare = spare;
   kept = λ t super d. ap (λ z. list_of z.items t) rows ∙ is.kept t super d;
   handed = λ t super left i.
       let parts = or_parts (taken t) (eqb s t) (sym (more t) ∙ left) in
@@ -79,9 +75,9 @@ pub held_made : (f : Factor) (taken done also : ℕ → Bool) (s : ℕ) (made : 
     → new.inboxes.items ≡ cond (eqb (super_at f.supers s).parent 0) old.inboxes.items
     (set old.inboxes.items ((super_at f.supers s).parent - 1)
     (get_or old.inboxes.items ((super_at f.supers s).parent - 1) [] ++ made.rest ∷ []))
-    → new.spare.items ≡ old.spare.items ++ made.marks ∷ [] → IsMadeOf f s made
+    → IsMadeOf f s made
     → ((t : ℕ) → also t ≡ (done t || eqb s t)) → IsHeld f taken done old → IsHeld f taken also new
-held_made f taken done also s made old new super inside rows inboxes spare is_made more is =
+held_made f taken done also s made old new super inside rows inboxes is_made more is =
     let p = (super_at f.supers s).parent in
     record {
       rows_long = ap (λ (z : List (List ℕ)). length z) rows ∙ length-set old.rows.items (s - 1) made.rows ∙ is.rows_long;
@@ -90,8 +86,6 @@ held_made f taken done also s made old new super inside rows inboxes spare is_ma
         | inr child ↦ ap (λ (z : List (List (List ℕ))). length z) (inboxes ∙ cond-false _ _ _ (ne_eqb p 0 child))
             ∙ length-set old.inboxes.items (p - 1) (get_or old.inboxes.items (p - 1) [] ++ made.rest ∷ []) ∙ is.inboxes_long
       ];
-      spare = subst (All (λ marks. marks ≡ f.order + 1)) (sym spare)
-          (All-push (λ marks. marks ≡ f.order + 1) old.spare.items made.marks is.spare is_made.marks);
       kept = λ t there d. elim (cases_eq s t) [
         | inl e ↦ (
             let low = super.0 in

@@ -57,8 +57,8 @@ module _ (f : Factor) (is : IsFactor f) (laws : Laws f.joined f.order)
   pub job_is : (taken done : ℕ → Bool) (held : Held) (s : ℕ) (job : Job) → IsHeld f taken done held → IsSuper f.supers s
       → taken s ≡ false → ((c : ℕ) → IsSuper f.supers c → (super_at f.supers c).parent ≡ s → done c ≡ true)
       → job.first ≡ first_of f.supers s → job.columns ≡ (super_at f.supers s).columns
-      → job.children ≡ get_or held.inboxes.items (s - 1) [] → job.marks ≡ f.order + 1 → IsJobOf f s job
-  job_is taken done held s job held_is super free children first columns lists marks =
+      → job.children ≡ get_or held.inboxes.items (s - 1) [] → IsJobOf f s job
+  job_is taken done held s job held_is super free children first columns lists =
       let vertex = first_vertex f.joined f.order laws f.supers is.nodes is.supernodes s super in
       let few = columns-le f.joined f.order laws f.supers is.nodes is.supernodes s super in
       record {
@@ -69,7 +69,6 @@ module _ (f : Factor) (is : IsFactor f) (laws : Laws f.joined f.order)
               ap (count_of f.joined f.order) first in
               omega (arith, few, same, columns)
               );
-          marks = marks;
           children = λ i.
               let left = held_is.handed s super free i in
               let from = from_children f.joined f.order laws f.supers is.nodes is.supernodes first_parent s i super in (

@@ -5,7 +5,7 @@ mod RowTrees
 mod Timely
 mod OrderlyRounds
 mod HeldLemmas
-mod Marking
+mod Additions
 mod Gathered
 mod JobLemmas
 mod Starts

@@ -57,7 +57,7 @@ pub made_of : (f : Factor) (round : List ℕ) (jobs : List Job) (made : List (Re
 made_of f round jobs made are long each = (
   long ∙ are.0,
   λ i d lt.
-      let job : Job = record { place = 0; first = 0; columns = 0; children = []; marks = 0 } in
+      let job : Job = record { place = 0; first = 0; columns = 0; children = [] } in
       let here = are.1 i job lt in
       let in_jobs : i < length jobs = omega (arith, are.0) in
       subst (λ n. IfOk (get_or made i d) (IsMade f.joined f.order (first_of f.supers (get_or round i 0)) n)) here.columns

@@ -1,17 +1,9 @@
 -- No public clause names this.
--- How the rows of a front are gathered: a list, with a mark for each number that is in it.
-use Rattle.std.specs.Prelude.{◌≡◌, ◌==◌, ℕ, Bool, false, ◌&&◌, ◌||◌, nat_lt, nat_eq, List, slice_index_or}
-use Rattle.std.specs.List.{list_any, IsDistinct}
+-- How the rows of a front are gathered.
+use Rattle.std.specs.Prelude.{◌≡◌, ◌==◌, ℕ, Bool, ◌&&◌, ◌||◌, nat_lt, List}
+use Rattle.std.specs.List.{list_any}
 use Rattle.matrix_market.specs.Pattern.{has}
 use Rattle.ordering.specs.Perm.{place_of}
-
-abbrev pub mark_at : List Bool → ℕ → Bool
-mark_at seen x = slice_index_or seen x false
-
--- just the numbers of the list are marked, and none stands in it twice
-pub record AreMarked (seen : List Bool) (list : List ℕ) : Type 0 where
-  pub marks : (x : ℕ) → mark_at seen x ≡ has list x
-  pub once : IsDistinct nat_eq list
 
 -- the new list has what the old one has and what passes the test
 abbrev pub Adds : (ℕ → Bool) → List ℕ → List ℕ → Type 0

@@ -1,6 +1,6 @@
 -- No public clause names this.
 -- The fronts as they are made: what a task is given and hands back, and what is held between the rounds.
-use Rattle.std.specs.Prelude.{◌≡◌, ◌↔◌, ℕ, ◌+◌, ◌-◌, ◌<◌, ◌≤◌, Bool, true, false, IsTrue, ◌||◌, nat_eq, List, [], All, Result, IfOk, length, drop, take, slice_index, slice_index_or}
+use Rattle.std.specs.Prelude.{◌≡◌, ◌↔◌, ℕ, ◌+◌, ◌-◌, ◌<◌, ◌≤◌, Bool, true, false, IsTrue, ◌||◌, nat_eq, List, [], Result, IfOk, length, drop, take, slice_index, slice_index_or}
 use Rattle.std.specs.List.{list_any, IsDistinct}
 use Rattle.std.specs.declared.alloc.AllocError.{AllocError}
 use Rattle.matrix_market.specs.Pattern.{has}
@@ -29,11 +29,10 @@ front_rows f s = rows_of f.joined f.order (first_of f.supers s)
 abbrev pub rest_rows : Factor → ℕ → List ℕ
 rest_rows f s = drop (super_at f.supers s).columns (front_rows f s)
 
--- a task has what it takes: the lists of all children of its first column, and marks
+-- a task has what it takes: the lists of all children of its first column
 pub record IsJob (joined : ℕ → ℕ → Bool) (n : ℕ) (job : Job) : Type 0 where
   pub first : IsVertex n job.first
   pub columns : job.columns ≤ count_of joined n job.first
-  pub marks : job.marks ≡ n + 1
   pub children : (i : ℕ) → IsTrue (in_lists job.children i) ↔ IsFromChild joined n job.first i
 
 -- the task is that of supernode s
@@ -46,7 +45,6 @@ pub record IsJobOf (f : Factor) (s : ℕ) (job : Job) : Type 0 where
 pub record IsMade (joined : ℕ → ℕ → Bool) (n first columns : ℕ) (made : Made) : Type 0 where
   pub rows : made.rows ≡ rows_of joined n first
   pub rest : made.rest ≡ drop columns (rows_of joined n first)
-  pub marks : made.marks ≡ n + 1
 
 abbrev pub IsMadeOf : Factor → ℕ → Made → Type 0
 IsMadeOf f s made = IsMade f.joined f.order (first_of f.supers s) (super_at f.supers s).columns made
@@ -72,7 +70,6 @@ HandedOver f done s i =
 pub record IsHeld (f : Factor) (taken done : ℕ → Bool) (held : Held) : Type 0 where
   pub rows_long : length held.rows.items ≡ length f.supers
   pub inboxes_long : length held.inboxes.items ≡ length f.supers
-  pub spare : All (λ marks. marks ≡ f.order + 1) held.spare.items
   pub kept : (s : ℕ) → IsSuper f.supers s → done s ≡ true → list_of held.rows.items s ≡ front_rows f s
   pub handed : (s : ℕ) → IsSuper f.supers s → taken s ≡ false → (i : ℕ) →
       IsTrue (in_lists (slice_index_or held.inboxes.items (s - 1) []) i) ↔ HandedOver f done s i

@@ -1,7 +1,6 @@
 //! What is held between the rounds.
 
 ghost use Rattle.std.specs.Prelude.{◌≡◌, ◌==◌, ◌+◌, ◌-◌, ◌≤◌, ◌<◌, ◌^◌, ℕ, Bool, true, false, ◌||◌, ◌++◌, ◌∷◌, [], All, if◌then◌else◌, length, slice_set, slice_index_or, IfOk, OnOk};
-ghost use Rattle.limits.specs.Limits.{most_order};
 ghost use Rattle.matrix_market.specs.Pattern.{has};
 ghost use Rattle.assembly_tree.specs.Assembly.{IsSuper, super_at};
 ghost use Rattle.assembly_tree.specs.Supernodes.{first_of};
@@ -11,21 +10,19 @@ ghost use Rattle.rounds_run.specs.Holding.{Factor, IsFactor, IsHeld, AreJobsOf, 
 use crate::NoMemory;
 use crate::front::{Job, Made};
 use crate::lists::{Inbox, NumberList, empty_inboxes, empty_lists};
-use crate::marks::Marks;
 use assembly_tree::Super;
 use elim_tree::laws::{no_earlier_row, path_theorem, structure_by_children};
 use ordering::laws::parent_is_first;
 use std::alloc::Global;
 use std::mem;
 
-/// The rows of the fronts that are made, the lists that were left to the others, and marks that no task uses.
+/// The rows of the fronts that are made, and the lists that were left to the others.
 #[derive(Drop)]
 pub struct Held {
     /// By supernode, from the first on; the rows of a front are kept to the end, as rows of the factor.
     pub rows: Vec<NumberList>,
     /// By supernode, what its children left to it, until it takes that.
     pub inboxes: Vec<Inbox>,
-    pub spare: Vec<Marks>,
 }
 
 impl Held {
@@ -36,22 +33,7 @@ impl Held {
         Ok(Held {
             rows: empty_lists(alloc, supers)?,
             inboxes: empty_inboxes(alloc, supers)?,
-            spare: Vec::new(alloc),
         })
-    }
-
-    // So many marks: spare ones, or new ones.
-    fn marks(&mut self, alloc: Global, count: usize) -> Result<Marks, NoMemory>
-        requires { All (λ marks. marks ≡ count) self.old.spare.items }
-        ensures marks { IfOk result (λ marks. marks ≡ count) }
-        ensures spare { All (λ marks. marks ≡ count) self.new.spare.items }
-        ensures rows { self.new.rows ≡ self.old.rows }
-        ensures inboxes { self.new.inboxes ≡ self.old.inboxes }
-    {
-        match self.spare.pop() {
-            Some(marks) => Ok(marks),
-            None => Marks::new(alloc, count),
-        }
     }
 
     // What was left to a supernode, which has nothing then.
@@ -60,7 +42,6 @@ impl Held {
         ensures lists { result ≡ slice_index_or self.old.inboxes.items (node - 1) [] }
         ensures inboxes { self.new.inboxes.items ≡ slice_set self.old.inboxes.items (node - 1) [] }
         ensures rows { self.new.rows ≡ self.old.rows }
-        ensures spare { self.new.spare ≡ self.old.spare }
     {
         mem::replace(&mut self.inboxes[node as usize - 1], Inbox::new(alloc))
     }
@@ -71,18 +52,15 @@ impl Held {
         alloc: Global,
         supers: &[Super],
         firsts: &[u32],
-        columns: usize,
         round: &[u32],
     ) -> Result<Vec<Job>, NoMemory>
         requires within { (s : ℕ) → has round.now s ≡ true → IsSuper supers.now s }
         requires short { length round.now < 2 ^ 32 }
         requires firsts { AreFirsts supers.now firsts.now }
-        requires few { columns ≤ most_order }
         requires long { length self.old.inboxes.items ≡ length supers.now }
-        requires spare { All (λ marks. marks ≡ columns + 1) self.old.spare.items }
         ensures jobs { IfOk result (λ jobs. (f : Factor) (ran : ℕ → Bool) → IsFactor f → f.supers ≡ supers.now →
-            f.order ≡ columns → AreDue f.supers ran round.now → IsHeld f ran ran self.old → AreJobsOf f round.now jobs.items) }
-        ensures held { OnOk result ((f : Factor) (ran : ℕ → Bool) → f.supers ≡ supers.now → f.order ≡ columns →
+            AreDue f.supers ran round.now → IsHeld f ran ran self.old → AreJobsOf f round.now jobs.items) }
+        ensures held { OnOk result ((f : Factor) (ran : ℕ → Bool) → f.supers ≡ supers.now →
             IsHeld f ran ran self.old → IsHeld f (or_in ran round.now) ran self.new) }
     {
         structure_by_children();
@@ -93,13 +71,11 @@ impl Held {
         for (place, node) in round.iter().enumerate() {
             let at = *node as usize - 1;
             let children = self.take_lists(alloc, *node);
-            let marks = self.marks(alloc, columns + 1)?;
             jobs.push(Job {
                 place: place as u32,
                 first: firsts[at],
                 columns: supers[at].columns,
                 children,
-                marks,
             })?;
         }
         Ok(jobs)
@@ -113,14 +89,12 @@ impl Held {
         ensures inboxes { OnOk result (self.new.inboxes.items ≡ (if parent == 0 then self.old.inboxes.items
             else slice_set self.old.inboxes.items (parent - 1)
             (slice_index_or self.old.inboxes.items (parent - 1) [] ++ made.rest ∷ []))) }
-        ensures spare { OnOk result (self.new.spare.items ≡ self.old.spare.items ++ made.marks ∷ []) }
     {
-        let Made { rows, rest, marks } = made;
+        let Made { rows, rest } = made;
         self.rows[node as usize - 1] = rows;
         if parent != 0 {
             self.inboxes[parent as usize - 1].take_in(rest)?;
         }
-        self.spare.push(marks)?;
         Ok(())
     }
 

@@ -13,10 +13,10 @@
 
 mod front;
 mod fronts;
+mod gathering;
 mod held;
 pub mod laws;
 mod lists;
-mod marks;
 mod planning;
 mod refusal;
 mod rounds;

@@ -99,7 +99,7 @@ fn run_rounds<R: Threads + Sync, G: Gate>(
     let mut held = Held::new(alloc, supers.len())?;
     for list in rounds {
         let round = list.as_slice();
-        let jobs = held.jobs(alloc, supers, &firsts, perm.len() as usize, round)?;
+        let jobs = held.jobs(alloc, supers, &firsts, round)?;
         let made = make_fronts(rt, alloc, pattern, perm, jobs, gate)?;
         held.keep_all(supers, round, made)?;
     }

@@ -16,7 +16,7 @@ jobs_are : (g : _) (c : In_ok-jobs g)
     c.as_slice-round.result.now c.in_ok-jobs.jobs.items
 jobs_are g c =
     let f : Factor = record { joined = renumbered (is_joined c.args.pattern.now) c.args.perm.now; order = length c.args.perm.now; supers = c.args.supers.now } in
-    c.in_ok-jobs.ensures.jobs f (in_rounds c.args.rounds.now c.loop-list.list-index) c.requires.supers refl (sym c.len.ensures.value)
+    c.in_ok-jobs.ensures.jobs f (in_rounds c.args.rounds.now c.loop-list.list-index) c.requires.supers refl
     (round_due c.args.supers.now c.args.rounds.now c.loop-list.list-index c.as_slice-round.result.now c.requires.rounds (round_at g c))
     c.loop-list.invariant
 
@@ -26,7 +26,7 @@ held_then : (g : _) (c : In_ok-jobs g)
     (in_rounds c.args.rounds.now c.loop-list.list-index) c.jobs.new.self
 held_then g c =
     let f : Factor = record { joined = renumbered (is_joined c.args.pattern.now) c.args.perm.now; order = length c.args.perm.now; supers = c.args.supers.now } in
-    c.in_ok-jobs.ensures.held f (in_rounds c.args.rounds.now c.loop-list.list-index) refl (sym c.len.ensures.value) c.loop-list.invariant
+    c.in_ok-jobs.ensures.held f (in_rounds c.args.rounds.now c.loop-list.list-index) refl c.loop-list.invariant
 
 pub make_fronts-requires-clause-jobs : goal.make_fronts-requires-clause-jobs
 make_fronts-requires-clause-jobs g c = λ κs lives k d lt.

@@ -1,5 +1,4 @@
 use Rattle.std.proofs.Common.{◌≡◌, ℕ, ◌+◌, ◌-◌, ◌<◌, ◌≤◌, inl, inr, Bool, List, [], ◌∷◌, ◌++◌, length, get_or, set, take, ap, sym, subst, ◌∙◌, arith}
-use Rattle.std.specs.List.{All}
 use Rattle.std.proofs.lemmas.Bool.{cases_eq}
 use Rattle.std.proofs.lemmas.List.{length-set, length_push, get_or_append_left, get_or_push, take_all}
 use Rattle.assembly_tree.specs.Assembly.{IsSuper, super_at}
@@ -57,54 +56,50 @@ loop-place-preserved c =
     let place = c.loop-place.place in
     let node = get_or round place 0 in
     let old = c.loop-place.self in
-    let new = c.marks.new.self in
+    let new = c.take_lists-children.new.self in
     let super = node_of before in
     let there = has_at round place c.loop-place-test.true in
-    let rows : new.rows ≡ old.rows = c.in_ok-marks.ensures.rows ∙ c.take_lists-children.ensures.rows in
-    let inboxes : new.inboxes.items ≡ set old.inboxes.items (node - 1) [] =
-    ap (λ z. z.items) c.in_ok-marks.ensures.inboxes ∙ c.take_lists-children.ensures.inboxes in
+    let rows : new.rows ≡ old.rows = c.take_lists-children.ensures.rows in
+    let inboxes : new.inboxes.items ≡ set old.inboxes.items (node - 1) [] = c.take_lists-children.ensures.inboxes in
     record {
       long = ap (λ (z : List (List (List ℕ))). length z) inboxes ∙ length-set old.inboxes.items (node - 1) [] ∙ c.loop-place.invariant.long;
-      spare = c.in_ok-marks.ensures.spare;
       count = ap (λ (z : List Job). length z) c.in_ok-push.ensures.items ∙ length_push c.loop-place.jobs.items _
           ∙ ap (λ (n : ℕ). n + 1) c.loop-place.invariant.count;
-      held = λ f ran supers order is.
+      held = λ f ran supers is.
           held_taken f (or_in ran (take place round)) ran (or_in ran (take (place + 1) round)) node old new super.0 rows inboxes
-          (subst (λ n. All (λ marks. marks ≡ n + 1) new.spare.items) (sym order) c.in_ok-marks.ensures.spare)
-          (λ t. or_in_more ran round place t c.loop-place-test.true) (c.loop-place.invariant.held f ran supers order is);
-      made = λ f ran factor supers order due is i d lt. elim (cases_eq i place) [
+          (λ t. or_in_more ran round place t c.loop-place-test.true) (c.loop-place.invariant.held f ran supers is);
+      made = λ f ran factor supers due is i d lt. elim (cases_eq i place) [
         | inl e ↦ subst (λ z. IsJobOf f (get_or round z 0) (get_or c.push.new.self.items z d)) (sym e) (
             let own : IsSuper f.supers node = subst (λ z. IsSuper z node) (sym supers) super in
             let at = ap (λ (z : List Job). get_or z place d) c.in_ok-push.ensures.items
             ∙ get_or_push c.loop-place.jobs.items _ d place c.loop-place.invariant.count in
             subst (IsJobOf f node) (sym at) (job_is f factor (laws_of before f factor) (λ j. c.parent_is_first.ensures.parent f.joined f.order j)
-            (or_in ran (take place round)) ran old node _ (c.loop-place.invariant.held f ran supers order is) own
+            (or_in ran (take place round)) ran old node _ (c.loop-place.invariant.held f ran supers is) own
             (not_taken f.supers ran round place due c.loop-place-test.true there)
             (λ t child up. due.children node t there child up)
             (c.requires.firsts.each node super ∙ ap (λ z. first_of z node) (sym supers))
             (ap (λ z. (super_at z node).columns) (sym supers))
-            c.take_lists-children.ensures.lists
-            (c.in_ok-marks.ensures.marks ∙ ap (λ n. n + 1) (sym order)))
+            c.take_lists-children.ensures.lists)
             )
         | inr ne ↦ (
             let old_jobs = c.loop-place.jobs.items in
             let lt_jobs : i < length old_jobs = omega (arith, lt, ne, c.loop-place.invariant.count) in
             let same = ap (λ (z : List Job). get_or z i d) c.in_ok-push.ensures.items ∙ get_or_append_left old_jobs _ d i lt_jobs in
             subst (IsJobOf f (get_or round i 0)) (sym same)
-            (c.loop-place.invariant.made f ran factor supers order due is i d (omega (arith, lt, ne)))
+            (c.loop-place.invariant.made f ran factor supers due is i d (omega (arith, lt, ne)))
             )
       ];
     }
 
 pub returns-clause-jobs : goal.returns-clause-jobs
-returns-clause-jobs c = λ f ran factor supers order due is.
+returns-clause-jobs c = λ f ran factor supers due is.
     let end : c.loop-place.place ≡ length c.args.round.now = omega (arith, c.loop-place-test.false, c.loop-place.auto.place-end) in (
       c.loop-place.invariant.count ∙ end,
-      λ i d lt. c.loop-place.invariant.made f ran factor supers order due is i d (omega arith),
+      λ i d lt. c.loop-place.invariant.made f ran factor supers due is i d (omega arith),
     )
 
 pub returns-clause-held : goal.returns-clause-held
-returns-clause-held c = λ f ran supers order is.
+returns-clause-held c = λ f ran supers is.
     let end : take c.loop-place.place c.args.round.now ≡ c.args.round.now =
     take_all c.loop-place.place c.args.round.now c.loop-place-test.false in
-    subst (λ z. IsHeld f (or_in ran z) ran c.loop-place.self) end (c.loop-place.invariant.held f ran supers order is)
+    subst (λ z. IsHeld f (or_in ran z) ran c.loop-place.self) end (c.loop-place.invariant.held f ran supers is)

@@ -72,7 +72,7 @@ loop-next-preserved c =
           (subst (λ z. new.inboxes.items ≡ cond (eqb (super_at z s).parent 0) old.inboxes.items
           (set old.inboxes.items ((super_at z s).parent - 1)
           (get_or old.inboxes.items ((super_at z s).parent - 1) [] ++ c.in_ok-next.field-0.rest ∷ []))) (sym supers_is) inboxes)
-          c.in_ok-keep.ensures.spare is_made
+          is_made
           (λ t. or_in_before ran round k t lt ∙ ap (λ (n : ℕ). or_in ran (drop n round) t || eqb s t) next) before in
           subst (λ z. IsHeld f (or_in ran round) (or_in ran (drop z round)) new) at now;
     }
