@@ -83,12 +83,20 @@ const BY_ONE: &str =
         10 21 22 23 24 25\n11 12 13\n12 13 14 21\n13 14 19 21\n14 19 20 21 22\n15 16 17\n16 17 18 25\n17 18 19 25\n\
         18 19 20 24 25\n19 20 21 22 24 25\n20 21 22 23 24 25\n21 22 23 24 25\nend\n";
 
+// As many at once as 19 rows allow.
+const BY_TWO: &str =
+    "fronts 21\nrounds 16\nused 19\n1 5\n2\n3 6\n4 7\n8\n9\n10 11\n12\n13\n14 15\n16\n17\n18\n19\n20\n21\n\
+        1 2 3\n2 3 4 21\n3 4 9 21\n4 9 10 21 22\n5 6 7\n6 7 8 25\n7 8 9 25\n8 9 10 24 25\n9 10 21 22 24 25\n\
+        10 21 22 23 24 25\n11 12 13\n12 13 14 21\n13 14 19 21\n14 19 20 21 22\n15 16 17\n16 17 18 25\n17 18 19 25\n\
+        18 19 20 24 25\n19 20 21 22 24 25\n20 21 22 23 24 25\n21 22 23 24 25\nend\n";
+
 #[rattlefmt::skip]
 const GRID: &[Case] = &[
     (&["fronts --matrix m --perm p --bound 1000 --workers 4", "fronts --matrix m --perm p --bound 1000 --workers 4096"], GRIDS, Done,
         BY_FOUR),
     (&["fronts --matrix m --perm p --bound 1000 --workers 1", "fronts --matrix m --perm p --bound 19 --workers 1"], GRIDS, Done,
         BY_ONE),
+    (&["fronts --matrix m --perm p --bound 19 --workers 4096", "fronts --matrix m --perm p --bound 19 --workers 2"], GRIDS, Done, BY_TWO),
     (&["fronts --matrix m --perm p --bound 18 --workers 4"], GRIDS, Bound, "refused bound 18 19\n"),
 ];
 
