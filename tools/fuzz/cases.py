@@ -4,7 +4,7 @@ from collections.abc import Callable
 from pathlib import Path
 from typing import NamedTuple
 
-from bench import USAGE, Bench
+from bench import BOUND, USAGE, Bench
 from models import System, rows, system_of_tree, system_of_workflow
 from random_files import (
     changed,
@@ -145,6 +145,17 @@ def spill_options(draw: random.Random, bench: Bench, setting: Setting) -> Option
     return [*options, ("--bound", str(bound))]
 
 
+def fronts_options(draw: random.Random, bench: Bench, setting: Setting) -> Options:
+    if draw.random() < 0.95:
+        setting.options[:] = [option for option in setting.options if option[0] in ("--matrix", "--perm", "--ordering")]
+    bench.put(setting.files)
+    # a bound of 0 is below every peak, which is told
+    told = bench.run(["fronts", *(f"{name}={value}" for name, value in setting.options), "--bound=0", "--workers=1"])
+    peak = int(told.report.split()[3]) if told.status == BOUND else 10
+    bound = draw.choice([peak - 1, peak, peak, peak + 1, peak + draw.randrange(peak + 1), 2 * peak, 2**64 - 1])
+    return [("--bound", str(bound)), ("--workers", draw.choice(["1", "2", "3", "4096"]))]
+
+
 def check_options(draw: random.Random, bench: Bench, setting: Setting) -> Options:
     setting.files["p"] = plan_text(draw, bench, setting)
     return [("--plan", "p")] + ([("--workers", draw.choice(["1", "2", "3", "13", "4096"]))] if draw.random() < 0.5 else [])
@@ -193,6 +204,7 @@ COMMANDS = {
     "check": Command(ALL_INPUTS, check_options),
     "simulate": Command(ALL_INPUTS, simulate_options),
     "spill": Command(ALL_INPUTS, spill_options),
+    "fronts": Command(("matrix",), fronts_options),
     "tree": Command(("matrix",), no_options),
     "post": Command(("tree", "tree", "matrix"), no_options),
     "demo": Command((), demo_options),
@@ -200,7 +212,7 @@ COMMANDS = {
 }
 
 # Words of commands that the program may not know yet: it is then not asked for them.
-PROBES = {"upgrade": ["upgrade", "--tree=t"]}
+PROBES = {"upgrade": ["upgrade", "--tree=t"], "fronts": ["fronts", "--matrix=m", "--bound=0", "--workers=1"]}
 
 
 def known_commands(bench: Bench) -> list[str]:

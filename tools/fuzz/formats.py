@@ -349,6 +349,9 @@ def refusal_of(read: Callable[[], int]) -> tuple[int, Optional[str]]:
 
 MATRIX_OPTIONS = {"perm", "ordering", "shape", "amalgamate", "inplace"}
 
+# Commands whose matrix takes no more options than they list.
+WITHOUT_FRONT_OPTIONS = {"fronts"}
+
 # The inputs of each command, the options that it must have, one of each group, and those that it may have.
 COMMANDS: dict[str, tuple[set[str], list[set[str]], set[str]]] = {
     "replay": ({"tree", "workflow", "matrix"}, [{"order", "plan"}], set()),
@@ -356,6 +359,7 @@ COMMANDS: dict[str, tuple[set[str], list[set[str]], set[str]]] = {
     "check": ({"tree", "workflow", "matrix"}, [{"plan"}], {"workers"}),
     "simulate": ({"tree", "workflow", "matrix"}, [{"order", "plan"}, {"bound"}, {"workers"}], {"priority"}),
     "spill": ({"tree", "workflow", "matrix"}, [{"order", "plan"}, {"bound"}], set()),
+    "fronts": ({"matrix"}, [{"bound"}, {"workers"}], {"perm", "ordering"}),
     "tree": ({"matrix"}, [], set()),
     "post": ({"tree", "matrix"}, [], set()),
     "demo": (set(), [], {"kind", "seed", "tasks", "rows", "cols"}),
@@ -388,7 +392,8 @@ def request_of(words: list[str]) -> Optional[dict[str, str]]:
         return None
     inputs, needed, further = COMMANDS[words[0]]
     names = set(options)
-    allowed = inputs.union(*needed, further, MATRIX_OPTIONS if "matrix" in names else ())
+    of_matrix = MATRIX_OPTIONS if "matrix" in names and words[0] not in WITHOUT_FRONT_OPTIONS else set()
+    allowed = inputs.union(*needed, further, of_matrix)
     groups = ([inputs] if inputs else []) + needed
     if names - allowed or any(len(names & group) != 1 for group in groups) or {"perm", "ordering"} <= names:
         return None

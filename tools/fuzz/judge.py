@@ -28,6 +28,8 @@ from cases import Case
 from models import (
     Simulation,
     System,
+    columns_of,
+    fronts_report,
     numbers,
     objection,
     plan_of,
@@ -106,7 +108,7 @@ class Judge:
             return any(re.fullmatch(f"refused {form} {file} ({'|'.join(table[file].split())}){tail}\n", self.text) for file in files)
         order = f"no order {count} (unknown|repeated|too-early|missing)"
         if self.ending.status == BOUND:
-            return self.words[0] == "simulate" and bool(re.fullmatch(f"refused bound {count} {count}\n", self.text))
+            return self.words[0] in ("simulate", "fronts") and bool(re.fullmatch(f"refused bound {count} {count}\n", self.text))
         if self.ending.status == WORKING_SET:
             return self.words[0] == "spill" and bool(re.fullmatch(f"refused working-set {count} {count} {count}\n", self.text))
         claim = f"no peak {count} {count}|no root {count}|no claim {count} (data|series|par|outside)"
@@ -194,6 +196,11 @@ class Judge:
         yield from self.expect(f"volume {volume}\nitems {len(told)}\n{''.join(told)}end\n")
         if sum(amounts.values()) != volume or not system.is_spill_plan(order, bound, amounts):
             yield "the amounts are no spill plan of this volume"
+
+    def fronts_ends(self) -> Iterator[str]:
+        order = numbers(self.file("perm")) if "perm" in self.options else None
+        columns = columns_of(self.file("matrix"), order, self.options.get("ordering") == "mindeg")
+        yield from self.expect(fronts_report(columns, int(self.options["bound"]), int(self.options["workers"])))
 
     def plan_ends(self) -> Iterator[str]:
         words, text = input_words(self.options), self.ending.report

@@ -1,5 +1,6 @@
 """Plain models of what memplan computes: systems, their peaks, simulated runs; and the values of files that were accepted."""
 import re
+from collections import Counter
 from collections.abc import Iterator
 from typing import NamedTuple, Optional
 
@@ -219,6 +220,78 @@ def system_of_workflow(text: bytes) -> System:
             joined = ([item for part in parts for item in part[side]] for side in (0, 1))
             stack[-values[0] :] = [tuple(joined)]
     return System(tasks, items)
+
+
+# ---- the rows of fronts
+
+
+def columns_of(text: bytes, order: Optional[list[int]], is_mindeg: bool) -> list[list[int]]:
+    """The structures of a matrix's columns along the postorder of their elimination tree, eliminated in an order, or by number or degree."""
+    size, *entries = [[int(token) for token in tokens[:2]] for tokens in rows(text)]
+    joined: dict[int, set[int]] = {vertex: set() for vertex in range(1, size[0] + 1)}
+    for one, two in entries:
+        joined[one].add(two)
+        joined[two].add(one)
+    later: dict[int, set[int]] = {}
+    for turn in range(size[0]):
+        degrees = ((len(near - {vertex}), vertex) for vertex, near in joined.items())
+        vertex = order[turn] if order else min(degrees)[1] if is_mindeg else turn + 1
+        later[vertex] = joined.pop(vertex) - {vertex}
+        for near in later[vertex]:
+            joined[near] = (joined[near] | later[vertex]) - {vertex}
+    numbers_by = {vertex: number for number, vertex in enumerate(postorder_of(later), 1)}
+    return [sorted(numbers_by[row] for row in {vertex} | later[vertex]) for vertex in numbers_by]
+
+
+def postorder_of(later: dict[int, set[int]]) -> list[int]:
+    """The vertices along the postorder of their elimination tree, where they stand in the order of their elimination."""
+    place = {vertex: turn for turn, vertex in enumerate(later)}
+    below: dict[Optional[int], list[int]] = {None: [], **{vertex: [] for vertex in later}}
+    for vertex, rest in later.items():
+        below[min(rest, key=place.__getitem__, default=None)].append(vertex)
+    post: list[int] = []
+    left = [*below[None]]
+    while left:
+        # each vertex before those below it, the last child first
+        post.append(left.pop())
+        left += below[post[-1]]
+    return post[::-1]
+
+
+def supernodes_of(columns: list[list[int]]) -> list[list[int]]:
+    """The runs of columns of which each is the only child of the next and has one row more."""
+    parents = [rows_of[1] if len(rows_of) > 1 else 0 for rows_of in columns]
+    children = Counter(parents)
+    supers: list[list[int]] = []
+    for column, rows_of in enumerate(columns, 1):
+        before = columns[column - 2]
+        if column > 1 and parents[column - 2] == column and children[column] == 1 and len(before) == len(rows_of) + 1:
+            supers[-1].append(column)
+        else:
+            supers.append([column])
+    return supers
+
+
+def fronts_report(columns: list[list[int]], bound: int, workers: int) -> str:
+    """What `fronts` prints of a factor with these columns."""
+    supers = supernodes_of(columns)
+    home = {column: number for number, run in enumerate(supers) for column in run}
+    items: list[list] = []
+    for number, run in enumerate(supers):
+        parent = columns[run[-1] - 1][1:2]
+        items.append([len(columns[run[0] - 1]) - len(run), number, home[parent[0]] if parent else None])
+    system, order = System([(len(run), 0, 1) for run in supers], items), list(range(1, len(supers) + 1))
+    if system.peak(order) > bound:
+        return f"refused bound {bound} {system.peak(order)}\n"
+    simulation = Simulation(system, order, order, bound, workers)
+    simulation.report()
+    rounds: dict[str, list[str]] = {}
+    for time, word, number in (event.split() for event in simulation.events):
+        if word == "start":
+            rounds.setdefault(time, []).append(number)
+    lists = [*rounds.values(), *([str(row) for row in columns[run[0] - 1]] for run in supers)]
+    head = f"fronts {len(supers)}\nrounds {len(rounds)}\nused {simulation.most_used}\n"
+    return head + "".join(" ".join(line) + "\n" for line in lists) + "end\n"
 
 
 class Plan(NamedTuple):

@@ -7,11 +7,13 @@ use Rattle.mp_system.specs.System.{TaskSystem}
 use Rattle.sp_terms.specs.declared.position.Position.{Position}
 use Rattle.sp_terms.specs.Values.{term_of}
 use Rattle.tree_input.specs.declared.node.Node.{Node}
-use Rattle.memplan.specs.Files.{Answer, HasValue, IsMatrixFile, CanBeOrdered, IsOrderOf, IsOrderFrom, IsMatrixTree, IsTreeOf, IsSystemOf, IsSystemWithTerm, IsFirstRefusal, AreAccepted}
+use Rattle.memplan.specs.Files.{Answer, HasValue, IsMatrixFile, CanBeOrdered, IsOrderOf, IsOrderedMatrix, IsOrderFrom, IsMatrixTree, IsTreeOf, IsSystemOf, IsSystemWithTerm, IsFirstRefusal, AreAccepted}
 use Rattle.memplan.specs.Clauses.{AreTold, HasFailed}
-use Rattle.memplan.specs.Judged.{IsStop, IsRefusedOrder, IsProblemOf, IsOrderRead, IsOrderedOf, IsRefusedSource, order_tasks}
+use Rattle.memplan.specs.Judged.{IsStop, IsRefusedOrder, IsMatrixRead, IsProblemOf, IsOrderRead, IsOrderedOf, IsRefusedSource, order_tasks}
 use Rattle.memplan.specs.declared.inputs.Order.{Order}
-use Rattle.memplan.specs.Request.{Ordering, natural, min_degree, perm_named, Matrix, TreeInput, tree_named, matrix_named, Input, tree_input, workflow_named, NamedFile, OrderSource, order_named, plan_named, matrix_file, ordering_files, matrix_files, tree_input_files, input_files, source_file}
+use Rattle.memplan.specs.declared.inputs.OrderedPattern.{OrderedPattern}
+use Rattle.symbolic.specs.FrontTree.{IsFrontTree}
+use Rattle.memplan.specs.Request.{Ordering, natural, min_degree, perm_named, OrderedMatrix, Matrix, TreeInput, tree_named, matrix_named, Input, tree_input, workflow_named, NamedFile, OrderSource, order_named, plan_named, matrix_file, ordering_files, ordered_matrix_files, matrix_files, tree_input_files, input_files, source_file}
 use Rattle.memplan.specs.Pages.{answer_of}
 use Rattle.memplan.specs.declared.stop.Stop.{Stop}
 use Rattle.memplan.specs.declared.stop.Stop.TheVariants as stops
@@ -70,6 +72,18 @@ order_accepted min_degree matrix rows texts order is is_order = tt
 order_accepted (perm_named name) matrix rows [] order is is_order = absurd is_order
 order_accepted (perm_named name) matrix rows (text ∷ []) order is is_order = ((rows, order, is, is_order), tt)
 order_accepted (perm_named name) matrix rows (text ∷ more ∷ texts) order is is_order = absurd is_order
+
+pub ordered_accepted : (m : OrderedMatrix) (texts rows : List (List ℕ)) (order : List ℕ) → IsOrderedMatrix m.ordering texts rows order
+    → AreAccepted (ordered_matrix_files m) [] texts
+ordered_accepted m [] rows order is = absurd is
+ordered_accepted m (text ∷ texts) rows order (matrix, is_order) =
+    ((rows, matrix, can_be_ordered m.ordering rows texts order is_order), order_accepted m.ordering text rows texts order matrix is_order)
+
+-- what was read, with its tree of fronts
+pub matrix_tree : (m : Matrix) (texts : List (List ℕ)) (read : OrderedPattern) (nodes : List Node) → IsMatrixRead m.ordering texts read
+    → IsFrontTree m.fronts read.pattern read.order nodes → IsMatrixTree m texts nodes
+matrix_tree m [] read nodes is tree = absurd is
+matrix_tree m (text ∷ texts) read nodes is tree = (read.pattern, read.order, is.0, is.1, tree)
 
 pub matrix_accepted : (m : Matrix) (texts : List (List ℕ)) (nodes : List Node) → IsMatrixTree m texts nodes → AreAccepted (matrix_files m) [] texts
 matrix_accepted m [] nodes is = absurd is

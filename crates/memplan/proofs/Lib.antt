@@ -13,5 +13,6 @@ pub mod UpgradeLemmas
 pub mod SpillLemmas
 pub mod StairPages
 pub mod StairsLemmas
+pub mod FrontLemmas
 pub mod OneReport
 pub mod SoundAnswer

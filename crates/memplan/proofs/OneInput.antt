@@ -21,7 +21,7 @@ use Rattle.tree_input.specs.Forest.{Forest, IsForestOf, all_numbers}
 use Rattle.tree_input.specs.Tree.{IsTree, system_of_nodes}
 use Rattle.tree_input.specs.TreeFile.{ReadsTree}
 use Rattle.tree_input.specs.TreeTerm.{forest_positions}
-use Rattle.memplan.specs.Files.{IsOrderOf, IsMatrixTree, IsTreeOf, IsSystemOf, IsSystemWithTerm}
+use Rattle.memplan.specs.Files.{IsOrderOf, IsMatrixTree, IsTreeOf, IsSystemOf, IsSystemWithTerm, IsOrderedMatrix}
 use Rattle.memplan.specs.Judged.{AreWithin}
 use Rattle.memplan.specs.Segments.{IsNumberedTerm, node_positions}
 use Rattle.memplan.proofs.NumberLemmas.{forest_within, range_within}
@@ -72,6 +72,14 @@ module _ (p : Parts) where
   one_order (perm_named name) rows [] a b is other = absurd is
   one_order (perm_named name) rows (t ∷ []) a b is other = (p.perms (length rows) t a b is.1 other.1, (p.perm (length rows) t a is.1).len, refl)
   one_order (perm_named name) rows (t ∷ u ∷ ts) a b is other = absurd is
+
+  pub one_matrix : (o : Ordering) (texts rows other : List (List ℕ)) (order same : List ℕ) → IsOrderedMatrix o texts rows order
+      → IsOrderedMatrix o texts other same → (rows ≡ other) × (order ≡ same) × IsPattern rows × (length order ≡ length rows)
+  one_matrix o [] rows other order same is is' = absurd is
+  one_matrix o (t ∷ ts) rows other order same (matrix, is_order) (matrix', is_order') =
+      let one = p.patterns t rows other matrix.1 matrix'.1 in
+      let orders = one_order o rows ts order same is_order (subst (λ (r : List (List ℕ)). IsOrderOf o r ts same) (sym one) is_order') in
+      (one, orders.0, matrix.1.pattern.pattern, orders.1)
 
   one_matrix_tree : (m : Matrix) (texts : List (List ℕ)) (a b : List Node) → IsMatrixTree m texts a → IsMatrixTree m texts b
       → (a ≡ b) × IsTree a × (length texts ≡ length (matrix_files m))

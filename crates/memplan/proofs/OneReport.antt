@@ -24,16 +24,17 @@ use Rattle.memplan.specs.Commands.{IsReport, IsDecided}
 use Rattle.memplan.specs.Check.{IsCheckOf, verdict_answer}
 use Rattle.memplan.specs.Files.{Answer, AreAccepted, HasValue, IsRefused, IsFirstRefusal, IsOrderFrom, IsTreeOf, IsSystemOf, IsSystemWithTerm, order_refused}
 use Rattle.memplan.specs.Demo.{IsDemoOf}
+use Rattle.memplan.specs.Fronts.{IsFrontsOf}
 use Rattle.memplan.specs.Post.{IsPost, post_answer}
 use Rattle.memplan.specs.Replay.{IsReplayAnswer, IsReplayOf}
-use Rattle.memplan.specs.Request.{Request, replay, tree, post, check, planning, simulate, demo, upgrade, spill, segments, Upgrade, IsInRange, IsMakeable, TreeInput, matrix_named, Input, OrderSource, order_named, plan_named, PlanFormat, Simulation, FileRole, NamedFile, tree_input_files, input_files, source_file, priority_file, priority_files, files_of}
+use Rattle.memplan.specs.Request.{Request, replay, tree, post, check, planning, simulate, demo, upgrade, spill, segments, Upgrade, IsInRange, IsMakeable, TreeInput, matrix_named, Input, OrderSource, order_named, plan_named, PlanFormat, Simulation, FileRole, NamedFile, tree_input_files, input_files, source_file, priority_file, priority_files, files_of, fronts, OrderedMatrix}
 use Rattle.memplan.specs.Simulate.{IsOwnPriority, IsPriorityFrom, IsSimulation, IsSimulationOf, priority_or, setting_of, simulation_answer}
 use Rattle.memplan.specs.Tree.{tree_answer}
 use Rattle.memplan.specs.Judged.{AreWithin}
 use Rattle.memplan.specs.Segments.{IsNumberedTerm}
 use Rattle.memplan.specs.Upgrade.{Versioned, IsUpgradedFrom}
 use Rattle.memplan.specs.declared.commands.demo.Demo.{Demo}
-use Rattle.memplan.proofs.InputLemmas.{matrix_accepted, tree_accepted, input_accepted, source_accepted, work_has_system}
+use Rattle.memplan.proofs.InputLemmas.{ordered_accepted, matrix_accepted, tree_accepted, input_accepted, source_accepted, work_has_system}
 use Rattle.memplan.proofs.OneInput.{Systems, same_texts}
 use Rattle.memplan.proofs.UpgradeLemmas.{upgrade_accepted, one_upgrade_answer}
 use Rattle.memplan.proofs.StairsLemmas.{one_segments, numbered_accepted}
@@ -56,6 +57,8 @@ pub record Reports : Type 0 where
   pub verdict : (system : TaskSystem) (ps : List Position) (plan : PlanText) (a b : Verdict) → IsVerdict system ps plan a → IsVerdict system ps plan b → a ≡ b
   pub schedule : (c : Setting) → IsSetting c → (priority : List ℕ) → HoldsEach c.system priority → (a b : List Event) → IsSchedule c priority (first_moment c) a → IsSchedule c priority (first_moment c) b → a ≡ b
   pub demos : (made : Demo) (a b : Answer) → IsMakeable made → IsDemoOf made a → IsDemoOf made b → a ≡ b
+  pub fronts : (m : OrderedMatrix) (bound workers : ℕ) (texts : List (List ℕ)) (a b : Answer) → 1 ≤ workers → IsFrontsOf m bound workers texts a
+      → IsFrontsOf m bound workers texts b → a ≡ b
   pub upgrades : (u : Upgrade) (texts : List (List ℕ)) (a b : Versioned) → IsUpgradedFrom u texts a → IsUpgradedFrom u texts b → a ≡ b
   pub numbered : (input : Input) (texts : List (List ℕ)) (ps qs : List Position) (ks ls : List ℕ) → IsNumberedTerm input texts ps ks → IsNumberedTerm input texts qs ls → (ps ≡ qs) × (ks ≡ ls) × AreWithin (length ps) ks
   pub stairs : OneStairs
@@ -165,6 +168,7 @@ module _ (r : Reports) where
   one_report (upgrade u) texts a b within decided is is' = one_upgrade_answer r.upgrades u texts a b is is'
   one_report (spill input source bound) texts a b within decided is is' = absurd decided
   one_report (segments input) texts a b within decided is is' = one_segments r.numbered r.stairs input texts a b is is'
+  one_report (fronts m bound workers) texts a b within decided is is' = r.fronts m bound workers texts a b within.0 is is'
 
   -- ---- files that have values
 
@@ -205,6 +209,7 @@ module _ (r : Reports) where
   report_accepted (spill input source bound) texts a (mine, text, s, order, split, is_system, is_order, is) =
       with_input input (source_file source ∷ []) texts mine (text ∷ []) s split is_system (source_accepted source mine text order is_order, tt)
   report_accepted (segments input) texts a (ps, numbered, is, answer) = numbered_accepted input texts ps numbered is
+  report_accepted (fronts m bound workers) texts a (rows, order, is, made) = ordered_accepted m texts rows order is
 
 -- ---- refusals in turn
 

@@ -55,6 +55,11 @@ abbrev pub order_refused : ℕ → OrderKind → Answer
 order_refused place kind =
     record { status = status.No; text = line_text (codes "no" ∷ codes "order" ∷ decimal place ∷ order_word kind ∷ []) }
 
+-- `refused bound BOUND PEAK`
+abbrev pub bound_refused : ℕ → ℕ → Answer
+bound_refused bound peak =
+    record { status = status.Bound; text = line_text (codes "refused" ∷ codes "bound" ∷ decimal bound ∷ decimal peak ∷ []) }
+
 -- the line of a refusal of a file; with the word for the file, and the words for its kinds
 abbrev pub IsRefusedAs : {K : Type 0} → List ℕ → (K → List ℕ) → Refusal K → Answer → Type 0
 IsRefusedAs file word (refusals.Format fault) answer = answer ≡ format_refused file (word fault.kind) fault.line
@@ -105,6 +110,11 @@ IsOrderOf min_degree rows (text ∷ texts) order = ⊥
 IsOrderOf (perm_named name) rows [] order = ⊥
 IsOrderOf (perm_named name) rows (text ∷ []) order = IsPermFile (length rows) text order
 IsOrderOf (perm_named name) rows (text ∷ more ∷ texts) order = ⊥
+
+-- the rows of a matrix, and the order in which they are eliminated, over the texts of its files
+abbrev pub IsOrderedMatrix : Ordering → List (List ℕ) → List (List ℕ) → List ℕ → Type 0
+IsOrderedMatrix ordering [] rows order = ⊥
+IsOrderedMatrix ordering (text ∷ texts) rows order = IsMatrixFile text rows × IsOrderOf ordering rows texts order
 
 -- the tree of a matrix, over the texts of its files
 abbrev pub IsMatrixTree : Matrix → List (List ℕ) → List Node → Type 0

@@ -13,7 +13,7 @@ use Rattle.ordering.specs.PermFile.{RefusesPerm}
 use Rattle.sp_terms.specs.Postfix.{Denotes}
 use Rattle.sp_terms.specs.Values.{term_of}
 use Rattle.memplan.specs.Commands.{IsReport}
-use Rattle.memplan.specs.Files.{limit_refused, Answer, IsRefused, IsRefusedAs, IsRefusedFile, IsFirstRefusal, IsOrderFrom, IsPermFile, IsTreeOf, IsWorkflowFile, AreAccepted}
+use Rattle.memplan.specs.Files.{limit_refused, Answer, IsRefused, IsRefusedAs, IsRefusedFile, IsFirstRefusal, IsOrderFrom, IsOrderedMatrix, IsPermFile, IsTreeOf, IsWorkflowFile, AreAccepted}
 use Rattle.memplan.specs.Simulate.{IsOwnPriority, priority_or}
 use Rattle.memplan.specs.Segments.{IsNumberedTerm}
 use Rattle.memplan.specs.Clauses.{AreTold, HasFailed}
@@ -26,6 +26,7 @@ use Rattle.memplan.specs.declared.inputs.Order.{Order}
 use Rattle.memplan.specs.declared.inputs.Order.TheVariants as orders
 use Rattle.memplan.specs.declared.inputs.Priority.{Priority}
 use Rattle.memplan.specs.declared.inputs.Priority.TheVariants as priorities
+use Rattle.memplan.specs.declared.inputs.OrderedPattern.{OrderedPattern}
 use Rattle.memplan.specs.declared.inputs.OrderedProblem.{OrderedProblem}
 use Rattle.memplan.specs.declared.numbered.NumberedTerm.{NumberedTerm}
 use Rattle.memplan.specs.declared.page.Page.{Page}
@@ -95,6 +96,10 @@ IsRefusedOrder min_degree rows texts answer =
 IsRefusedOrder (perm_named name) rows [] answer = ⊥
 IsRefusedOrder (perm_named name) rows (text ∷ texts) answer =
     IsRefusedFile (codes "perm") perm_word (RefusesPerm (length rows) text) text answer
+
+-- the pattern of a matrix, and the order in which its rows are eliminated
+abbrev pub IsMatrixRead : Ordering → List (List ℕ) → OrderedPattern → Type 0
+IsMatrixRead ordering texts read = IsOrderedMatrix ordering texts read.pattern read.order
 
 -- what an input is read as
 abbrev pub IsProblemOf : Input → List (List ℕ) → Origin → Type 0

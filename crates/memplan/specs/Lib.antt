@@ -13,6 +13,7 @@ pub mod Demo
 pub mod Upgrade
 pub mod Spill
 pub mod Segments
+pub mod Fronts
 pub mod Commands
 pub mod Clauses
 pub mod Pages

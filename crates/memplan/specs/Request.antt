@@ -27,6 +27,11 @@ pub record Matrix : Type 0 where
   pub ordering : Ordering
   pub fronts : FrontOptions
 
+-- a matrix, by the name of its file, and in which order its rows are eliminated
+pub record OrderedMatrix : Type 0 where
+  pub name : List ℕ
+  pub ordering : Ordering
+
 -- what becomes a tree
 pub data TreeInput : Type 0 where
   tree_named : List ℕ → TreeInput
@@ -83,6 +88,8 @@ pub data Request : Type 0 where
   spill : Input → OrderSource → ℕ → Request
   -- how low memory can come in each subtree of a tree, or at each position of a workflow
   segments : Input → Request
+  -- the rows of every front of a matrix, made within a bound on the rows that are held, by so many workers
+  fronts : OrderedMatrix → ℕ → ℕ → Request
 
 -- ---- the options of a matrix
 
@@ -193,6 +200,7 @@ abbrev pub IsInRange : Request → Type 0
 IsInRange (check input plan workers) = AreWorkers workers
 IsInRange (simulate input source s) = AreWorkers s.workers
 IsInRange (demo made) = IsMakeable made
+IsInRange (fronts m bound workers) = AreWorkers workers
 IsInRange request = Unit {0}
 
 abbrev pub format_of : Bool → PlanFormat
@@ -223,8 +231,11 @@ ordering_files natural = []
 ordering_files min_degree = []
 ordering_files (perm_named name) = record { role = perm_file; name = name } ∷ []
 
+abbrev pub ordered_matrix_files : OrderedMatrix → List NamedFile
+ordered_matrix_files m = record { role = matrix_file m.ordering; name = m.name } ∷ ordering_files m.ordering
+
 abbrev pub matrix_files : Matrix → List NamedFile
-matrix_files m = record { role = matrix_file m.ordering; name = m.name } ∷ ordering_files m.ordering
+matrix_files m = ordered_matrix_files (record { name = m.name; ordering = m.ordering })
 
 abbrev pub tree_input_files : TreeInput → List NamedFile
 tree_input_files (tree_named name) = record { role = tree_file; name = name } ∷ []
@@ -260,3 +271,4 @@ files_of (demo made) = []
 files_of (upgrade u) = upgrade_files u
 files_of (spill input source bound) = input_files input ++ source_file source ∷ []
 files_of (segments input) = input_files input
+files_of (fronts m bound workers) = ordered_matrix_files m

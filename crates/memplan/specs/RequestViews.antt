@@ -6,6 +6,7 @@ use Rattle.memplan.specs.declared.request.Input.TheVariants as inputs
 use Rattle.memplan.specs.declared.request.Matrix.{Matrix}
 use Rattle.memplan.specs.declared.request.Ordering.{Ordering}
 use Rattle.memplan.specs.declared.request.Ordering.TheVariants as orderings
+use Rattle.memplan.specs.declared.request.OrderedMatrix.{OrderedMatrix}
 use Rattle.memplan.specs.declared.request.OrderSource.{OrderSource}
 use Rattle.memplan.specs.declared.request.OrderSource.TheVariants as sources
 use Rattle.memplan.specs.declared.request.PlanFormat.{PlanFormat}
@@ -25,6 +26,9 @@ ordering_view (orderings.Perm name) = requests.perm_named name.now
 
 abbrev pub matrix_view : Matrix → requests.Matrix
 matrix_view m = record { name = m.name.now; ordering = ordering_view m.ordering; fronts = m.fronts }
+
+abbrev pub ordered_matrix_view : OrderedMatrix → requests.OrderedMatrix
+ordered_matrix_view m = record { name = m.name.now; ordering = ordering_view m.ordering }
 
 abbrev pub tree_input_view : TreeInput → requests.TreeInput
 tree_input_view (trees.Tree name) = requests.tree_named name.now
@@ -61,3 +65,4 @@ request_view (commands.Demo made) = requests.demo made
 request_view (commands.Upgrade u) = requests.upgrade (upgrade_view u)
 request_view (commands.Spill s) = requests.spill (input_view s.input) (source_view s.source) s.bound
 request_view (commands.Segments input) = requests.segments (input_view input)
+request_view (commands.Fronts run) = requests.fronts (ordered_matrix_view run.matrix) run.bound run.workers

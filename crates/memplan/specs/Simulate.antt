@@ -1,7 +1,7 @@
 -- `simulate`: the run of an order on several workers within a bound; what is printed speaks of the input, the order and the
 -- run alone, whatever the priority.
 use Rattle.std.specs.Prelude.{◌≡◌, ℕ, ◌<◌, ◌≤◌, List, [], ◌∷◌, ◌++◌, length, map, Option, Some, None, option_map, option_and_then, codes, decimal, ◌⊎◌}
-use Rattle.mp_text.specs.Report.{line_text, text_of_lines}
+use Rattle.mp_text.specs.Report.{text_of_lines}
 use Rattle.mp_system.specs.declared.system.OrderKind.{OrderKind}
 use Rattle.mp_system.specs.System.{TaskSystem}
 use Rattle.mp_system.specs.Memory.{peak_of}
@@ -17,7 +17,7 @@ use Rattle.memplan.specs.declared.status.Status.TheVariants as status
 use Rattle.activation.specs.Runs.{AreLegal, state_after_all, IsWithinBound, EachOnce}
 use Rattle.activation.specs.declared.events.EventKind.{EventKind}
 use Rattle.activation.specs.declared.events.EventKind.TheVariants.{Activate, Start, Finish}
-use Rattle.memplan.specs.Files.{IsSystemOf, order_refused, Answer, IsPermFile, IsPlanFile, IsOrderFrom}
+use Rattle.memplan.specs.Files.{IsSystemOf, order_refused, bound_refused, Answer, IsPermFile, IsPlanFile, IsOrderFrom}
 
 -- `simulate`, one input, `--order NAME` or `--plan NAME`, `--bound B` and `--workers N`, and `--priority NAME` if it is given
 abbrev pub simulate_of : List Given → Option Request
@@ -57,11 +57,6 @@ report_lines makespan used booked events =
 -- the moment of the last event, and the greatest used and the greatest booked memory over all states of the run
 abbrev pub trace_lines : Setting → List Event → List (List (List ℕ))
 trace_lines c events = report_lines (last_time 0 events) (most_used c (start_state c) events) (most_booked c (start_state c) events) events
-
--- `refused bound BOUND PEAK`
-abbrev pub bound_refused : ℕ → ℕ → Answer
-bound_refused bound peak =
-    record { status = status.Bound; text = line_text (codes "refused" ∷ codes "bound" ∷ decimal bound ∷ decimal peak ∷ []) }
 
 -- the priority of a plan that has one, else the order
 abbrev pub priority_or : List ℕ → List ℕ → List ℕ

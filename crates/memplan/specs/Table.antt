@@ -31,4 +31,5 @@ commands =
     ∷ record { name = codes "upgrade"; options = codes "tree" ∷ codes "workflow" ∷ codes "plan" ∷ codes "priority" ∷ [] }
     ∷ record { name = codes "spill"; options = codes "order" ∷ codes "plan" ∷ codes "bound" ∷ input_names }
     ∷ record { name = codes "segments"; options = input_names }
+    ∷ record { name = codes "fronts"; options = codes "bound" ∷ codes "workers" ∷ codes "matrix" ∷ codes "perm" ∷ codes "ordering" ∷ [] }
     ∷ []

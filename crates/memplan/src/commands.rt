@@ -2,6 +2,7 @@
 
 pub mod check;
 pub mod demo;
+pub mod fronts;
 pub mod plan;
 pub mod post;
 pub mod replay;
@@ -27,7 +28,7 @@ use std::thread::Threads;
 
 // Each command, with the names of its options.
 #[rattlefmt::skip]
-static COMMANDS: [Shape; 10] = [
+static COMMANDS: [Shape; 11] = [
     Shape {
         name: "replay",
         options: &["order", "plan", "workflow", "tree", "matrix", "perm", "ordering", "shape", "amalgamate", "inplace"],
@@ -71,6 +72,10 @@ static COMMANDS: [Shape; 10] = [
         name: "segments",
         options: &["workflow", "tree", "matrix", "perm", "ordering", "shape", "amalgamate", "inplace"],
     },
+    Shape {
+        name: "fronts",
+        options: &["bound", "workers", "matrix", "perm", "ordering"],
+    },
 ];
 
 fn command_of<'a>(line: &Line<'a>) -> Option<Request<'a>>
@@ -88,6 +93,7 @@ fn command_of<'a>(line: &Line<'a>) -> Option<Request<'a>>
         "upgrade" => upgrade::upgrade_of(line),
         "spill" => spill::spill_of(line),
         "segments" => segments::segments_of(line),
+        "fronts" => fronts::fronts_of(line),
         _ => None,
     }
 }
@@ -103,7 +109,8 @@ pub fn request_of(alloc: Global, words: &[String]) -> Result<Option<Request<'_>>
     Ok(command_of(&line))
 }
 
-/// The page of the report that a request asks for. `rt` and `gate` are for the threads of the checker.
+/// The page of the report that a request asks for. `rt` and `gate` are for the threads of the checker
+/// and of the fronts.
 pub fn report<R: Threads + Sync, F: Files, G: Gate>(
     rt: &R,
     alloc: Global,
@@ -127,5 +134,6 @@ pub fn report<R: Threads + Sync, F: Files, G: Gate>(
         Request::Upgrade(asked) => upgrade::report_upgrade(alloc, files, asked),
         Request::Spill(asked) => spill::report_spill(alloc, files, asked),
         Request::Segments(input) => segments::report_segments(alloc, files, input),
+        Request::Fronts(asked) => fronts::report_fronts(rt, alloc, files, asked, gate),
     }
 }

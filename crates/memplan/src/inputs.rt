@@ -8,15 +8,15 @@ ghost use Rattle.mp_system.specs.Traversal.{IsTraversal};
 ghost use Rattle.plan_text.specs.Plan.{IsPlan};
 ghost use Rattle.memplan.specs.Files.{IsOrderOf, IsMatrixTree, IsTreeOf, IsFirstRefusal};
 ghost use Rattle.memplan.specs.Simulate.{priority_or};
-ghost use Rattle.memplan.specs.Judged.{AreJudged, IsRefusingPage, IsRefusedOrder, IsProblemOf, IsOrderedOf, IsOrderRead, IsRefusedSource, IsPriorityOf, IsRefusedRanking, IsRanking, order_tasks, own_priority};
-ghost use Rattle.memplan.specs.Request.{FileRole, matrix_files, min_degree, ordering_files, tree_input_files, input_files, source_file, priority_files};
-ghost use Rattle.memplan.specs.RequestViews.{ordering_view, matrix_view, tree_input_view, input_view, source_view};
+ghost use Rattle.memplan.specs.Judged.{AreJudged, IsRefusingPage, IsRefusedOrder, IsMatrixRead, IsProblemOf, IsOrderedOf, IsOrderRead, IsRefusedSource, IsPriorityOf, IsRefusedRanking, IsRanking, order_tasks, own_priority};
+ghost use Rattle.memplan.specs.Request.{FileRole, matrix_files, ordered_matrix_files, min_degree, ordering_files, tree_input_files, input_files, source_file, priority_files};
+ghost use Rattle.memplan.specs.RequestViews.{ordering_view, matrix_view, ordered_matrix_view, tree_input_view, input_view, source_view};
 
 use crate::files::{
     MatrixFile, OrderFile, PermFile, PlanTextFile, Ranked, TreeFile, WorkflowFile, judge,
 };
 use crate::page::limit_page;
-use crate::request::{Input, Matrix, OrderSource, Ordering, TreeInput};
+use crate::request::{Input, Matrix, OrderSource, OrderedMatrix, Ordering, TreeInput};
 use crate::stop::Stop;
 use least_peak::Problem;
 use limits::LimitName;
@@ -71,6 +71,31 @@ fn judge_ordering<F: Files>(
     }
 }
 
+/// The pattern of a matrix, and the order in which its rows are eliminated.
+#[derive(Drop)]
+pub struct OrderedPattern {
+    pub pattern: Pattern,
+    pub order: Perm,
+}
+
+/// The pattern of a matrix, and the order in which its rows are eliminated.
+pub fn judge_pattern<F: Files>(
+    alloc: Global,
+    files: &mut F,
+    matrix: OrderedMatrix<'_>,
+) -> Result<OrderedPattern, Stop>
+    ensures judged { AreJudged (F.bytes_of files.old) (F.faults_of files.old) (F.faults_of files.new)
+        (ordered_matrix_files (ordered_matrix_view matrix.entry)) (IsMatrixRead (ordering_view matrix.entry.ordering))
+        (IsFirstRefusal (ordered_matrix_files (ordered_matrix_view matrix.entry)) []) result }
+    ensures len { IfOk result (λ read. length read.order ≡ length read.pattern) }
+    ensures same { (other : List ℕ) → F.bytes_of files.new other ≡ F.bytes_of files.old other }
+    ensures later { (other : List ℕ) → F.faults_of files.old other ≤ F.faults_of files.new other }
+{
+    let pattern = judge(alloc, files, matrix.name, &MatrixFile)?;
+    let order = judge_ordering(alloc, files, matrix.ordering, &pattern)?;
+    Ok(OrderedPattern { pattern, order })
+}
+
 /// The tree of the fronts of a matrix.
 pub fn judge_matrix<F: Files>(
     alloc: Global,
@@ -83,9 +108,9 @@ pub fn judge_matrix<F: Files>(
     ensures same { (other : List ℕ) → F.bytes_of files.new other ≡ F.bytes_of files.old other }
     ensures later { (other : List ℕ) → F.faults_of files.old other ≤ F.faults_of files.new other }
 {
-    let pattern = judge(alloc, files, matrix.name, &MatrixFile)?;
-    let perm = judge_ordering(alloc, files, matrix.ordering, &pattern)?;
-    Ok(front_tree(alloc, &pattern, &perm, matrix.fronts)?)
+    let (name, ordering) = (matrix.name, matrix.ordering);
+    let read = judge_pattern(alloc, files, OrderedMatrix { name, ordering })?;
+    Ok(front_tree(alloc, &read.pattern, &read.order, matrix.fronts)?)
 }
 
 /// The tree of an input.

@@ -1,17 +1,19 @@
 //! Laws of the answers: what holds of each, without a call.
 
 ghost use Rattle.std.specs.Prelude.{◌≡◌, ◌≤◌, ℕ, List, [], ◌∷◌, length};
+ghost use Rattle.matrix_market.specs.Pattern.{IsPattern};
 ghost use Rattle.mp_system.specs.System.{IsSystem, TaskSystem};
 ghost use Rattle.sp_terms.specs.declared.position.Position.{Position};
 ghost use Rattle.tree_input.specs.Tree.{IsTree};
 ghost use Rattle.tree_input.specs.declared.node.Node.{Node};
 ghost use Rattle.memplan.specs.Commands.{IsAnswer, IsDecided};
 ghost use Rattle.memplan.specs.Check.{IsCertified};
-ghost use Rattle.memplan.specs.Files.{Answer, HasValue, IsRefused, IsSystemOf, IsSystemWithTerm, IsTreeOf};
+ghost use Rattle.memplan.specs.Files.{Answer, HasValue, IsRefused, IsSystemOf, IsOrderedMatrix, IsSystemWithTerm, IsTreeOf};
 ghost use Rattle.memplan.specs.Demo.{IsDemoOf, IsShown};
 ghost use Rattle.memplan.specs.Judged.{AreWithin};
+ghost use Rattle.memplan.specs.Fronts.{IsFactored, IsFrontsOf};
 ghost use Rattle.memplan.specs.Plan.{IsBestPlan};
-ghost use Rattle.memplan.specs.Request.{FileRole, IsInRange, IsMakeable, Input, OrderSource, PlanFormat, Request, Simulation, TreeInput, Upgrade, check, demo, input_files, planning, segments, simulate, spill, tree_input_files, upgrade};
+ghost use Rattle.memplan.specs.Request.{FileRole, IsInRange, IsMakeable, Input, OrderedMatrix, Ordering, OrderSource, PlanFormat, Request, Simulation, TreeInput, Upgrade, check, demo, fronts, input_files, planning, segments, simulate, spill, tree_input_files, upgrade};
 ghost use Rattle.memplan.specs.Segments.{IsNumberedTerm, IsReached};
 ghost use Rattle.memplan.specs.Simulate.{IsSimulated};
 ghost use Rattle.memplan.specs.Spill.{IsSpilled};
@@ -21,6 +23,7 @@ ghost use Rattle.memplan.specs.declared.status.Status.TheVariants.{Done};
 
 use activation::laws as run_laws;
 use claim_check::laws as claim_laws;
+use elim_tree::laws as fill_laws;
 use matrix_market::laws as matrix_laws;
 use mp_gen::laws::made_inputs;
 use mp_system::laws as system_laws;
@@ -28,13 +31,16 @@ use ordering::laws as order_laws;
 use plan_text::laws as plan_laws;
 use postorder_best::laws as postorder_laws;
 use sp_cuts::laws as stair_laws;
+use rounds_run::laws as rounds_laws;
 use sp_terms::laws as term_laws;
 use symbolic::laws as front_laws;
 use tree_input::laws as tree_laws;
 
-// The texts of an input are of one tree, one system and one term, within the limits, and they are as many as its files; their numbers
-// stand for the same positions.
+// The texts of an input are of one matrix, one tree, one system and one term, within the limits, and they are as many as its files; its
+// positions have one numbering.
 fn one_input()
+    ensures matrix { (o : Ordering) (texts rows other : List (List ℕ)) (order same : List ℕ) → IsOrderedMatrix o texts rows order →
+        IsOrderedMatrix o texts other same → (rows ≡ other) × (order ≡ same) × IsPattern rows × (length order ≡ length rows) }
     ensures tree { (input : TreeInput) (texts : List (List ℕ)) (one two : List Node) → IsTreeOf input texts one → IsTreeOf input texts two →
         (one ≡ two) × IsTree one × (length texts ≡ length (tree_input_files input)) }
     ensures system { (input : Input) (texts : List (List ℕ)) (one two : TaskSystem)
@@ -118,6 +124,29 @@ fn one_upgrade()
     order_laws::read_is_perm();
 }
 
+// The fronts of a matrix have one answer, and one that is done says what it is to say.
+fn one_fronts()
+    ensures one { (m : OrderedMatrix) (bound workers : ℕ) (texts : List (List ℕ)) (one two : Answer) → 1 ≤ workers →
+        IsFrontsOf m bound workers texts one → IsFrontsOf m bound workers texts two → one ≡ two }
+    ensures factored { (m : OrderedMatrix) (bound workers : ℕ) (texts : List (List ℕ)) (answer : Answer) →
+        IsFrontsOf m bound workers texts answer → answer.status ≡ Done → IsFactored m bound workers texts answer.text }
+{
+    one_input();
+    front_laws::one_analysis();
+    fill_laws::renumbered_pattern();
+    rounds_laws::rounds_of_assembly();
+    rounds_laws::columns_of_front();
+}
+
+/// The rows of the fronts of a matrix are the same for every bound and every number of workers.
+pub fn one_list_of_rows()
+    ensures { (m : OrderedMatrix) (bound other workers more : ℕ) (texts : List (List ℕ)) (printed again : List ℕ)
+        (one : IsFactored m bound workers texts printed) (two : IsFactored m other more texts again) → one.lists ≡ two.lists }
+{
+    one_input();
+    front_laws::one_analysis();
+}
+
 /// A request has one answer over the texts of its files, and so the program prints what these decide; but `plan` may print any plan of
 /// least peak with a certificate, and `spill` the amounts of any spill plan of least volume.
 pub fn one_answer()
@@ -138,11 +167,12 @@ pub fn one_answer()
     stair_laws::one_staircase();
     one_demo();
     one_upgrade();
+    one_fronts();
 }
 
 /// What an answer says: a yes certifies, a plan is best, a trace is of a run that was simulated, what was upgraded is what the printed
-/// file says, what is spilled is a spill plan of least volume, and printed levels are reached, and none below them. It follows from
-/// being an answer.
+/// file says, what is spilled is a spill plan of least volume, printed levels are reached, and none below them, and the rows of a front are
+/// a structure of the filled graph. It follows from being an answer.
 pub fn what_answers_say()
     ensures certified { (input : Input) (plan : List ℕ) (workers : ℕ) (texts : List (List ℕ)) (answer : Answer) →
         IsAnswer (check input plan workers) texts answer → answer.status ≡ Done → IsCertified input texts answer.text }
@@ -158,6 +188,8 @@ pub fn what_answers_say()
         IsAnswer (spill input source bound) texts answer → answer.status ≡ Done → IsSpilled input source bound texts answer.text }
     ensures reached { (input : Input) (texts : List (List ℕ)) (answer : Answer) →
         IsAnswer (segments input) texts answer → answer.status ≡ Done → IsReached input texts answer.text }
+    ensures factored { (m : OrderedMatrix) (bound workers : ℕ) (texts : List (List ℕ)) (answer : Answer) →
+        IsAnswer (fronts m bound workers) texts answer → answer.status ≡ Done → IsFactored m bound workers texts answer.text }
 {
     one_input();
     tree_laws::tree_term();
@@ -170,6 +202,7 @@ pub fn what_answers_say()
     stair_laws::one_staircase();
     one_demo();
     one_upgrade();
+    one_fronts();
 }
 
 /// A file that `upgrade` wrote, as `print_tree_2`, `print_workflow_2` or `print_plan_2` prints it, stays as it is: `upgrade` of it, with no

@@ -4,13 +4,13 @@ ghost use Rattle.std.specs.Prelude.{◌≡◌, ◌++◌, ◌∷◌, [], map, cod
 ghost use Rattle.std.specs.List.{list_all};
 ghost use Rattle.limits.specs.Limits.{word_of};
 ghost use Rattle.mp_text.specs.Report.{is_token, is_line_start, is_printable, line_text, text_of_lines, token_text};
-ghost use Rattle.memplan.specs.Files.{format_refused, limit_refused, order_refused};
+ghost use Rattle.memplan.specs.Files.{bound_refused, format_refused, limit_refused, order_refused};
 ghost use Rattle.memplan.specs.Pages.{answer_of, status_of};
 
 use limits::LimitName;
 use mp_system::OrderFault;
 use mp_text::Token::{Number, Word};
-use mp_text::laws::printed_lines;
+use mp_text::laws::{printed_line, printed_lines};
 use mp_text::{Report, Token};
 use std::alloc::{AllocError, Global};
 
@@ -77,6 +77,14 @@ pub fn order_page(alloc: Global, fault: OrderFault) -> Result<Page, AllocError>
     line_page(alloc, PageKind::No, &words)
 }
 
+/// `refused bound BOUND PEAK`
+pub fn bound_page(alloc: Global, bound: u64, peak: u64) -> Result<Page, AllocError>
+    ensures { IfOk result (λ page. answer_of page ≡ bound_refused bound peak) }
+{
+    let words = [Word("refused"), Word("bound"), Number(bound), Number(peak)];
+    line_page(alloc, PageKind::Bound, &words)
+}
+
 /// A word and a number on a line.
 pub fn print_count(word: &str, number: u64, report: &mut Report) -> Result<(), AllocError>
     requires start { IsTrue (is_line_start report.old) }
@@ -85,6 +93,19 @@ pub fn print_count(word: &str, number: u64, report: &mut Report) -> Result<(), A
     ensures text { OnOk result (report.new ≡ report.old ++ line_text (word.now ∷ decimal number ∷ [])) }
 {
     report.line(&[Word(word), Number(number)])
+}
+
+/// Numbers on one line, one after another.
+pub fn print_list(numbers: &[u32], report: &mut Report) -> Result<(), AllocError>
+    requires { IsTrue (is_line_start report.old) }
+    ensures start { OnOk result (IsTrue (is_line_start report.new)) }
+    ensures text { OnOk result (report.new ≡ report.old ++ line_text (map decimal numbers.now)) }
+{
+    printed_line();
+    for number in numbers {
+        report.num(u64::from(*number))?;
+    }
+    report.end_line()
 }
 
 /// Each number on a line of its own.

@@ -5,6 +5,7 @@ ghost use Rattle.memplan.specs.RequestViews.{ordering_view, matrix_view, tree_in
 
 use crate::commands::check::Check;
 use crate::commands::demo::Demo;
+use crate::commands::fronts::FrontRun;
 use crate::commands::replay::Replay;
 use crate::commands::simulate::Simulation;
 use crate::commands::spill::Spilling;
@@ -33,6 +34,13 @@ pub struct Matrix<'a> {
     pub ordering: Ordering<'a>,
     /// How the fronts are made, with at most 2^40 explicit zeros in a merge.
     pub fronts: FrontOptions,
+}
+
+/// A matrix, by the name of its file, and in which order its rows are eliminated.
+#[derive(Clone, Copy, Debug)]
+pub struct OrderedMatrix<'a> {
+    pub name: &'a str,
+    pub ordering: Ordering<'a>,
 }
 
 /// What becomes a tree: a tree file, by its name, or a matrix.
@@ -88,6 +96,8 @@ pub enum Request<'a> {
     Spill(Spilling<'a>),
     /// How low memory can come in each subtree of a tree, or at each position of a workflow.
     Segments(Input<'a>),
+    /// The rows of every front of the matrix, made within the bound by the workers.
+    Fronts(FrontRun<'a>),
 }
 
 // ---- the options of a matrix
@@ -115,8 +125,8 @@ fn ordering_named<'a>(word: &str) -> Option<Ordering<'a>>
     }
 }
 
-// A permutation file, or an order by its name, not both.
-fn ordering_of<'a>(perm: Option<&'a str>, ordering: Option<&'a str>) -> Option<Ordering<'a>>
+/// A permutation file, or an order by its name, not both.
+pub fn ordering_of<'a>(perm: Option<&'a str>, ordering: Option<&'a str>) -> Option<Ordering<'a>>
     ensures { option_map ordering_view result ≡ ordering_of (option_map (λ s. s.now) perm.entry) (option_map (λ s. s.now) ordering.entry) }
 {
     match (perm, ordering) {

@@ -1,8 +1,9 @@
 ghost use Rattle.std.specs.Prelude.{◌≡◌, ◌⊎◌, ◌<◌, ◌≤◌, ℕ, List, length, take};
 ghost use Rattle.mp_outside.specs.Outside.{Rose, Appended};
-ghost use Rattle.memplan.specs.Request.{Input, OrderSource, PlanFormat, Request, Simulation, check, demo, planning, segments, simulate, spill, files_of};
+ghost use Rattle.memplan.specs.Request.{Input, OrderedMatrix, OrderSource, PlanFormat, Request, Simulation, check, demo, fronts, planning, segments, simulate, spill, files_of};
 ghost use Rattle.memplan.specs.Check.{IsCertified};
 ghost use Rattle.memplan.specs.Demo.{IsShown};
+ghost use Rattle.memplan.specs.Fronts.{IsFactored};
 ghost use Rattle.memplan.specs.Plan.{IsBestPlan};
 ghost use Rattle.memplan.specs.Segments.{IsReached};
 ghost use Rattle.memplan.specs.Simulate.{IsSimulated};
@@ -23,8 +24,8 @@ use std::thread::Threads;
 /// Does what the words ask for: reads the files that they name, and writes the report or the refusal to the sink, whole before its
 /// first byte is written.
 ///
-/// `words` are the words after the program's name. `rt` and `gate` are for the threads of the checker:
-/// its answer is the same with any gate.
+/// `words` are the words after the program's name. `rt` and `gate` are for the threads of the checker and of the fronts: the answers are
+/// the same with any gate.
 pub fn run_words<R: Threads + Sync, F: Files, S: Sink, G: Gate>(
     rt: &R,
     alloc: Global,
@@ -69,6 +70,14 @@ pub fn run_words<R: Threads + Sync, F: Files, S: Sink, G: Gate>(
     ensures reached { result ≡ Status.Done → (input : Input) → Asks words.now (segments input)
         → (texts : List (List ℕ)) → AreTold (F.bytes_of files.old) (files_of (segments input)) texts
         → (printed : List ℕ) × IsReached input texts printed × Appended (S.written sink.old) (S.written sink.new) printed }
+
+    // where the rows of the fronts of a matrix were printed, each list is the structure of the first column of its supernode in the filled
+    // graph, and of each further column the structure is the list from there on; the printed rounds are those of the activation machine,
+    // and along them the rows that are used are at most the bound
+    ensures factored { result ≡ Status.Done → (m : OrderedMatrix) (bound workers : ℕ)
+        → Asks words.now (fronts m bound workers)
+        → (texts : List (List ℕ)) → AreTold (F.bytes_of files.old) (files_of (fronts m bound workers)) texts
+        → (printed : List ℕ) × IsFactored m bound workers texts printed × Appended (S.written sink.old) (S.written sink.new) printed }
 
     // where a demo was made, what was printed is its summary: the checker says yes, and no traversal of the made system has a lower peak
     // than the one that was printed

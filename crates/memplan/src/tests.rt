@@ -4,6 +4,7 @@ mod checks;
 mod cuts;
 mod demos;
 mod faults;
+mod fronts;
 mod large;
 mod matrices;
 mod meeting;

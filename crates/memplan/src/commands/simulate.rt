@@ -13,7 +13,7 @@ ghost use Rattle.memplan.specs.RequestViews.{input_view, source_view, simulation
 ghost use Rattle.memplan.specs.declared.status.Status.TheVariants.{Done};
 
 use crate::inputs::{OrderedProblem, Priority, judge_ordered, judge_priority};
-use crate::page::{Page, PageKind, line_page, order_page, print_count, print_end};
+use crate::page::{Page, PageKind, bound_page, order_page, print_count, print_end};
 use crate::request::{
     Input, OrderSource, Request, input_of, number_given, number_up_to, source_of,
 };
@@ -148,10 +148,7 @@ fn simulation_page(
             trace_page(alloc, &simulator.run(priority))
         }
         Err(CoreRefusal::Order(fault)) => order_page(alloc, fault),
-        Err(CoreRefusal::BoundBelow { bound, peak }) => {
-            let words = [Word("refused"), Word("bound"), Number(bound), Number(peak)];
-            line_page(alloc, PageKind::Bound, &words)
-        }
+        Err(CoreRefusal::BoundBelow { bound, peak }) => bound_page(alloc, bound, peak),
         Err(CoreRefusal::NoMemory) => Err(AllocError),
     }
 }

@@ -2,9 +2,10 @@
 
 use super::segments::OF_FIVE;
 use super::simulations::TIGHT;
+use super::fronts::ABREAST;
 use super::spills::BOTH;
 use super::{
-    ARROW, Case, FIVE, FOUR, ORDER, PLAN, Texts, check_cases, check_run, files_of, run_into,
+    ARROW, Case, FIVE, FOUR, ORDER, PLAN, TURNED, Texts, check_cases, check_run, files_of, run_into,
 };
 use crate::Status::{self, Done, Format, ReadFault, WriteFault};
 use mp_outside::MemSink;
@@ -14,7 +15,8 @@ use std::str;
 use std::test::Fail;
 use std::thread::Threads;
 
-const FILES: Texts = &[("t", FIVE), ("o", ORDER), ("p", "5 4 3 2 1\n")];
+#[rattlefmt::skip]
+const FILES: Texts = &[("t", FIVE), ("o", ORDER), ("p", "5 4 3 2 1\n"), ("m", ARROW), ("q", TURNED)];
 
 const REPLAY: &str = "replay --tree t --order o";
 
@@ -25,6 +27,8 @@ const SIMULATE: &str = "simulate --tree t --order o --priority p --bound 11 --wo
 const SPILL: &str = "spill --tree t --order o --bound 10";
 
 const SEGMENTS: &str = "segments --tree t";
+
+const FRONTS: &str = "fronts --matrix m --perm q --bound 4 --workers 2";
 
 // What a run without faults prints. A plan may be any of least peak: whether it is one is tested elsewhere.
 fn printed(
@@ -74,6 +78,9 @@ fn each_load_fails_in_turn(rt: HostRuntime) -> Result<(), Fail> {
     check_loads(&rt, alloc, SIMULATE, tree + numbers + numbers, TIGHT)?;
     check_loads(&rt, alloc, SPILL, tree + numbers, BOTH)?;
     check_loads(&rt, alloc, SEGMENTS, tree, OF_FIVE)?;
+    // the matrix has 69 bytes and its permutation 8
+    let (matrix, order) = (23 + 1, 3 + 1);
+    check_loads(&rt, alloc, FRONTS, matrix + order, ABREAST)?;
     Ok(())
 }
 
@@ -87,10 +94,11 @@ const NOT_HELD: &[Case] = &[
     (&["replay --tree none --order o", "replay --tree none --plan o", "check --tree none --plan o", "replay --workflow none --order o",
             "replay --matrix none --order o", "plan --tree none", "post --tree none", "tree --matrix none", "upgrade --tree none",
             "upgrade --workflow none", "upgrade --plan none --priority o", "spill --tree none --order o --bound 0",
-            "spill --workflow none --plan o --bound 0", "segments --tree none", "segments --workflow none", "segments --matrix none"],
+            "spill --workflow none --plan o --bound 0", "segments --tree none", "segments --workflow none", "segments --matrix none",
+            "fronts --matrix none --perm o --bound 0 --workers 1"],
         &[("o", "x")], ReadFault, ""),
-    (&["tree --matrix m --perm none", "plan --matrix m --perm none", "post --matrix m --perm none",
-            "segments --matrix m --perm none"], &[("m", ARROW)], ReadFault, ""),
+    (&["tree --matrix m --perm none", "plan --matrix m --perm none", "post --matrix m --perm none", "segments --matrix m --perm none",
+            "fronts --matrix m --perm none --bound 0 --workers 1"], &[("m", ARROW)], ReadFault, ""),
     (&["tree --matrix m --perm none", "replay --matrix m --perm none --order none"], &[("m", "")], Format,
         "refused format matrix banner 1\n"),
     (&["replay --matrix m --perm p --order none", "plan --matrix m --perm p", "tree --matrix m --perm p"],
@@ -174,6 +182,7 @@ fn sinks_that_fail_and_that_are_full(rt: HostRuntime) -> Result<(), Fail> {
         (SIMULATE, TIGHT.as_bytes()),
         (SPILL, BOTH.as_bytes()),
         (SEGMENTS, OF_FIVE.as_bytes()),
+        (FRONTS, ABREAST.as_bytes()),
     ];
     for (run, text) in texts {
         check_writes(&rt, rt.alloc(), run, 1, text)?;

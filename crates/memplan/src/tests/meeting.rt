@@ -1,13 +1,16 @@
-//! The checker runs its chunks on threads: two of them meet.
+//! The checker judges its chunks, and a round makes its fronts, on threads: two of them meet.
 
-use super::{FIVE, PLAN, files_of, words_of};
+use super::fronts::ABREAST;
+use super::{ARROW, FIVE, PLAN, TURNED, files_of, words_of};
 use crate::{Status, run_words};
 use mp_outside::{Gate, MemSink};
+use std::alloc::Global;
+use std::process::Abort;
 use std::sync::atomic::{AtomicBool, Ordering};
 use std::test::Fail;
-use std::thread::yield_now;
+use std::thread::{Threads, yield_now};
 
-// Holds each of the first two chunks until the other has entered, for so many looks at most.
+// Holds each of the first two tasks until the other has entered, for so many looks at most.
 #[derive(Drop)]
 struct Meeting {
     first: AtomicBool,
@@ -16,8 +19,8 @@ struct Meeting {
 }
 
 impl Gate for Meeting {
-    fn enter(&self, chunk: u32) {
-        let (mine, other) = match chunk {
+    fn enter(&self, task: u32) {
+        let (mine, other) = match task {
             0 => (&self.first, &self.second),
             1 => (&self.second, &self.first),
             _ => return,
@@ -33,21 +36,42 @@ impl Gate for Meeting {
     }
 }
 
-#[test]
-fn two_chunks_are_judged_at_once(rt: HostRuntime) -> Result<(), Fail> {
+// Both come, neither gives up, and the run prints this text.
+fn check_meeting<R: Threads + Sync + Abort>(
+    rt: &R,
+    alloc: Global,
+    run: &str,
+    texts: &[(&str, &str)],
+    text: &str,
+) -> Result<(), Fail> {
     let gate = Meeting {
         first: AtomicBool::new(false),
         second: AtomicBool::new(false),
         gave_up: AtomicBool::new(false),
     };
-    let mut files = files_of(rt.alloc(), &[("t", FIVE), ("p", PLAN)])?;
-    let words = words_of(rt.alloc(), "check --tree t --plan p --workers 2")?;
-    let mut sink = MemSink::new(rt.alloc(), 100)?;
-    let status = run_words(&rt, rt.alloc(), &words, &mut files, &mut sink, &gate);
+    let mut files = files_of(alloc, texts)?;
+    let words = words_of(alloc, run)?;
+    let mut sink = MemSink::new(alloc, 100)?;
+    let status = run_words(rt, alloc, &words, &mut files, &mut sink, &gate);
     assert_eq!(rt; status, Status::Done);
-    assert_eq!(rt; sink.written(), b"yes 11\n".as_slice());
+    assert_eq!(rt; sink.written(), text.as_bytes());
     assert!(rt; gate.first.load(Ordering::SeqCst));
     assert!(rt; gate.second.load(Ordering::SeqCst));
     assert!(rt; !gate.gave_up.load(Ordering::SeqCst));
     Ok(())
+}
+
+#[test]
+fn two_chunks_are_judged_at_once(rt: HostRuntime) -> Result<(), Fail> {
+    let run = "check --tree t --plan p --workers 2";
+    let texts = [("t", FIVE), ("p", PLAN)];
+    check_meeting(&rt, rt.alloc(), run, &texts, "yes 11\n")
+}
+
+// In the second round both have come, so its one front passes.
+#[test]
+fn two_fronts_are_made_at_once(rt: HostRuntime) -> Result<(), Fail> {
+    let run = "fronts --matrix m --perm p --bound 4 --workers 2";
+    let texts = [("m", ARROW), ("p", TURNED)];
+    check_meeting(&rt, rt.alloc(), run, &texts, ABREAST)
 }

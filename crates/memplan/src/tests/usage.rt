@@ -143,6 +143,33 @@ const SEGMENTS: &[&str] = &[
     "segments --perm o",
 ];
 
+// Without fault: `fronts --matrix m --bound 4 --workers 2`.
+const FRONTS: &[&str] = &[
+    "fronts",
+    "fronts --matrix m",
+    "fronts --matrix m --bound 4",
+    "fronts --matrix m --workers 2",
+    "fronts --bound 4 --workers 2",
+    "fronts --tree m --bound 4 --workers 2",
+    "fronts --workflow m --bound 4 --workers 2",
+    "fronts --matrix m --tree m --bound 4 --workers 2",
+    "fronts --matrix m --perm p --ordering natural --bound 4 --workers 2",
+    "fronts --matrix m --ordering amd --bound 4 --workers 2",
+    "fronts --matrix m --shape triangle --bound 4 --workers 2",
+    "fronts --matrix m --amalgamate 0 --bound 4 --workers 2",
+    "fronts --matrix m --inplace no --bound 4 --workers 2",
+    "fronts --matrix m --order o --bound 4 --workers 2",
+    "fronts --matrix m --plan o --bound 4 --workers 2",
+    "fronts --matrix m --bound -1 --workers 2",
+    "fronts --matrix m --bound 18446744073709551616 --workers 2",
+    "fronts --matrix m --bound 4 --bound 4 --workers 2",
+    "fronts --matrix m --bound 4 --workers 0",
+    "fronts --matrix m --bound 4 --workers 4097",
+    "fronts --matrix m --bound 4 --workers two",
+    "fronts m --bound 4 --workers 2",
+    "front --matrix m --bound 4 --workers 2",
+];
+
 const UPGRADE: &[&str] = &[
     "upgrade",
     "upgrade --tree",
@@ -173,6 +200,7 @@ const USAGE: &[Case] = &[
     (UPGRADE, &[("t", FIVE), ("p", PLAN), ("o", ORDER)], Usage, ""),
     (SPILL, &[("t", FIVE), ("o", ORDER)], Usage, ""),
     (SEGMENTS, &[("t", FIVE), ("o", ORDER)], Usage, ""),
+    (FRONTS, &[("m", ARROW), ("p", TURNED), ("o", "1 2 3\n")], Usage, ""),
 ];
 
 #[test]

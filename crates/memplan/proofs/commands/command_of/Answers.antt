@@ -27,4 +27,5 @@ returns-in_default-clause-value c =
       other word (codes "upgrade") (λ e. none.not-upgrade (same ∙ e)),
       other word (codes "spill") (λ e. none.not-spill (same ∙ e)),
       other word (codes "segments") (λ e. none.not-segments (same ∙ e)),
+      other word (codes "fronts") (λ e. none.not-fronts (same ∙ e)),
     ) refl

@@ -1,53 +1,13 @@
-use Rattle.std.proofs.Common.{ℕ, List, [], ◌∷◌, ◌++◌, inl, length}
-use Rattle.std.specs.Prelude.{codes}
-use Rattle.matrix_market.specs.Kinds.{word_of}
-use Rattle.matrix_market.specs.MatrixFile.{RefusesPattern}
-use Rattle.memplan.specs.Files.{IsFirstRefusal, IsMatrixTree, IsRefusedFile}
-use Rattle.memplan.specs.Request.{ordering_files}
 use Rattle.memplan.specs.RequestViews.{matrix_view}
-use Rattle.memplan.proofs.StepLemmas.{passed, alone_told, alone_stop, stop_before, over_both, told_same}
-use Rattle.memplan.proofs.InputLemmas.{matrix_at, ordering_stop}
+use Rattle.memplan.proofs.StepLemmas.{passed}
+use Rattle.memplan.proofs.InputLemmas.{matrix_tree}
 use Rattle.memplan.proofs.inputs.judge_matrix.Goals as goal
 
-pub returns-in_err-pattern-clause-judged : goal.returns-in_err-pattern-clause-judged
-returns-in_err-pattern-clause-judged g c =
-    let m = matrix_view c.args.matrix in
-    let told = g.F.Files.bytes_of c.args.files.now in
-    let before = g.F.Files.faults_of c.args.files.now in
-    let after = g.F.Files.faults_of c.judge.new.files in
-    let e = c.in_err-pattern.field-0.0 in
-    passed c.from_residual.result _ _ e c.from_residual.ensures.1
-    (stop_before told before after (matrix_at m.ordering m.name ∷ []) (ordering_files m.ordering) e
-    (alone_stop told before after (matrix_at m.ordering m.name) (λ (text : List ℕ). IsRefusedFile (codes "matrix") word_of (RefusesPattern text) text)
-    (IsFirstRefusal (matrix_at m.ordering m.name ∷ []) []) (λ text answer refused. inl (inl refused)) e c.in_err-pattern.ensures.judged))
-
-pub returns-in_err-perm-clause-judged : goal.returns-in_err-perm-clause-judged
-returns-in_err-perm-clause-judged g c =
-    let m = matrix_view c.args.matrix in
-    let told = g.F.Files.bytes_of c.args.files.now in
-    let now = g.F.Files.bytes_of c.judge.new.files in
-    let before = g.F.Files.faults_of c.args.files.now in
-    let then = g.F.Files.faults_of c.judge.new.files in
-    let after = g.F.Files.faults_of c.judge_ordering.new.files in
-    let e = c.in_err-perm.field-0.0 in
-    passed c.from_residual-in_err-perm.result _ _ e c.from_residual-in_err-perm.ensures.1
-    (ordering_stop told now c.in_ok-pattern.ensures.same before then after c.in_ok-pattern.ensures.later m.name c.in_ok-pattern.pattern
-    c.in_ok-pattern.ensures.judged m.ordering e c.in_err-perm.ensures.judged)
+pub returns-in_err-read-clause-judged : goal.returns-in_err-read-clause-judged
+returns-in_err-read-clause-judged g c =
+    passed c.from_residual.result _ _ c.in_err-read.field-0.0 c.from_residual.ensures.1 c.in_err-read.ensures.judged
 
 pub returns-clause-judged : goal.returns-clause-judged
-returns-clause-judged g c =
-    let m = matrix_view c.args.matrix in
-    let told = g.F.Files.bytes_of c.args.files.now in
-    let now = g.F.Files.bytes_of c.judge.new.files in
-    let rows = c.in_ok-pattern.pattern in
-    let order = c.in_ok-perm.perm in
-    let nodes = c.in_ok-front_tree.field-0 in
-    over_both told (matrix_at m.ordering m.name ∷ []) (ordering_files m.ordering) (λ texts. IsMatrixTree m texts nodes)
-    (λ one two are more. alone_told told (matrix_at m.ordering m.name) (λ texts. IsMatrixTree m (texts ++ two) nodes)
-    (λ text is. (
-      rows,
-      order,
-      c.in_ok-pattern.ensures.judged text is,
-      c.in_ok-perm.ensures.judged two (told_same told now c.in_ok-pattern.ensures.same (ordering_files m.ordering) two more),
-      c.in_ok-front_tree.ensures,
-    )) one are)
+returns-clause-judged g c = λ texts are.
+    matrix_tree (matrix_view c.args.matrix) texts c.in_ok-read.read c.in_ok-front_tree.field-0 (c.in_ok-read.ensures.judged texts are)
+    c.in_ok-front_tree.ensures

@@ -31,6 +31,7 @@ returns c =
       verdict = c.accepted_or_objected.ensures.one_verdict;
       schedule = c.schedule_law.ensures.one;
       demos = c.one_demo.ensures.one;
+      fronts = c.one_fronts.ensures.one;
       upgrades = c.one_upgrade.ensures.one;
       numbered = c.one_input.ensures.numbered;
       stairs = c.one_staircase.ensures.one_of_all;

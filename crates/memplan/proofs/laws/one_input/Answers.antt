@@ -1,4 +1,4 @@
-use Rattle.memplan.proofs.OneInput.{Parts, one_tree, one_system, one_list_of_positions, one_numbered_term}
+use Rattle.memplan.proofs.OneInput.{Parts, one_matrix, one_tree, one_system, one_list_of_positions, one_numbered_term}
 use Rattle.memplan.proofs.laws.one_input.Goals as goal
 
 pub returns : goal.returns
@@ -20,4 +20,4 @@ returns c =
       denotes = c.terms_law.ensures.denotes;
       term_system = c.terms_law.ensures.system;
     } in
-    record { tree = one_tree parts; system = one_system parts; term = one_list_of_positions parts; numbered = one_numbered_term parts }
+    record { matrix = one_matrix parts; tree = one_tree parts; system = one_system parts; term = one_list_of_positions parts; numbered = one_numbered_term parts }

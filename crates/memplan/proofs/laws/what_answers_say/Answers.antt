@@ -1,5 +1,5 @@
 use Rattle.std.proofs.Common.{[], inl, inr}
-use Rattle.memplan.specs.Request.{check, planning, simulate, demo, upgrade, spill, segments, files_of}
+use Rattle.memplan.specs.Request.{check, planning, simulate, demo, upgrade, spill, segments, fronts, files_of}
 use Rattle.memplan.proofs.RunLemmas.{first_refusal}
 use Rattle.memplan.proofs.SoundAnswer.{certified, best, simulated}
 use Rattle.memplan.proofs.UpgradeLemmas.{upgraded}
@@ -49,4 +49,10 @@ pub returns-clause-reached : goal.returns-clause-reached
 returns-clause-reached c = λ input texts answer is done. elim is [
   | inl refused ↦ absurd (first_refusal (files_of (segments input)) [] texts answer refused done)
   | inr report ↦ reached c.one_staircase.ensures.each (λ i ts ps ks of_term. (c.one_input.ensures.numbered i ts ps ps ks ks of_term of_term).2) input texts answer report done
+]
+
+pub returns-clause-factored : goal.returns-clause-factored
+returns-clause-factored c = λ m bound workers texts answer is done. elim is [
+  | inl refused ↦ absurd (first_refusal (files_of (fronts m bound workers)) [] texts answer refused done)
+  | inr report ↦ c.one_fronts.ensures.factored m bound workers texts answer report done
 ]
