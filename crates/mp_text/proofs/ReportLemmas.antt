@@ -17,6 +17,7 @@ use Rattle.mp_text.specs.declared.reports.Token.{Token}
 use Rattle.mp_text.specs.declared.layout.Layout.TheVariants.{Commented, Banner}
 use Rattle.mp_text.specs.Text.{is_blank, is_feed, is_filled, is_passed, is_banner, says_nothing, onto_line, lines_of, tokens_of, Row, rows_from, is_digit, value_from, number_from, number_of, numbers_of, is_comment, positive_of, negative_of, signed_of}
 use Rattle.mp_text.specs.Ahead.{rows_of_bytes, past_of_bytes}
+use Rattle.mp_text.specs.Comments.{is_comment_line}
 use Rattle.mp_text.specs.Report.{token_text, last_or, is_line_start, with_token, with_tokens, line_text, text_of_lines, is_plain, is_token, is_counted, numbered_from}
 use Rattle.mp_text.proofs.TextLemmas.{lines_of-yes, lines_of-no, lines_of-nil, number_of-filled}
 
@@ -216,6 +217,32 @@ rows_from-printed layout n (line ∷ lines) counted =
     let here = and_parts (list_all is_token line) (not (says_nothing layout line)) parts.0 in
     let kept : is_passed layout n line ≡ false = and_right (not (is_banner layout n)) _ (not-true _ here.1) in
     rw (lines_of-printed line lines here.0, tokens_of-joined line here.0, kept) (ap (λ (rows : List Row). record { number = n; tokens = line } ∷ rows) (rows_from-printed layout (n + 1) lines parts.1))
+
+-- lines of comments alone
+rows_from-comments : (n : ℕ) (comments : List (List (List ℕ))) → list_all is_comment_line comments ≡ true → rows_from Commented n (lines_of (text_of_lines comments)) ≡ []
+unfolding rows_from
+rows_from-comments n [] are = rw lines_of-nil refl
+rows_from-comments n (line ∷ comments) are =
+    let parts = all_parts is_comment_line line comments are in
+    let here = and_parts (list_all is_token line) (says_nothing Commented line) parts.0 in
+    let passed : is_passed Commented n line ≡ true = here.1 in
+    rw (lines_of-printed line comments here.0, tokens_of-joined line here.0, passed) (rows_from-comments (n + 1) comments parts.1)
+
+-- and after others
+rows_from-commented : (n : ℕ) (lines comments : List (List (List ℕ))) → list_all (is_counted Commented) lines ≡ true → list_all is_comment_line comments ≡ true
+    → rows_from Commented n (lines_of (text_of_lines (lines ++ comments))) ≡ numbered_from n lines
+unfolding rows_from
+rows_from-commented n [] comments counted are = rows_from-comments n comments are
+rows_from-commented n (line ∷ lines) comments counted are =
+    let parts = all_parts (is_counted Commented) line lines counted in
+    let here = and_parts (list_all is_token line) (not (says_nothing Commented line)) parts.0 in
+    let kept : is_passed Commented n line ≡ false = not-true _ here.1 in
+    rw (lines_of-printed line (lines ++ comments) here.0, tokens_of-joined line here.0, kept)
+    (ap (λ (rows : List Row). record { number = n; tokens = line } ∷ rows) (rows_from-commented (n + 1) lines comments parts.1 are))
+
+pub rows_of_bytes-commented : (lines comments : List (List (List ℕ))) → list_all (is_counted Commented) lines ≡ true → list_all is_comment_line comments ≡ true
+    → rows_of_bytes Commented (text_of_lines (lines ++ comments)) ≡ numbered_from 1 lines
+rows_of_bytes-commented lines comments counted are = rows_from-commented 1 lines comments counted are
 
 pub length-lines_of-printed : (lines : List (List (List ℕ))) → list_all (list_all is_token) lines ≡ true → length (lines_of (text_of_lines lines)) ≡ length lines
 length-lines_of-printed [] are = ap length lines_of-nil

@@ -5,3 +5,4 @@ pub mod Grammar
 pub mod Reading
 pub mod ReadingLaws
 pub mod Report
+pub mod Comments

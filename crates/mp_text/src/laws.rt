@@ -5,9 +5,11 @@ ghost use Rattle.std.specs.Fmt.{decimal, signed_decimal};
 ghost use Rattle.std.specs.Int.{w64};
 ghost use Rattle.std.specs.List.{list_all};
 ghost use Rattle.mp_text.specs.declared.layout.Layout.{Layout};
+ghost use Rattle.mp_text.specs.declared.layout.Layout.TheVariants.{Commented};
 ghost use Rattle.mp_text.specs.declared.refusals.Refusal.{Refusal};
 ghost use Rattle.mp_text.specs.Text.{Row, number_of, numbers_of, signed_of};
 ghost use Rattle.mp_text.specs.Ahead.{rows_of_bytes, past_of_bytes};
+ghost use Rattle.mp_text.specs.Comments.{is_comment_line};
 ghost use Rattle.mp_text.specs.Grammar.{Format, IsWellFormed, Refuses};
 ghost use Rattle.mp_text.specs.Report.{is_counted, is_line_start, is_token, line_text, numbered_from, text_of_lines, with_tokens};
 
@@ -65,4 +67,11 @@ pub fn printed_file()
     ensures parts { (n : ℕ) (xs ys : List (List (List ℕ))) →
         numbered_from n (xs ++ ys) ≡ numbered_from n xs ++ numbered_from (n + length xs) ys }
     ensures count { (n : ℕ) (lines : List (List (List ℕ))) → length (numbered_from n lines) ≡ length lines }
+{}
+
+/// Lines of comments that are printed after others, in a file that has comments, change nothing of what is read of these.
+pub fn printed_comments()
+    ensures { (lines comments : List (List (List ℕ))) → IsTrue (list_all (is_counted Commented) lines) →
+        IsTrue (list_all is_comment_line comments) →
+        rows_of_bytes Commented (text_of_lines (lines ++ comments)) ≡ numbered_from 1 lines }
 {}

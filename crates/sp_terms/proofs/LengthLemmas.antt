@@ -121,9 +121,9 @@ positions-within version ps terms =
         let stands = standing ps first p rest terms e in
         position-within version p stands.within (small_numbers ps first p terms stands Two)
 
--- the bounds above add up to 216000089
-pub printed-within : (version : Version) (ps : List Position) → IsTerms ps → length (text_in version ps) ≤ most_bytes
-printed-within version ps terms =
+-- the bounds above add up to 216000089, and so leave room for more
+pub printed-room : (version : Version) (ps : List Position) → IsTerms ps → length (text_in version ps) + 50 * most_tasks ≤ most_bytes
+printed-room version ps terms =
     let count = sum_by added_tasks ps in
     let lines = map (position_line version) ps in
     omega (
@@ -137,3 +137,6 @@ printed-within version ps terms =
       length-map ps (position_line version),
       terms.few,
     )
+
+pub printed-within : (version : Version) (ps : List Position) → IsTerms ps → length (text_in version ps) ≤ most_bytes
+printed-within version ps terms = omega (arith, printed-room version ps terms)

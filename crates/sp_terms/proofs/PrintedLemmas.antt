@@ -17,6 +17,7 @@ use Rattle.mp_text.specs.declared.words.Version.TheVariants.{One, Two}
 use Rattle.mp_text.specs.Text.{Row, number_of, numbers_of}
 use Rattle.mp_text.specs.Words.{after_word, version_of}
 use Rattle.mp_text.specs.Ahead.{rows_of_bytes}
+use Rattle.mp_text.specs.Comments.{is_comment_line}
 use Rattle.mp_text.specs.Grammar.{first_failure, ArePassed}
 use Rattle.mp_text.specs.Report.{is_token, is_counted, numbered_from, text_of_lines}
 use Rattle.sp_terms.specs.declared.position.Position.{Position}
@@ -238,14 +239,16 @@ module _ (laws : AreLaws) (version : Version) (ps : List Position) (terms : IsTe
         lines = and_from _ _ (is_line laws version p fits.numbers) more.lines;
       }
 
-  pub printed-reads : ReadsWorkflow (text_in version ps) ps
+  -- a text that has just the lines that are printed is read as the positions
+  pub printed-reads : (text : List ℕ)
+      → (list_all (is_counted Commented) (lines_in version ps) ≡ true → rows_of_bytes Commented text ≡ numbered_from 1 (lines_in version ps)) → ReadsWorkflow text ps
   unfolding header_row count_row Passes
-  printed-reads =
+  printed-reads text has =
       let body = printed [] 3 [] ps refl refl refl in
       let all = header ∷ counted ∷ (body.rows ++ body.last ∷ []) in
       let count_counts : is_counted Commented (count_line (sum_by added_tasks ps)) ≡ true = rw (laws.token (sum_by added_tasks ps) (omega (arith, terms.few_tasks))) refl in
-      let read : rows_of_bytes Commented (text_in version ps) ≡ all =
-      laws.rows Commented (lines_in version ps) (and_from _ _ (header_counts version) (and_from _ _ count_counts body.lines)) ∙ ap (λ (rs : List Row). header ∷ counted ∷ rs) body.rows_are in
+      let read : rows_of_bytes Commented text ≡ all =
+      has (and_from _ _ (header_counts version) (and_from _ _ count_counts body.lines)) ∙ ap (λ (rs : List Row). header ∷ counted ∷ rs) body.rows_are in
       let pass : AllPass [] all = (header_passes version, (count_passes laws (sum_by added_tasks ps) terms.few_tasks, subst (AllPass (header ∷ counted ∷ [])) body.rows_are body.pass)) in
       let complete : is_complete all ≡ true = list_any-append is_end body.rows (body.last ∷ []) ∙ rw body.ended (or-true (list_any is_end body.rows)) in
       record {
@@ -264,7 +267,22 @@ one_unshared true is = absurd cc
 one_unshared false is = refl
 
 pub text_of-reads : AreLaws → (ps : List Position) → IsTerms ps → ReadsWorkflow (text_of ps) ps
-text_of-reads laws ps terms = printed-reads laws (version_for ps) ps terms (one_unshared (list_any is_sharing ps))
+text_of-reads laws ps terms =
+    let version = version_for ps in
+    printed-reads laws version ps terms (one_unshared (list_any is_sharing ps)) (text_of ps) (laws.rows Commented (lines_in version ps))
 
 pub text2_of-reads : AreLaws → (ps : List Position) → IsTerms ps → ReadsWorkflow (text2_of ps) ps
-text2_of-reads laws ps terms = printed-reads laws Two ps terms (λ never. absurd cc)
+text2_of-reads laws ps terms = printed-reads laws Two ps terms (λ never. absurd cc) (text2_of ps) (laws.rows Commented (lines_in Two ps))
+
+-- ---- with comments after the last line
+
+pub commented-reads : AreLaws
+    → ((xs ys : List (List (List ℕ))) → text_of_lines (xs ++ ys) ≡ text_of_lines xs ++ text_of_lines ys)
+    → ((lines comments : List (List (List ℕ))) → IsTrue (list_all (is_counted Commented) lines) → IsTrue (list_all is_comment_line comments)
+    → rows_of_bytes Commented (text_of_lines (lines ++ comments)) ≡ numbered_from 1 lines)
+    → (ps : List Position) (comments : List (List (List ℕ))) → IsTerms ps → IsTrue (list_all is_comment_line comments)
+    → ReadsWorkflow (text_of ps ++ text_of_lines comments) ps
+commented-reads laws parts rows ps comments terms are =
+    let version = version_for ps in
+    printed-reads laws version ps terms (one_unshared (list_any is_sharing ps)) (text_of ps ++ text_of_lines comments)
+    (λ counted. ap (rows_of_bytes Commented) (sym (parts (lines_in version ps) comments)) ∙ rows (lines_in version ps) comments counted are)

@@ -1,6 +1,9 @@
 //! Laws over the definitions: each contract is a law, and each body is empty or names the laws that it stands on.
-ghost use Rattle.std.specs.Prelude.{◌≡◌, ◌⊎◌, ℕ, ◌+◌, ◌-◌, ◌<◌, ◌≤◌, All, List, length, map, slice_index_or};
-ghost use Rattle.limits.specs.Limits.{most_bytes, most_total};
+ghost use Rattle.std.specs.Prelude.{◌≡◌, ◌⊎◌, ℕ, ◌+◌, ◌-◌, ◌*◌, ◌<◌, ◌≤◌, ◌++◌, All, IsTrue, List, length, map, slice_index_or};
+ghost use Rattle.std.specs.List.{list_all};
+ghost use Rattle.limits.specs.Limits.{most_bytes, most_tasks, most_total};
+ghost use Rattle.mp_text.specs.Comments.{is_comment_line};
+ghost use Rattle.mp_text.specs.Report.{text_of_lines};
 ghost use Rattle.mp_text.specs.declared.refusals.Refusal.{Refusal};
 ghost use Rattle.mp_system.specs.System.{IsSystem};
 ghost use Rattle.mp_system.specs.declared.system.Task.{Task};
@@ -50,6 +53,19 @@ pub fn printed_length()
     ensures text { (positions : List Position) → IsTerms positions → length (text_of positions) ≤ most_bytes }
     ensures text_2 { (positions : List Position) → IsTerms positions → length (text2_of positions) ≤ most_bytes }
 {}
+
+/// A workflow file with comments after its last line is read as the same workflow. It leaves room for them within the limit of bytes:
+/// 50 bytes for each of as many tasks as there can be.
+pub fn commented_workflow()
+    ensures reads { (positions : List Position) (comments : List (List (List ℕ))) → IsTerms positions → IsTrue (list_all is_comment_line comments) →
+        ReadsWorkflow (text_of positions ++ text_of_lines comments) positions }
+    ensures room { (positions : List Position) → IsTerms positions → length (text_of positions) + 50 * most_tasks ≤ most_bytes }
+{
+    text_laws::printed_number();
+    text_laws::printed_file();
+    text_laws::printed_lines();
+    text_laws::printed_comments();
+}
 
 /// Positions within the limits denote a term whose shares are allowed, and whose system is within the limits of systems. A list of
 /// positions denotes a term exactly where it is its postfix form.
