@@ -43,15 +43,37 @@ class Sizes(NamedTuple):
     rows: int
     entries: int
     band: int
+    many_rows: int
+    many_entries: int
     small_grid: int
     cube: int
     growth: tuple[int, ...]
 
 
 WHOLE = Sizes(
-    1_000_000, 1000, 100_000, 1_000_000, 100, 223, 36, (10_000, 30_000, 100_000, 300_000, 1_000_000)
+    tasks=1_000_000,
+    grid=1000,
+    rows=100_000,
+    entries=1_000_000,
+    band=100,
+    many_rows=1_000_000,
+    many_entries=10_000_000,
+    small_grid=223,
+    cube=36,
+    growth=(10_000, 30_000, 100_000, 300_000, 1_000_000),
 )
-QUICK = Sizes(2_000, 20, 300, 1_000, 5, 12, 5, (500, 1_000, 2_000))
+QUICK = Sizes(
+    tasks=2_000,
+    grid=20,
+    rows=300,
+    entries=1_000,
+    band=5,
+    many_rows=200,
+    many_entries=2_000,
+    small_grid=12,
+    cube=5,
+    growth=(500, 1_000, 2_000),
+)
 
 TREES = ("near", "random", "chain", "star", "binary", "caterpillar")
 PACKAGES = ("cxsparse", "cholmod")
@@ -153,6 +175,19 @@ class Tables:
             ),
         ]
 
+    def large_matrices(self) -> list[tuple[str, str]]:
+        """Those of the most entries that are read."""
+        rows, entries = self.sizes.many_rows, self.sizes.many_entries
+        width = entries // rows
+        band = self.inputs.matrix("valued_band", rows, width)
+        return [
+            (f"band of {rows:,} rows, {width} wide, with values", band),
+            (
+                f"random, {rows:,} rows, {entries:,} entries",
+                self.inputs.matrix("pattern", rows, entries),
+            ),
+        ]
+
     # two programs side by side
 
     def pair(self, row: str, label: str, sides: list[Side], same: bool = True) -> list[str]:
@@ -172,13 +207,13 @@ class Tables:
         return [what, *cells[0], *cells[1]]
 
     def reading(self) -> str:
-        """memplan reads a file and is then refused another one; the peers read and count."""
-        found = [
-            (f"tree: {label}", self.order_refused("tree", name)) for label, name in self.trees()
-        ]
+        """Trees and workflows have no end, so that both sides refuse them once they are read. Of a
+        matrix and of a plan memplan is then refused another file; the peers read and count."""
+        found = [(f"tree: {label}", self.without_end("tree", name)) for label, name in self.trees()]
         label = f"workflow: random, {self.sizes.tasks:,} tasks"
-        found.append((label, self.order_refused("workflow", self.inputs.workflow("random"))))
-        matrices = ((label, name) for label, name, perm in self.matrices() if not perm)
+        found.append((label, self.without_end("workflow", self.inputs.workflow("random"))))
+        matrices = [(label, name) for label, name, perm in self.matrices() if not perm]
+        matrices += self.large_matrices()
         found += [(f"matrix: {label}", self.reading_of(name)) for label, name in matrices]
         _, name = self.inputs.claims()
         ours = self.memplan("upgrade", "--plan", name, "--priority", self.wrong, status=3)
@@ -187,9 +222,11 @@ class Tables:
         rows = [self.pair("read", label, sides) for label, sides in found]
         return table(self.pair_head("reading of a", "C++"), rows)
 
-    def order_refused(self, kind: str, name: str) -> list[Side]:
-        ours = self.memplan("replay", f"--{kind}", name, "--order", self.wrong, status=3)
-        return [ours, self.beside("C++", self.peer, "read", kind, name)]
+    def without_end(self, kind: str, name: str) -> list[Side]:
+        make = lambda to: to.write_text(Path(name).read_text().removesuffix("end\n"))
+        cut = self.inputs.made(f"{Path(name).name}.cut", make)
+        ours = self.memplan("replay", f"--{kind}", cut, "--order", self.wrong, status=3)
+        return [ours, Side("C++", [self.peer, "read", kind, cut], status=1)]
 
     def reading_of(self, matrix: str) -> list[Side]:
         ours = self.memplan("tree", "--matrix", matrix, "--perm", self.wrong, status=3)

@@ -5,10 +5,13 @@ usage: make_matrices.py grid ROWS COLUMNS FILE
        make_matrices.py dissection ROWS COLUMNS FILE
        make_matrices.py random VERTICES ENTRIES FILE
        make_matrices.py band VERTICES WIDTH FILE
+       make_matrices.py pattern VERTICES ENTRIES FILE
+       make_matrices.py valued_band VERTICES WIDTH FILE
 
 The grid has the number r * COLUMNS + c + 1 for the vertex in row r and column c, both from 0, and joins each to its right and to its
-lower neighbour. The entries of a random pattern are drawn from all pairs of indices, with a value each. The numbers come from a small
-generator with a fixed seed: the same call makes the same file. A band joins each vertex to those that are at most WIDTH numbers away.
+lower neighbour. The entries of a random pattern are drawn from all pairs of indices, with a value each; those of `pattern` have none. The
+numbers come from a small generator with a fixed seed: the same call makes the same file. A band joins each vertex to those that are at most
+WIDTH numbers away; in a valued one each entry has a value.
 
 The dissection is an order of elimination of the grid: a line of vertices across its longer side comes last, after its two halves, which
 are ordered likewise (nested dissection, George 1973).
@@ -39,13 +42,37 @@ def random_pattern(out, vertices, entries):
         out.write(f"{1 + next(draw) % vertices} {1 + next(draw) % vertices} {next(draw) % 1000}.25\n")
 
 
-def band(out, vertices, width):
-    entries = sum(min(width, vertices - v) for v in range(1, vertices + 1))
-    out.write("%%MatrixMarket matrix coordinate pattern symmetric\n")
+def unvalued(out, vertices, entries):
+    draw = words(1)
+    out.write("%%MatrixMarket matrix coordinate pattern general\n")
     out.write(f"{vertices} {vertices} {entries}\n")
+    for _ in range(entries):
+        out.write(f"{1 + next(draw) % vertices} {1 + next(draw) % vertices}\n")
+
+
+def band_entries(vertices, width):
     for v in range(1, vertices + 1):
         for w in range(v + 1, min(v + width, vertices) + 1):
-            out.write(f"{w} {v}\n")
+            yield w, v
+
+
+def head_of_band(out, field, vertices, width):
+    entries = sum(min(width, vertices - v) for v in range(1, vertices + 1))
+    out.write(f"%%MatrixMarket matrix coordinate {field} symmetric\n")
+    out.write(f"{vertices} {vertices} {entries}\n")
+
+
+def band(out, vertices, width):
+    head_of_band(out, "pattern", vertices, width)
+    for w, v in band_entries(vertices, width):
+        out.write(f"{w} {v}\n")
+
+
+def valued_band(out, vertices, width):
+    draw = words(1)
+    head_of_band(out, "integer", vertices, width)
+    for w, v in band_entries(vertices, width):
+        out.write(f"{w} {v} {1 + next(draw) % 100_000}\n")
 
 
 def dissection(out, rows, columns):
@@ -70,7 +97,15 @@ def dissection(out, rows, columns):
 def main():
     kind, first, second, name = sys.argv[1], int(sys.argv[2]), int(sys.argv[3]), sys.argv[4]
     with open(name, "w") as out:
-        {"grid": grid, "dissection": dissection, "random": random_pattern, "band": band}[kind](out, first, second)
+        makers = {
+            "grid": grid,
+            "dissection": dissection,
+            "random": random_pattern,
+            "pattern": unvalued,
+            "band": band,
+            "valued_band": valued_band,
+        }
+        makers[kind](out, first, second)
 
 
 main()
