@@ -193,6 +193,7 @@ COMMANDS = {
     "check": Command(ALL_INPUTS, check_options),
     "simulate": Command(ALL_INPUTS, simulate_options),
     "spill": Command(ALL_INPUTS, spill_options),
+    "segments": Command(ALL_INPUTS, no_options),
     "tree": Command(("matrix",), no_options),
     "post": Command(("tree", "tree", "matrix"), no_options),
     "demo": Command((), demo_options),

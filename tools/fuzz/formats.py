@@ -356,6 +356,7 @@ COMMANDS: dict[str, tuple[set[str], list[set[str]], set[str]]] = {
     "check": ({"tree", "workflow", "matrix"}, [{"plan"}], {"workers"}),
     "simulate": ({"tree", "workflow", "matrix"}, [{"order", "plan"}, {"bound"}, {"workers"}], {"priority"}),
     "spill": ({"tree", "workflow", "matrix"}, [{"order", "plan"}, {"bound"}], set()),
+    "segments": ({"tree", "workflow", "matrix"}, [], set()),
     "tree": ({"matrix"}, [], set()),
     "post": ({"tree", "matrix"}, [], set()),
     "demo": (set(), [], {"kind", "seed", "tasks", "rows", "cols"}),

@@ -40,6 +40,9 @@ simulate --tree four.tree --order four.order --priority four.priority --bound 6 
 simulate --tree five.tree --plan five.plan --bound 22 --workers 4096
 spill --tree five.tree --order five.order --bound 10
 spill --workflow branches.workflow --order branches.order --bound 12
+segments --tree five.tree
+segments --workflow branches.workflow
+segments --matrix arrow.mtx --ordering mindeg
 tree --matrix arrow.mtx
 tree --matrix arrow.mtx --perm arrow.perm --inplace yes
 tree --matrix grid.mtx --ordering mindeg --amalgamate 1
