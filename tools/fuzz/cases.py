@@ -205,6 +205,7 @@ COMMANDS = {
     "simulate": Command(ALL_INPUTS, simulate_options),
     "spill": Command(ALL_INPUTS, spill_options),
     "fronts": Command(("matrix",), fronts_options),
+    "segments": Command(ALL_INPUTS, no_options),
     "tree": Command(("matrix",), no_options),
     "post": Command(("tree", "tree", "matrix"), no_options),
     "demo": Command((), demo_options),

@@ -360,6 +360,7 @@ COMMANDS: dict[str, tuple[set[str], list[set[str]], set[str]]] = {
     "simulate": ({"tree", "workflow", "matrix"}, [{"order", "plan"}, {"bound"}, {"workers"}], {"priority"}),
     "spill": ({"tree", "workflow", "matrix"}, [{"order", "plan"}, {"bound"}], set()),
     "fronts": ({"matrix"}, [{"bound"}, {"workers"}], {"perm", "ordering"}),
+    "segments": ({"tree", "workflow", "matrix"}, [], set()),
     "tree": ({"matrix"}, [], set()),
     "post": ({"tree", "matrix"}, [], set()),
     "demo": (set(), [], {"kind", "seed", "tasks", "rows", "cols"}),

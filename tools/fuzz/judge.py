@@ -28,12 +28,17 @@ from cases import Case
 from models import (
     Simulation,
     System,
+    children_of,
     columns_of,
+    first_position,
     fronts_report,
     numbers,
     objection,
+    parts_of,
     plan_of,
+    postorder_of,
     rows,
+    system_of_term,
     system_of_tree,
     system_of_workflow,
     term_of_tree,
@@ -52,9 +57,9 @@ KINDS = {
 }
 
 LIMITS = {
-    "tree": "bytes tasks size total time",
-    "workflow": "bytes tasks positions size total time",
-    "matrix": "bytes order entries mindeg",
+    "tree": "bytes tasks size total time steps",
+    "workflow": "bytes tasks positions size total time steps",
+    "matrix": "bytes order entries mindeg steps",
     "perm": "bytes",
     "order": "bytes tasks",
     "plan": "bytes tasks positions",
@@ -202,6 +207,24 @@ class Judge:
         columns = columns_of(self.file("matrix"), order, self.options.get("ordering") == "mindeg")
         yield from self.expect(fronts_report(columns, int(self.options["bound"]), int(self.options["workers"])))
 
+    def segments_ends(self) -> Iterator[str]:
+        term, places = term_of(self.bench, self.options), places_of(self.bench, self.options)
+        parts, lines = parts_of(term), self.text.splitlines()
+        if self.ending.status != DONE or (lines[0], lines[-1]) != (f"segments {len(places)}", "end"):
+            yield "these are no staircases of as many terms"
+            return
+        for number, (place, *told) in enumerate(zip(places, lines[1:-1:2], lines[2:-1:2], strict=True), 1):
+            part = parts[place - 1]
+            system = system_of_term(term[first_position(part) - 1 : place])
+            for line, start, direction in zip(told, (part.first, part.last), "FR"):
+                head, steps = f"{number} {direction} {start}", steps_of(line)
+                if not line.startswith(head) or not is_staircase(steps, start):
+                    yield f"{line!r} is no staircase from {head!r}"
+                elif min([start, *(level for _, level in steps)]) != part.least:
+                    yield f"{line!r} does not come down to {part.least}"
+                elif system.count <= FEW and steps != system.staircase(direction == "R"):
+                    yield f"expected the steps {system.staircase(direction == 'R')} of {line!r}"
+
     def plan_ends(self) -> Iterator[str]:
         words, text = input_words(self.options), self.ending.report
         if self.options.get("print") == "json":
@@ -299,6 +322,28 @@ def term_of(bench: Bench, options: dict[str, str]) -> list[tuple[str, list[int]]
     if "workflow" in options:
         return term_of_workflow(bench.read(options["workflow"]) or b"")
     return term_of_tree(tree_of(bench, options))
+
+
+def places_of(bench: Bench, options: dict[str, str]) -> list[int]:
+    """The positions of the terms of which `segments` tells: of a workflow all, of a tree those of its nodes' tasks."""
+    term = term_of(bench, options)
+    if "workflow" in options:
+        return list(range(1, len(term) + 1))
+    tasks = (position for position, (word, _) in enumerate(term, 1) if word == "task")
+    place = dict(zip(postorder_of(children_of(tree_parents(tree_of(bench, options)))), tasks))
+    return [place[number] for number in sorted(place)]
+
+
+def steps_of(line: str) -> list[tuple[int, int]]:
+    """The pairs of a line of `segments`."""
+    values = [int(token) for token in line.split()[3:]]
+    return list(zip(values[::2], values[1::2], strict=True))
+
+
+def is_staircase(steps: list[tuple[int, int]], start: int) -> bool:
+    """Whether bounds rise and levels fall, from the memory at the start on."""
+    bounds, levels = [start - 1, *(bound for bound, _ in steps)], [start, *(level for _, level in steps)]
+    return all(a < b for a, b in zip(bounds, bounds[1:])) and all(a > b for a, b in zip(levels, levels[1:]))
 
 
 def is_postorder(parents: list[int], order: list[int]) -> bool:

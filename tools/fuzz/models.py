@@ -103,6 +103,37 @@ class System:
             best = after
         return min(peak for peak, _ in best.values())
 
+    def memory(self, done: int) -> int:
+        """What is there between tasks, where those of this set are done."""
+        return self.first + sum(gain for task, gain in enumerate(self.gains) if done >> task & 1)
+
+    def staircase(self, backwards: bool) -> list[tuple[int, int]]:
+        """How low memory can come within each bound, from the first state on or from the last one back: bounds, with their levels."""
+        start = (1 << self.count) - 1 if backwards else 0
+        best = {start: self.memory(start)}
+        reached = dict(best)
+        for _ in range(self.count):
+            after: dict[int, int] = {}
+            for done, high in best.items():
+                for task in self.undone(done) if backwards else self.ready(done):
+                    left = done ^ 1 << task
+                    way = max(high, self.memory(left & done) + self.needs[task], self.memory(left))
+                    after[left] = min(way, after.get(left, way))
+            reached.update(after)
+            best = after
+        steps, level = [], self.memory(start)
+        for bound, memory in sorted((high, self.memory(done)) for done, high in reached.items()):
+            if memory < level:
+                steps.append((bound, memory))
+                level = memory
+        return steps
+
+    def undone(self, done: int) -> Iterator[int]:
+        """The tasks of this set that may have come last."""
+        for task in range(self.count):
+            if done >> task & 1 and not any(done >> taker & 1 and task in self.suppliers[taker] for taker in range(self.count)):
+                yield task
+
     def ready(self, done: int) -> Iterator[int]:
         """The tasks that may come next."""
         for task in range(self.count):
@@ -186,6 +217,26 @@ def numbers(text: bytes) -> list[int]:
 def tree_parents(text: bytes) -> list[int]:
     """The parents of a tree's nodes; 0 is none."""
     return [int(tokens[0]) for tokens in rows(text)[2:-1]]
+
+
+def children_of(parents: list[int]) -> list[list[int]]:
+    """The children of each node, in rising number; at 0 the roots."""
+    below: list[list[int]] = [[] for _ in range(len(parents) + 1)]
+    for number, parent in enumerate(parents, 1):
+        below[parent].append(number)
+    return below
+
+
+def postorder_of(below: list[list[int]]) -> Iterator[int]:
+    """The nodes, children before their node."""
+    left = [(number, False) for number in reversed(below[0])]
+    while left:
+        number, are_children_done = left.pop()
+        if are_children_done:
+            yield number
+            continue
+        left.append((number, True))
+        left.extend((child, False) for child in reversed(below[number]))
 
 
 def system_of_tree(text: bytes) -> System:
@@ -334,17 +385,9 @@ def term_of_workflow(text: bytes) -> list[tuple[str, list[int]]]:
 def term_of_tree(text: bytes) -> list[tuple[str, list[int]]]:
     """The same of a tree's term: children before their node, in rising number."""
     nodes = [[int(token) for token in tokens] for tokens in rows(text)[2:-1]]
-    below: list[list[int]] = [[] for _ in range(len(nodes) + 1)]
-    for number, (parent, *_) in enumerate(nodes, 1):
-        below[parent].append(number)
+    below = children_of(tree_parents(text))
     positions: list[tuple[str, list[int]]] = []
-    left = [(number, False) for number in reversed(below[0])]
-    while left:
-        number, are_children_done = left.pop()
-        if not are_children_done:
-            left.append((number, True))
-            left.extend((child, False) for child in reversed(below[number]))
-            continue
+    for number in postorder_of(below):
         _, out, extra, *share, _ = nodes[number - 1]
         if not below[number]:
             positions.append(("data", [0]))
@@ -352,6 +395,12 @@ def term_of_tree(text: bytes) -> list[tuple[str, list[int]]]:
             positions.append(("par", [len(below[number])]))
         positions += [("data", [out]), ("task", [extra, *(share or [0])])]
     return positions + ([("par", [len(below[0])])] if len(below[0]) > 1 else [])
+
+
+def system_of_term(term: list[tuple[str, list[int]]]) -> System:
+    """The system of a term, whose tasks take no matter what time."""
+    lines = [" ".join([word, *map(str, values), *(["1"] if word == "task" else [])]) for word, values in term]
+    return system_of_workflow("\n".join(["workflow 2", "tasks 0", *lines, "end"]).encode())
 
 
 class Part(NamedTuple):
@@ -386,6 +435,13 @@ def parts_of(term: list[tuple[str, list[int]]]) -> list[Part]:
         parts.append(part)
         stack.append(part)
     return parts
+
+
+def first_position(part: Part) -> int:
+    """Where a part begins."""
+    while part.parts:
+        part = part.parts[0]
+    return part.position
 
 
 def meets_rule(part: Part, claims: dict[int, list], claim: list) -> bool:

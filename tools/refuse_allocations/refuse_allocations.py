@@ -42,6 +42,9 @@ spill --tree five.tree --order five.order --bound 10
 spill --workflow branches.workflow --order branches.order --bound 12
 fronts --matrix arrow.mtx --perm arrow.perm --bound 4 --workers 2
 fronts --matrix grid.mtx --ordering mindeg --bound 9 --workers 1
+segments --tree five.tree
+segments --workflow branches.workflow
+segments --matrix arrow.mtx --ordering mindeg
 tree --matrix arrow.mtx
 tree --matrix arrow.mtx --perm arrow.perm --inplace yes
 tree --matrix grid.mtx --ordering mindeg --amalgamate 1

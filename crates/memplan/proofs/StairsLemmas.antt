@@ -72,7 +72,7 @@ reached each within input texts answer (ps, numbered, is, inr (all, stairs, few,
       numbers = numbers_from ps all 1 numbered;
       terms = terms_from ps all 1 numbered;
       stairs = rows;
-      pairs = λ row has d s in. each d row.term (steps_in d row.steps) (staircase_in d row (rows row has)) s in;
+      pairs = λ row has d s is_step. each d row.term (steps_in d row.steps) (staircase_in d row (rows row has)) s is_step;
       printed_is = ap (λ (a : Answer). a.text) e;
     }
 

@@ -1,6 +1,6 @@
 //! The term of an input, and the positions of it that a report numbers: of a tree those of its nodes, of a workflow all.
 
-ghost use Rattle.std.specs.Prelude.{◌≡◌, ◌≤◌, ◌<◌, ◌^◌, ◌+◌, ℕ, List, All, IfOk, length, map};
+ghost use Rattle.std.specs.Prelude.{◌≡◌, ◌≤◌, ◌<◌, ◌^◌, ◌+◌, ℕ, List, [], All, IfOk, length, map};
 ghost use Rattle.std.specs.List.{range_with_len};
 ghost use Rattle.tree_input.specs.Forest.{Forest, IsForestOf, all_numbers};
 ghost use Rattle.tree_input.specs.TreeTerm.{forest_positions};
