@@ -16,7 +16,7 @@ ghost use Rattle.memplan.specs.Judged.{IsStopAt, IsStopFor, IsJudged, IsRefusalO
 use crate::page::{format_page, limit_page};
 use crate::stop::Stop;
 use limits::LimitName;
-use matrix_market::{MatrixKind, Pattern, read_pattern};
+use matrix_market::{MatrixKind, Pattern, read_pattern_owned};
 use mp_outside::{Files, ReadRefusal, read_whole};
 use mp_text::{Kind, Refusal};
 use ordering::{OrderFileKind, Perm, PermKind, read_order, read_perm};
@@ -42,9 +42,9 @@ pub trait FileKind {
         ensures word { result.now ≡ file_word self.now }
         ensures token { IsTrue (is_token result.now) };
 
-    /// The value of a text, or why the format refuses it.
-    fn read(&self, alloc: Global, text: &[u8]) -> Result<Self::Value, Refusal<Self::Kind>>
-        ensures { MatchResult result (reads self.now text.now) (IsRefusalOf (refuses self.now text.now)) };
+    /// The value of a text, or why the format refuses it. The text is handed over, so that it can be let go as soon as it is read.
+    fn read(&self, alloc: Global, text: Vec<u8>) -> Result<Self::Value, Refusal<Self::Kind>>
+        ensures { MatchResult result (reads self.now text.items) (IsRefusalOf (refuses self.now text.items)) };
 }
 
 // The text of a file of at most 2^28 bytes.
@@ -98,7 +98,7 @@ pub fn judge<F: Files, K: FileKind>(
 {
     let word = kind.word();
     let text = load(alloc, files, name, word)?;
-    let read = kind.read(alloc, &text);
+    let read = kind.read(alloc, text);
     taken(alloc, word, read)
 }
 
@@ -121,8 +121,8 @@ impl FileKind for TreeFile {
         "tree"
     }
 
-    fn read(&self, alloc: Global, text: &[u8]) -> Result<Tree, Refusal<TreeKind>> {
-        read_tree(alloc, text)
+    fn read(&self, alloc: Global, text: Vec<u8>) -> Result<Tree, Refusal<TreeKind>> {
+        read_tree(alloc, &text)
     }
 }
 
@@ -145,8 +145,8 @@ impl FileKind for WorkflowFile {
         "workflow"
     }
 
-    fn read(&self, alloc: Global, text: &[u8]) -> Result<Terms, Refusal<WorkflowKind>> {
-        read_workflow(alloc, text)
+    fn read(&self, alloc: Global, text: Vec<u8>) -> Result<Terms, Refusal<WorkflowKind>> {
+        read_workflow(alloc, &text)
     }
 }
 
@@ -169,8 +169,8 @@ impl FileKind for MatrixFile {
         "matrix"
     }
 
-    fn read(&self, alloc: Global, text: &[u8]) -> Result<Pattern, Refusal<MatrixKind>> {
-        read_pattern(alloc, text)
+    fn read(&self, alloc: Global, text: Vec<u8>) -> Result<Pattern, Refusal<MatrixKind>> {
+        read_pattern_owned(alloc, text)
     }
 }
 
@@ -208,8 +208,8 @@ impl FileKind for PermFile {
         }
     }
 
-    fn read(&self, alloc: Global, text: &[u8]) -> Result<Perm, Refusal<PermKind>> {
-        read_perm(alloc, text, self.n)
+    fn read(&self, alloc: Global, text: Vec<u8>) -> Result<Perm, Refusal<PermKind>> {
+        read_perm(alloc, &text, self.n)
     }
 }
 
@@ -232,8 +232,8 @@ impl FileKind for OrderFile {
         "order"
     }
 
-    fn read(&self, alloc: Global, text: &[u8]) -> Result<Vec<u32>, Refusal<OrderFileKind>> {
-        read_order(alloc, text)
+    fn read(&self, alloc: Global, text: Vec<u8>) -> Result<Vec<u32>, Refusal<OrderFileKind>> {
+        read_order(alloc, &text)
     }
 }
 
@@ -256,7 +256,7 @@ impl FileKind for PlanTextFile {
         "plan"
     }
 
-    fn read(&self, alloc: Global, text: &[u8]) -> Result<PlanFile, Refusal<PlanKind>> {
-        read_plan(alloc, text)
+    fn read(&self, alloc: Global, text: Vec<u8>) -> Result<PlanFile, Refusal<PlanKind>> {
+        read_plan(alloc, &text)
     }
 }

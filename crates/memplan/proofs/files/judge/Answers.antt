@@ -1,4 +1,4 @@
-use Rattle.std.proofs.Common.{◌≡◌, ◌∙◌, ℕ, List, Some, subst}
+use Rattle.std.proofs.Common.{◌≡◌, ℕ, List, Some, subst}
 use Rattle.std.proofs.lemmas.Result.{MatchResult-weaker, MatchResult-at_ok}
 use Rattle.memplan.specs.Files.{IsWithinBytes}
 use Rattle.memplan.proofs.StepLemmas.{passed}
@@ -16,9 +16,9 @@ returns-in_err-text-clause-judged g c =
 pub returns-clause-judged : goal.returns-clause-judged
 returns-clause-judged g c =
     let kind = c.args.kind.now in
-    let text = c.deref.result.now in
+    let text = c.in_ok-text.text.items in
     let tells : (told : List ℕ) → g.F.Files.bytes_of c.args.files.now c.args.name.now ≡ Some told → (text ≡ told) × IsWithinBytes told =
-    λ told holds. let t = c.in_ok-text.ensures.told told holds in (c.deref.ensures.value ∙ t.0, t.1) in
+    λ told holds. c.in_ok-text.ensures.told told holds in
     MatchResult-weaker c.taken.result c.taken.ensures
     (λ value is. λ told holds. let t = tells told holds in (t.1, subst (λ (b : List ℕ). g.K.FileKind.reads kind b value) t.0 (MatchResult-at_ok _ _ value is c.read-read.ensures)))
     (λ e is. refused (g.K.FileKind.file_word kind) g.K.Kind.Kind.word_of (g.K.FileKind.refuses kind) (g.F.Files.bytes_of c.args.files.now) (g.F.Files.faults_of c.args.files.now)
