@@ -1,8 +1,8 @@
 //! Loads and writes that fail, files that are not held, and sinks that are full.
 
+use super::fronts::ABREAST;
 use super::segments::OF_FIVE;
 use super::simulations::TIGHT;
-use super::fronts::ABREAST;
 use super::spills::BOTH;
 use super::{
     ARROW, Case, FIVE, FOUR, ORDER, PLAN, TURNED, Texts, check_cases, check_run, files_of, run_into,
