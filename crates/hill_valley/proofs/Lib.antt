@@ -1,4 +1,4 @@
-pub mod Nodes
+pub mod Joins
 pub mod Opening
 pub mod Kept
 pub mod Profiles

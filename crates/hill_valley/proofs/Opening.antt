@@ -1,118 +1,143 @@
 -- What opening the top of the stack leaves to be listed.
-use Rattle.std.proofs.Common.{◌≡◌, ℕ, ◌+◌, ◌<◌, ◌≤◌, List, [], ◌∷◌, ◌++◌, reverse, get_or, length, true, false, cond, Bool, refl, ap, sym, ◌∙◌, arith, append_assoc}
+use Rattle.std.proofs.Common.{◌≡◌, ℕ, ◌+◌, ◌<◌, ◌≤◌, List, [], ◌∷◌, ◌++◌, reverse, get_or, length, refl, ap, sym, ◌∙◌, arith, append_assoc}
 use Rattle.std.proofs.lemmas.Grind.{common_steps}
-use Rattle.hill_valley.specs.Ropes.{list_of_node, lists_of, HasPartsBelow, AllHavePartsBelow}
-use Rattle.hill_valley.specs.Listing.{tasks_opened, parts_opened}
-use Rattle.hill_valley.specs.declared.ropes.Pending.{Pending}
-use Rattle.hill_valley.proofs.Nodes.{weight_of_node, weights_of, list_at, weight_at, parts_at}
-use Rattle.hill_valley.specs.declared.ropes.Node.{Node}
-use Rattle.hill_valley.specs.declared.ropes.Node.TheVariants.{One, Empty, Join, Flip}
-
--- what an entry of the stack stands for
-abbrev pub read : (ℕ → List ℕ) → Pending → List ℕ
-read at e = cond e.flipped (reverse (at e.node)) (at e.node)
+use Rattle.hill_valley.specs.Ropes.{list_of_piece, lists_of, IsPiece, AllHavePartsBelow}
+use Rattle.hill_valley.specs.Listing.{turned, join_at, tasks_opened, parts_opened}
+use Rattle.hill_valley.proofs.Joins.{weight_of_piece, weights_of, list_at, weight_at, parts_at}
+use Rattle.hill_valley.specs.declared.ropes.Piece.{Piece}
+use Rattle.hill_valley.specs.declared.ropes.Piece.TheVariants.{Empty, Task, Joined, Turned}
+use Rattle.hill_valley.specs.declared.ropes.Join.{Join}
 
 -- what is still to be listed. The top of the stack stands last
-abbrev pub pending : (ℕ → List ℕ) → List Pending → List ℕ
+abbrev pub pending : (ℕ → List ℕ) → List Piece → List ℕ
 pending at [] = []
-pending at (e ∷ es) = pending at es ++ read at e
+pending at (p ∷ ps) = pending at ps ++ list_of_piece at p
 
-abbrev pub pending_weight : (ℕ → ℕ) → List Pending → ℕ
+abbrev pub pending_weight : (ℕ → ℕ) → List Piece → ℕ
 pending_weight at [] = 0
-pending_weight at (e ∷ es) = pending_weight at es + at e.node
+pending_weight at (p ∷ ps) = pending_weight at ps + weight_of_piece at p
 
-abbrev pub AllBelow : ℕ → List Pending → Type 0
+abbrev pub AllBelow : ℕ → List Piece → Type 0
 AllBelow n [] = Unit {0}
-AllBelow n (e ∷ es) = (e.node < n) × AllBelow n es
+AllBelow n (p ∷ ps) = IsPiece n p × AllBelow n ps
 
-pub pending_append : (at : ℕ → List ℕ) (es fs : List Pending) → pending at (es ++ fs) ≡ pending at fs ++ pending at es
-pending_append at [] fs = grind (arith, common_steps)
-pending_append at (e ∷ es) fs = rw (pending_append at es fs) (append_assoc (pending at fs) (pending at es) (read at e))
+pub pending_append : (at : ℕ → List ℕ) (ps qs : List Piece) → pending at (ps ++ qs) ≡ pending at qs ++ pending at ps
+pending_append at [] qs = grind (arith, common_steps)
+pending_append at (p ∷ ps) qs = rw (pending_append at ps qs) (append_assoc (pending at qs) (pending at ps) (list_of_piece at p))
 
-pub weight_append : (at : ℕ → ℕ) (es fs : List Pending) → pending_weight at (es ++ fs) ≡ pending_weight at fs + pending_weight at es
-weight_append at [] fs = omega arith
-weight_append at (e ∷ es) fs = omega (arith, weight_append at es fs)
+pub weight_append : (at : ℕ → ℕ) (ps qs : List Piece) → pending_weight at (ps ++ qs) ≡ pending_weight at qs + pending_weight at ps
+weight_append at [] qs = omega arith
+weight_append at (p ∷ ps) qs = omega (arith, weight_append at ps qs)
 
-pub below_append : (n : ℕ) (es fs : List Pending) → AllBelow n es → AllBelow n fs → AllBelow n (es ++ fs)
-below_append n [] fs he hf = hf
-below_append n (e ∷ es) fs he hf = (he.0, below_append n es fs he.1 hf)
+pub below_append : (n : ℕ) (ps qs : List Piece) → AllBelow n ps → AllBelow n qs → AllBelow n (ps ++ qs)
+below_append n [] qs hp hq = hq
+below_append n (p ∷ ps) qs hp hq = (hp.0, below_append n ps qs hp.1 hq)
 
-pub below_front : (n : ℕ) (es fs : List Pending) → AllBelow n (es ++ fs) → AllBelow n es
-below_front n [] fs h = tt
-below_front n (e ∷ es) fs h = (h.0, below_front n es fs h.1)
+pub below_front : (n : ℕ) (ps qs : List Piece) → AllBelow n (ps ++ qs) → AllBelow n ps
+below_front n [] qs h = tt
+below_front n (p ∷ ps) qs h = (h.0, below_front n ps qs h.1)
 
-pub below_last : (n : ℕ) (es fs : List Pending) → AllBelow n (es ++ fs) → AllBelow n fs
-below_last n [] fs h = h
-below_last n (e ∷ es) fs h = below_last n es fs h.1
+pub below_last : (n : ℕ) (ps qs : List Piece) → AllBelow n (ps ++ qs) → AllBelow n qs
+below_last n [] qs h = h
+below_last n (p ∷ ps) qs h = below_last n ps qs h.1
+
+-- ---- a piece turned
 
 reverse_append : (a b : List ℕ) → reverse (a ++ b) ≡ reverse b ++ reverse a
 reverse_append a b = grind (arith, common_steps)
 
--- the node's own task and its parts, in order, are its list
-pub opened_told : (at : ℕ → List ℕ) (flipped : Bool) (x : Node) → tasks_opened x ++ pending at (parts_opened flipped x) ≡ cond flipped (reverse (list_of_node at x)) (list_of_node at x)
-opened_told at true (One task) = refl
-opened_told at false (One task) = refl
-opened_told at true Empty = refl
-opened_told at false Empty = refl
-opened_told at true (Join a b) = sym (reverse_append (at a) (at b))
-opened_told at false (Join a b) = refl
-opened_told at true (Flip a) = grind (arith, common_steps)
-opened_told at false (Flip a) = refl
+pub turned_told : (at : ℕ → List ℕ) (p : Piece) → list_of_piece at (turned p) ≡ reverse (list_of_piece at p)
+turned_told at Empty = refl
+turned_told at (Task task) = refl
+turned_told at (Joined i) = refl
+turned_told at (Turned i) = grind (arith, common_steps)
 
-pub opened_weight : (at : ℕ → ℕ) (flipped : Bool) (x : Node) → pending_weight at (parts_opened flipped x) < weight_of_node at x
-opened_weight at flipped (One task) = omega arith
-opened_weight at flipped Empty = omega arith
-opened_weight at true (Join a b) = omega arith
-opened_weight at false (Join a b) = omega arith
-opened_weight at flipped (Flip a) = omega arith
+turned_weight : (at : ℕ → ℕ) (p : Piece) → weight_of_piece at (turned p) ≡ weight_of_piece at p
+turned_weight at Empty = refl
+turned_weight at (Task task) = refl
+turned_weight at (Joined i) = refl
+turned_weight at (Turned i) = refl
 
-pub opened_below : (n m : ℕ) (flipped : Bool) (x : Node) → n ≤ m → HasPartsBelow n x → AllBelow m (parts_opened flipped x)
-opened_below n m flipped (One task) le h = tt
-opened_below n m flipped Empty le h = tt
-opened_below n m true (Join a b) le h = (omega arith, (omega arith, tt))
-opened_below n m false (Join a b) le h = (omega arith, (omega arith, tt))
-opened_below n m flipped (Flip a) le h = (omega arith, tt)
+pub turned_below : (n : ℕ) (p : Piece) → IsPiece n p → IsPiece n (turned p)
+turned_below n Empty h = tt
+turned_below n (Task task) h = tt
+turned_below n (Joined i) h = h
+turned_below n (Turned i) h = h
 
--- one turn of the loop, where the stack is `rest` below the entry that was taken off
-module _ (ns : List Node) (parts : AllHavePartsBelow 0 ns) (rest : List Pending) (top : Pending) (lt : top.node < length ns) where
-  pub told_step : (list : List ℕ) → (list ++ tasks_opened (get_or ns top.node Empty)) ++ pending (λ i. get_or (lists_of ns) i []) (rest ++ parts_opened top.flipped (get_or ns top.node Empty))
-      ≡ list ++ pending (λ i. get_or (lists_of ns) i []) (rest ++ top ∷ [])
-  told_step list =
-      let at = λ (i : ℕ). get_or (lists_of ns) i [] in
-      let x = get_or ns top.node Empty in
-      let told = opened_told at top.flipped x in
-      let here : list_of_node at x ≡ at top.node = sym (list_at ns top.node Empty parts lt) in
-      let told' : tasks_opened x ++ pending at (parts_opened top.flipped x) ≡ cond top.flipped (reverse (at top.node)) (at top.node) = told ∙ ap (λ (l : List ℕ). cond top.flipped (reverse l) l) here in
-      rw (pending_append at rest (parts_opened top.flipped x), pending_append at rest (top ∷ []))
-      (append_assoc list (tasks_opened x) (pending at (parts_opened top.flipped x) ++ pending at rest)
-      ∙ ap (λ (l : List ℕ). list ++ l) (sym (append_assoc (tasks_opened x) (pending at (parts_opened top.flipped x)) (pending at rest)) ∙ ap (λ (l : List ℕ). l ++ pending at rest) told'))
+piece_below : (n m : ℕ) (p : Piece) → n ≤ m → IsPiece n p → IsPiece m p
+piece_below n m Empty le h = tt
+piece_below n m (Task task) le h = tt
+piece_below n m (Joined i) le h = omega arith
+piece_below n m (Turned i) le h = omega arith
 
-  pub weight_step : pending_weight (λ i. get_or (weights_of ns) i 0) (rest ++ parts_opened top.flipped (get_or ns top.node Empty)) < pending_weight (λ i. get_or (weights_of ns) i 0) (rest ++ top ∷ [])
-  weight_step =
-      let at = λ (i : ℕ). get_or (weights_of ns) i 0 in
-      let x = get_or ns top.node Empty in
-      omega (arith, weight_append at rest (parts_opened top.flipped x), weight_append at rest (top ∷ []), opened_weight at top.flipped x, weight_at ns top.node Empty parts lt)
+-- ---- a piece opened, among the joins js
 
-  pub below_step : AllBelow (length ns) (rest ++ top ∷ []) → AllBelow (length ns) (rest ++ parts_opened top.flipped (get_or ns top.node Empty))
-  below_step h =
-      below_append (length ns) rest (parts_opened top.flipped (get_or ns top.node Empty)) (below_front (length ns) rest (top ∷ []) h)
-      (opened_below (0 + top.node) (length ns) top.flipped (get_or ns top.node Empty) (omega arith) (parts_at 0 ns top.node Empty parts lt))
+module _ (js : List Join) (parts : AllHavePartsBelow 0 js) where
+  -- the piece's own task and its two lists, in order, are its list
+  opened_told : (p : Piece) → IsPiece (length js) p
+      → tasks_opened p ++ pending (λ i. get_or (lists_of js) i []) (parts_opened (join_at js) p) ≡ list_of_piece (λ i. get_or (lists_of js) i []) p
+  opened_told Empty lt = refl
+  opened_told (Task task) lt = refl
+  opened_told (Joined i) lt = sym (list_at js i (record { first = Empty; second = Empty }) parts lt)
+  opened_told (Turned i) lt =
+      let at = λ (i : ℕ). get_or (lists_of js) i [] in
+      let j = join_at js i in
+      rw (turned_told at j.first, turned_told at j.second)
+      (sym (reverse_append (list_of_piece at j.first) (list_of_piece at j.second)) ∙ ap reverse (sym (list_at js i (record { first = Empty; second = Empty }) parts lt)))
+
+  opened_weight : (p : Piece) → IsPiece (length js) p
+      → pending_weight (λ i. get_or (weights_of js) i 0) (parts_opened (join_at js) p) < weight_of_piece (λ i. get_or (weights_of js) i 0) p
+  opened_weight Empty lt = omega arith
+  opened_weight (Task task) lt = omega arith
+  opened_weight (Joined i) lt = omega (arith, weight_at js i (record { first = Empty; second = Empty }) parts lt)
+  opened_weight (Turned i) lt =
+      let at = λ (i : ℕ). get_or (weights_of js) i 0 in
+      let j = join_at js i in
+      omega (arith, weight_at js i (record { first = Empty; second = Empty }) parts lt, turned_weight at j.first, turned_weight at j.second)
+
+  opened_below : (p : Piece) → IsPiece (length js) p → AllBelow (length js) (parts_opened (join_at js) p)
+  opened_below Empty lt = tt
+  opened_below (Task task) lt = tt
+  opened_below (Joined i) lt =
+      let h = parts_at 0 js i (record { first = Empty; second = Empty }) parts lt in
+      (piece_below (0 + i) (length js) _ (omega arith) h.1, (piece_below (0 + i) (length js) _ (omega arith) h.0, tt))
+  opened_below (Turned i) lt =
+      let h = parts_at 0 js i (record { first = Empty; second = Empty }) parts lt in
+      (turned_below (length js) _ (piece_below (0 + i) (length js) _ (omega arith) h.0), (turned_below (length js) _ (piece_below (0 + i) (length js) _ (omega arith) h.1), tt))
+
+  -- one turn of the loop, where the stack is `rest` below the piece that was taken off
+  module _ (rest : List Piece) (top : Piece) (lt : IsPiece (length js) top) where
+    told_step : (list : List ℕ) → (list ++ tasks_opened top) ++ pending (λ i. get_or (lists_of js) i []) (rest ++ parts_opened (join_at js) top)
+        ≡ list ++ pending (λ i. get_or (lists_of js) i []) (rest ++ top ∷ [])
+    told_step list =
+        let at = λ (i : ℕ). get_or (lists_of js) i [] in
+        rw (pending_append at rest (parts_opened (join_at js) top), pending_append at rest (top ∷ []))
+        (append_assoc list (tasks_opened top) (pending at (parts_opened (join_at js) top) ++ pending at rest)
+        ∙ ap (λ (l : List ℕ). list ++ l) (sym (append_assoc (tasks_opened top) (pending at (parts_opened (join_at js) top)) (pending at rest)) ∙ ap (λ (l : List ℕ). l ++ pending at rest) (opened_told top lt)))
+
+    weight_step : pending_weight (λ i. get_or (weights_of js) i 0) (rest ++ parts_opened (join_at js) top) < pending_weight (λ i. get_or (weights_of js) i 0) (rest ++ top ∷ [])
+    weight_step =
+        let at = λ (i : ℕ). get_or (weights_of js) i 0 in
+        omega (arith, weight_append at rest (parts_opened (join_at js) top), weight_append at rest (top ∷ []), opened_weight top lt)
+
+    below_step : AllBelow (length js) (rest ++ top ∷ []) → AllBelow (length js) (rest ++ parts_opened (join_at js) top)
+    below_step h = below_append (length js) rest (parts_opened (join_at js) top) (below_front (length js) rest (top ∷ []) h) (opened_below top lt)
 
 -- the same, as the calls of one turn give it
-pub record Turn (ns : List Node) (todo todo' : List Pending) (list list' : List ℕ) : Type 0 where
-  pub told : list' ++ pending (λ i. get_or (lists_of ns) i []) todo' ≡ list ++ pending (λ i. get_or (lists_of ns) i []) todo
-  pub lighter : pending_weight (λ i. get_or (weights_of ns) i 0) todo' < pending_weight (λ i. get_or (weights_of ns) i 0) todo
-  pub below : AllBelow (length ns) todo'
+pub record Turn (js : List Join) (todo todo' : List Piece) (list list' : List ℕ) : Type 0 where
+  pub told : list' ++ pending (λ i. get_or (lists_of js) i []) todo' ≡ list ++ pending (λ i. get_or (lists_of js) i []) todo
+  pub lighter : pending_weight (λ i. get_or (weights_of js) i 0) todo' < pending_weight (λ i. get_or (weights_of js) i 0) todo
+  pub below : AllBelow (length js) todo'
 
-pub top_below : (n : ℕ) (todo rest : List Pending) (top : Pending) → AllBelow n todo → todo ≡ rest ++ top ∷ [] → top.node < n
+pub top_below : (n : ℕ) (todo rest : List Piece) (top : Piece) → AllBelow n todo → todo ≡ rest ++ top ∷ [] → IsPiece n top
 top_below n todo rest top h e = (below_last n rest (top ∷ []) (rw e at h)).0
 
-pub turn : (ns : List Node) (todo rest todo' : List Pending) (list list' : List ℕ) (top : Pending) → AllHavePartsBelow 0 ns → AllBelow (length ns) todo
-    → todo ≡ rest ++ top ∷ [] → list' ≡ list ++ tasks_opened (get_or ns top.node Empty) → todo' ≡ rest ++ parts_opened top.flipped (get_or ns top.node Empty) → Turn ns todo todo' list list'
-turn ns todo rest todo' list list' top parts below e f g =
-    let lt = top_below (length ns) todo rest top below e in
+pub turn : (js : List Join) (todo rest todo' : List Piece) (list list' : List ℕ) (top : Piece) → AllHavePartsBelow 0 js → AllBelow (length js) todo
+    → todo ≡ rest ++ top ∷ [] → list' ≡ list ++ tasks_opened top → todo' ≡ rest ++ parts_opened (join_at js) top → Turn js todo todo' list list'
+turn js todo rest todo' list list' top parts below e f g =
+    let lt = top_below (length js) todo rest top below e in
     record {
-      told = rw (e, f, g) (told_step ns parts rest top lt list);
-      lighter = rw (e, g) (weight_step ns parts rest top lt);
-      below = rw g (below_step ns parts rest top lt (rw e at below));
+      told = rw (e, f, g) (told_step js parts rest top lt list);
+      lighter = rw (e, g) (weight_step js parts rest top lt);
+      below = rw g (below_step js parts rest top lt (rw e at below));
     }

@@ -1,33 +1,41 @@
 //! Lists of tasks that are joined and reversed in constant time, in one growing store.
 
-ghost use Rattle.std.specs.Prelude.{◌≡◌, ℕ, ◌+◌, ◌<◌, [], ◌∷◌, ◌++◌, length, reverse, get_or, IfOk, OnOk, OnErr};
-ghost use Rattle.hill_valley.specs.Ropes.{list_of_node, lists_of, HasPartsBelow, AllHavePartsBelow, list_of, IsRope, Extends};
-ghost use Rattle.hill_valley.specs.Listing.{tasks_opened, parts_opened};
+ghost use Rattle.std.specs.Prelude.{◌≡◌, ℕ, ◌+◌, ◌<◌, ◌≤◌, [], ◌∷◌, ◌++◌, length, reverse, get_or, IfOk, OnOk, OnErr};
+ghost use Rattle.hill_valley.specs.Ropes.{list_of_piece, list_of_join, lists_of, IsPiece, HasPartsBelow, AllHavePartsBelow, list_of, IsRope, Extends};
+ghost use Rattle.hill_valley.specs.Listing.{turned, tasks_opened, parts_opened, join_at};
 
 use crate::NoMemory;
-use std::alloc::Global;
+use std::alloc::{AllocError, Global};
 use std::marker::Model;
 
-/// A list of tasks, by its place in the [`Ropes`] that made it. It stands for that list for good.
+/// A list of tasks, of the [`Ropes`] that made it. It stands for that list for good.
 #[derive(Clone, Copy)]
 pub struct Rope {
-    node: usize,
+    piece: Piece,
 }
 
-// How a list is made. The parts are the places of earlier nodes.
+// A list without a join, or what was joined at a place, as it is or backwards.
 #[derive(Clone, Copy)]
-enum Node {
-    One(u32),
+enum Piece {
     Empty,
-    Join(usize, usize),
-    Flip(usize),
+    Task(u32),
+    Joined(u32),
+    Turned(u32),
 }
 
-/// A store of lists of tasks. Nothing in it ever changes; each call that makes a list adds one node.
+// Two lists, one after the other. What is joined in them was joined at earlier places.
+#[derive(Clone, Copy)]
+struct Join {
+    first: Piece,
+    second: Piece,
+}
+
+/// A store of lists of tasks. Nothing in it ever changes, and only a join of two lists that are not empty adds to it. So the
+/// lists of n tasks, each of which stands once in one of them, are made of fewer than n joins.
 /// Want of memory leaves every rope as it is.
 #[derive(Drop)]
 pub struct Ropes {
-    nodes: Vec<Node>,
+    joins: Vec<Join>,
 }
 
 impl Model for Ropes {
@@ -36,9 +44,9 @@ impl Model for Ropes {
 
     ghost Value = { List (List ℕ) };
 
-    ghost view = { λ r. lists_of r.nodes.items };
+    ghost view = { λ r. lists_of r.joins.items };
 
-    ghost invariant = { λ r. AllHavePartsBelow 0 r.nodes.items };
+    ghost invariant = { λ r. AllHavePartsBelow 0 r.joins.items };
 }
 
 impl Ropes {
@@ -47,135 +55,140 @@ impl Ropes {
         ensures empty { result ≡ [] }
     {
         Ropes {
-            nodes: Vec::new(alloc),
+            joins: Vec::new(alloc),
         }
     }
 
-    /// The list of the one task. Constant time.
-    pub fn one(&mut self, task: u32) -> Result<Rope, NoMemory>
-        ensures list { IfOk result (λ rope. list_of self.new rope ≡ task ∷ []) }
-        ensures rope { IfOk result (λ rope. IsRope self.new rope) }
-        ensures kept { Extends self.old self.new }
-        ensures one_more { OnOk result (length self.new ≡ length self.old + 1) }
-        ensures err { OnErr result (self.new ≡ self.old) }
+    /// The list of the one task. Constant time, and no memory.
+    pub fn one(&self, task: u32) -> Rope
+        ensures list { list_of self.now result ≡ task ∷ [] }
+        ensures rope { IsRope self.now result }
     {
-        self.add(Node::One(task))
+        let _ = &self.joins;
+        Rope {
+            piece: Piece::Task(task),
+        }
     }
 
-    /// The empty list. Constant time.
-    pub fn empty(&mut self) -> Result<Rope, NoMemory>
-        ensures list { IfOk result (λ rope. list_of self.new rope ≡ []) }
-        ensures rope { IfOk result (λ rope. IsRope self.new rope) }
-        ensures kept { Extends self.old self.new }
-        ensures one_more { OnOk result (length self.new ≡ length self.old + 1) }
-        ensures err { OnErr result (self.new ≡ self.old) }
+    /// The empty list. Constant time, and no memory.
+    pub fn empty(&self) -> Rope
+        ensures list { list_of self.now result ≡ [] }
+        ensures rope { IsRope self.now result }
     {
-        self.add(Node::Empty)
+        let _ = &self.joins;
+        Rope {
+            piece: Piece::Empty,
+        }
     }
 
-    /// The first list followed by the second. Both are of these ropes. Constant time.
+    /// The first list followed by the second. Both are of these ropes. Constant time. Want of memory, too, is what a store of
+    /// 2^32 joins answers.
     pub fn join(&mut self, a: Rope, b: Rope) -> Result<Rope, NoMemory>
         requires a { IsRope self.old a }
         requires b { IsRope self.old b }
         ensures list { IfOk result (λ rope. list_of self.new rope ≡ list_of self.old a ++ list_of self.old b) }
         ensures rope { IfOk result (λ rope. IsRope self.new rope) }
         ensures kept { Extends self.old self.new }
-        ensures one_more { OnOk result (length self.new ≡ length self.old + 1) }
+        ensures at_most_one_more { OnOk result (length self.new ≤ length self.old + 1) }
         ensures err { OnErr result (self.new ≡ self.old) }
     {
-        self.add(Node::Join(a.node, b.node))
+        match (a.piece, b.piece) {
+            (Piece::Empty, _) => Ok(b),
+            (_, Piece::Empty) => Ok(a),
+            (first, second) => self.add(Join { first, second }),
+        }
     }
 
-    /// The list reversed. It is of these ropes. Constant time.
-    pub fn flip(&mut self, a: Rope) -> Result<Rope, NoMemory>
-        requires a { IsRope self.old a }
-        ensures list { IfOk result (λ rope. list_of self.new rope ≡ reverse (list_of self.old a)) }
+    /// The list reversed. It is of these ropes. Constant time, and no memory.
+    pub fn flip(&self, a: Rope) -> Rope
+        requires a { IsRope self.now a }
+        ensures list { list_of self.now result ≡ reverse (list_of self.now a) }
+        ensures rope { IsRope self.now result }
+    {
+        let _ = &self.joins;
+        Rope {
+            piece: turned(a.piece),
+        }
+    }
+
+    // One more join.
+    fn add(&mut self, join: Join) -> Result<Rope, NoMemory>
+        requires { HasPartsBelow (length self.old) join }
+        ensures list { IfOk result (λ rope. list_of self.new rope ≡ list_of_join (λ i. get_or self.old i []) join) }
         ensures rope { IfOk result (λ rope. IsRope self.new rope) }
         ensures kept { Extends self.old self.new }
         ensures one_more { OnOk result (length self.new ≡ length self.old + 1) }
         ensures err { OnErr result (self.new ≡ self.old) }
     {
-        self.add(Node::Flip(a.node))
+        let Ok(at) = u32::try_from(self.joins.len()) else {
+            return Err(AllocError);
+        };
+        self.joins.push(join)?;
+        Ok(Rope {
+            piece: Piece::Joined(at),
+        })
     }
 
-    // One more node.
-    fn add(&mut self, node: Node) -> Result<Rope, NoMemory>
-        requires { HasPartsBelow (length self.old) node }
-        ensures list { IfOk result (λ rope. list_of self.new rope ≡ list_of_node (λ i. get_or self.old i []) node) }
-        ensures rope { IfOk result (λ rope. IsRope self.new rope) }
-        ensures kept { Extends self.old self.new }
-        ensures one_more { OnOk result (length self.new ≡ length self.old + 1) }
-        ensures err { OnErr result (self.new ≡ self.old) }
-    {
-        let at = self.nodes.len();
-        self.nodes.push(node)?;
-        Ok(Rope { node: at })
-    }
-
-    /// The tasks of the list, in order. The rope is of these ropes. Time is linear in the nodes that the list was made of,
+    /// The tasks of the list, in order. The rope is of these ropes. Time is linear in the joins that the list was made of,
     /// and no call is nested in another, however deep they lie.
     pub fn list(&self, alloc: Global, rope: Rope) -> Result<Vec<u32>, NoMemory>
         requires rope { IsRope self.now rope }
         ensures list { IfOk result (λ tasks. tasks.items ≡ list_of self.now rope) }
     {
-        list_from(alloc, &self.nodes, rope.node)
+        list_from(alloc, &self.joins, rope.piece)
     }
 }
 
-// A node that is still to be listed, forwards or backwards.
-#[derive(Clone, Copy)]
-struct Pending {
-    node: usize,
-    flipped: bool,
+// The same tasks backwards.
+fn turned(piece: Piece) -> Piece
+    ensures { result ≡ turned piece }
+{
+    match piece {
+        Piece::Empty => Piece::Empty,
+        Piece::Task(task) => Piece::Task(task),
+        Piece::Joined(at) => Piece::Turned(at),
+        Piece::Turned(at) => Piece::Joined(at),
+    }
 }
 
-fn list_from(alloc: Global, nodes: &[Node], node: usize) -> Result<Vec<u32>, NoMemory>
-    requires parts { AllHavePartsBelow 0 nodes.now }
-    requires node { node < length nodes.now }
-    ensures { IfOk result (λ tasks. tasks.items ≡ get_or (lists_of nodes.now) node []) }
+fn list_from(alloc: Global, joins: &[Join], piece: Piece) -> Result<Vec<u32>, NoMemory>
+    requires parts { AllHavePartsBelow 0 joins.now }
+    requires piece { IsPiece (length joins.now) piece }
+    ensures { IfOk result (λ tasks. tasks.items ≡ list_of_piece (λ i. get_or (lists_of joins.now) i []) piece) }
 {
     let mut list = Vec::new(alloc);
     let mut todo = Vec::new(alloc);
-    todo.push(Pending {
-        node,
-        flipped: false,
-    })?;
+    todo.push(piece)?;
     while let Some(top) = todo.pop() {
-        open_node(nodes, top, &mut todo, &mut list)?;
+        open_piece(joins, top, &mut todo, &mut list)?;
     }
     Ok(list)
 }
 
-// Lists the node's own task, or puts its parts on the stack.
-fn open_node(
-    nodes: &[Node],
-    top: Pending,
-    todo: &mut Vec<Pending>,
+// Lists the piece's own task, or puts its two lists on the stack.
+fn open_piece(
+    joins: &[Join],
+    top: Piece,
+    todo: &mut Vec<Piece>,
     list: &mut Vec<u32>,
 ) -> Result<(), NoMemory>
-    requires node { top.node < length nodes.now }
-    ensures list { OnOk result (list.new.items ≡ list.old.items ++ tasks_opened (get_or nodes.now top.node Node.Empty)) }
-    ensures todo { OnOk result (todo.new.items ≡ todo.old.items ++ parts_opened top.flipped (get_or nodes.now top.node Node.Empty)) }
+    requires piece { IsPiece (length joins.now) top }
+    ensures list { OnOk result (list.new.items ≡ list.old.items ++ tasks_opened top) }
+    ensures todo { OnOk result (todo.new.items ≡ todo.old.items ++ parts_opened (join_at joins.now) top) }
 {
-    let flipped = top.flipped;
-    match nodes[top.node] {
-        Node::One(task) => list.push(task)?,
-        Node::Empty => {}
-        Node::Join(a, b) => {
-            let (first, second) = if flipped { (b, a) } else { (a, b) };
-            todo.push(Pending {
-                node: second,
-                flipped,
-            })?;
-            todo.push(Pending {
-                node: first,
-                flipped,
-            })?;
+    match top {
+        Piece::Empty => {}
+        Piece::Task(task) => list.push(task)?,
+        Piece::Joined(at) => {
+            let join = joins[at as usize];
+            todo.push(join.second)?;
+            todo.push(join.first)?;
         }
-        Node::Flip(a) => todo.push(Pending {
-            node: a,
-            flipped: !flipped,
-        })?,
+        Piece::Turned(at) => {
+            let join = joins[at as usize];
+            todo.push(turned(join.first))?;
+            todo.push(turned(join.second))?;
+        }
     }
     Ok(())
 }

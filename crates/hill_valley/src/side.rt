@@ -197,7 +197,7 @@ impl Side {
         ensures rope { IfOk result (λ rope. IsRope ropes.new rope) }
         ensures kept { Extends ropes.old ropes.new }
     {
-        let mut tasks = ropes.empty()?;
+        let mut tasks = ropes.empty();
         for (_up, descent) in self.segments.iter() {
             tasks = ropes.join(tasks, descent.tasks)?;
         }

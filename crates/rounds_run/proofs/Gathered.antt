@@ -27,6 +27,7 @@ has_dedup xs z =
   where
     to_contains : (ys : List ℕ) (y : ℕ) → has ys y ≡ true → Contains ys y
     to_contains ys y there = (let place = place_in ys y there in (place.0, place.1, get_or_default ys place.0 y 0 place.1 ∙ place.2))
+
     from_contains : (ys : List ℕ) (y : ℕ) → Contains ys y → has ys y ≡ true
     from_contains ys y (k, lt, e) = subst (λ w. has ys w ≡ true) (get_or_default ys k 0 y lt ∙ e) (has_at ys k lt)
 

@@ -40,7 +40,7 @@ fn side_of(alloc: Global, ropes: &mut Ropes, ones: &[One]) -> Result<Side, NoMem
     let mut sum = 0;
     for &(up, net, task) in ones {
         if up <= 1000 && net <= 1000 && sum <= 1000 {
-            let tasks = ropes.one(task)?;
+            let tasks = ropes.one(task);
             side.append(ropes, up, net, tasks)?;
             sum += net;
         }

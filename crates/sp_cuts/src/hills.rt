@@ -33,8 +33,8 @@ pub(crate) fn way_over(side: &Side, task: u32, ropes: &mut Ropes) -> Result<Rope
 {
     laws::all();
     let down = side.tasks(ropes)?;
-    let up = ropes.flip(down)?;
-    let last = ropes.one(task)?;
+    let up = ropes.flip(down);
+    let last = ropes.one(task);
     ropes.join(up, last)
 }
 

@@ -70,7 +70,7 @@ pub fn plan_terms<L: Ledger>(
     let part = with_peak(rough, &ropes);
     let down = part.front.tasks(&mut ropes)?;
     let back = part.back.tasks(&mut ropes)?;
-    let up = ropes.flip(back)?;
+    let up = ropes.flip(back);
     let way = ropes.join(down, up)?;
     let order = ropes.list(alloc, way)?;
     Ok(Plan {

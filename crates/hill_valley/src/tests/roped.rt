@@ -44,7 +44,7 @@ impl RopedSide {
 
     pub fn append(&mut self, up: u64, down: u64, task: u32) -> Result<(), NoMemory> {
         if fits(self.net, up, down) {
-            let tasks = self.ropes.one(task)?;
+            let tasks = self.ropes.one(task);
             self.side.append(&mut self.ropes, up, down, tasks)?;
             self.net += down;
         }
@@ -53,7 +53,7 @@ impl RopedSide {
 
     pub fn insert(&mut self, up: u64, net: u64, task: u32, before: bool) -> Result<(), NoMemory> {
         if fits(self.net, up, net) {
-            let tasks = self.ropes.one(task)?;
+            let tasks = self.ropes.one(task);
             self.side
                 .insert(&mut self.ropes, Seg { up, net, tasks }, before)?;
             self.net += net;

@@ -13,7 +13,7 @@ use Rattle.sp_cuts.proofs.planning.plan_terms.Goals as goal
 kept : (g : Over) (c : goal.In_ok-order g) → Extends c.part_of.new.ropes c.join.new.self
 kept g c =
     let on = c.all.ensures.runs.on in
-    on _ _ _ (on _ _ _ (on _ _ _ c.in_ok-down.ensures.kept c.in_ok-back.ensures.kept) c.in_ok-up.ensures.kept) c.in_ok-way.ensures.kept
+    on _ _ _ (on _ _ _ c.in_ok-down.ensures.kept c.in_ok-back.ensures.kept) c.in_ok-way.ensures.kept
 
 stays : (g : Over) (c : goal.In_ok-order g) → IsPart c.join.new.self c.with_peak-part.result × (cut_of c.join.new.self c.with_peak-part.result ≡ cut_of c.part_of.new.ropes c.with_peak-part.result)
 stays g c = parts_stay c.all.ensures _ _ _ c.with_peak-part.ensures.part (kept g c)
@@ -26,8 +26,8 @@ returns-clause-part g c = (stays g c).0
 
 pub returns-clause-order : goal.returns-clause-order
 returns-clause-order g c =
-    read_order c.all.ensures _ _ _ _ _ c.with_peak-part.result c.in_ok-down.down c.in_ok-back.back c.in_ok-up.up c.in_ok-way.way _ c.with_peak-part.ensures.part c.in_ok-down.ensures.kept c.in_ok-back.ensures.kept c.in_ok-up.ensures.kept c.in_ok-down.ensures.rope
-    c.in_ok-down.ensures.list c.in_ok-back.ensures.list c.in_ok-up.ensures.list c.in_ok-way.ensures.list c.in_ok-order.ensures.list
+    read_order c.all.ensures _ _ _ _ c.with_peak-part.result c.in_ok-down.down c.in_ok-back.back c.flip-up.result c.in_ok-way.way _ c.with_peak-part.ensures.part c.in_ok-down.ensures.kept c.in_ok-back.ensures.kept c.in_ok-down.ensures.rope
+    c.in_ok-down.ensures.list c.in_ok-back.ensures.list c.flip-up.ensures.list c.in_ok-way.ensures.list c.in_ok-order.ensures.list
     ∙ ap order_of (sym (stays g c).1)
 
 pub returns-clause-stands : goal.returns-clause-stands
