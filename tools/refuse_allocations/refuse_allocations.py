@@ -45,6 +45,7 @@ fronts --matrix grid.mtx --ordering mindeg --bound 9 --workers 1
 segments --tree five.tree
 segments --workflow branches.workflow
 segments --matrix arrow.mtx --ordering mindeg
+reduce --graph four.graph
 tree --matrix arrow.mtx
 tree --matrix arrow.mtx --perm arrow.perm --inplace yes
 tree --matrix grid.mtx --ordering mindeg --amalgamate 1
@@ -63,6 +64,7 @@ check --tree four.tree --plan five.plan
 simulate --tree five.tree --order five.order --bound 10 --workers 2
 spill --tree five.tree --order five.order --bound 9
 fronts --matrix arrow.mtx --perm arrow.perm --bound 3 --workers 2
+reduce --graph bridge.graph
 tree --matrix arrow.mtx --perm three.order
 plan --tree five.tree --print xml
 """
