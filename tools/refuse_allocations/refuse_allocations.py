@@ -40,12 +40,13 @@ simulate --tree four.tree --order four.order --priority four.priority --bound 6 
 simulate --tree five.tree --plan five.plan --bound 22 --workers 4096
 spill --tree five.tree --order five.order --bound 10
 spill --workflow branches.workflow --order branches.order --bound 12
+reduce --graph four.graph
+reduce --graph bridge.graph
 fronts --matrix arrow.mtx --perm arrow.perm --bound 4 --workers 2
 fronts --matrix grid.mtx --ordering mindeg --bound 9 --workers 1
 segments --tree five.tree
 segments --workflow branches.workflow
 segments --matrix arrow.mtx --ordering mindeg
-reduce --graph four.graph
 tree --matrix arrow.mtx
 tree --matrix arrow.mtx --perm arrow.perm --inplace yes
 tree --matrix grid.mtx --ordering mindeg --amalgamate 1
@@ -64,7 +65,6 @@ check --tree four.tree --plan five.plan
 simulate --tree five.tree --order five.order --bound 10 --workers 2
 spill --tree five.tree --order five.order --bound 9
 fronts --matrix arrow.mtx --perm arrow.perm --bound 3 --workers 2
-reduce --graph bridge.graph
 tree --matrix arrow.mtx --perm three.order
 plan --tree five.tree --print xml
 """

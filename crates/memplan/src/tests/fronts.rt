@@ -15,8 +15,7 @@ const ALONE: &str = "fronts 3\nrounds 3\nused 4\n1\n2\n3\n1 3\n2 3\n3 4\nend\n";
 const WHOLE: &str = "fronts 1\nrounds 1\nused 4\n1\n1 2 3 4\nend\n";
 
 // A chain of four vertices: by their numbers the last front has two columns.
-const CHAIN: &str =
-    "%%MatrixMarket matrix coordinate pattern symmetric\n4 4 3\n2 1\n3 2\n4 3\n";
+const CHAIN: &str = "%%MatrixMarket matrix coordinate pattern symmetric\n4 4 3\n2 1\n3 2\n4 3\n";
 
 // From both ends. Along the postorder of the tree the vertices are 4 1 2 3, and no column goes on with the one before it.
 const BOTH_ENDS: &str = "1 4 2 3\n";
