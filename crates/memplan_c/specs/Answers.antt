@@ -1,7 +1,11 @@
--- What the calls on trees answer where they are not refused.
+-- What the calls answer where they are not refused.
 use Rattle.std.specs.Prelude.{◌≡◌, ◌==◌, ℕ, ◌≤◌, if◌then◌else◌, List, [], map}
 use Rattle.mp_system.specs.Memory.{peak_of}
+use Rattle.mp_system.specs.System.{IsSystem}
 use Rattle.mp_system.specs.Traversal.{IsTraversal}
+use Rattle.system_input.specs.declared.given.GivenItem.{GivenItem}
+use Rattle.system_input.specs.declared.given.GivenTask.{GivenTask}
+use Rattle.system_input.specs.Given.{system_given}
 use Rattle.sp_terms.specs.declared.position.Position.{Position}
 use Rattle.tree_input.specs.declared.node.Node.{Node}
 use Rattle.tree_input.specs.Tree.{IsTree, system_of_nodes}
@@ -41,6 +45,12 @@ pub record IsSpilled (nodes : List Node) (order : List ℕ) (bound : ℕ) (amoun
   pub tree : IsTree nodes
   pub traversal : IsTraversal (system_of_nodes nodes) order
   pub least : IsLeastSpill (system_of_nodes nodes) order bound amounts volume
+
+-- tasks and items that are a system, and an order that is a traversal of it, with this peak
+pub record IsSystemReplayed (tasks : List GivenTask) (items : List GivenItem) (order : List ℕ) (peak : ℕ) : Type 0 where
+  pub system : IsSystem (system_given tasks items)
+  pub traversal : IsTraversal (system_given tasks items) order
+  pub peak_is : peak ≡ peak_of (system_given tasks items) order
 
 -- ---- plans with claims
 

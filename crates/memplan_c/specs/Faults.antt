@@ -5,6 +5,10 @@ use Rattle.mp_system.specs.declared.order.ReplayRefusal.{ReplayRefusal}
 use Rattle.mp_system.specs.declared.order.ReplayRefusal.TheVariants as replays
 use Rattle.mp_system.specs.declared.system.OrderKind.{OrderKind}
 use Rattle.mp_system.specs.declared.system.OrderKind.TheVariants as order_kinds
+use Rattle.system_input.specs.declared.judged.ItemTest.TheVariants as item_tests
+use Rattle.system_input.specs.declared.judged.SystemRefusal.{SystemRefusal}
+use Rattle.system_input.specs.declared.judged.SystemRefusal.TheVariants as systems
+use Rattle.system_input.specs.declared.judged.TaskTest.TheVariants as task_tests
 use Rattle.tree_input.specs.declared.judged.NodeTest.TheVariants as tests
 use Rattle.tree_input.specs.declared.judged.NodesRefusal.{NodesRefusal}
 use Rattle.tree_input.specs.declared.judged.NodesRefusal.TheVariants as nodes
@@ -40,6 +44,19 @@ of_nodes nodes.Total = answer 4 16 0 0
 of_nodes (nodes.Cycle v) = answer 3 17 v 0
 of_nodes (nodes.Share v) = answer 3 18 v 0
 of_nodes nodes.NoMemory = no_memory
+
+-- tasks and items: 3 where they are no system, 4 where they pass a limit
+abbrev pub of_system : SystemRefusal → Answer
+of_system systems.ManyTasks = answer 4 11 0 0
+of_system systems.ManyItems = answer 4 50 0 0
+of_system (systems.Task task_tests.Time v) = answer 3 13 v 0
+of_system (systems.Task task_tests.Size v) = answer 4 14 v 0
+of_system (systems.Task task_tests.LongTime v) = answer 4 15 v 0
+of_system (systems.Item item_tests.Ends i) = answer 3 51 i 0
+of_system (systems.Item item_tests.Size i) = answer 4 52 i 0
+of_system systems.Total = answer 4 16 0 0
+of_system (systems.Share v) = answer 3 18 v 0
+of_system systems.NoMemory = no_memory
 
 -- an order that is no traversal: its first fault
 abbrev pub kind_of_order : OrderKind → ℕ
@@ -85,6 +102,7 @@ answer_of (refusals.Room needed) = answer 2 2 0 needed
 answer_of (refusals.ClaimRoom needed) = answer 2 3 0 needed
 answer_of refusals.Workers = answer 2 4 0 0
 answer_of (refusals.Nodes refusal) = of_nodes refusal
+answer_of (refusals.System refusal) = of_system refusal
 answer_of (refusals.Replay refusal) = of_replay refusal
 answer_of (refusals.Core refusal) = of_core refusal
 answer_of (refusals.Spill refusal) = of_spill refusal

@@ -2,6 +2,11 @@
 use Rattle.std.specs.Prelude.{◌≡◌, ◌≢◌, ℕ, ◌-◌, ◌<◌, ◌≤◌, All, List, length, map, take}
 use Rattle.limits.specs.Limits.{most_tasks, most_positions, most_total, most_workers}
 use Rattle.mp_system.specs.Refusal.{IsOrderRefusal}
+use Rattle.mp_system.specs.System.{IsSystem}
+use Rattle.system_input.specs.declared.given.GivenItem.{GivenItem}
+use Rattle.system_input.specs.declared.given.GivenTask.{GivenTask}
+use Rattle.system_input.specs.Given.{system_given}
+use Rattle.system_input.specs.Judged.{IsSystemRefusal}
 use Rattle.sp_terms.specs.declared.position.Position.{Position}
 use Rattle.tree_input.specs.declared.node.Node.{Node}
 use Rattle.tree_input.specs.Judged.{IsNodesRefusal}
@@ -120,3 +125,22 @@ IsBeginRefusal nodes order bound workers (refusals.Core refusal) =
     IsTree nodes × IsCoreRefusal (system_of_nodes nodes) order bound refusal
 IsBeginRefusal nodes order bound workers refusals.NoMemory = Unit {0}
 IsBeginRefusal nodes order bound workers other = ⊥
+
+-- ---- systems
+
+-- the replay of an order
+abbrev pub IsSystemReplayRefusal : List GivenTask → List GivenItem → List ℕ → Refusal → Type 0
+IsSystemReplayRefusal tasks items order (refusals.System refusal) = IsSystemRefusal tasks items refusal
+IsSystemReplayRefusal tasks items order (refusals.Replay refusal) =
+    IsSystem (system_given tasks items) × IsOrderRefusal (system_given tasks items) order refusal
+IsSystemReplayRefusal tasks items order refusals.NoMemory = Unit {0}
+IsSystemReplayRefusal tasks items order other = ⊥
+
+-- a core for an order of the tasks, a bound and so many workers
+abbrev pub IsSystemBeginRefusal : List GivenTask → List GivenItem → List ℕ → ℕ → ℕ → Refusal → Type 0
+IsSystemBeginRefusal tasks items order bound workers refusals.Workers = (1 ≤ workers) × (workers ≤ most_workers) → ⊥
+IsSystemBeginRefusal tasks items order bound workers (refusals.System refusal) = IsSystemRefusal tasks items refusal
+IsSystemBeginRefusal tasks items order bound workers (refusals.Core refusal) =
+    IsSystem (system_given tasks items) × IsCoreRefusal (system_given tasks items) order bound refusal
+IsSystemBeginRefusal tasks items order bound workers refusals.NoMemory = Unit {0}
+IsSystemBeginRefusal tasks items order bound workers other = ⊥

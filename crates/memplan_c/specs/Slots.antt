@@ -5,11 +5,9 @@ use Rattle.mp_system.specs.System.{TaskSystem}
 use Rattle.activation.specs.Machine.{CoreValue, Setting, IsSetting, MayActivate, MayStart, MayFinish, state_after, start_state, used_memory, booked_memory, is_done}
 use Rattle.activation.specs.declared.events.EventKind.{EventKind}
 use Rattle.activation.specs.declared.events.EventKind.TheVariants.{Activate}
-use Rattle.tree_input.specs.declared.node.Node.{Node}
-use Rattle.tree_input.specs.Tree.{IsTree, system_of_nodes}
 use Rattle.memplan_c.specs.declared.faults.Fault.{Fault}
+use Rattle.memplan_c.specs.declared.refusal.Refusal.{Refusal}
 use Rattle.memplan_c.specs.Faults.{IsRefused}
-use Rattle.memplan_c.specs.Refusals.{IsBeginRefusal}
 
 pub record SlotValue : Type 0 where
   pub core : Option CoreValue
@@ -20,20 +18,20 @@ empty = record { core = None }
 abbrev pub setting_of : TaskSystem → List ℕ → ℕ → ℕ → Setting
 setting_of system order bound workers = record { system = system; order = order; bound = bound; workers = workers }
 
-abbrev pub core_at_start : TaskSystem → List ℕ → ℕ → ℕ → CoreValue
-core_at_start system order bound workers =
-    record { setting = setting_of system order bound workers; state = start_state (setting_of system order bound workers) }
+abbrev pub core_at_start : Setting → CoreValue
+core_at_start setting = record { setting = setting; state = start_state setting }
 
 -- 0: the core stands at its start, in the place of any that was there
-abbrev pub begun : SlotValue → TaskSystem → List ℕ → ℕ → ℕ → ℕ → SlotValue
-begun s system order bound workers answer = if answer == 0 then record { core = Some (core_at_start system order bound workers) } else s
+abbrev pub begun : SlotValue → Setting → ℕ → SlotValue
+begun s setting answer = if answer == 0 then record { core = Some (core_at_start setting) } else s
 
--- 0: the nodes are a tree, the order is a traversal of its system, and the bound is at least its peak; else why there is no core
-pub record IsBegun (nodes : List Node) (order : List ℕ) (bound workers answer : ℕ) (before after : Fault) : Type 0 where
-  pub tree : answer ≡ 0 → IsTree nodes
-  pub setting : answer ≡ 0 → IsSetting (setting_of (system_of_nodes nodes) order bound workers)
+-- 0: what is given is what it must be, the order is a traversal of its system, and the bound is at least its peak; else there is a cause
+-- why there is no core
+pub record IsBegun (given : Type 0) (cause : Refusal → Type 0) (setting : Setting) (answer : ℕ) (before after : Fault) : Type 0 where
+  pub is_given : answer ≡ 0 → given
+  pub is_setting : answer ≡ 0 → IsSetting setting
   pub no_fault : answer ≡ 0 → after ≡ before
-  pub refused : answer ≢ 0 → IsRefused (IsBeginRefusal nodes order bound workers) answer after
+  pub refused : answer ≢ 0 → IsRefused cause answer after
 
 -- the core after an event
 abbrev pub after_event : CoreValue → EventKind → ℕ → CoreValue

@@ -4,15 +4,20 @@ ghost use Rattle.std.specs.Prelude.{◌≡◌};
 ghost use Rattle.std.specs.Borrow.{sem, full_share};
 ghost use Rattle.std.specs.Ptr.{lies_at, room_at};
 ghost use Rattle.activation.specs.declared.events.EventKind.TheVariants.{Start, Finish};
-ghost use Rattle.tree_input.specs.Tree.{system_of_nodes};
-ghost use Rattle.memplan_c.specs.Slots.{SlotValue, empty, begun, IsBegun, activated, IsActivated, stepped, IsStarted, IsFinished, IsDone, used_in, booked_in};
+ghost use Rattle.mp_system.specs.System.{IsSystem};
+ghost use Rattle.system_input.specs.Given.{system_given};
+ghost use Rattle.tree_input.specs.Tree.{IsTree, system_of_nodes};
+ghost use Rattle.memplan_c.specs.Refusals.{IsBeginRefusal, IsSystemBeginRefusal};
+ghost use Rattle.memplan_c.specs.Slots.{SlotValue, empty, setting_of, begun, IsBegun, activated, IsActivated, stepped, IsStarted, IsFinished, IsDone, used_in, booked_in};
 ghost use Rattle.memplan_c.specs.contracts.slot.Slot.{the_row};
 
 use crate::faults::Fault;
 use crate::slot::{
-    Slot, activate, begin, booked, end, finish, is_done, is_startable, make, start, used,
+    Slot, activate, begin, begin_system, booked, end, finish, is_done, is_startable, make, start,
+    used,
 };
 use std::alloc::Global;
+use system_input::{GivenItem, GivenTask};
 use tree_input::Node;
 
 /// What C sees of a slot.
@@ -58,12 +63,42 @@ pub unsafe extern "C" fn memplan_core_begin(
 ) -> u32
     ghost held: { SlotValue }
     requires* { sem 𝓛 (lies_at the_row full_share slot held) }
-    ensures* { sem 𝓛 (lies_at the_row full_share slot (begun held (system_of_nodes nodes.now) order.now bound workers result))
-        ∗ ⌜ IsBegun nodes.now order.now bound workers result fault.old fault.new ⌝ }
+    ensures* { sem 𝓛 (lies_at the_row full_share slot (begun held (setting_of (system_of_nodes nodes.now) order.now bound workers) result))
+        ∗ ⌜ IsBegun (IsTree nodes.now) (IsBeginRefusal nodes.now order.now bound workers)
+            (setting_of (system_of_nodes nodes.now) order.now bound workers) result fault.old fault.new ⌝ }
 {
     begin(
         &mut *(slot as *mut Slot),
         nodes,
+        order,
+        bound,
+        workers,
+        fault,
+    )
+}
+
+/// Puts a core for a system of tasks and data items at its start into the memory: 0, or why there is none.
+#[unsafe(no_mangle)]
+pub unsafe extern "C" fn memplan_core_begin_system(
+    slot: *mut Handle,
+    tasks: &[GivenTask],
+    items: &[GivenItem],
+    order: &[u32],
+    bound: u64,
+    workers: u32,
+    fault: &mut Fault,
+) -> u32
+    ghost held: { SlotValue }
+    requires* { sem 𝓛 (lies_at the_row full_share slot held) }
+    ensures* { sem 𝓛 (lies_at the_row full_share slot
+            (begun held (setting_of (system_given tasks.now items.now) order.now bound workers) result))
+        ∗ ⌜ IsBegun (IsSystem (system_given tasks.now items.now)) (IsSystemBeginRefusal tasks.now items.now order.now bound workers)
+            (setting_of (system_given tasks.now items.now) order.now bound workers) result fault.old fault.new ⌝ }
+{
+    begin_system(
+        &mut *(slot as *mut Slot),
+        tasks,
+        items,
         order,
         bound,
         workers,

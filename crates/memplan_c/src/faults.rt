@@ -1,9 +1,9 @@
 //! What a refused call answers: a status, and a fault.
 
-ghost use Rattle.std.specs.Prelude.{◌≡◌, ◌≢◌};
-ghost use Rattle.claim_check.specs.declared.objection.Objection.TheVariants as objections;
+ghost use Rattle.std.specs.Prelude.{◌≡◌};
+ghost use Rattle.system_input.specs.declared.judged.SystemRefusal.TheVariants as systems;
 ghost use Rattle.tree_input.specs.declared.judged.NodesRefusal.TheVariants as nodes;
-ghost use Rattle.memplan_c.specs.Faults.{answer, answer_of, of_nodes, of_replay, of_order, of_core, of_spill, of_plan, of_objection};
+ghost use Rattle.memplan_c.specs.Faults.{answer, answer_of, of_nodes, of_system, of_replay, of_order, of_core, of_spill, of_plan, of_objection};
 
 use crate::kinds;
 use crate::refusal::{PlanFault, Refusal};
@@ -11,6 +11,7 @@ use activation::CoreRefusal;
 use claim_check::Objection;
 use mp_system::{OrderFault, OrderKind, ReplayRefusal};
 use spill_plan::SpillRefusal;
+use system_input::{ItemTest, SystemRefusal, TaskTest};
 use tree_input::{NodeTest, NodesRefusal};
 
 /// What is wrong, and with which node, place, position or step.
@@ -65,12 +66,49 @@ fn of_nodes(refusal: NodesRefusal) -> Answer
 {
     match refusal {
         NodesRefusal::NoNode => say(3, kinds::NO_NODE, 0, 0),
-        NodesRefusal::ManyNodes => say(4, kinds::MANY_NODES, 0, 0),
+        NodesRefusal::ManyNodes => say(4, kinds::MANY_TASKS, 0, 0),
         NodesRefusal::Node { test, node } => of_node(test, node),
         NodesRefusal::Total => say(4, kinds::TOTAL, 0, 0),
         NodesRefusal::Cycle(node) => say(3, kinds::CYCLE, u64::from(node), 0),
         NodesRefusal::Share(node) => say(3, kinds::SHARE, u64::from(node), 0),
         NodesRefusal::NoMemory => no_memory(),
+    }
+}
+
+// A task that fails a test.
+fn of_task(test: TaskTest, task: u32) -> Answer
+    ensures { result ≡ of_system (systems.Task test task) }
+{
+    let at = u64::from(task);
+    match test {
+        TaskTest::Time => say(3, kinds::TIME, at, 0),
+        TaskTest::Size => say(4, kinds::SIZE, at, 0),
+        TaskTest::LongTime => say(4, kinds::LONG_TIME, at, 0),
+    }
+}
+
+// An item that fails a test.
+fn of_item(test: ItemTest, item: u32) -> Answer
+    ensures { result ≡ of_system (systems.Item test item) }
+{
+    let at = u64::from(item);
+    match test {
+        ItemTest::Ends => say(3, kinds::ENDS, at, 0),
+        ItemTest::Size => say(4, kinds::ITEM_SIZE, at, 0),
+    }
+}
+
+fn of_system(refusal: SystemRefusal) -> Answer
+    ensures { result ≡ of_system refusal }
+{
+    match refusal {
+        SystemRefusal::ManyTasks => say(4, kinds::MANY_TASKS, 0, 0),
+        SystemRefusal::ManyItems => say(4, kinds::MANY_ITEMS, 0, 0),
+        SystemRefusal::Task { test, task } => of_task(test, task),
+        SystemRefusal::Item { test, item } => of_item(test, item),
+        SystemRefusal::Total => say(4, kinds::TOTAL, 0, 0),
+        SystemRefusal::Share(task) => say(3, kinds::SHARE, u64::from(task), 0),
+        SystemRefusal::NoMemory => no_memory(),
     }
 }
 
@@ -145,6 +183,7 @@ fn answer_of(refusal: Refusal) -> Answer
         Refusal::ClaimRoom { needed } => say(2, kinds::CLAIM_ROOM, 0, needed),
         Refusal::Workers => say(2, kinds::WORKERS, 0, 0),
         Refusal::Nodes(refusal) => of_nodes(refusal),
+        Refusal::System(refusal) => of_system(refusal),
         Refusal::Replay(refusal) => of_replay(refusal),
         Refusal::Core(refusal) => of_core(refusal),
         Refusal::Spill(refusal) => of_spill(refusal),

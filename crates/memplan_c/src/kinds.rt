@@ -6,7 +6,7 @@ pub const CLAIM_ROOM: u32 = 3;
 pub const WORKERS: u32 = 4;
 
 pub const NO_NODE: u32 = 10;
-pub const MANY_NODES: u32 = 11;
+pub const MANY_TASKS: u32 = 11;
 pub const PARENT: u32 = 12;
 pub const TIME: u32 = 13;
 pub const SIZE: u32 = 14;
@@ -30,3 +30,7 @@ pub const CLAIM: u32 = 43;
 pub const OTHER_PEAK: u32 = 44;
 pub const NO_ROOT_CLAIM: u32 = 45;
 pub const WRONG_CLAIM: u32 = 46;
+
+pub const MANY_ITEMS: u32 = 50;
+pub const ENDS: u32 = 51;
+pub const ITEM_SIZE: u32 = 52;

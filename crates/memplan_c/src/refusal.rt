@@ -8,6 +8,7 @@ use claim_check::Objection;
 use mp_system::ReplayRefusal;
 use spill_plan::SpillRefusal;
 use std::alloc::AllocError;
+use system_input::SystemRefusal;
 use tree_input::NodesRefusal;
 
 /// Why an order, a peak and claims are no plan that could be judged.
@@ -34,6 +35,8 @@ pub enum Refusal {
     Workers,
     /// The nodes are no tree.
     Nodes(NodesRefusal),
+    /// The tasks and items are no system.
+    System(SystemRefusal),
     /// The order is no traversal.
     Replay(ReplayRefusal),
     /// There is no core for the order and the bound.
@@ -61,6 +64,14 @@ impl From<NodesRefusal> for Refusal {
 
     fn from(refusal: NodesRefusal) -> Refusal {
         Refusal::Nodes(refusal)
+    }
+}
+
+impl From<SystemRefusal> for Refusal {
+    ghost from_gives = { λ r e. e ≡ refusals.System r };
+
+    fn from(refusal: SystemRefusal) -> Refusal {
+        Refusal::System(refusal)
     }
 }
 

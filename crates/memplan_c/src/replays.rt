@@ -1,11 +1,11 @@
-//! What an order of a tree needs.
+//! What an order of tasks needs.
 
 ghost use Rattle.std.specs.Prelude.{◌≡◌, ◌≢◌, length, IfOk, IfErr};
 ghost use Rattle.tree_input.specs.Tree.{IsTree, system_of_nodes};
 ghost use Rattle.tree_input.specs.Judged.{IsNodesRefusal};
-ghost use Rattle.memplan_c.specs.Answers.{IsReplayed, IsSpilled};
+ghost use Rattle.memplan_c.specs.Answers.{IsReplayed, IsSpilled, IsSystemReplayed};
 ghost use Rattle.memplan_c.specs.Faults.{IsRefused};
-ghost use Rattle.memplan_c.specs.Refusals.{IsReplayRefusal, IsSpillCallRefusal};
+ghost use Rattle.memplan_c.specs.Refusals.{IsReplayRefusal, IsSpillCallRefusal, IsSystemReplayRefusal};
 
 use crate::faults::{Fault, refuse};
 use crate::plans::check_room;
@@ -13,6 +13,7 @@ use crate::refusal::Refusal;
 use mp_system::{System, replay};
 use spill_plan::{Spill, spill};
 use std::alloc::Global;
+use system_input::{GivenItem, GivenTask, system_of_arrays};
 use tree_input::{Node, NodesRefusal, system_of_tree, tree_of_nodes};
 
 /// The system of the tree of these nodes.
@@ -98,6 +99,45 @@ pub extern "C" fn memplan_spill_tree(
         Ok(spill) => {
             amounts.copy_from_slice(&spill.amounts);
             *volume = spill.volume;
+            0
+        }
+        Err(refusal) => refuse(refusal, fault),
+    }
+}
+
+fn peak_of_system(
+    alloc: Global,
+    tasks: &[GivenTask],
+    items: &[GivenItem],
+    order: &[u32],
+) -> Result<u64, Refusal>
+    ensures replayed { IfOk result (IsSystemReplayed tasks.now items.now order.now) }
+    ensures refused { IfErr result (IsSystemReplayRefusal tasks.now items.now order.now) }
+{
+    let system = system_of_arrays(alloc, tasks, items)?;
+    let peak = replay(alloc, &system, order)?;
+    Ok(peak)
+}
+
+/// The peak of an order of tasks that hand data items to each other, or the first place at which it is no traversal.
+#[unsafe(no_mangle)]
+pub extern "C" fn memplan_replay_system(
+    alloc: Global,
+    tasks: &[GivenTask],
+    items: &[GivenItem],
+    order: &[u32],
+    peak: &mut u64,
+    fault: &mut Fault,
+) -> u32
+    // 0: the order is a traversal of the system of these tasks and items, with this peak
+    ensures replayed { result ≡ 0 → IsSystemReplayed tasks.now items.now order.now peak.new }
+    ensures refused { result ≢ 0 → IsRefused (IsSystemReplayRefusal tasks.now items.now order.now) result fault.new }
+    ensures unchanged { result ≢ 0 → peak.new ≡ peak.old }
+    ensures no_fault { result ≡ 0 → fault.new ≡ fault.old }
+{
+    match peak_of_system(alloc, tasks, items, order) {
+        Ok(found) => {
+            *peak = found;
             0
         }
         Err(refusal) => refuse(refusal, fault),

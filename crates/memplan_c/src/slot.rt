@@ -1,11 +1,13 @@
 //! The memory that C gives for a core, and what each call does to it.
 
 ghost use Rattle.std.specs.Prelude.{◌≡◌, ◌↔◌, ◌≤◌, IfOk, IfErr, IsTrue};
+ghost use Rattle.mp_system.specs.System.{IsSystem};
+ghost use Rattle.system_input.specs.Given.{system_given};
 ghost use Rattle.activation.specs.Machine.{IsSetting};
 ghost use Rattle.activation.specs.declared.events.EventKind.TheVariants.{Start, Finish};
 ghost use Rattle.tree_input.specs.Tree.{IsTree, system_of_nodes};
-ghost use Rattle.memplan_c.specs.Refusals.{IsBeginRefusal};
-ghost use Rattle.memplan_c.specs.Slots.{empty, core_at_start, begun, IsBegun, activated, IsActivated, stepped, IsStarted, IsFinished, IsDone, used_in, booked_in};
+ghost use Rattle.memplan_c.specs.Refusals.{IsBeginRefusal, IsSystemBeginRefusal};
+ghost use Rattle.memplan_c.specs.Slots.{empty, setting_of, core_at_start, begun, IsBegun, activated, IsActivated, stepped, IsStarted, IsFinished, IsDone, used_in, booked_in};
 
 use crate::faults::{Fault, refuse};
 use crate::refusal::Refusal;
@@ -14,6 +16,7 @@ use activation::Core;
 use limits::MOST_WORKERS;
 use std::alloc::Global;
 use std::marker::Model;
+use system_input::{GivenItem, GivenTask, system_of_arrays};
 use tree_input::Node;
 
 /// Room for a core, which is empty until one begins.
@@ -55,7 +58,7 @@ fn core_of_tree(
     bound: u64,
     workers: u32,
 ) -> Result<Core, Refusal>
-    ensures core { IfOk result (λ core. core ≡ core_at_start (system_of_nodes nodes.now) order.now bound workers) }
+    ensures core { IfOk result (λ core. core ≡ core_at_start (setting_of (system_of_nodes nodes.now) order.now bound workers)) }
     ensures tree { IfOk result (λ _. IsTree nodes.now) }
     ensures setting { IfOk result (λ core. IsSetting core.setting) }
     ensures refused { IfErr result (IsBeginRefusal nodes.now order.now bound workers) }
@@ -77,10 +80,55 @@ pub fn begin(
     workers: u32,
     fault: &mut Fault,
 ) -> u32
-    ensures { (slot.new ≡ begun slot.old (system_of_nodes nodes.now) order.now bound workers result)
-        × IsBegun nodes.now order.now bound workers result fault.old fault.new }
+    ensures { (slot.new ≡ begun slot.old (setting_of (system_of_nodes nodes.now) order.now bound workers) result)
+        × IsBegun (IsTree nodes.now) (IsBeginRefusal nodes.now order.now bound workers)
+          (setting_of (system_of_nodes nodes.now) order.now bound workers) result fault.old fault.new }
 {
     match core_of_tree(slot.alloc, nodes, order, bound, workers) {
+        Ok(core) => {
+            slot.core = Some(core);
+            0
+        }
+        Err(refusal) => refuse(refusal, fault),
+    }
+}
+
+fn core_of_system(
+    alloc: Global,
+    tasks: &[GivenTask],
+    items: &[GivenItem],
+    order: &[u32],
+    bound: u64,
+    workers: u32,
+) -> Result<Core, Refusal>
+    ensures core { IfOk result (λ core. core ≡ core_at_start (setting_of (system_given tasks.now items.now) order.now bound workers)) }
+    ensures system { IfOk result (λ _. IsSystem (system_given tasks.now items.now)) }
+    ensures setting { IfOk result (λ core. IsSetting core.setting) }
+    ensures refused { IfErr result (IsSystemBeginRefusal tasks.now items.now order.now bound workers) }
+{
+    if workers == 0 || workers > MOST_WORKERS {
+        return Err(Refusal::Workers);
+    }
+    let system = system_of_arrays(alloc, tasks, items)?;
+    let core = Core::new(alloc, &system, order, bound, workers)?;
+    Ok(core)
+}
+
+/// Puts a core of a system at its start into the slot: 0, or why there is none.
+pub fn begin_system(
+    slot: &mut Slot,
+    tasks: &[GivenTask],
+    items: &[GivenItem],
+    order: &[u32],
+    bound: u64,
+    workers: u32,
+    fault: &mut Fault,
+) -> u32
+    ensures { (slot.new ≡ begun slot.old (setting_of (system_given tasks.now items.now) order.now bound workers) result)
+        × IsBegun (IsSystem (system_given tasks.now items.now)) (IsSystemBeginRefusal tasks.now items.now order.now bound workers)
+          (setting_of (system_given tasks.now items.now) order.now bound workers) result fault.old fault.new }
+{
+    match core_of_system(slot.alloc, tasks, items, order, bound, workers) {
         Ok(core) => {
             slot.core = Some(core);
             0
