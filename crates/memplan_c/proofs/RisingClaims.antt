@@ -42,14 +42,16 @@ module _ (claims : List Claim) (i : ℕ) (d : Claim) (there : i < length claims)
   pub are_more : (last : ℕ) → AreClaims (take i claims) → GoesOn before last → last < next.position → IsClaimWithin next → AreClaims (take (i + 1) claims)
   are_more last are on past within = (
     subst (All IsClaimWithin) (sym (one_more claims i d there)) (All-push IsClaimWithin before next are.0 within),
-    subst (RiseFrom 0) (sym (one_more claims i d there)) ((on next).1 past))
+    subst (RiseFrom 0) (sym (one_more claims i d there)) ((on next).1 past),
+  )
 
   pub goes_on : (last : ℕ) → GoesOn before last → last < next.position → GoesOn (map claim_given (take (i + 1) claims)) next.position
   goes_on last on past = subst (λ cs. GoesOn cs next.position) (sym (one_more claims i d there)) (λ e.
-    (last_rises 0 before next e, rises_more 0 before next e ((on next).1 past)))
+      (last_rises 0 before next e, rises_more 0 before next e ((on next).1 past)))
 
   -- what the next claim of claims that stand right is
   pub next_stands : (last : ℕ) → GoesOn before last → AreClaims (take (i + 1) claims) → (last < next.position) × IsClaimWithin next
   next_stands last on are = (
     (on next).0 (subst (RiseFrom 0) (one_more claims i d there) are.1),
-    last_within before next (subst (All IsClaimWithin) (one_more claims i d there) are.0))
+    last_within before next (subst (All IsClaimWithin) (one_more claims i d there) are.0),
+  )

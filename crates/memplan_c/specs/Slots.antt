@@ -44,7 +44,7 @@ activated s answer = if answer == 0 then s else record { core = option_map (λ c
 abbrev pub IsActivated : SlotValue → ℕ → Type 0
 IsActivated s answer =
     MatchOption s.core (answer ≡ 0) (λ core.
-      MatchBool (answer == 0) ((t : ℕ) → MayActivate core.setting core.state t → ⊥) (MayActivate core.setting core.state answer))
+    MatchBool (answer == 0) ((t : ℕ) → MayActivate core.setting core.state t → ⊥) (MayActivate core.setting core.state answer))
 
 -- 1 for yes, 0 for no
 abbrev pub IsYes : Type 0 → ℕ → Type 0

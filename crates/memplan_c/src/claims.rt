@@ -30,11 +30,7 @@ fn given(claim: Claim) -> plan_text::Claim
 {
     plan_text::Claim {
         position: claim.position,
-        dir: if claim.backward == 0 {
-            Dir::F
-        } else {
-            Dir::R
-        },
+        dir: if claim.backward == 0 { Dir::F } else { Dir::R },
         bound: claim.bound,
         rest: claim.rest,
     }
@@ -58,9 +54,7 @@ fn handed(claim: plan_text::Claim) -> Claim
 fn stands(claim: Claim, last: u32) -> bool
     ensures { IsTrue result ↔ ((last < claim.position) × IsClaimWithin (claim_given claim)) }
 {
-    last < claim.position
-        && claim.bound.unsigned_abs() <= MOST_TOTAL
-        && claim.rest <= MOST_TOTAL
+    last < claim.position && claim.bound.unsigned_abs() <= MOST_TOTAL && claim.rest <= MOST_TOTAL
 }
 
 // Whether each claim stands past the one before, and is within the limits.

@@ -65,7 +65,7 @@ pub unsafe extern "C" fn memplan_core_begin(
     requires* { sem 𝓛 (lies_at the_row full_share slot held) }
     ensures* { sem 𝓛 (lies_at the_row full_share slot (begun held (setting_of (system_of_nodes nodes.now) order.now bound workers) result))
         ∗ ⌜ IsBegun (IsTree nodes.now) (IsBeginRefusal nodes.now order.now bound workers)
-            (setting_of (system_of_nodes nodes.now) order.now bound workers) result fault.old fault.new ⌝ }
+        (setting_of (system_of_nodes nodes.now) order.now bound workers) result fault.old fault.new ⌝ }
 {
     begin(
         &mut *(slot as *mut Slot),
@@ -91,9 +91,9 @@ pub unsafe extern "C" fn memplan_core_begin_system(
     ghost held: { SlotValue }
     requires* { sem 𝓛 (lies_at the_row full_share slot held) }
     ensures* { sem 𝓛 (lies_at the_row full_share slot
-            (begun held (setting_of (system_given tasks.now items.now) order.now bound workers) result))
+        (begun held (setting_of (system_given tasks.now items.now) order.now bound workers) result))
         ∗ ⌜ IsBegun (IsSystem (system_given tasks.now items.now)) (IsSystemBeginRefusal tasks.now items.now order.now bound workers)
-            (setting_of (system_given tasks.now items.now) order.now bound workers) result fault.old fault.new ⌝ }
+        (setting_of (system_given tasks.now items.now) order.now bound workers) result fault.old fault.new ⌝ }
 {
     begin_system(
         &mut *(slot as *mut Slot),

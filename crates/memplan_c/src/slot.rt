@@ -82,7 +82,7 @@ pub fn begin(
 ) -> u32
     ensures { (slot.new ≡ begun slot.old (setting_of (system_of_nodes nodes.now) order.now bound workers) result)
         × IsBegun (IsTree nodes.now) (IsBeginRefusal nodes.now order.now bound workers)
-          (setting_of (system_of_nodes nodes.now) order.now bound workers) result fault.old fault.new }
+        (setting_of (system_of_nodes nodes.now) order.now bound workers) result fault.old fault.new }
 {
     match core_of_tree(slot.alloc, nodes, order, bound, workers) {
         Ok(core) => {
@@ -126,7 +126,7 @@ pub fn begin_system(
 ) -> u32
     ensures { (slot.new ≡ begun slot.old (setting_of (system_given tasks.now items.now) order.now bound workers) result)
         × IsBegun (IsSystem (system_given tasks.now items.now)) (IsSystemBeginRefusal tasks.now items.now order.now bound workers)
-          (setting_of (system_given tasks.now items.now) order.now bound workers) result fault.old fault.new }
+        (setting_of (system_given tasks.now items.now) order.now bound workers) result fault.old fault.new }
 {
     match core_of_system(slot.alloc, tasks, items, order, bound, workers) {
         Ok(core) => {
