@@ -1,7 +1,8 @@
 -- Claims at rising positions, one more at a time.
-use Rattle.std.proofs.Common.{◌≡◌, ◌∙◌, ℕ, ◌+◌, ◌<◌, ◌≤◌, All, List, [], ◌∷◌, ◌++◌, map, take, length, slice_index_or, ap, subst, sym}
+use Rattle.std.proofs.Common.{◌≡◌, ◌∙◌, ℕ, pos, ◌+◌, ◌<◌, ◌≤◌, All, List, [], ◌∷◌, ◌++◌, map, take, length, slice_index_or, ap, subst, sym, arith}
 use Rattle.std.specs.Prelude.{◌↔◌}
-use Rattle.std.proofs.lemmas.List.{take_more, map-append}
+use Rattle.std.proofs.Math.Seq.{get_or-append_seam}
+use Rattle.std.proofs.lemmas.List.{take_more, map-append, length-append}
 use Rattle.std.proofs.lemmas.List.Elements.{All-push}
 use Rattle.plan_text.specs.declared.claim.Claim.{Claim as PlanClaim}
 use Rattle.plan_text.specs.Plan.{IsClaimWithin, RiseFrom}
@@ -23,8 +24,11 @@ last_rises n [] c d h = h.1.0
 last_rises n (x ∷ xs) c d h = last_rises x.position xs c d h.1
 
 last_within : (cs : List PlanClaim) (c : PlanClaim) → All IsClaimWithin (cs ++ c ∷ []) → IsClaimWithin c
-last_within [] c h = h.0
-last_within (x ∷ xs) c h = last_within xs c h.1
+last_within cs c h =
+    subst IsClaimWithin (get_or-append_seam cs c [] c) (h (length cs) c (omega (arith, length-append cs (c ∷ []))))
+
+abbrev pub no_claim : Claim
+no_claim = record { position = 0; backward = 0; bound = pos 0; rest = 0 }
 
 -- one claim more
 one_more : (claims : List Claim) (i : ℕ) (d : Claim) → i < length claims

@@ -13,7 +13,7 @@ use std::alloc::{AllocError, Global};
 
 /// A claim on the part of the tree's term that ends at a position.
 #[repr(C)]
-#[derive(Clone, Copy, Debug, PartialEq, Eq)]
+#[derive(Clone, Copy)]
 pub struct Claim {
     /// The position, from 1.
     pub position: u32,

@@ -16,7 +16,7 @@ use tree_input::{NodeTest, NodesRefusal};
 
 /// What is wrong, and with which node, place, position or step.
 #[repr(C)]
-#[derive(Clone, Copy, Debug, PartialEq, Eq)]
+#[derive(Clone, Copy)]
 pub struct Fault {
     /// One of the kinds of the header.
     pub kind: u32,
@@ -27,7 +27,7 @@ pub struct Fault {
 }
 
 /// A status that is not 0, and the fault that a call with this status writes.
-#[derive(Clone, Copy, Debug, PartialEq, Eq)]
+#[derive(Clone, Copy)]
 pub struct Answer {
     pub status: u32,
     pub fault: Fault,

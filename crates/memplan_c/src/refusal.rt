@@ -12,7 +12,7 @@ use system_input::SystemRefusal;
 use tree_input::NodesRefusal;
 
 /// Why an order, a peak and claims are no plan that could be judged.
-#[derive(Clone, Copy, Debug, PartialEq, Eq)]
+#[derive(Clone, Copy)]
 pub enum PlanFault {
     /// The order has more than 10^6 places.
     LongOrder,
@@ -25,7 +25,7 @@ pub enum PlanFault {
 }
 
 /// Why a call is refused.
-#[derive(Clone, Copy, Debug, PartialEq, Eq)]
+#[derive(Clone, Copy)]
 pub enum Refusal {
     /// An array that is to be written has not the length that is needed.
     Room { needed: u64 },
