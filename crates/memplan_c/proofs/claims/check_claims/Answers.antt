@@ -1,4 +1,5 @@
-use Rattle.std.proofs.Common.{◌∙◌, ◌+◌, ◌-◌, ◌≡◌, ℕ, take, sym, subst, true≢false, arith}
+use Rattle.std.proofs.Common.{◌∙◌, ◌+◌, ◌-◌, ◌≡◌, ℕ, take, sym, subst, arith}
+use Rattle.std.proofs.lemmas.Bool.{true≢false}
 use Rattle.memplan_c.specs.Refusals.{AreClaims}
 use Rattle.memplan_c.proofs.RisingClaims.{no_claim, are_more, goes_on, next_stands}
 use Rattle.memplan_c.proofs.claims.check_claims.Goals as goal
