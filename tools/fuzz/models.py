@@ -290,11 +290,11 @@ def columns_of(text: bytes, order: Optional[list[int]], is_mindeg: bool) -> list
         later[vertex] = joined.pop(vertex) - {vertex}
         for near in later[vertex]:
             joined[near] = (joined[near] | later[vertex]) - {vertex}
-    numbers_by = {vertex: number for number, vertex in enumerate(postorder_of(later), 1)}
+    numbers_by = {vertex: number for number, vertex in enumerate(postorder_of_columns(later), 1)}
     return [sorted(numbers_by[row] for row in {vertex} | later[vertex]) for vertex in numbers_by]
 
 
-def postorder_of(later: dict[int, set[int]]) -> list[int]:
+def postorder_of_columns(later: dict[int, set[int]]) -> list[int]:
     """The vertices along the postorder of their elimination tree, where they stand in the order of their elimination."""
     place = {vertex: turn for turn, vertex in enumerate(later)}
     below: dict[Optional[int], list[int]] = {None: [], **{vertex: [] for vertex in later}}
