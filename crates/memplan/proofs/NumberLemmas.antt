@@ -134,6 +134,7 @@ names_of names n is =
   where
     eqb_flips : (x y : ℕ) → eqb x y ≡ eqb y x
     eqb_flips x y = grind arith
+
     held : (v n : ℕ) → 1 ≤ v → v ≤ n → Contains (range_with_len 1 n) v
     held v n low high = (v - 1, omega (arith, low, high, length-range_with_len 1 n), get_or-range_with_len 1 n (v - 1) v (omega (arith, low, high)) ∙ omega (arith, low))
 

@@ -107,14 +107,7 @@ fn too_many_steps(rt: HostRuntime) -> Result<(), Fail> {
     files.put("t", chain(alloc, 4_500)?.as_bytes())?;
     files.put("w", chain_of_terms(alloc, 4_500)?.as_bytes())?;
     let refused = "refused limit tree steps\n";
-    check_run(
-        &rt,
-        alloc,
-        "segments --tree t",
-        &mut files,
-        Limit,
-        refused,
-    )?;
+    check_run(&rt, alloc, "segments --tree t", &mut files, Limit, refused)?;
     let refused = "refused limit workflow steps\n";
     check_run(
         &rt,

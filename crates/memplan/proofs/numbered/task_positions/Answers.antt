@@ -17,11 +17,11 @@ loop-done-preserved c =
     let last = λ (q : Position). before ++ task_positions (i + 1) (q ∷ []) in
     elim c.match-at.branch [
       | in-Task+in_ok-push w ↦ rw w.found-is (
-        task_pushed ps i p within here before w.push.new.self.items c.loop-done.invariant
-        (w.in_ok-push.ensures.items ∙ ap last (sym w.in-Task.is))
-        )
+          task_pushed ps i p within here before w.push.new.self.items c.loop-done.invariant
+          (w.in_ok-push.ensures.items ∙ ap last (sym w.in-Task.is))
+          )
       | in_default w ↦ rw w.found-is (
-        task_pushed ps i p within here before before c.loop-done.invariant
-        (sym (append-nil before) ∙ ap (λ (ks : List ℕ). before ++ ks) (sym (no_task (i + 1) p w.in_default.not-Task)))
-        )
+          task_pushed ps i p within here before before c.loop-done.invariant
+          (sym (append-nil before) ∙ ap (λ (ks : List ℕ). before ++ ks) (sym (no_task (i + 1) p w.in_default.not-Task)))
+          )
     ]
