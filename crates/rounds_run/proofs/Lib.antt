@@ -4,6 +4,7 @@ mod SuperRows
 mod RowTrees
 mod Timely
 mod OrderlyRounds
+mod InTurn
 mod HeldLemmas
 mod Additions
 mod Gathered
@@ -11,4 +12,5 @@ mod JobLemmas
 mod Starts
 mod MostUsed
 mod PlanLemmas
+mod RowSettings
 mod RunLemmas

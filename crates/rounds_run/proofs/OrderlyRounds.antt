@@ -54,7 +54,7 @@ from_earlier rounds k s there =
 abbrev IsChildOf : List Super → ℕ → ℕ → Type 0
 IsChildOf supers t s = IsSuper supers t × ((super_at supers t).parent ≡ s)
 
-unit_time : (assembly : AssemblyTree) → IsAssembly assembly → (t : ℕ) → IsTask (row_system assembly.supers) t
+pub unit_time : (assembly : AssemblyTree) → IsAssembly assembly → (t : ℕ) → IsTask (row_system assembly.supers) t
     → (task_at (row_system assembly.supers) t).time ≡ 1
 unit_time assembly is t task =
     let super = super_of_task assembly is t task in

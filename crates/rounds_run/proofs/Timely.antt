@@ -21,12 +21,12 @@ use Rattle.rounds_run.proofs.NumberLists.{same_bool, has_append, has_push, place
 
 -- ---- phases, and numbers by task
 
-phase_here : (phases : List Phase) (t : ℕ) (p : Phase) → 1 ≤ t → t ≤ length phases → phase_in (with_phase phases t p) t ≡ p
+pub phase_here : (phases : List Phase) (t : ℕ) (p : Phase) → 1 ≤ t → t ≤ length phases → phase_in (with_phase phases t p) t ≡ p
 unfolding phase_in with_phase
 phase_here phases zero p low high = absurd (omega arith)
 phase_here phases (suc i) p low high = get_or-set_same phases i p Idle (omega arith)
 
-phase_other : (phases : List Phase) (t u : ℕ) (p : Phase) → u ≢ t → phase_in (with_phase phases t p) u ≡ phase_in phases u
+pub phase_other : (phases : List Phase) (t u : ℕ) (p : Phase) → u ≢ t → phase_in (with_phase phases t p) u ≡ phase_in phases u
 unfolding phase_in with_phase
 phase_other phases zero u p ne = refl
 phase_other phases (suc i) zero p ne = refl
@@ -37,7 +37,7 @@ unfolding with_phase
 phases_stay phases zero p = refl
 phases_stay phases (suc i) p = length-set phases i p
 
-all_idle : (n t : ℕ) → phase_in (replicate n Idle) t ≡ Idle
+pub all_idle : (n t : ℕ) → phase_in (replicate n Idle) t ≡ Idle
 unfolding phase_in
 all_idle n zero = refl
 all_idle n (suc i) =
@@ -46,29 +46,29 @@ all_idle n (suc i) =
       | inr le ↦ get_or_past (replicate n Idle) i Idle (omega (arith, le, length-replicate n Idle))
     ]
 
-entry_here : (numbers : List ℕ) (t v : ℕ) → 1 ≤ t → t ≤ length numbers → task_entry (with_task_entry numbers t v) t ≡ v
+pub entry_here : (numbers : List ℕ) (t v : ℕ) → 1 ≤ t → t ≤ length numbers → task_entry (with_task_entry numbers t v) t ≡ v
 unfolding task_entry with_task_entry
 entry_here numbers zero v low high = absurd (omega arith)
 entry_here numbers (suc i) v low high = get_or-set_same numbers i v 0 (omega arith)
 
-entry_other : (numbers : List ℕ) (t u v : ℕ) → u ≢ t → task_entry (with_task_entry numbers t v) u ≡ task_entry numbers u
+pub entry_other : (numbers : List ℕ) (t u v : ℕ) → u ≢ t → task_entry (with_task_entry numbers t v) u ≡ task_entry numbers u
 unfolding task_entry with_task_entry
 entry_other numbers zero u v ne = refl
 entry_other numbers (suc i) zero v ne = refl
 entry_other numbers (suc i) (suc j) v ne = get_or-set_other numbers i j v 0 (λ e. ne (ap (λ k. suc k) e))
 
-entries_stay : (numbers : List ℕ) (t v : ℕ) → length (with_task_entry numbers t v) ≡ length numbers
+pub entries_stay : (numbers : List ℕ) (t v : ℕ) → length (with_task_entry numbers t v) ≡ length numbers
 unfolding with_task_entry
 entries_stay numbers zero v = refl
 entries_stay numbers (suc i) v = length-set numbers i v
 
-idle_not_running : Idle ≡ Running → ⊥
+pub idle_not_running : Idle ≡ Running → ⊥
 idle_not_running e = cc
 
-idle_not_done : Idle ≡ Done → ⊥
+pub idle_not_done : Idle ≡ Done → ⊥
 idle_not_done e = cc
 
-running_not_done : Running ≡ Done → ⊥
+pub running_not_done : Running ≡ Done → ⊥
 running_not_done e = cc
 
 done_phase : (p : Phase) → is_done_phase p ≡ true → p ≡ Done
@@ -143,6 +143,12 @@ distinct_nil = tt
 
 -- ---- along the schedule
 
+-- what is activated is a task
+pub activated_task : (c : Setting) → All (IsTask c.system) c.order → (k t : ℕ) → stands_in (take k c.order) t ≡ true → IsTask c.system t
+activated_task c order_tasks k t there =
+    let place = place_in (take k c.order) t there in
+    subst (IsTask c.system) place.2 (All-take (IsTask c.system) k c.order order_tasks place.0 0 place.1)
+
 -- what is known at a moment of the events before it
 pub record IsTimely (c : Setting) (supplies : ℕ → ℕ → Type 0) (hist : List Event) (m : Moment) : Type 0 where
   pub phases_long : length m.state.phases ≡ length c.system.tasks
@@ -175,11 +181,6 @@ module _ (c : Setting) (supplies : ℕ → ℕ → Type 0) (unit : (t : ℕ) →
     apart = λ j k u one two. absurd (both_ways _ refl one);
     supplied = λ k u v there by. absurd (both_ways _ refl there);
   }
-
-  activated_task : (k t : ℕ) → stands_in (take k c.order) t ≡ true → IsTask c.system t
-  activated_task k t there =
-      let place = place_in (take k c.order) t there in
-      subst (IsTask c.system) place.2 (All-take (IsTask c.system) k c.order order_tasks place.0 0 place.1)
 
   timely_activate : (priority : List ℕ) (hist : List Event) (m : Moment) (time t : ℕ) → IsTimely c supplies hist m
       → ComesNext c priority m Activate time t
@@ -258,7 +259,7 @@ module _ (c : Setting) (supplies : ℕ → ℕ → Type 0) (unit : (t : ℕ) →
       let longer = length_push hist e in
       let moments = round_count_more hist e in
       let now = next.now_is in
-      let task : IsTask c.system t = activated_task m.state.activated t next.legal.activated in
+      let task : IsTask c.system t = activated_task c order_tasks m.state.activated t next.legal.activated in
       let one = unit t task in
       let none = ok.idle t next.legal.idle in
       let new : has (started_at time (hist ++ e ∷ [])) t ≡ true =

@@ -1,16 +1,17 @@
 //! Laws of rounds: what holds of them, without a call.
 ghost use Rattle.std.specs.Prelude.{◌≡◌, ◌-◌, ◌≤◌, ℕ, Bool, List, drop};
-ghost use Rattle.activation.specs.Machine.{Setting, IsSetting};
+ghost use Rattle.activation.specs.Machine.{Setting, IsSetting, start_state};
 ghost use Rattle.activation.specs.Schedule.{HoldsEach};
 ghost use Rattle.assembly_tree.specs.Assembly.{AssemblyTree, IsAssembly, IsSuper};
 ghost use Rattle.assembly_tree.specs.Supernodes.{AreSupernodes, first_of, last_of};
 ghost use Rattle.elim_tree.specs.Paths.{IsWithin};
 ghost use Rattle.ordering.specs.Fill.{IsAdjacency, parents_of, counts_of};
 ghost use Rattle.rounds_run.specs.FrontRows.{rows_of};
+ghost use Rattle.rounds_run.specs.RoundByRound.{ComeInTurn};
 ghost use Rattle.rounds_run.specs.RowSystem.{row_peak, row_setting};
 ghost use Rattle.rounds_run.specs.Rounds.{AreRounds};
 
-use activation::laws::schedule_law;
+use activation::laws::{event_law, schedule_law, start_law};
 use elim_tree::laws::{no_earlier_row, path_theorem, structure_by_children};
 use tree_input::laws::tree_system;
 
@@ -36,6 +37,18 @@ pub fn rounds_of_assembly()
 {
     tree_system();
     one_list_of_rounds();
+}
+
+/// The rounds come in turn: in each, fronts are activated while one may be, then the first that may start, start, then all that run finish; and
+/// so on until every front is made.
+pub fn rounds_in_turn()
+    ensures { (assembly : AssemblyTree) (bound workers : ℕ) (rounds : List (List ℕ)) (used : ℕ) → IsAssembly assembly →
+        row_peak assembly.supers ≤ bound → 1 ≤ workers → AreRounds (row_setting assembly.supers bound workers) rounds used →
+        ComeInTurn (row_setting assembly.supers bound workers) (start_state (row_setting assembly.supers bound workers)) rounds }
+{
+    tree_system();
+    start_law();
+    event_law();
 }
 
 /// The structure of each column of a supernode is the rows of its front from this column on.

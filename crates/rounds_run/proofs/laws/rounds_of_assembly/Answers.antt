@@ -1,37 +1,19 @@
-use Rattle.std.proofs.Common.{◌≡◌, ◌≤◌, ℕ, List, map, refl, arith}
-use Rattle.activation.specs.Machine.{IsSetting, start_state}
-use Rattle.activation.specs.Schedule.{HoldsEach}
-use Rattle.assembly_tree.specs.Assembly.{AssemblyTree, IsAssembly}
-use Rattle.mp_system.specs.System.{IsSystem}
-use Rattle.tree_input.specs.declared.node.Node.{Node}
-use Rattle.tree_input.specs.Tree.{IsTree, system_of_nodes}
-use Rattle.rounds_run.specs.RowSystem.{row_node, row_system, row_order, row_peak, row_setting}
+use Rattle.std.proofs.Common.{◌≡◌, arith}
+use Rattle.activation.specs.Machine.{start_state}
+use Rattle.rounds_run.specs.RowSystem.{row_setting}
 use Rattle.rounds_run.proofs.MostUsed.{most_within}
-use Rattle.rounds_run.proofs.PlanLemmas.{holds_each}
-use Rattle.rounds_run.proofs.RowTrees.{row_tree, row_traversal}
+use Rattle.rounds_run.proofs.RowSettings.{row_is_setting, row_holds_each}
 use Rattle.rounds_run.proofs.laws.rounds_of_assembly.Goals as goal
-
-module _ (systems : (nodes : List Node) → IsTree nodes → IsSystem (system_of_nodes nodes)) (assembly : AssemblyTree) (is : IsAssembly assembly) where
-  is_setting : (bound workers : ℕ) → row_peak assembly.supers ≤ bound → 1 ≤ workers → IsSetting (row_setting assembly.supers bound workers)
-  is_setting bound workers within some = record {
-    system = systems (map row_node assembly.supers) (row_tree assembly is);
-    traversal = row_traversal assembly is;
-    bound = within;
-    workers = some;
-  }
-
-  holds : HoldsEach (row_system assembly.supers) (row_order assembly.supers)
-  holds = holds_each (row_system assembly.supers) (row_system assembly.supers) (row_order assembly.supers) (row_order assembly.supers) refl refl (row_traversal assembly is)
 
 pub returns-clause-rounds : goal.returns-clause-rounds
 returns-clause-rounds c = λ assembly bound workers one two used more is within some first second.
     c.one_list_of_rounds.ensures.rounds (row_setting assembly.supers bound workers) one two used more
-    (is_setting c.tree_system.ensures.system assembly is bound workers within some) (holds c.tree_system.ensures.system assembly is) first second
+    (row_is_setting c.tree_system.ensures.system assembly is bound workers within some) (row_holds_each assembly is) first second
 
 pub returns-clause-used : goal.returns-clause-used
 returns-clause-used c = λ assembly bound workers one two used more is within some first second.
     c.one_list_of_rounds.ensures.used (row_setting assembly.supers bound workers) one two used more
-    (is_setting c.tree_system.ensures.system assembly is bound workers within some) (holds c.tree_system.ensures.system assembly is) first second
+    (row_is_setting c.tree_system.ensures.system assembly is bound workers within some) (row_holds_each assembly is) first second
 
 pub returns-clause-within : goal.returns-clause-within
 returns-clause-within c = λ setting rounds used are.
