@@ -6,9 +6,11 @@ from typing import NamedTuple, Optional
 
 DONE, NO, USAGE, FORMAT, LIMIT, BOUND, READ_FAULT, WRITE_FAULT, NO_MEMORY = range(9)
 
+NOT_SERIES_PARALLEL = 9
+
 WORKING_SET = 10
 
-STATUSES = {*range(9), WORKING_SET}
+STATUSES = {*range(9), NOT_SERIES_PARALLEL, WORKING_SET}
 
 COMPLAINTS = {
     USAGE: b"memplan: usage\n",

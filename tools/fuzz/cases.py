@@ -11,6 +11,7 @@ from random_files import (
     changed_tokens,
     changed_words,
     listed,
+    random_graph,
     random_matrix,
     random_permutation,
     random_plan,
@@ -65,6 +66,9 @@ def random_setting(draw: random.Random, bench: Bench, inputs: tuple[str, ...]) -
     if kind == "tree":
         text = random_tree(draw) if draw.random() < 0.85 else example(draw, "tree")
         return Setting([("--tree", "t")], {"t": text}, known_order(draw, text, system_of_tree))
+    if kind == "graph":
+        text = random_graph(draw) if draw.random() < 0.85 else example(draw, "graph")
+        return Setting([("--graph", "g")], {"g": text}, [])
     if kind == "workflow":
         text = random_workflow(draw) if draw.random() < 0.85 else example(draw, "workflow")
         return Setting([("--workflow", "w")], {"w": text}, known_order(draw, text, system_of_workflow))
@@ -206,6 +210,7 @@ COMMANDS = {
     "spill": Command(ALL_INPUTS, spill_options),
     "fronts": Command(("matrix",), fronts_options),
     "segments": Command(ALL_INPUTS, no_options),
+    "reduce": Command(("graph",), no_options),
     "tree": Command(("matrix",), no_options),
     "post": Command(("tree", "tree", "matrix"), no_options),
     "demo": Command((), demo_options),
@@ -213,7 +218,7 @@ COMMANDS = {
 }
 
 # Words of commands that the program may not know yet: it is then not asked for them.
-PROBES = {"upgrade": ["upgrade", "--tree=t"], "fronts": ["fronts", "--matrix=m", "--bound=0", "--workers=1"]}
+PROBES = {"upgrade": ["upgrade", "--tree=t"], "fronts": ["fronts", "--matrix=m", "--bound=0", "--workers=1"], "reduce": ["reduce", "--graph=g"]}
 
 
 def known_commands(bench: Bench) -> list[str]:

@@ -8,6 +8,7 @@ MOST_TOTAL = 2**60
 MOST_TASKS = MOST_ROWS = 1_000_000
 MOST_ENTRIES = 10_000_000
 MOST_POSITIONS = 4_000_001
+MOST_ARCS = 2_000_001
 MOST_MINDEG = 50_000
 
 
@@ -345,6 +346,90 @@ def refusal_of(read: Callable[[], int]) -> tuple[int, Optional[str]]:
         return 0, str(refused)
 
 
+# ---- task graphs
+
+
+class Arc(NamedTuple):
+    start: int
+    end: int
+    size: int
+
+
+class GraphTask(NamedTuple):
+    line: int
+    extra: int
+    share: int
+
+
+def read_graph(text: bytes) -> int:
+    """The number of tasks."""
+    page = Page("graph", text, "no-end")
+    page.test(page.go_on() == [b"graph", b"1"], "header")
+    count = page.section(b"tasks", "section")
+    page.limit(count <= MOST_TASKS, "tasks")
+    total = 0
+    tasks: list[GraphTask] = []
+    while len(tasks) < count:
+        tasks.append(read_graph_task(page))
+        total += tasks[-1].extra
+        page.limit(total <= MOST_TOTAL, "total")
+    most = page.section(b"arcs", "section")
+    page.limit(most <= MOST_ARCS, "arcs")
+    arcs: list[Arc] = []
+    while len(arcs) < most:
+        arcs.append(read_arc(page, count))
+        total += arcs[-1].size
+        page.limit(total <= MOST_TOTAL, "total")
+    page.test(page.go_on() == [b"end"], "section")
+    page.end("section")
+    judge_graph(page, tasks, arcs)
+    return count
+
+
+def read_graph_task(page: Page) -> GraphTask:
+    page.go_on()
+    values = values_of(page.tokens)
+    page.test(values is not None and len(values) == 3 and values[2] != 0, "number")
+    extra, share, time = values or []
+    page.limit(extra <= MOST_SIZE, "size")
+    page.limit(time <= MOST_TIME, "time")
+    return GraphTask(page.number, extra, share)
+
+
+def read_arc(page: Page, count: int) -> Arc:
+    page.go_on()
+    values = values_of(page.tokens)
+    page.test(values is not None and len(values) == 3, "number")
+    arc = Arc(*(values or []))
+    page.test(max(arc.start, arc.end) <= count and (arc.start != arc.end or arc.start == 0), "arc")
+    page.limit(arc.size <= MOST_SIZE, "size")
+    return arc
+
+
+def judge_graph(page: Page, tasks: list[GraphTask], arcs: list[Arc]) -> None:
+    """Not too many arcs with those that are added, all tasks can be ordered, and the shares fit."""
+    starts, ends = {arc.start for arc in arcs}, {arc.end for arc in arcs}
+    added = sum((number not in starts) + (number not in ends) for number in range(1, len(tasks) + 1))
+    page.limit(len(arcs) + added <= MOST_ARCS, "arcs")
+    waits = [set() for _ in range(len(tasks) + 1)]
+    for arc in arcs:
+        if arc.start and arc.end:
+            waits[arc.end].add(arc.start)
+    left, is_less = set(range(1, len(tasks) + 1)), True
+    while is_less:
+        ready = {number for number in left if not waits[number] & left}
+        left, is_less = left - ready, bool(ready)
+    if left:
+        page.number = tasks[min(left) - 1].line
+        page.refuse("cycle")
+    for number, task in enumerate(tasks, 1):
+        taken = sum(arc.size for arc in arcs if arc.end == number)
+        made = sum(arc.size for arc in arcs if arc.start == number)
+        if task.share > min(taken, task.extra + made):
+            page.number = task.line
+            page.refuse("share")
+
+
 # ---- words
 
 MATRIX_OPTIONS = {"perm", "ordering", "shape", "amalgamate", "inplace"}
@@ -361,6 +446,7 @@ COMMANDS: dict[str, tuple[set[str], list[set[str]], set[str]]] = {
     "spill": ({"tree", "workflow", "matrix"}, [{"order", "plan"}, {"bound"}], set()),
     "fronts": ({"matrix"}, [{"bound"}, {"workers"}], {"perm", "ordering"}),
     "segments": ({"tree", "workflow", "matrix"}, [], set()),
+    "reduce": ({"graph"}, [], set()),
     "tree": ({"matrix"}, [], set()),
     "post": ({"tree", "matrix"}, [], set()),
     "demo": (set(), [], {"kind", "seed", "tasks", "rows", "cols"}),

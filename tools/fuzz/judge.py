@@ -15,6 +15,7 @@ from bench import (
     LIMIT,
     NO,
     NO_MEMORY,
+    NOT_SERIES_PARALLEL,
     READ_FAULT,
     STATUSES,
     USAGE,
@@ -32,11 +33,13 @@ from models import (
     columns_of,
     first_position,
     fronts_report,
+    graph_of,
     numbers,
     objection,
     parts_of,
     plan_of,
     postorder_of,
+    rest_of,
     rows,
     system_of_term,
     system_of_tree,
@@ -49,6 +52,7 @@ from models import (
 KINDS = {
     "tree": "header number count parent cycle share no-end",
     "workflow": "header word number stack-short not-one-term task-count share no-end",
+    "graph": "header number section arc cycle share no-end",
     "matrix": "banner not-matrix array-format field symmetry size-line not-square entry index too-few too-many",
     "perm": "number range repeated count",
     "order": "number",
@@ -59,6 +63,7 @@ KINDS = {
 LIMITS = {
     "tree": "bytes tasks size total time steps",
     "workflow": "bytes tasks positions size total time steps",
+    "graph": "bytes tasks arcs size total time",
     "matrix": "bytes order entries mindeg steps",
     "perm": "bytes",
     "order": "bytes tasks",
@@ -99,7 +104,7 @@ class Judge:
         if refusal:
             if refusal != self.ending:
                 yield f"expected {refusal}"
-        elif status not in (DONE, NO, BOUND, WORKING_SET):
+        elif status not in (DONE, NO, BOUND, NOT_SERIES_PARALLEL, WORKING_SET):
             yield "all words and files are accepted"
         else:
             yield from getattr(self, f"{self.words[0]}_ends")()
@@ -127,7 +132,7 @@ class Judge:
         if formats.request_of(self.words) is None:
             return failed(USAGE)
         count = 0
-        for file in ("tree", "workflow", "matrix", "perm", "order", "plan", "priority"):
+        for file in ("tree", "workflow", "graph", "matrix", "perm", "order", "plan", "priority"):
             if file not in self.options:
                 continue
             text = self.bench.read(self.options[file])
@@ -152,14 +157,20 @@ class Judge:
         if file == "priority":
             count = system_of(self.bench, self.options).count if "matrix" in self.options else count
             return formats.refusal_of(partial(formats.read_permutation, file, text, count))
-        readers = {"tree": formats.read_tree, "workflow": formats.read_workflow, "order": formats.read_order, "plan": formats.read_plan}
+        readers = {
+            "tree": formats.read_tree,
+            "workflow": formats.read_workflow,
+            "graph": formats.read_graph,
+            "order": formats.read_order,
+            "plan": formats.read_plan,
+        }
         return formats.refusal_of(partial(readers[file], text))
 
     # ---- reports
 
     def expect(self, text: str) -> Iterator[str]:
         """The text of the report, and the status that it has."""
-        begins = {"no ": NO, "refused bound": BOUND, "refused working-set": WORKING_SET}
+        begins = {"no ": NO, "refused bound": BOUND, "refused working-set": WORKING_SET, "refused graph rest": NOT_SERIES_PARALLEL}
         status = next((status for start, status in begins.items() if text.startswith(start)), DONE)
         if (self.ending.status, self.text) != (status, text):
             yield f"expected {status} {text!r}"
@@ -224,6 +235,25 @@ class Judge:
                     yield f"{line!r} does not come down to {part.least}"
                 elif system.count <= FEW and steps != system.staircase(direction == "R"):
                     yield f"expected the steps {system.staircase(direction == 'R')} of {line!r}"
+
+    def reduce_ends(self) -> Iterator[str]:
+        graph, text = graph_of(self.file("graph")), self.ending.report
+        if (rest := rest_of(graph)) != [(0, 0)]:
+            yield from self.expect("".join([f"refused graph rest {len(rest)}\n", *(f"{start} {end}\n" for start, end in rest), "end\n"]))
+            return
+        places, names = zip(*re.findall(r"^# (\d+) (\d+)$", self.text, re.M)) if graph.tasks else ((), ())
+        if self.ending.status != DONE or formats.refusal_of(partial(formats.read_workflow, text)) != (len(graph.tasks), None):
+            yield "this is no workflow of as many tasks"
+        elif [int(place) for place in places] != list(range(1, len(graph.tasks) + 1)) or len({*names}) != len(names):
+            yield "these are not the names of the tasks"
+        else:
+            name = [int(name) for name in names]
+            lines = [[int(token) for token in tokens[1:]] for tokens in rows(text)[2:-1] if tokens[0] == "task"]
+            tasks = [(line[0], line[1] if len(line) == 3 else 0, line[-1]) for line in lines]
+            ends = [tuple(0 if task is None else name[task] for task in item[1:]) for item in system_of_workflow(text).items]
+            arcs = [(*both, item[0]) for both, item in zip(ends, system_of_workflow(text).items)]
+            if tasks != [graph.tasks[number - 1] for number in name] or sorted(arcs) != sorted(graph.arcs):
+                yield "the workflow has another system than the graph"
 
     def plan_ends(self) -> Iterator[str]:
         words, text = input_words(self.options), self.ending.report

@@ -273,6 +273,41 @@ def system_of_workflow(text: bytes) -> System:
     return System(tasks, items)
 
 
+# ---- task graphs
+
+
+class Graph(NamedTuple):
+    """The tasks of a graph, each its extra, share and time, and the arcs of the completed graph, each its ends and its size; 0 is none."""
+
+    tasks: list[tuple[int, int, int]]
+    arcs: list[tuple[int, int, int]]
+
+
+def graph_of(text: bytes) -> Graph:
+    lines = [[int(token) for token in tokens if token.isdigit()] for tokens in rows(text)]
+    count = lines[1][0]
+    tasks = [tuple(line) for line in lines[2 : 2 + count]]
+    arcs = [tuple(line) for line in lines[3 + count : -1]]
+    starts, ends = {arc[0] for arc in arcs}, {arc[1] for arc in arcs}
+    arcs += [(0, number, 0) for number in range(1, count + 1) if number not in ends]
+    arcs += [(number, 0, 0) for number in range(1, count + 1) if number not in starts]
+    return Graph(tasks, arcs)
+
+
+def rest_of(graph: Graph) -> list[tuple[int, int]]:
+    """The ends of the arcs that are left where no reduction applies, in rising order."""
+    left = {arc[:2] for arc in graph.arcs}
+    is_less = True
+    while is_less:
+        is_less = False
+        for task in range(1, len(graph.tasks) + 1):
+            into, out = [arc for arc in left if arc[1] == task], [arc for arc in left if arc[0] == task]
+            if len(into) == len(out) == 1:
+                left = left - {into[0], out[0]} | {(into[0][0], out[0][1])}
+                is_less = True
+    return sorted(left)
+
+
 # ---- the rows of fronts
 
 

@@ -62,6 +62,32 @@ def random_workflow(draw: random.Random) -> bytes:
     return (f"workflow {version}\ntasks {wanted}\n" + "".join(lines) + "end\n").encode()
 
 
+def random_graph(draw: random.Random) -> bytes:
+    """Mostly of a series-parallel term, with its tasks and arcs in any order; now and then with an arc more."""
+    count = draw.choice([0, 1, 2, 3, 4, 5, 6, 7, 8, 9, draw.randrange(10, 40)])
+    names = draw.sample(range(1, count + 1), count)
+    arcs = [(0, 0)] if count == 0 or draw.random() < 0.5 else [(0, names[0]), (names[0], 0)]
+    for name in names[len(arcs) - 1 :]:
+        place = draw.randrange(len(arcs))
+        start, end = arcs[place]
+        arcs[place : place + 1] = [(start, name), (name, end)]
+        if draw.random() < 0.4:
+            arcs.append(draw.choice(arcs))
+    if count > 1 and draw.random() < 0.3:
+        arcs.append(tuple(sorted(draw.sample(range(1, count + 1), 2))))
+    # the arcs of none that are added need not be there
+    kept = [(start, end, small(draw)) for start, end in draw.sample(arcs, len(arcs)) if start or end or draw.random() < 0.9]
+    taken, made = ([sum(arc[2] for arc in kept if arc[side] == name) for name in range(count + 1)] for side in (1, 0))
+    lines = []
+    for name in range(1, count + 1):
+        extra = small(draw)
+        share = draw.randint(0, min(taken[name], extra + made[name])) if draw.random() < 0.3 else 0
+        lines.append(f"{extra} {share} {draw.randrange(1, 9)}\n")
+    lines.append(f"arcs {len(kept)}\n")
+    lines += [f"{start} {end} {size}\n" for start, end, size in kept]
+    return (f"graph 1\ntasks {count}\n" + "".join(lines) + "end\n").encode()
+
+
 def random_matrix(draw: random.Random) -> bytes:
     order = draw.choice([1, 2, 3, 4, 5, 6, 7, 8, 9, draw.randrange(10, 40)])
     field, values = draw.choice([("pattern", ""), ("pattern", ""), ("real", " 1.5"), ("complex", " 1 -2"), ("integer", " x")])

@@ -40,6 +40,8 @@ simulate --tree four.tree --order four.order --priority four.priority --bound 6 
 simulate --tree five.tree --plan five.plan --bound 22 --workers 4096
 spill --tree five.tree --order five.order --bound 10
 spill --workflow branches.workflow --order branches.order --bound 12
+reduce --graph four.graph
+reduce --graph bridge.graph
 fronts --matrix arrow.mtx --perm arrow.perm --bound 4 --workers 2
 fronts --matrix grid.mtx --ordering mindeg --bound 9 --workers 1
 segments --tree five.tree

@@ -14,5 +14,6 @@ pub mod SpillLemmas
 pub mod StairPages
 pub mod StairsLemmas
 pub mod FrontLemmas
+pub mod ReductionLemmas
 pub mod OneReport
 pub mod SoundAnswer

@@ -14,10 +14,12 @@ use Rattle.plan_text.specs.Plan.{PlanText}
 use Rattle.plan_text.specs.PlanFile.{ReadsPlan, RefusesPlan}
 use Rattle.sp_terms.specs.Kinds.{word_of as workflow_word}
 use Rattle.sp_terms.specs.WorkflowFile.{ReadsWorkflow, RefusesWorkflow}
+use Rattle.task_graph.specs.GraphFile.{ReadsGraph, RefusesGraph}
+use Rattle.task_graph.specs.Kinds.{word_of as graph_word}
 use Rattle.tree_input.specs.Kinds.{word_of as tree_word}
 use Rattle.tree_input.specs.TreeFile.{ReadsTree, RefusesTree}
 use Rattle.memplan.specs.Files.{Answer, IsMatrixFile, CanBeOrdered, IsTooLarge, IsWithinBytes, IsRefusedAs, IsRefusedFile, HasValue, IsRefused, IsSystemOf, IsPlanFile}
-use Rattle.memplan.specs.Request.{Ordering, natural, min_degree, perm_named, Input, FileRole, tree_file, workflow_file, matrix_file, perm_file, order_file, plan_file, priority_file, plan_priority_file}
+use Rattle.memplan.specs.Request.{Ordering, natural, min_degree, perm_named, Input, FileRole, tree_file, workflow_file, graph_file, matrix_file, perm_file, order_file, plan_file, priority_file, plan_priority_file}
 use Rattle.memplan.proofs.OneInput.{Systems, same_texts}
 
 -- what is known of a format
@@ -46,6 +48,7 @@ module _ {K V : Type 0} (file : List ℕ) (word : K → List ℕ) (reads : List 
 pub record Formats : Type 0 where
   pub trees : IsFormat ReadsTree RefusesTree
   pub workflows : IsFormat ReadsWorkflow RefusesWorkflow
+  pub graphs : IsFormat ReadsGraph RefusesGraph
   pub matrices : IsFormat ReadsPattern RefusesPattern
   pub perms : (n : ℕ) → IsFormat (ReadsPerm n) (RefusesPerm n)
   pub orders : IsFormat ReadsOrder RefusesOrder
@@ -86,6 +89,7 @@ module _ (f : Formats) where
   pub not_both : (role : FileRole) (earlier : List (List ℕ)) (text : List ℕ) (answer : Answer) → HasValue role earlier text → IsRefused role earlier text answer → ⊥
   not_both tree_file earlier text answer (nodes, is) refused = not_refused (codes "tree") tree_word ReadsTree RefusesTree f.trees text answer nodes is refused
   not_both workflow_file earlier text answer (positions, is) refused = not_refused (codes "workflow") workflow_word ReadsWorkflow RefusesWorkflow f.workflows text answer positions is refused
+  not_both graph_file earlier text answer (graph, is) refused = not_refused (codes "graph") graph_word ReadsGraph RefusesGraph f.graphs text answer graph is refused
   not_both (matrix_file o) earlier text answer (rows, is, fits) (inl refused) = not_refused (codes "matrix") matrix_word ReadsPattern RefusesPattern f.matrices text answer rows is refused
   not_both (matrix_file o) earlier text answer (rows, is, fits) (inr large) = not_too_large o text answer rows is fits large
   not_both perm_file [] text answer is refused = absurd is
@@ -107,6 +111,7 @@ module _ (f : Formats) where
   pub one_refusal : (role : FileRole) (earlier : List (List ℕ)) (text : List ℕ) (one two : Answer) → IsRefused role earlier text one → IsRefused role earlier text two → one ≡ two
   one_refusal tree_file earlier text one two is other = refused_once (codes "tree") tree_word ReadsTree RefusesTree f.trees text one two is other
   one_refusal workflow_file earlier text one two is other = refused_once (codes "workflow") workflow_word ReadsWorkflow RefusesWorkflow f.workflows text one two is other
+  one_refusal graph_file earlier text one two is other = refused_once (codes "graph") graph_word ReadsGraph RefusesGraph f.graphs text one two is other
   one_refusal (matrix_file o) earlier text one two (inl is) (inl other) = refused_once (codes "matrix") matrix_word ReadsPattern RefusesPattern f.matrices text one two is other
   one_refusal (matrix_file o) earlier text one two (inl is) (inr large) = absurd (read_before o text one two is large)
   one_refusal (matrix_file o) earlier text one two (inr large) (inl is) = absurd (read_before o text two one is large)

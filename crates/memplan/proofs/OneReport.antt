@@ -27,7 +27,7 @@ use Rattle.memplan.specs.Demo.{IsDemoOf}
 use Rattle.memplan.specs.Fronts.{IsFrontsOf}
 use Rattle.memplan.specs.Post.{IsPost, post_answer}
 use Rattle.memplan.specs.Replay.{IsReplayAnswer, IsReplayOf}
-use Rattle.memplan.specs.Request.{Request, replay, tree, post, check, planning, simulate, demo, upgrade, spill, segments, Upgrade, IsInRange, IsMakeable, TreeInput, matrix_named, Input, OrderSource, order_named, plan_named, PlanFormat, Simulation, FileRole, NamedFile, tree_input_files, input_files, source_file, priority_file, priority_files, files_of, fronts, OrderedMatrix}
+use Rattle.memplan.specs.Request.{Request, replay, tree, post, check, planning, simulate, demo, upgrade, spill, segments, reduce, Upgrade, IsInRange, IsMakeable, TreeInput, matrix_named, Input, OrderSource, order_named, plan_named, PlanFormat, Simulation, FileRole, NamedFile, tree_input_files, input_files, source_file, priority_file, priority_files, files_of, fronts, OrderedMatrix}
 use Rattle.memplan.specs.Simulate.{IsOwnPriority, IsPriorityFrom, IsSimulation, IsSimulationOf, priority_or, setting_of, simulation_answer}
 use Rattle.memplan.specs.Tree.{tree_answer}
 use Rattle.memplan.specs.Judged.{AreWithin}
@@ -169,6 +169,7 @@ module _ (r : Reports) where
   one_report (spill input source bound) texts a b within decided is is' = absurd decided
   one_report (segments input) texts a b within decided is is' = one_segments r.numbered r.stairs input texts a b is is'
   one_report (fronts m bound workers) texts a b within decided is is' = r.fronts m bound workers texts a b within.0 is is'
+  one_report (reduce name) texts a b within decided is is' = absurd decided
 
   -- ---- files that have values
 
@@ -210,6 +211,7 @@ module _ (r : Reports) where
       with_input input (source_file source ∷ []) texts mine (text ∷ []) s split is_system (source_accepted source mine text order is_order, tt)
   report_accepted (segments input) texts a (ps, numbered, is, answer) = numbered_accepted input texts ps numbered is
   report_accepted (fronts m bound workers) texts a (rows, order, is, made) = ordered_accepted m texts rows order is
+  report_accepted (reduce name) texts a (text, graph, e, is, x) = subst (AreAccepted (files_of (reduce name)) []) (sym e) ((graph, is), tt)
 
 -- ---- refusals in turn
 

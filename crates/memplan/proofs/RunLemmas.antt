@@ -9,6 +9,8 @@ use Rattle.ordering.specs.PermFile.{RefusesPerm}
 use Rattle.tree_input.specs.Kinds.{word_of as tree_word}
 use Rattle.tree_input.specs.TreeFile.{RefusesTree}
 use Rattle.sp_terms.specs.WorkflowFile.{RefusesWorkflow}
+use Rattle.task_graph.specs.GraphFile.{RefusesGraph}
+use Rattle.task_graph.specs.Kinds.{word_of as graph_word}
 use Rattle.matrix_market.specs.Kinds.{word_of as matrix_word}
 use Rattle.matrix_market.specs.MatrixFile.{RefusesPattern}
 use Rattle.plan_text.specs.PlanFile.{RefusesPlan}
@@ -19,7 +21,7 @@ use Rattle.sp_terms.specs.Kinds.{word_of as workflow_word}
 use Rattle.ordering.specs.Kinds.{perm_word}
 use Rattle.ordering.specs.Kinds.{order_file_word}
 use Rattle.plan_text.specs.Kinds.{word_of as plan_word}
-use Rattle.memplan.specs.Request.{Ordering, natural, min_degree, perm_named, Request, replay, tree, post, check, planning, simulate, FileRole, NamedFile, tree_file, workflow_file, matrix_file, perm_file, order_file, plan_file, priority_file, plan_priority_file, files_of}
+use Rattle.memplan.specs.Request.{Ordering, natural, min_degree, perm_named, Request, replay, tree, post, check, planning, simulate, FileRole, NamedFile, tree_file, workflow_file, graph_file, matrix_file, perm_file, order_file, plan_file, priority_file, plan_priority_file, files_of}
 use Rattle.memplan.specs.declared.status.Status.{Status}
 use Rattle.memplan.specs.declared.status.Status.TheVariants as status
 
@@ -51,6 +53,7 @@ too_large (perm_named name) text answer large done = large
 refused : (role : FileRole) (earlier : List (List ℕ)) (text : List ℕ) (answer : Answer) → IsRefused role earlier text answer → answer.status ≡ status.Done → ⊥
 refused tree_file earlier text answer r done = refused_file (codes "tree") tree_word (RefusesTree text) text answer r done
 refused workflow_file earlier text answer r done = refused_file (codes "workflow") workflow_word (RefusesWorkflow text) text answer r done
+refused graph_file earlier text answer r done = refused_file (codes "graph") graph_word (RefusesGraph text) text answer r done
 refused (matrix_file o) earlier text answer (inl r) done = refused_file (codes "matrix") matrix_word (RefusesPattern text) text answer r done
 refused (matrix_file o) earlier text answer (inr large) done = too_large o text answer large done
 refused perm_file earlier text answer r done = refused_perm earlier text answer r done

@@ -25,6 +25,7 @@ HasText status.Bound = Unit {0}
 HasText status.ReadFault = ⊥
 HasText status.WriteFault = ⊥
 HasText status.NoMemory = ⊥
+HasText status.NotSeriesParallel = Unit {0}
 HasText status.WorkingSet = Unit {0}
 
 -- the files tell these texts

@@ -3,7 +3,7 @@
 use Rattle.std.specs.Prelude.{◌≡◌, ℕ, List, [], ◌∷◌, Option, None, option_and_then, codes, if◌then◌else◌, ◌⊎◌}
 use Rattle.std.specs.Str.{bytes_eq}
 use Rattle.tree_input.specs.declared.node.Node.{Node}
-use Rattle.memplan.specs.Request.{Request, replay, tree, post, check, planning, simulate, demo, upgrade, spill, fronts, segments, files_of}
+use Rattle.memplan.specs.Request.{Request, replay, tree, post, check, planning, simulate, demo, upgrade, spill, fronts, segments, reduce, files_of}
 use Rattle.memplan.specs.Replay.{replay_of, IsReplayOf}
 use Rattle.memplan.specs.Files.{IsTreeOf, IsFirstRefusal, IsMatrixTree, Answer}
 use Rattle.memplan.specs.Check.{check_of, IsCheckOf}
@@ -15,6 +15,7 @@ use Rattle.memplan.specs.Post.{post_of, IsPost}
 use Rattle.memplan.specs.Upgrade.{upgrade_of, IsUpgradeOf}
 use Rattle.memplan.specs.Spill.{spill_of, IsSpillOf}
 use Rattle.memplan.specs.Segments.{segments_of, IsSegmentsOf}
+use Rattle.memplan.specs.Reduce.{reduce_of, IsReduceOf}
 use Rattle.memplan.specs.Fronts.{fronts_of, IsFrontsOf}
 use Rattle.command_line.specs.Words.{Line, line_of}
 use Rattle.memplan.specs.Table.{commands}
@@ -32,6 +33,7 @@ command_of line =
     else if bytes_eq line.command (codes "spill") then spill_of line.options
     else if bytes_eq line.command (codes "segments") then segments_of line.options
     else if bytes_eq line.command (codes "fronts") then fronts_of line.options
+    else if bytes_eq line.command (codes "reduce") then reduce_of line.options
     else None
 
 -- the request of the words after the program's name: a command of the table, and options of it, each at most once
@@ -51,12 +53,14 @@ IsReport (upgrade u) texts answer = IsUpgradeOf u texts answer
 IsReport (spill input source bound) texts answer = IsSpillOf input source bound texts answer
 IsReport (segments input) texts answer = IsSegmentsOf input texts answer
 IsReport (fronts m bound workers) texts answer = IsFrontsOf m bound workers texts answer
+IsReport (reduce name) texts answer = IsReduceOf texts answer
 
--- the files of a request decide its answer; but `plan` may print any plan of least peak with a certificate, and `spill` the amounts of any
--- spill plan of least volume
+-- the files of a request decide its answer; but `plan` may print any plan of least peak with a certificate, `spill` the amounts of any
+-- spill plan of least volume, and `reduce` any term of a graph or any irreducible rest
 abbrev pub IsDecided : Request → Type 0
 IsDecided (planning input format) = ⊥
 IsDecided (spill input source bound) = ⊥
+IsDecided (reduce name) = ⊥
 IsDecided request = Unit {0}
 
 -- the answer to a request over the texts of its files

@@ -24,8 +24,11 @@ use Rattle.ordering.specs.PermFile.{ReadsPerm, RefusesPerm}
 use Rattle.plan_text.specs.Plan.{PlanText}
 use Rattle.plan_text.specs.PlanFile.{ReadsPlan, RefusesPlan}
 use Rattle.symbolic.specs.FrontTree.{IsFrontTree}
+use Rattle.task_graph.specs.Graph.{TaskGraph}
+use Rattle.task_graph.specs.GraphFile.{ReadsGraph, RefusesGraph}
+use Rattle.task_graph.specs.Kinds.{word_of as graph_word}
 use Rattle.memplan.specs.declared.status.Status.{Status}
-use Rattle.memplan.specs.Request.{Ordering, natural, min_degree, perm_named, Matrix, TreeInput, tree_named, matrix_named, Input, tree_input, workflow_named, OrderSource, order_named, plan_named, FileRole, tree_file, workflow_file, matrix_file, perm_file, order_file, plan_file, priority_file, plan_priority_file, NamedFile}
+use Rattle.memplan.specs.Request.{Ordering, natural, min_degree, perm_named, Matrix, TreeInput, tree_named, matrix_named, Input, tree_input, workflow_named, OrderSource, order_named, plan_named, FileRole, tree_file, workflow_file, graph_file, matrix_file, perm_file, order_file, plan_file, priority_file, plan_priority_file, NamedFile}
 use Rattle.sp_terms.specs.Kinds.{word_of as workflow_word}
 use Rattle.ordering.specs.Kinds.{perm_word, order_file_word}
 use Rattle.plan_text.specs.Kinds.{word_of as plan_word}
@@ -81,6 +84,9 @@ IsTreeFile text nodes = IsWithinBytes text × ReadsTree text nodes
 
 abbrev pub IsWorkflowFile : List ℕ → List Position → Type 0
 IsWorkflowFile text positions = IsWithinBytes text × ReadsWorkflow text positions
+
+abbrev pub IsGraphFile : List ℕ → TaskGraph → Type 0
+IsGraphFile text graph = IsWithinBytes text × ReadsGraph text graph
 
 abbrev pub IsMatrixFile : List ℕ → List (List ℕ) → Type 0
 IsMatrixFile text rows = IsWithinBytes text × ReadsPattern text rows
@@ -198,6 +204,7 @@ IsAcceptedPlanPriority (first ∷ earlier) text =
 abbrev pub IsRefused : FileRole → List (List ℕ) → List ℕ → Answer → Type 0
 IsRefused tree_file earlier text answer = IsRefusedFile (codes "tree") tree_word (RefusesTree text) text answer
 IsRefused workflow_file earlier text answer = IsRefusedFile (codes "workflow") workflow_word (RefusesWorkflow text) text answer
+IsRefused graph_file earlier text answer = IsRefusedFile (codes "graph") graph_word (RefusesGraph text) text answer
 IsRefused (matrix_file ordering) earlier text answer =
     IsRefusedFile (codes "matrix") matrix_word (RefusesPattern text) text answer ⊎ IsTooLarge ordering text answer
 IsRefused perm_file earlier text answer = IsRefusedPerm earlier text answer
@@ -210,6 +217,7 @@ IsRefused plan_priority_file earlier text answer = IsRefusedPlanPriority earlier
 abbrev pub HasValue : FileRole → List (List ℕ) → List ℕ → Type 0
 HasValue tree_file earlier text = (nodes : List Node) × IsTreeFile text nodes
 HasValue workflow_file earlier text = (positions : List Position) × IsWorkflowFile text positions
+HasValue graph_file earlier text = (graph : TaskGraph) × IsGraphFile text graph
 HasValue (matrix_file ordering) earlier text = (rows : List (List ℕ)) × IsMatrixFile text rows × CanBeOrdered ordering (length rows)
 HasValue perm_file earlier text = IsAcceptedPerm earlier text
 HasValue order_file earlier text = (numbers : List ℕ) × IsOrderFile text numbers

@@ -14,6 +14,7 @@ pub mod Upgrade
 pub mod Spill
 pub mod Segments
 pub mod Fronts
+pub mod Reduce
 pub mod Commands
 pub mod Clauses
 pub mod Pages

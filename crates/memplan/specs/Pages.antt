@@ -12,6 +12,7 @@ status_of kinds.No = status.No
 status_of kinds.Format = status.Format
 status_of kinds.Limit = status.Limit
 status_of kinds.Bound = status.Bound
+status_of kinds.NotSeriesParallel = status.NotSeriesParallel
 status_of kinds.WorkingSet = status.WorkingSet
 
 abbrev pub answer_of : Page → Answer

@@ -90,6 +90,8 @@ pub data Request : Type 0 where
   segments : Input → Request
   -- the rows of every front of a matrix, made within a bound on the rows that are held, by so many workers
   fronts : OrderedMatrix → ℕ → ℕ → Request
+  -- the term of a task graph, by the name of its file
+  reduce : List ℕ → Request
 
 -- ---- the options of a matrix
 
@@ -213,6 +215,7 @@ format_of true = as_json
 pub data FileRole : Type 0 where
   tree_file : FileRole
   workflow_file : FileRole
+  graph_file : FileRole
   -- a matrix whose rows are to be eliminated in this order
   matrix_file : Ordering → FileRole
   perm_file : FileRole
@@ -272,3 +275,4 @@ files_of (upgrade u) = upgrade_files u
 files_of (spill input source bound) = input_files input ++ source_file source ∷ []
 files_of (segments input) = input_files input
 files_of (fronts m bound workers) = ordered_matrix_files m
+files_of (reduce name) = record { role = graph_file; name = name } ∷ []

@@ -66,3 +66,4 @@ request_view (commands.Upgrade u) = requests.upgrade (upgrade_view u)
 request_view (commands.Spill s) = requests.spill (input_view s.input) (source_view s.source) s.bound
 request_view (commands.Segments input) = requests.segments (input_view input)
 request_view (commands.Fronts run) = requests.fronts (ordered_matrix_view run.matrix) run.bound run.workers
+request_view (commands.Reduce name) = requests.reduce name.now

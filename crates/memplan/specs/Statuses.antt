@@ -1,7 +1,7 @@
 -- How the program ends with a status: its exit code, and the line on standard error.
 use Rattle.std.specs.Prelude.{ℕ, List, Option, Some, None, codes}
 use Rattle.memplan.specs.declared.status.Status.{Status}
-use Rattle.memplan.specs.declared.status.Status.TheVariants.{Done, No, Usage, Format, Limit, Bound, ReadFault, WriteFault, NoMemory, WorkingSet}
+use Rattle.memplan.specs.declared.status.Status.TheVariants.{Done, No, Usage, Format, Limit, Bound, ReadFault, WriteFault, NoMemory, NotSeriesParallel, WorkingSet}
 
 abbrev pub exit_code_of : Status → ℕ
 exit_code_of Done = 0
@@ -13,6 +13,7 @@ exit_code_of Bound = 5
 exit_code_of ReadFault = 6
 exit_code_of WriteFault = 7
 exit_code_of NoMemory = 8
+exit_code_of NotSeriesParallel = 9
 exit_code_of WorkingSet = 10
 
 abbrev pub complaint_of : Status → Option (List ℕ)

@@ -32,4 +32,5 @@ commands =
     ∷ record { name = codes "spill"; options = codes "order" ∷ codes "plan" ∷ codes "bound" ∷ input_names }
     ∷ record { name = codes "segments"; options = input_names }
     ∷ record { name = codes "fronts"; options = codes "bound" ∷ codes "workers" ∷ codes "matrix" ∷ codes "perm" ∷ codes "ordering" ∷ [] }
+    ∷ record { name = codes "reduce"; options = codes "graph" ∷ [] }
     ∷ []

@@ -5,6 +5,7 @@ pub mod demo;
 pub mod fronts;
 pub mod plan;
 pub mod post;
+pub mod reduce;
 pub mod replay;
 pub mod segments;
 pub mod simulate;
@@ -28,7 +29,7 @@ use std::thread::Threads;
 
 // Each command, with the names of its options.
 #[rattlefmt::skip]
-static COMMANDS: [Shape; 11] = [
+static COMMANDS: [Shape; 12] = [
     Shape {
         name: "replay",
         options: &["order", "plan", "workflow", "tree", "matrix", "perm", "ordering", "shape", "amalgamate", "inplace"],
@@ -76,6 +77,10 @@ static COMMANDS: [Shape; 11] = [
         name: "fronts",
         options: &["bound", "workers", "matrix", "perm", "ordering"],
     },
+    Shape {
+        name: "reduce",
+        options: &["graph"],
+    },
 ];
 
 fn command_of<'a>(line: &Line<'a>) -> Option<Request<'a>>
@@ -94,6 +99,7 @@ fn command_of<'a>(line: &Line<'a>) -> Option<Request<'a>>
         "spill" => spill::spill_of(line),
         "segments" => segments::segments_of(line),
         "fronts" => fronts::fronts_of(line),
+        "reduce" => reduce::reduce_of(line),
         _ => None,
     }
 }
@@ -135,5 +141,6 @@ pub fn report<R: Threads + Sync, F: Files, G: Gate>(
         Request::Spill(asked) => spill::report_spill(alloc, files, asked),
         Request::Segments(input) => segments::report_segments(alloc, files, input),
         Request::Fronts(asked) => fronts::report_fronts(rt, alloc, files, asked, gate),
+        Request::Reduce(name) => reduce::report_reduce(alloc, files, name),
     }
 }

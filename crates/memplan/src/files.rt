@@ -9,6 +9,7 @@ ghost use Rattle.ordering.specs.OrderFile.{ReadsOrder, RefusesOrder};
 ghost use Rattle.ordering.specs.PermFile.{ReadsPerm, RefusesPerm};
 ghost use Rattle.plan_text.specs.PlanFile.{ReadsPlan, RefusesPlan};
 ghost use Rattle.sp_terms.specs.WorkflowFile.{ReadsWorkflow, RefusesWorkflow};
+ghost use Rattle.task_graph.specs.GraphFile.{ReadsGraph, RefusesGraph};
 ghost use Rattle.tree_input.specs.TreeFile.{ReadsTree, RefusesTree};
 ghost use Rattle.memplan.specs.Files.{IsRefusedFile, IsWithinBytes, limit_refused};
 ghost use Rattle.memplan.specs.Judged.{IsStopAt, IsStopFor, IsJudged, IsRefusalOf, rank_word};
@@ -23,6 +24,7 @@ use ordering::{OrderFileKind, Perm, PermKind, read_order, read_perm};
 use plan_text::{PlanFile, PlanKind, read_plan};
 use sp_terms::{Terms, WorkflowKind, read_workflow};
 use std::alloc::Global;
+use task_graph::{Graph, GraphKind, read_graph};
 use tree_input::{Tree, TreeKind, read_tree};
 
 /// What a file is read as.
@@ -147,6 +149,30 @@ impl FileKind for WorkflowFile {
 
     fn read(&self, alloc: Global, text: Vec<u8>) -> Result<Terms, Refusal<WorkflowKind>> {
         read_workflow(alloc, &text)
+    }
+}
+
+/// A task graph file.
+#[derive(Clone, Copy, Debug)]
+pub struct GraphFile;
+
+impl FileKind for GraphFile {
+    type Value = Graph;
+
+    type Kind = GraphKind;
+
+    ghost file_word = { λ _. codes "graph" };
+
+    ghost reads = { λ _. ReadsGraph };
+
+    ghost refuses = { λ _. RefusesGraph };
+
+    fn word(&self) -> &'static str {
+        "graph"
+    }
+
+    fn read(&self, alloc: Global, text: Vec<u8>) -> Result<Graph, Refusal<GraphKind>> {
+        read_graph(alloc, &text)
     }
 }
 

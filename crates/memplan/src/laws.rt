@@ -13,7 +13,8 @@ ghost use Rattle.memplan.specs.Demo.{IsDemoOf, IsShown};
 ghost use Rattle.memplan.specs.Judged.{AreWithin};
 ghost use Rattle.memplan.specs.Fronts.{IsFactored, IsFrontsOf};
 ghost use Rattle.memplan.specs.Plan.{IsBestPlan};
-ghost use Rattle.memplan.specs.Request.{FileRole, IsInRange, IsMakeable, Input, OrderedMatrix, Ordering, OrderSource, PlanFormat, Request, Simulation, TreeInput, Upgrade, check, demo, fronts, input_files, planning, segments, simulate, spill, tree_input_files, upgrade};
+ghost use Rattle.memplan.specs.Request.{FileRole, IsInRange, IsMakeable, Input, OrderedMatrix, Ordering, OrderSource, PlanFormat, Request, Simulation, TreeInput, Upgrade, check, demo, fronts, input_files, planning, reduce, segments, simulate, spill, tree_input_files, upgrade};
+ghost use Rattle.memplan.specs.Reduce.{IsReduced};
 ghost use Rattle.memplan.specs.Segments.{IsNumberedTerm, IsReached};
 ghost use Rattle.memplan.specs.Simulate.{IsSimulated};
 ghost use Rattle.memplan.specs.Spill.{IsSpilled};
@@ -32,8 +33,10 @@ use plan_text::laws as plan_laws;
 use postorder_best::laws as postorder_laws;
 use rounds_run::laws as rounds_laws;
 use sp_cuts::laws as stair_laws;
+use sp_reduce::laws as reduction_laws;
 use sp_terms::laws as term_laws;
 use symbolic::laws as front_laws;
+use task_graph::laws as graph_laws;
 use tree_input::laws as tree_laws;
 
 // The texts of an input are of one matrix, one tree, one system and one term, within the limits, and they are as many as its files; its
@@ -81,6 +84,7 @@ fn one_file()
     order_laws::exactly_one();
     order_laws::exactly_one_perm();
     plan_laws::exactly_one();
+    graph_laws::at_most_one();
 }
 
 // A demo has one answer: plans may differ, but not their peak; the checker says yes to them, and no traversal has a lower peak.
@@ -148,7 +152,8 @@ pub fn one_list_of_rows()
 }
 
 /// A request has one answer over the texts of its files, and so the program prints what these decide; but `plan` may print any plan of
-/// least peak with a certificate, and `spill` the amounts of any spill plan of least volume.
+/// least peak with a certificate, `spill` the amounts of any spill plan of least volume, and `reduce` any term of a graph, or any
+/// irreducible rest of one that has none.
 pub fn one_answer()
     ensures { (request : Request) (texts : List (List ℕ)) (one two : Answer) → IsInRange request → IsDecided request →
         IsAnswer request texts one → IsAnswer request texts two → one ≡ two }
@@ -171,8 +176,8 @@ pub fn one_answer()
 }
 
 /// What an answer says: a yes certifies, a plan is best, a trace is of a run that was simulated, what was upgraded is what the printed
-/// file says, what is spilled is a spill plan of least volume, printed levels are reached, and none below them, and the rows of a front are
-/// a structure of the filled graph. It follows from being an answer.
+/// file says, what is spilled is a spill plan of least volume, printed levels are reached, and none below them, the rows of a front are a
+/// structure of the filled graph, and the workflow of a task graph has the graph's traversals. It follows from being an answer.
 pub fn what_answers_say()
     ensures certified { (input : Input) (plan : List ℕ) (workers : ℕ) (texts : List (List ℕ)) (answer : Answer) →
         IsAnswer (check input plan workers) texts answer → answer.status ≡ Done → IsCertified input texts answer.text }
@@ -190,6 +195,8 @@ pub fn what_answers_say()
         IsAnswer (segments input) texts answer → answer.status ≡ Done → IsReached input texts answer.text }
     ensures factored { (m : OrderedMatrix) (bound workers : ℕ) (texts : List (List ℕ)) (answer : Answer) →
         IsAnswer (fronts m bound workers) texts answer → answer.status ≡ Done → IsFactored m bound workers texts answer.text }
+    ensures reduced { (name : List ℕ) (texts : List (List ℕ)) (answer : Answer) →
+        IsAnswer (reduce name) texts answer → answer.status ≡ Done → IsReduced texts answer.text }
 {
     one_input();
     tree_laws::tree_term();
@@ -200,6 +207,9 @@ pub fn what_answers_say()
     plan_laws::printed_length();
     run_laws::schedule_law();
     stair_laws::one_staircase();
+    graph_laws::read_law();
+    reduction_laws::named_term_law();
+    reduction_laws::named_file_law();
     one_demo();
     one_upgrade();
     one_fronts();

@@ -22,6 +22,7 @@ pub enum PageKind {
     Format,
     Limit,
     Bound,
+    NotSeriesParallel,
     WorkingSet,
 }
 

@@ -98,6 +98,8 @@ pub enum Request<'a> {
     Segments(Input<'a>),
     /// The rows of every front of the matrix, made within the bound by the workers.
     Fronts(FrontRun<'a>),
+    /// The term of a task graph, by the name of its file.
+    Reduce(&'a str),
 }
 
 // ---- the options of a matrix

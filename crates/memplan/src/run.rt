@@ -1,10 +1,11 @@
 ghost use Rattle.std.specs.Prelude.{◌≡◌, ◌⊎◌, ◌<◌, ◌≤◌, ℕ, List, length, take};
 ghost use Rattle.mp_outside.specs.Outside.{Rose, Appended};
-ghost use Rattle.memplan.specs.Request.{Input, OrderedMatrix, OrderSource, PlanFormat, Request, Simulation, check, demo, fronts, planning, segments, simulate, spill, files_of};
+ghost use Rattle.memplan.specs.Request.{Input, OrderedMatrix, OrderSource, PlanFormat, Request, Simulation, check, demo, fronts, planning, reduce, segments, simulate, spill, files_of};
 ghost use Rattle.memplan.specs.Check.{IsCertified};
 ghost use Rattle.memplan.specs.Demo.{IsShown};
 ghost use Rattle.memplan.specs.Fronts.{IsFactored};
 ghost use Rattle.memplan.specs.Plan.{IsBestPlan};
+ghost use Rattle.memplan.specs.Reduce.{IsReduced};
 ghost use Rattle.memplan.specs.Segments.{IsReached};
 ghost use Rattle.memplan.specs.Simulate.{IsSimulated};
 ghost use Rattle.memplan.specs.Spill.{IsSpilled};
@@ -79,6 +80,12 @@ pub fn run_words<R: Threads + Sync, F: Files, S: Sink, G: Gate>(
         → (texts : List (List ℕ)) → AreTold (F.bytes_of files.old) (files_of (fronts m bound workers)) texts
         → (printed : List ℕ) × IsFactored m bound workers texts printed × Appended (S.written sink.old) (S.written sink.new) printed }
 
+    // where a task graph was reduced, a workflow file was printed, with names: the traversals of its system are those of the graph under these
+    // names, with the same peaks, and so are the least peaks
+    ensures reduced { result ≡ Status.Done → (name : List ℕ) → Asks words.now (reduce name)
+        → (texts : List (List ℕ)) → AreTold (F.bytes_of files.old) (files_of (reduce name)) texts
+        → (printed : List ℕ) × IsReduced texts printed × Appended (S.written sink.old) (S.written sink.new) printed }
+
     // where a demo was made, what was printed is its summary: the checker says yes, and no traversal of the made system has a lower peak
     // than the one that was printed
     ensures shown { result ≡ Status.Done → (made : Demo) → Asks words.now (demo made)
@@ -151,6 +158,7 @@ fn status_of(kind: PageKind) -> Status
         PageKind::Format => Status::Format,
         PageKind::Limit => Status::Limit,
         PageKind::Bound => Status::Bound,
+        PageKind::NotSeriesParallel => Status::NotSeriesParallel,
         PageKind::WorkingSet => Status::WorkingSet,
     }
 }

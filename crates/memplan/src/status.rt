@@ -22,11 +22,13 @@ pub enum Status {
     WriteFault,
     /// Memory ran out; nothing was written.
     NoMemory,
+    /// No term has the system of the task graph; the report has the arcs of an irreducible rest.
+    NotSeriesParallel,
     /// A step of the order needs more for itself than the given bound.
     WorkingSet,
 }
 
-/// The number with which the program ends: 0 to 8, in the order of the statuses, and 10.
+/// The number with which the program ends: 0 to 10, in the order of the statuses.
 pub fn code_of(status: Status) -> u8
     ensures { result ≡ exit_code_of status }
 {
@@ -40,6 +42,7 @@ pub fn code_of(status: Status) -> u8
         Status::ReadFault => 6,
         Status::WriteFault => 7,
         Status::NoMemory => 8,
+        Status::NotSeriesParallel => 9,
         Status::WorkingSet => 10,
     }
 }
@@ -58,6 +61,7 @@ pub fn complaint(status: Status) -> Option<&'static str>
         | Status::Format
         | Status::Limit
         | Status::Bound
+        | Status::NotSeriesParallel
         | Status::WorkingSet => None,
     }
 }
@@ -79,6 +83,7 @@ mod tests {
             (Status::ReadFault, 6, Some("memplan: read fault")),
             (Status::WriteFault, 7, Some("memplan: write fault")),
             (Status::NoMemory, 8, Some("memplan: no memory")),
+            (Status::NotSeriesParallel, 9, None),
             (Status::WorkingSet, 10, None),
         ];
         for (status, number, said) in ends {

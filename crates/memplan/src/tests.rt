@@ -9,6 +9,7 @@ mod large;
 mod matrices;
 mod meeting;
 mod plans;
+mod reductions;
 mod replays;
 mod segments;
 mod simulations;

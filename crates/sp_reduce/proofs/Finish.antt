@@ -183,7 +183,7 @@ none-bad system (x ∷ xs) h =
 alike : Item → Item → ℕ
 alike x y = exact x.from x.size x.to y.from y.size y.to
 
-items-weighed : (xs ys : List Item) → ((f : Item → ℕ) → sum_by f xs ≡ sum_by f ys) → IsPermutation xs ys
+pub items-weighed : (xs ys : List Item) → ((f : Item → ℕ) → sum_by f xs ≡ sum_by f ys) → IsPermutation xs ys
 unfolding alike
 items-weighed = weighed alike (λ x. exact-self x.from x.size x.to)
     (λ x y h. let a = hits-same y.from x.from (omega arith) in

@@ -15,3 +15,5 @@ pub mod Bounds
 pub mod Finish
 pub mod Outcomes
 pub mod Answer
+pub mod NamedLines
+pub mod NamedTerms

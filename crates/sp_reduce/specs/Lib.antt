@@ -9,3 +9,4 @@ pub mod Shapes
 pub mod Writing
 pub mod Outcome
 pub mod Refusal
+pub mod NamedText

@@ -1,13 +1,15 @@
 //! Task graphs reduced to series-parallel terms, or to an irreducible rest (Valdes, Tarjan and Lawler 1982).
 //!
-//! The definitions stand in specs/: `Reductions`, `Reduced`.
+//! The definitions stand in specs/: `Reductions`, `Reduced`, `NamedText`; the laws in [`laws`].
 #![tactic(auto)]
 
 mod building;
 mod carrying;
+pub mod laws;
 mod link;
 mod piece;
 mod postfix;
+mod printing;
 mod reduced;
 mod reducing;
 mod rounds;
@@ -15,6 +17,7 @@ mod rounds;
 mod tests;
 mod work;
 
+pub use printing::print_reduced;
 pub use reduced::{ReduceRefusal, Reduced};
 pub use reducing::reduce;
 use std::alloc::AllocError;

@@ -1,9 +1,9 @@
 //! Graphs as terms, and the rests of those that have none.
 
-use crate::{NoMemory, ReduceRefusal, Reduced, reduce};
+use crate::{NoMemory, ReduceRefusal, Reduced, print_reduced, reduce};
 use mp_system::Item;
 use mp_text::Report;
-use sp_terms::{print_workflow, system_of};
+use sp_terms::{print_workflow, read_workflow, system_of};
 use std::alloc::Global;
 use std::test::Fail;
 use task_graph::{Graph, read_graph, system_of_graph};
@@ -73,16 +73,24 @@ fn has_its_system(alloc: Global, graph: &Graph, reduced: &Reduced) -> Result<boo
     Ok(rows.as_slice() == wanted.as_slice())
 }
 
+// Tasks with one arc in and one out are taken out from the last one on: 3, then 2 beside it, then 4 and 1.
+const WORKFLOW: &str =
+    "workflow 1\ntasks 4\ndata 0\ndata 6\ndata 2\ntask 3 1\ndata 5\ndata 1\ntask 2 1\npar 2\ndata 0\ntask 0 1\ntask 0 1\nend\n";
+
+const NAMES: &str = "# 1 3\n# 2 2\n# 3 4\n# 4 1\n";
+
 #[test]
 fn a_term_and_its_names(rt: HostRuntime) -> Result<(), Fail> {
     let alloc = rt.alloc();
     let graph = read(alloc, FOUR)?;
     let reduced = reduced(alloc, &graph)?;
     let mut report = Report::new(alloc);
-    print_workflow(&reduced.terms, &mut report)?;
-    let text =
-        "workflow 1\ntasks 4\ndata 0\ndata 6\ndata 2\ntask 3 1\ndata 5\ndata 1\ntask 2 1\npar 2\ndata 0\ntask 0 1\ntask 0 1\nend\n";
+    print_reduced(&reduced, &mut report)?;
+    let text = format!(in alloc; "{WORKFLOW}{NAMES}")?;
     assert_eq!(rt; report.bytes(), text.as_bytes());
+    let mut again = Report::new(alloc);
+    print_workflow(&read_workflow(alloc, report.bytes())?, &mut again)?;
+    assert_eq!(rt; again.bytes(), WORKFLOW.as_bytes());
     assert_eq!(rt; reduced.names.as_slice(), [3, 2, 4, 1].as_slice());
     assert!(rt; has_its_system(alloc, &graph, &reduced)?);
     Ok(())

@@ -1,6 +1,7 @@
 //! Loads and writes that fail, files that are not held, and sinks that are full.
 
 use super::fronts::ABREAST;
+use super::reductions::{GRAPH, WORKFLOW};
 use super::segments::OF_FIVE;
 use super::simulations::TIGHT;
 use super::spills::BOTH;
@@ -16,7 +17,7 @@ use std::test::Fail;
 use std::thread::Threads;
 
 #[rattlefmt::skip]
-const FILES: Texts = &[("t", FIVE), ("o", ORDER), ("p", "5 4 3 2 1\n"), ("m", ARROW), ("q", TURNED)];
+const FILES: Texts = &[("t", FIVE), ("o", ORDER), ("p", "5 4 3 2 1\n"), ("m", ARROW), ("q", TURNED), ("g", GRAPH)];
 
 const REPLAY: &str = "replay --tree t --order o";
 
@@ -29,6 +30,8 @@ const SPILL: &str = "spill --tree t --order o --bound 10";
 const SEGMENTS: &str = "segments --tree t";
 
 const FRONTS: &str = "fronts --matrix m --perm q --bound 4 --workers 2";
+
+const REDUCE: &str = "reduce --graph g";
 
 // What a run without faults prints. A plan may be any of least peak: whether it is one is tested elsewhere.
 fn printed(
@@ -81,6 +84,8 @@ fn each_load_fails_in_turn(rt: HostRuntime) -> Result<(), Fail> {
     // the matrix has 69 bytes and its permutation 8
     let (matrix, order) = (23 + 1, 3 + 1);
     check_loads(&rt, alloc, FRONTS, matrix + order, ABREAST)?;
+    // the graph has 75
+    check_loads(&rt, alloc, REDUCE, 25 + 1, WORKFLOW)?;
     Ok(())
 }
 
@@ -94,7 +99,7 @@ const NOT_HELD: &[Case] = &[
     (&["replay --tree none --order o", "replay --tree none --plan o", "check --tree none --plan o", "replay --workflow none --order o",
             "replay --matrix none --order o", "plan --tree none", "post --tree none", "tree --matrix none", "upgrade --tree none",
             "upgrade --workflow none", "upgrade --plan none --priority o", "spill --tree none --order o --bound 0",
-            "spill --workflow none --plan o --bound 0", "segments --tree none", "segments --workflow none", "segments --matrix none",
+            "spill --workflow none --plan o --bound 0", "segments --tree none", "segments --workflow none", "segments --matrix none", "reduce --graph none",
             "fronts --matrix none --perm o --bound 0 --workers 1"],
         &[("o", "x")], ReadFault, ""),
     (&["tree --matrix m --perm none", "plan --matrix m --perm none", "post --matrix m --perm none", "segments --matrix m --perm none",
@@ -183,6 +188,7 @@ fn sinks_that_fail_and_that_are_full(rt: HostRuntime) -> Result<(), Fail> {
         (SPILL, BOTH.as_bytes()),
         (SEGMENTS, OF_FIVE.as_bytes()),
         (FRONTS, ABREAST.as_bytes()),
+        (REDUCE, WORKFLOW.as_bytes()),
     ];
     for (run, text) in texts {
         check_writes(&rt, rt.alloc(), run, 1, text)?;

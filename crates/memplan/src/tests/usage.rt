@@ -1,5 +1,6 @@
 //! Words that ask for nothing.
 
+use super::reductions::GRAPH;
 use super::{ARROW, Case, FIVE, ORDER, PLAN, TURNED, check_cases};
 use crate::Status::Usage;
 use std::test::Fail;
@@ -170,6 +171,18 @@ const FRONTS: &[&str] = &[
     "front --matrix m --bound 4 --workers 2",
 ];
 
+// Without fault: `reduce --graph g`.
+const REDUCE: &[&str] = &[
+    "reduce",
+    "reduce g",
+    "reduce --graph",
+    "reduce --graph ''",
+    "reduce --graph g --graph g",
+    "reduce --graph g --order o",
+    "reduce --workflow g",
+    "plan --graph g",
+];
+
 const UPGRADE: &[&str] = &[
     "upgrade",
     "upgrade --tree",
@@ -201,6 +214,7 @@ const USAGE: &[Case] = &[
     (SPILL, &[("t", FIVE), ("o", ORDER)], Usage, ""),
     (SEGMENTS, &[("t", FIVE), ("o", ORDER)], Usage, ""),
     (FRONTS, &[("m", ARROW), ("p", TURNED), ("o", "1 2 3\n")], Usage, ""),
+    (REDUCE, &[("g", GRAPH), ("o", ORDER)], Usage, ""),
 ];
 
 #[test]

@@ -28,4 +28,5 @@ returns-in_default-clause-value c =
       other word (codes "spill") (λ e. none.not-spill (same ∙ e)),
       other word (codes "segments") (λ e. none.not-segments (same ∙ e)),
       other word (codes "fronts") (λ e. none.not-fronts (same ∙ e)),
+      other word (codes "reduce") (λ e. none.not-reduce (same ∙ e)),
     ) refl

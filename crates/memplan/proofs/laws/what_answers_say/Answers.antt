@@ -1,10 +1,11 @@
 use Rattle.std.proofs.Common.{[], inl, inr}
-use Rattle.memplan.specs.Request.{check, planning, simulate, demo, upgrade, spill, segments, fronts, files_of}
+use Rattle.memplan.specs.Request.{check, planning, simulate, demo, upgrade, spill, segments, fronts, reduce, files_of}
 use Rattle.memplan.proofs.RunLemmas.{first_refusal}
 use Rattle.memplan.proofs.SoundAnswer.{certified, best, simulated}
 use Rattle.memplan.proofs.UpgradeLemmas.{upgraded}
 use Rattle.memplan.proofs.SpillLemmas.{spilled}
 use Rattle.memplan.proofs.StairsLemmas.{reached}
+use Rattle.memplan.proofs.ReductionLemmas.{reduced}
 use Rattle.memplan.proofs.laws.what_answers_say.Goals as goal
 
 pub returns-clause-certified : goal.returns-clause-certified
@@ -55,4 +56,18 @@ pub returns-clause-factored : goal.returns-clause-factored
 returns-clause-factored c = λ m bound workers texts answer is done. elim is [
   | inl refused ↦ absurd (first_refusal (files_of (fronts m bound workers)) [] texts answer refused done)
   | inr report ↦ c.one_fronts.ensures.factored m bound workers texts answer report done
+]
+
+pub returns-clause-reduced : goal.returns-clause-reduced
+returns-clause-reduced c = λ name texts answer is done. elim is [
+  | inl refused ↦ absurd (first_refusal (files_of (reduce name)) [] texts answer refused done)
+  | inr report ↦ reduced (record {
+    read = c.read_law-2.ensures;
+    denotes = c.terms_law.ensures.denotes;
+    traversal = c.named_term_law.ensures.traversal;
+    peak = c.named_term_law.ensures.peak;
+    least = c.named_term_law.ensures.least;
+    reads = c.named_file_law.ensures.reads;
+    short = c.named_file_law.ensures.length;
+  }) texts answer report done
 ]

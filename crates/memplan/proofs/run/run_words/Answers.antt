@@ -1,5 +1,5 @@
 use Rattle.std.proofs.Common.{◌≡◌, ◌∙◌, [], map, string_bytes, Some, sym, ap, subst, option_map}
-use Rattle.memplan.specs.Request.{Request, IsInRange, files_of, check, planning, simulate, demo, spill, segments, fronts}
+use Rattle.memplan.specs.Request.{Request, IsInRange, files_of, check, planning, simulate, demo, spill, segments, fronts, reduce}
 use Rattle.memplan.specs.Commands.{request_of}
 use Rattle.memplan.specs.RequestViews.{request_view}
 use Rattle.memplan.specs.Clauses.{AreQuiet}
@@ -228,3 +228,27 @@ returns-in-Err-Refused-clause-factored g c = λ done m bound workers has texts a
     let whole = c.written-in-Err-Refused.ensures.whole (rw done tt) in
     let says_so = says told mine answer answering (fronts m bound workers) (cc (sym has_mine ∙ has)) texts are in
     (answer.text, c.what_answers_say.ensures.factored m bound workers texts answer says_so (sym whole.0 ∙ done), whole.1)
+
+pub returns-in-Ok-clause-reduced : goal.returns-in-Ok-clause-reduced
+returns-in-Ok-clause-reduced g c = λ done name has texts are.
+    let told = g.F.Files.bytes_of c.args.files.now in
+    let mine = request_view c.in-Ok-Some.request in
+    let has_mine : request_of (map (λ w. string_bytes w) c.args.words.now) ≡ Some mine =
+    sym c.in-Ok-Some.ensures.value ∙ ap (option_map request_view) c.in-Ok-Some.field-0-is in
+    let answer = answer_of c.in-Ok.page in
+    let answering = reported told mine answer c.in-Ok.ensures.told in
+    let whole = c.written.ensures.whole (rw done tt) in
+    let says_so = says told mine answer answering (reduce name) (cc (sym has_mine ∙ has)) texts are in
+    (answer.text, c.what_answers_say.ensures.reduced name texts answer says_so (sym whole.0 ∙ done), whole.1)
+
+pub returns-in-Err-Refused-clause-reduced : goal.returns-in-Err-Refused-clause-reduced
+returns-in-Err-Refused-clause-reduced g c = λ done name has texts are.
+    let told = g.F.Files.bytes_of c.args.files.now in
+    let mine = request_view c.in-Ok-Some.request in
+    let has_mine : request_of (map (λ w. string_bytes w) c.args.words.now) ≡ Some mine =
+    sym c.in-Ok-Some.ensures.value ∙ ap (option_map request_view) c.in-Ok-Some.field-0-is in
+    let answer = answer_of c.in-Err-Refused.page in
+    let answering = was_refused told mine answer (rw c.in-Err-Refused.field-0-is at c.in-Err-Refused.ensures.told) in
+    let whole = c.written-in-Err-Refused.ensures.whole (rw done tt) in
+    let says_so = says told mine answer answering (reduce name) (cc (sym has_mine ∙ has)) texts are in
+    (answer.text, c.what_answers_say.ensures.reduced name texts answer says_so (sym whole.0 ∙ done), whole.1)

@@ -1,0 +1,29 @@
+use Rattle.std.proofs.Common.{ℕ, List, [], ◌∷◌, refl, inl}
+use Rattle.std.specs.Prelude.{codes}
+use Rattle.task_graph.specs.GraphFile.{RefusesGraph}
+use Rattle.task_graph.specs.Kinds.{word_of as graph_word}
+use Rattle.memplan.specs.Files.{IsRefusedFile, IsFirstRefusal}
+use Rattle.memplan.specs.Pages.{answer_of}
+use Rattle.memplan.specs.Reduce.{IsReduceOf}
+use Rattle.memplan.specs.Request.{NamedFile, graph_file}
+use Rattle.memplan.proofs.StepLemmas.{passed, alone_told, alone_stop}
+use Rattle.memplan.proofs.commands.reduce.report_reduce.Goals as goal
+
+pub returns-in_err-graph-clause-told : goal.returns-in_err-graph-clause-told
+returns-in_err-graph-clause-told g c =
+    let told = g.F.Files.bytes_of c.args.files.now in
+    let before = g.F.Files.faults_of c.args.files.now in
+    let after = g.F.Files.faults_of c.judge.new.files in
+    let e = c.in_err-graph.field-0.0 in
+    let file : NamedFile = record { role = graph_file; name = c.args.name.now } in
+    let refuses = λ (text : List ℕ). IsRefusedFile (codes "graph") graph_word (RefusesGraph text) text in
+    passed c.from_residual.result _ _ e c.from_residual.ensures.1
+    (alone_stop told before after file refuses (IsFirstRefusal (file ∷ []) []) (λ text answer refused. inl refused) e c.in_err-graph.ensures.judged)
+
+pub returns-clause-told : goal.returns-clause-told
+returns-clause-told g c =
+    let file : NamedFile = record { role = graph_file; name = c.args.name.now } in
+    let graph = c.in_ok-graph.graph in
+    let answer = answer_of c.in_ok-reduce_page.field-0 in
+    alone_told (g.F.Files.bytes_of c.args.files.now) file (λ texts. IsReduceOf texts answer)
+    (λ text is. (text, graph, refl, c.in_ok-graph.ensures.judged text is, c.in_ok-reduce_page.ensures))

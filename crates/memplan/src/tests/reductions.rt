@@ -1,0 +1,92 @@
+//! Task graphs as workflows, and the rests of those that have no term.
+
+use super::{Case, check_cases, files_of, run_into};
+use crate::Status::{Done, Format, Limit, NotSeriesParallel};
+use mp_outside::{MemFiles, MemSink};
+use std::alloc::{AllocError, Global};
+use std::process::Abort;
+use std::test::Fail;
+use std::thread::Threads;
+
+// Two tasks between a first and a last one.
+pub const GRAPH: &str =
+    "graph 1\ntasks 4\n0 0 1\n2 0 1\n3 0 1\n0 0 1\narcs 4\n1 2 5\n1 3 6\n2 4 1\n3 4 2\nend\n";
+
+// Tasks with one arc in and one out are taken out from the last one on: here 3, then 2, beside it, then 4 and 1.
+pub const WORKFLOW: &str =
+    "workflow 1\ntasks 4\ndata 0\ndata 6\ndata 2\ntask 3 1\ndata 5\ndata 1\ntask 2 1\npar 2\ndata 0\ntask 0 1\ntask 0 1\nend\n# 1 3\n# 2 2\n# 3 4\n# 4 1\n";
+
+#[rattlefmt::skip]
+const TERMS: &[Case] = &[
+    (&["reduce --graph g", "reduce --graph=g"], &[("g", GRAPH)], Done, WORKFLOW),
+    // the order of the arcs does not matter here
+    (&["reduce --graph g"], &[("g", "graph 1\ntasks 4\n0 0 1\n2 0 1\n3 0 1\n0 0 1\narcs 4\n3 4 2\n2 4 1\n1 3 6\n1 2 5\nend\n")], Done, WORKFLOW),
+    // one task alone; a share makes a file of version 2
+    (&["reduce --graph g"], &[("g", "graph 1\ntasks 1\n5 0 3\narcs 0\nend\n")], Done,
+        "workflow 1\ntasks 1\ndata 0\ndata 0\ntask 5 3\nend\n# 1 1\n"),
+    (&["reduce --graph g"], &[("g", "graph 1\ntasks 1\n5 2 3\narcs 2\n0 1 2\n1 0 9\nend\n")], Done,
+        "workflow 2\ntasks 1\ndata 2\ndata 9\ntask 5 2 3\nend\n# 1 1\n"),
+    // a chain, with a mere dependence
+    (&["reduce --graph g"], &[("g", "graph 1\ntasks 2\n1 0 1\n2 0 1\narcs 1\n1 2 0\nend\n")], Done,
+        "workflow 1\ntasks 2\ndata 0\ndata 0\ndata 0\ntask 2 1\ntask 1 1\nend\n# 1 2\n# 2 1\n"),
+    // no task
+    (&["reduce --graph g"], &[("g", "graph 1\ntasks 0\narcs 1\n0 0 5\nend\n")], Done, "workflow 1\ntasks 0\ndata 5\nend\n"),
+];
+
+#[rattlefmt::skip]
+const RESTS: &[Case] = &[
+    (&["reduce --graph g"], &[("g", "graph 1\ntasks 4\n0 0 1\n2 0 1\n3 0 1\n0 0 1\narcs 5\n1 2 5\n1 3 6\n2 4 1\n3 4 2\n2 3 1\nend\n")],
+        NotSeriesParallel, "refused graph rest 7\n0 1\n1 2\n1 3\n2 3\n2 4\n3 4\n4 0\nend\n"),
+    (&["reduce --graph g"], &[("g", "graph 1\ntasks 0\narcs 0\nend\n")], NotSeriesParallel, "refused graph rest 0\nend\n"),
+    // each of two tasks supplies both of two others
+    (&["reduce --graph g"], &[("g", "graph 1\ntasks 4\n0 0 1\n0 0 1\n0 0 1\n0 0 1\narcs 4\n2 4 1\n2 3 1\n1 4 1\n1 3 1\nend\n")],
+        NotSeriesParallel, "refused graph rest 8\n0 1\n0 2\n1 3\n1 4\n2 3\n2 4\n3 0\n4 0\nend\n"),
+];
+
+#[rattlefmt::skip]
+const REFUSED: &[Case] = &[
+    (&["reduce --graph g"], &[("g", "graph 1\ntasks 4\n0 0 1\n2 0 1\n3 0 1\n0 0 1\narcs 2\n1 2 1\n2 1 1\nend\n")], Format,
+        "refused format graph cycle 3\n"),
+    (&["reduce --graph g"], &[("g", "graph 1\ntasks 4\n0 0 1\n2 0 1\n3 0 1\n0 0 1\narcs 1\n1 1 1\nend\n")], Format,
+        "refused format graph arc 8\n"),
+    (&["reduce --graph g"], &[("g", "graph 1\ntasks 1\n5 3 3\narcs 2\n0 1 2\n1 0 9\nend\n")], Format, "refused format graph share 3\n"),
+    (&["reduce --graph g"], &[("g", "graph 2\n")], Format, "refused format graph header 1\n"),
+    (&["reduce --graph g"], &[("g", "graph 1\ntasks 0\narcs 0\n")], Format, "refused format graph no-end 4\n"),
+    (&["reduce --graph g"], &[("g", "graph 1\ntasks 1000001\n")], Limit, "refused limit graph tasks\n"),
+    (&["reduce --graph g"], &[("g", "graph 1\ntasks 0\narcs 2000002\n")], Limit, "refused limit graph arcs\n"),
+];
+
+#[test]
+fn reductions(rt: HostRuntime) -> Result<(), Fail> {
+    for cases in [TERMS, RESTS, REFUSED] {
+        check_cases(&rt, rt.alloc(), cases)?;
+    }
+    Ok(())
+}
+
+// What a run writes, where it is done.
+fn written_by<R: Threads + Sync + Abort>(
+    rt: &R,
+    alloc: Global,
+    run: &str,
+    files: &mut MemFiles,
+) -> Result<MemSink, AllocError> {
+    let mut sink = MemSink::new(alloc, 1000)?;
+    let ended = run_into(rt, alloc, run, files, &mut sink)?;
+    assert_eq!(rt; ended, Done, "{run}");
+    Ok(sink)
+}
+
+// The plan of the printed workflow, whose least peak is that of the graph.
+#[test]
+fn a_graph_comes_to_a_plan(rt: HostRuntime) -> Result<(), Fail> {
+    let alloc = rt.alloc();
+    let mut files = files_of(alloc, &[("g", GRAPH)])?;
+    let workflow = written_by(&rt, alloc, "reduce --graph g", &mut files)?;
+    files.put("w", workflow.written())?;
+    let plan = written_by(&rt, alloc, "plan --workflow w", &mut files)?;
+    files.put("p", plan.written())?;
+    let checked = written_by(&rt, alloc, "check --workflow w --plan p", &mut files)?;
+    assert_eq!(rt; checked.written(), "yes 14\n".as_bytes());
+    Ok(())
+}
