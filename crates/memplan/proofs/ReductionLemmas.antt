@@ -1,4 +1,5 @@
--- What `reduce` prints of a graph that has a term: a workflow file, whose system has the graph's traversals.
+-- What `reduce` prints of a graph that has a term: a workflow file, whose system has the graph's traversals. And of one that has none: the arcs of a
+-- rest.
 use Rattle.std.proofs.Common.{◌≡◌, ◌∙◌, ◌↔◌, ◌≤◌, ℕ, List, [], ◌∷◌, length, map, sym, ap, subst, inl, inr}
 use Rattle.limits.specs.Limits.{most_bytes}
 use Rattle.mp_system.specs.Memory.{peak_of}
@@ -15,8 +16,8 @@ use Rattle.sp_terms.specs.WorkflowFile.{ReadsWorkflow}
 use Rattle.task_graph.specs.Graph.{TaskGraph, IsGraph, completed_system, system_of}
 use Rattle.task_graph.specs.GraphFile.{ReadsGraph}
 use Rattle.memplan.specs.Files.{Answer, IsWorkflowFile}
-use Rattle.memplan.specs.Reduce.{IsReduceOf, IsReduced}
-use Rattle.memplan.specs.declared.status.Status.TheVariants.{Done}
+use Rattle.memplan.specs.Reduce.{IsReduceOf, IsReduced, HasIrreducibleRest}
+use Rattle.memplan.specs.declared.status.Status.TheVariants.{Done, NotSeriesParallel}
 
 -- what is known of graphs, of their terms, and of the files of these
 pub record AreLaws : Type 0 where
@@ -55,3 +56,17 @@ reduced laws texts answer (text, graph, e, is, inl (positions, names, terms, has
       least = λ peak. laws.least graph names (term_of positions) peak has;
     }
 reduced laws texts answer (text, graph, e, is, inr (arcs, none, rest, a)) done = absurd (cc (sym (ap (λ (x : Answer). x.status) a) ∙ done))
+
+pub irreducible : (texts : List (List ℕ)) (answer : Answer) → IsReduceOf texts answer → answer.status ≡ NotSeriesParallel → HasIrreducibleRest texts answer.text
+irreducible texts answer (text, graph, e, is, inl (positions, names, terms, has, a)) ended = absurd (cc (sym (ap (λ (x : Answer). x.status) a) ∙ ended))
+irreducible texts answer (text, graph, e, is, inr (arcs, none, rest, a)) ended =
+    record {
+      text = text;
+      texts_are = e;
+      graph = graph;
+      is_graph = is;
+      no_term = none;
+      arcs = arcs;
+      is_rest = rest;
+      printed_is = ap (λ (x : Answer). x.text) a;
+    }

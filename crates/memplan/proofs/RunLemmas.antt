@@ -25,49 +25,70 @@ use Rattle.memplan.specs.Request.{Ordering, natural, min_degree, perm_named, Req
 use Rattle.memplan.specs.declared.status.Status.{Status}
 use Rattle.memplan.specs.declared.status.Status.TheVariants as status
 
--- ---- no refusal is done
+-- ---- no refused file ends with the status of a report
 
-refused_as : {K : Type 0} (file : List ℕ) (word : K → List ℕ) (refusal : Refusal K) (answer : Answer) → IsRefusedAs file word refusal answer → answer.status ≡ status.Done → ⊥
-refused_as file word (refusals.Format fault) answer is done = absurd (cc (sym (ap (λ (a : Answer). a.status) is) ∙ done))
-refused_as file word (refusals.Limit limit) answer is done = absurd (cc (sym (ap (λ (a : Answer). a.status) is) ∙ done))
-refused_as file word refusals.NoMemory answer is done = is
+-- a status that tells of no refused file
+pub record IsOfReports (ended : Status) : Type 0 where
+  pub not_format : ended ≡ status.Format → ⊥
+  pub not_limit : ended ≡ status.Limit → ⊥
 
-refused_file : {K : Type 0} (file : List ℕ) (word : K → List ℕ) (refuses : Refusal K → Type 0) (text : List ℕ) (answer : Answer)
-    → IsRefusedFile file word refuses text answer → answer.status ≡ status.Done → ⊥
-refused_file file word refuses text answer (inl (long, is)) done = absurd (cc (sym (ap (λ (a : Answer). a.status) is) ∙ done))
-refused_file file word refuses text answer (inr (within, (refusal, refused, is))) done = refused_as file word refusal answer is done
+module _ (ended : Status) (reports : IsOfReports ended) where
+  with_format : (text : List ℕ) (answer : Answer) → answer ≡ record { status = status.Format; text = text } → answer.status ≡ ended → ⊥
+  with_format text answer is at = reports.not_format (sym at ∙ ap (λ (a : Answer). a.status) is)
 
-refused_perm : (earlier : List (List ℕ)) (text : List ℕ) (answer : Answer) → IsRefusedPerm earlier text answer → answer.status ≡ status.Done → ⊥
-refused_perm [] text answer refused done = refused
-refused_perm (matrix ∷ earlier) text answer (rows, is, refused) done = refused_file (codes "perm") perm_word (RefusesPerm (length rows) text) text answer refused done
+  with_limit : (text : List ℕ) (answer : Answer) → answer ≡ record { status = status.Limit; text = text } → answer.status ≡ ended → ⊥
+  with_limit text answer is at = reports.not_limit (sym at ∙ ap (λ (a : Answer). a.status) is)
 
-refused_plan_priority : (earlier : List (List ℕ)) (text : List ℕ) (answer : Answer) → IsRefusedPlanPriority earlier text answer → answer.status ≡ status.Done → ⊥
-refused_plan_priority [] text answer refused done = refused
-refused_plan_priority (first ∷ earlier) text answer (plan, is, refused) done = refused_file (codes "priority") perm_word (RefusesPerm (length plan.order) text) text answer refused done
+  refused_as : {K : Type 0} (file : List ℕ) (word : K → List ℕ) (refusal : Refusal K) (answer : Answer) → IsRefusedAs file word refusal answer → answer.status ≡ ended → ⊥
+  refused_as file word (refusals.Format fault) answer is at = with_format _ answer is at
+  refused_as file word (refusals.Limit limit) answer is at = with_limit _ answer is at
+  refused_as file word refusals.NoMemory answer is at = is
 
-too_large : (o : Ordering) (text : List ℕ) (answer : Answer) → IsTooLarge o text answer → answer.status ≡ status.Done → ⊥
-too_large natural text answer large done = large
-too_large min_degree text answer (rows, is, more, line) done = absurd (cc (sym (ap (λ (a : Answer). a.status) line) ∙ done))
-too_large (perm_named name) text answer large done = large
+  refused_file : {K : Type 0} (file : List ℕ) (word : K → List ℕ) (refuses : Refusal K → Type 0) (text : List ℕ) (answer : Answer)
+      → IsRefusedFile file word refuses text answer → answer.status ≡ ended → ⊥
+  refused_file file word refuses text answer (inl (long, is)) at = with_limit _ answer is at
+  refused_file file word refuses text answer (inr (within, (refusal, refused, is))) at = refused_as file word refusal answer is at
 
-refused : (role : FileRole) (earlier : List (List ℕ)) (text : List ℕ) (answer : Answer) → IsRefused role earlier text answer → answer.status ≡ status.Done → ⊥
-refused tree_file earlier text answer r done = refused_file (codes "tree") tree_word (RefusesTree text) text answer r done
-refused workflow_file earlier text answer r done = refused_file (codes "workflow") workflow_word (RefusesWorkflow text) text answer r done
-refused graph_file earlier text answer r done = refused_file (codes "graph") graph_word (RefusesGraph text) text answer r done
-refused (matrix_file o) earlier text answer (inl r) done = refused_file (codes "matrix") matrix_word (RefusesPattern text) text answer r done
-refused (matrix_file o) earlier text answer (inr large) done = too_large o text answer large done
-refused perm_file earlier text answer r done = refused_perm earlier text answer r done
-refused order_file earlier text answer r done = refused_file (codes "order") order_file_word (RefusesOrder text) text answer r done
-refused plan_file earlier text answer r done = refused_file (codes "plan") plan_word (RefusesPlan text) text answer r done
-refused (priority_file input) earlier text answer (mine, one, system, split, is, r) done =
-    refused_file (codes "priority") perm_word (RefusesPerm (length system.tasks) text) text answer r done
-refused plan_priority_file earlier text answer r done = refused_plan_priority earlier text answer r done
+  refused_perm : (earlier : List (List ℕ)) (text : List ℕ) (answer : Answer) → IsRefusedPerm earlier text answer → answer.status ≡ ended → ⊥
+  refused_perm [] text answer refused at = refused
+  refused_perm (matrix ∷ earlier) text answer (rows, is, refused) at = refused_file (codes "perm") perm_word (RefusesPerm (length rows) text) text answer refused at
 
+  refused_plan_priority : (earlier : List (List ℕ)) (text : List ℕ) (answer : Answer) → IsRefusedPlanPriority earlier text answer → answer.status ≡ ended → ⊥
+  refused_plan_priority [] text answer refused at = refused
+  refused_plan_priority (first ∷ earlier) text answer (plan, is, refused) at =
+      refused_file (codes "priority") perm_word (RefusesPerm (length plan.order) text) text answer refused at
+
+  too_large : (o : Ordering) (text : List ℕ) (answer : Answer) → IsTooLarge o text answer → answer.status ≡ ended → ⊥
+  too_large natural text answer large at = large
+  too_large min_degree text answer (rows, is, more, line) at = with_limit _ answer line at
+  too_large (perm_named name) text answer large at = large
+
+  refused : (role : FileRole) (earlier : List (List ℕ)) (text : List ℕ) (answer : Answer) → IsRefused role earlier text answer → answer.status ≡ ended → ⊥
+  refused tree_file earlier text answer r at = refused_file (codes "tree") tree_word (RefusesTree text) text answer r at
+  refused workflow_file earlier text answer r at = refused_file (codes "workflow") workflow_word (RefusesWorkflow text) text answer r at
+  refused graph_file earlier text answer r at = refused_file (codes "graph") graph_word (RefusesGraph text) text answer r at
+  refused (matrix_file o) earlier text answer (inl r) at = refused_file (codes "matrix") matrix_word (RefusesPattern text) text answer r at
+  refused (matrix_file o) earlier text answer (inr large) at = too_large o text answer large at
+  refused perm_file earlier text answer r at = refused_perm earlier text answer r at
+  refused order_file earlier text answer r at = refused_file (codes "order") order_file_word (RefusesOrder text) text answer r at
+  refused plan_file earlier text answer r at = refused_file (codes "plan") plan_word (RefusesPlan text) text answer r at
+  refused (priority_file input) earlier text answer (mine, one, system, split, is, r) at =
+      refused_file (codes "priority") perm_word (RefusesPerm (length system.tasks) text) text answer r at
+  refused plan_priority_file earlier text answer r at = refused_plan_priority earlier text answer r at
+
+  first_refused : (files : List NamedFile) (earlier texts : List (List ℕ)) (answer : Answer) → IsFirstRefusal files earlier texts answer → answer.status ≡ ended → ⊥
+  first_refused [] earlier texts answer r at = r
+  first_refused (file ∷ files) earlier [] answer r at = r
+  first_refused (file ∷ files) earlier (text ∷ texts) answer (inl r) at = refused file.role earlier text answer r at
+  first_refused (file ∷ files) earlier (text ∷ texts) answer (inr (accepted, r)) at = first_refused files (earlier ++ text ∷ []) texts answer r at
+
+-- no refusal is done, and none is of a graph without a term
 pub first_refusal : (files : List NamedFile) (earlier texts : List (List ℕ)) (answer : Answer) → IsFirstRefusal files earlier texts answer → answer.status ≡ status.Done → ⊥
-first_refusal [] earlier texts answer r done = r
-first_refusal (file ∷ files) earlier [] answer r done = r
-first_refusal (file ∷ files) earlier (text ∷ texts) answer (inl r) done = refused file.role earlier text answer r done
-first_refusal (file ∷ files) earlier (text ∷ texts) answer (inr (accepted, r)) done = first_refusal files (earlier ++ text ∷ []) texts answer r done
+first_refusal = first_refused status.Done (record { not_format = λ e. cc; not_limit = λ e. cc })
+
+pub first_refusal_rest : (files : List NamedFile) (earlier texts : List (List ℕ)) (answer : Answer) → IsFirstRefusal files earlier texts answer
+    → answer.status ≡ status.NotSeriesParallel → ⊥
+first_refusal_rest = first_refused status.NotSeriesParallel (record { not_format = λ e. cc; not_limit = λ e. cc })
 
 -- ---- a page that answers
 

@@ -69,3 +69,14 @@ pub record IsReduced (texts : List (List ℕ)) (printed : List ℕ) : Type 0 whe
   pub peak : (order : List ℕ) → IsTraversal (system_of_term term) order →
       peak_of (system_of graph) (map (name_in names) order) ≡ peak_of (system_of_term term) order
   pub least : (peak : ℕ) → IsLeast (system_of_term term) peak ↔ IsLeast (system_of graph) peak
+
+-- no term has the system of the completed graph, and the arcs of an irreducible rest of it were printed. The text is that of the graph's file
+pub record HasIrreducibleRest (texts : List (List ℕ)) (printed : List ℕ) : Type 0 where
+  pub text : List ℕ
+  pub texts_are : texts ≡ text ∷ []
+  pub graph : TaskGraph
+  pub is_graph : IsGraphFile text graph
+  pub no_term : HasNoTerm graph
+  pub arcs : List (ℕ × ℕ)
+  pub is_rest : IsRestOf (map ends_of (completed graph).arcs) arcs
+  pub printed_is : printed ≡ text_of_lines (rest_lines arcs)

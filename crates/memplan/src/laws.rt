@@ -14,13 +14,13 @@ ghost use Rattle.memplan.specs.Judged.{AreWithin};
 ghost use Rattle.memplan.specs.Fronts.{IsFactored, IsFrontsOf};
 ghost use Rattle.memplan.specs.Plan.{IsBestPlan};
 ghost use Rattle.memplan.specs.Request.{FileRole, IsInRange, IsMakeable, Input, OrderedMatrix, Ordering, OrderSource, PlanFormat, Request, Simulation, TreeInput, Upgrade, check, demo, fronts, input_files, planning, reduce, segments, simulate, spill, tree_input_files, upgrade};
-ghost use Rattle.memplan.specs.Reduce.{IsReduced};
+ghost use Rattle.memplan.specs.Reduce.{HasIrreducibleRest, IsReduced};
 ghost use Rattle.memplan.specs.Segments.{IsNumberedTerm, IsReached};
 ghost use Rattle.memplan.specs.Simulate.{IsSimulated};
 ghost use Rattle.memplan.specs.Spill.{IsSpilled};
 ghost use Rattle.memplan.specs.Upgrade.{IsFileOf, IsUpgraded, IsUpgradedFrom, Versioned, text_2, upgrade_again};
 ghost use Rattle.memplan.specs.declared.commands.demo.Demo.{Demo};
-ghost use Rattle.memplan.specs.declared.status.Status.TheVariants.{Done};
+ghost use Rattle.memplan.specs.declared.status.Status.TheVariants.{Done, NotSeriesParallel};
 
 use activation::laws as run_laws;
 use claim_check::laws as claim_laws;
@@ -177,7 +177,8 @@ pub fn one_answer()
 
 /// What an answer says: a yes certifies, a plan is best, a trace is of a run that was simulated, what was upgraded is what the printed
 /// file says, what is spilled is a spill plan of least volume, printed levels are reached, and none below them, the rows of a front are a
-/// structure of the filled graph, and the workflow of a task graph has the graph's traversals. It follows from being an answer.
+/// structure of the filled graph, the workflow of a task graph has the graph's traversals, and a graph whose rest is told has no term. It
+/// follows from being an answer.
 pub fn what_answers_say()
     ensures certified { (input : Input) (plan : List ℕ) (workers : ℕ) (texts : List (List ℕ)) (answer : Answer) →
         IsAnswer (check input plan workers) texts answer → answer.status ≡ Done → IsCertified input texts answer.text }
@@ -197,6 +198,8 @@ pub fn what_answers_say()
         IsAnswer (fronts m bound workers) texts answer → answer.status ≡ Done → IsFactored m bound workers texts answer.text }
     ensures reduced { (name : List ℕ) (texts : List (List ℕ)) (answer : Answer) →
         IsAnswer (reduce name) texts answer → answer.status ≡ Done → IsReduced texts answer.text }
+    ensures irreducible { (name : List ℕ) (texts : List (List ℕ)) (answer : Answer) →
+        IsAnswer (reduce name) texts answer → answer.status ≡ NotSeriesParallel → HasIrreducibleRest texts answer.text }
 {
     one_input();
     tree_laws::tree_term();

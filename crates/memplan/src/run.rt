@@ -5,7 +5,7 @@ ghost use Rattle.memplan.specs.Check.{IsCertified};
 ghost use Rattle.memplan.specs.Demo.{IsShown};
 ghost use Rattle.memplan.specs.Fronts.{IsFactored};
 ghost use Rattle.memplan.specs.Plan.{IsBestPlan};
-ghost use Rattle.memplan.specs.Reduce.{IsReduced};
+ghost use Rattle.memplan.specs.Reduce.{HasIrreducibleRest, IsReduced};
 ghost use Rattle.memplan.specs.Segments.{IsReached};
 ghost use Rattle.memplan.specs.Simulate.{IsSimulated};
 ghost use Rattle.memplan.specs.Spill.{IsSpilled};
@@ -85,6 +85,12 @@ pub fn run_words<R: Threads + Sync, F: Files, S: Sink, G: Gate>(
     ensures reduced { result ≡ Status.Done → (name : List ℕ) → Asks words.now (reduce name)
         → (texts : List (List ℕ)) → AreTold (F.bytes_of files.old) (files_of (reduce name)) texts
         → (printed : List ℕ) × IsReduced texts printed × Appended (S.written sink.old) (S.written sink.new) printed }
+
+    // where it is told that a task graph is not series-parallel, no term has the system of the completed graph, and the arcs of an irreducible
+    // rest of it were printed
+    ensures irreducible { result ≡ Status.NotSeriesParallel → (name : List ℕ) → Asks words.now (reduce name)
+        → (texts : List (List ℕ)) → AreTold (F.bytes_of files.old) (files_of (reduce name)) texts
+        → (printed : List ℕ) × HasIrreducibleRest texts printed × Appended (S.written sink.old) (S.written sink.new) printed }
 
     // where a demo was made, what was printed is its summary: the checker says yes, and no traversal of the made system has a lower peak
     // than the one that was printed

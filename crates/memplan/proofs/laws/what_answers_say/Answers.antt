@@ -1,11 +1,11 @@
 use Rattle.std.proofs.Common.{[], inl, inr}
 use Rattle.memplan.specs.Request.{check, planning, simulate, demo, upgrade, spill, segments, fronts, reduce, files_of}
-use Rattle.memplan.proofs.RunLemmas.{first_refusal}
+use Rattle.memplan.proofs.RunLemmas.{first_refusal, first_refusal_rest}
 use Rattle.memplan.proofs.SoundAnswer.{certified, best, simulated}
 use Rattle.memplan.proofs.UpgradeLemmas.{upgraded}
 use Rattle.memplan.proofs.SpillLemmas.{spilled}
 use Rattle.memplan.proofs.StairsLemmas.{reached}
-use Rattle.memplan.proofs.ReductionLemmas.{reduced}
+use Rattle.memplan.proofs.ReductionLemmas.{reduced, irreducible}
 use Rattle.memplan.proofs.laws.what_answers_say.Goals as goal
 
 pub returns-clause-certified : goal.returns-clause-certified
@@ -70,4 +70,10 @@ returns-clause-reduced c = λ name texts answer is done. elim is [
     reads = c.named_file_law.ensures.reads;
     short = c.named_file_law.ensures.length;
   }) texts answer report done
+]
+
+pub returns-clause-irreducible : goal.returns-clause-irreducible
+returns-clause-irreducible c = λ name texts answer is ended. elim is [
+  | inl refused ↦ absurd (first_refusal_rest (files_of (reduce name)) [] texts answer refused ended)
+  | inr report ↦ irreducible texts answer report ended
 ]

@@ -252,3 +252,27 @@ returns-in-Err-Refused-clause-reduced g c = λ done name has texts are.
     let whole = c.written-in-Err-Refused.ensures.whole (rw done tt) in
     let says_so = says told mine answer answering (reduce name) (cc (sym has_mine ∙ has)) texts are in
     (answer.text, c.what_answers_say.ensures.reduced name texts answer says_so (sym whole.0 ∙ done), whole.1)
+
+pub returns-in-Ok-clause-irreducible : goal.returns-in-Ok-clause-irreducible
+returns-in-Ok-clause-irreducible g c = λ ended name has texts are.
+    let told = g.F.Files.bytes_of c.args.files.now in
+    let mine = request_view c.in-Ok-Some.request in
+    let has_mine : request_of (map (λ w. string_bytes w) c.args.words.now) ≡ Some mine =
+    sym c.in-Ok-Some.ensures.value ∙ ap (option_map request_view) c.in-Ok-Some.field-0-is in
+    let answer = answer_of c.in-Ok.page in
+    let answering = reported told mine answer c.in-Ok.ensures.told in
+    let whole = c.written.ensures.whole (rw ended tt) in
+    let says_so = says told mine answer answering (reduce name) (cc (sym has_mine ∙ has)) texts are in
+    (answer.text, c.what_answers_say.ensures.irreducible name texts answer says_so (sym whole.0 ∙ ended), whole.1)
+
+pub returns-in-Err-Refused-clause-irreducible : goal.returns-in-Err-Refused-clause-irreducible
+returns-in-Err-Refused-clause-irreducible g c = λ ended name has texts are.
+    let told = g.F.Files.bytes_of c.args.files.now in
+    let mine = request_view c.in-Ok-Some.request in
+    let has_mine : request_of (map (λ w. string_bytes w) c.args.words.now) ≡ Some mine =
+    sym c.in-Ok-Some.ensures.value ∙ ap (option_map request_view) c.in-Ok-Some.field-0-is in
+    let answer = answer_of c.in-Err-Refused.page in
+    let answering = was_refused told mine answer (rw c.in-Err-Refused.field-0-is at c.in-Err-Refused.ensures.told) in
+    let whole = c.written-in-Err-Refused.ensures.whole (rw ended tt) in
+    let says_so = says told mine answer answering (reduce name) (cc (sym has_mine ∙ has)) texts are in
+    (answer.text, c.what_answers_say.ensures.irreducible name texts answer says_so (sym whole.0 ∙ ended), whole.1)
