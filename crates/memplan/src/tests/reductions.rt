@@ -1,8 +1,9 @@
 //! Task graphs as workflows, and the rests of those that have no term.
 
+use super::plans::check_plan;
 use super::{Case, check_cases, files_of, run_into};
 use crate::Status::{Done, Format, Limit, NotSeriesParallel};
-use mp_outside::{MemFiles, MemSink};
+use mp_outside::MemSink;
 use std::alloc::{AllocError, Global};
 use std::process::Abort;
 use std::test::Fail;
@@ -64,29 +65,50 @@ fn reductions(rt: HostRuntime) -> Result<(), Fail> {
     Ok(())
 }
 
-// What a run writes, where it is done.
-fn written_by<R: Threads + Sync + Abort>(
+// ---- to a plan
+
+// The most bytes of a workflow or a plan of these graphs.
+const MOST: u64 = 200_000;
+
+// The workflow of a graph has this least peak.
+fn check_least<R: Threads + Sync + Abort>(
     rt: &R,
     alloc: Global,
-    run: &str,
-    files: &mut MemFiles,
-) -> Result<MemSink, AllocError> {
-    let mut sink = MemSink::new(alloc, 1000)?;
-    let ended = run_into(rt, alloc, run, files, &mut sink)?;
-    assert_eq!(rt; ended, Done, "{run}");
-    Ok(sink)
+    graph: &str,
+    peak: &str,
+) -> Result<(), AllocError> {
+    let mut files = files_of(alloc, &[("g", graph)])?;
+    let mut workflow = MemSink::new(alloc, MOST)?;
+    let ended = run_into(rt, alloc, "reduce --graph g", &mut files, &mut workflow)?;
+    assert_eq!(rt; ended, Done, "of peak {peak}");
+    files.put("w", workflow.written())?;
+    check_plan(rt, alloc, "--workflow w", &mut files, MOST, Some(peak))
 }
 
-// The plan of the printed workflow, whose least peak is that of the graph.
+// A chain of three.
+const CHAIN: &str = "graph 1\ntasks 3\n1 0 1\n2 0 1\n3 0 1\narcs 2\n1 2 5\n2 3 6\nend\n";
+
+// 1,000 tasks between a first and a last one, each of which takes up 3 and gives 4.
+fn fork(alloc: Global) -> Result<String, AllocError> {
+    let mut text = String::from_str(alloc, "graph 1\ntasks 1002\n")?;
+    for _ in 0..1002 {
+        text.push_str("0 0 1\n")?;
+    }
+    text.push_str("arcs 2000\n")?;
+    for branch in 2..1002 {
+        text.push_str(&format!(in alloc; "1 {branch} 3\n{branch} 1002 4\n")?)?;
+    }
+    text.push_str("end\n")?;
+    Ok(text)
+}
+
 #[test]
-fn a_graph_comes_to_a_plan(rt: HostRuntime) -> Result<(), Fail> {
+fn graphs_come_to_plans_of_their_least_peak(rt: HostRuntime) -> Result<(), Fail> {
     let alloc = rt.alloc();
-    let mut files = files_of(alloc, &[("g", GRAPH)])?;
-    let workflow = written_by(&rt, alloc, "reduce --graph g", &mut files)?;
-    files.put("w", workflow.written())?;
-    let plan = written_by(&rt, alloc, "plan --workflow w", &mut files)?;
-    files.put("p", plan.written())?;
-    let checked = written_by(&rt, alloc, "check --workflow w --plan p", &mut files)?;
-    assert_eq!(rt; checked.written(), "yes 14\n".as_bytes());
+    // the second task: 5, its extra 2, and 6; the last branch: 999 times 4, 3, and 4
+    let wide = fork(alloc)?;
+    for (graph, peak) in [(GRAPH, "14"), (CHAIN, "13"), (wide.as_str(), "4003")] {
+        check_least(&rt, alloc, graph, peak)?;
+    }
     Ok(())
 }
