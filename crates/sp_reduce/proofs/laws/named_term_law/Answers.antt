@@ -1,4 +1,4 @@
-use Rattle.std.proofs.Common.{ℕ, List, map, sym, ◌∙◌}
+use Rattle.std.proofs.Common.{map, sym, ◌∙◌}
 use Rattle.mp_system.specs.Renaming.{name_in}
 use Rattle.sp_terms.specs.SystemOfTerm.{system_of_term}
 use Rattle.task_graph.specs.Graph.{completed_system}
