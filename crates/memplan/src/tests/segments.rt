@@ -9,7 +9,7 @@ use mp_outside::MemFiles;
 use std::alloc::{AllocError, Global};
 use std::test::Fail;
 
-// A unit of memory is what remains of a node of ten.
+// Of the tree of five nodes.
 pub const OF_FIVE: &str =
     "segments 5\n1 F 0\n1 R 1 10 0\n2 F 0\n2 R 5 6 1 10 0\n3 F 0\n3 R 1 10 0\n4 F 0\n4 R 5 6 1 10 0\n5 F 0\n5 R 0\nend\n";
 
@@ -75,13 +75,13 @@ fn staircases(rt: HostRuntime) -> Result<(), Fail> {
 
 // ---- the limit
 
-// A chain in which each node adds a step to the staircases of all nodes above it: node i leaves i, and seen from above it lies behind a
-// higher hill than all nodes above it.
-fn chain(alloc: Global, nodes: u64) -> Result<String, AllocError> {
-    let mut text = format!(in alloc; "tree 1\nnodes {nodes}\n")?;
-    for i in 1..=nodes.min(5_000) {
-        let parent = if i == nodes { 0 } else { i + 1 };
-        let extra = 15_000 - 3 * i;
+// 4,500 nodes in a chain: node i leaves i, and seen from above it lies behind a higher hill than all nodes above it. So each adds a step to
+// the staircases of all nodes above it.
+fn chain(alloc: Global) -> Result<String, AllocError> {
+    let mut text = String::from_str(alloc, "tree 1\nnodes 4500\n")?;
+    for i in 1..=4_500u64 {
+        let parent = if i == 4_500 { 0 } else { i + 1 };
+        let extra = 13_500 - 3 * i;
         text.push_str(&format!(in alloc; "{parent} {i} {extra} 1\n")?)?;
     }
     text.push_str("end\n")?;
@@ -89,10 +89,10 @@ fn chain(alloc: Global, nodes: u64) -> Result<String, AllocError> {
 }
 
 // The same as a workflow.
-fn chain_of_terms(alloc: Global, tasks: u64) -> Result<String, AllocError> {
-    let mut text = format!(in alloc; "workflow 1\ntasks {tasks}\ndata 0\n")?;
-    for i in 1..=tasks.min(5_000) {
-        let extra = 15_000 - 3 * i;
+fn chain_of_terms(alloc: Global) -> Result<String, AllocError> {
+    let mut text = String::from_str(alloc, "workflow 1\ntasks 4500\ndata 0\n")?;
+    for i in 1..=4_500u64 {
+        let extra = 13_500 - 3 * i;
         text.push_str(&format!(in alloc; "data {i}\ntask {extra} 1\n")?)?;
     }
     text.push_str("end\n")?;
@@ -104,18 +104,11 @@ fn too_many_steps(rt: HostRuntime) -> Result<(), Fail> {
     let alloc = rt.alloc();
     // 4,500 * 4,501 / 2 is 10,127,250
     let mut files = MemFiles::new(alloc)?;
-    files.put("t", chain(alloc, 4_500)?.as_bytes())?;
-    files.put("w", chain_of_terms(alloc, 4_500)?.as_bytes())?;
+    files.put("t", chain(alloc)?.as_bytes())?;
+    files.put("w", chain_of_terms(alloc)?.as_bytes())?;
     let refused = "refused limit tree steps\n";
     check_run(&rt, alloc, "segments --tree t", &mut files, Limit, refused)?;
     let refused = "refused limit workflow steps\n";
-    check_run(
-        &rt,
-        alloc,
-        "segments --workflow w",
-        &mut files,
-        Limit,
-        refused,
-    )?;
+    check_run(&rt, alloc, "segments --workflow w", &mut files, Limit, refused)?;
     Ok(())
 }
