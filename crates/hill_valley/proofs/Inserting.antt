@@ -15,10 +15,10 @@ use Rattle.std.proofs.lemmas.Bool.Decides.{nat_tests}
 use Rattle.side_laws.specs.Segments.{Segment, net_sum, lowest, top}
 use Rattle.side_laws.specs.Merging.{insert_segment, merge_segments, AreStuckAt, IsLeastTogether}
 use Rattle.side_laws.specs.Laws.{NetOfInsert, InsertRises, MergeOfOne, LowestOfMerge, TopOfMerge}
-use Rattle.hill_valley.specs.declared.side.Descent.{Descent}
+use Rattle.hill_valley.specs.declared.tree.Descent.{Descent}
 use Rattle.hill_valley.specs.declared.side.Seg.{Seg}
 use Rattle.hill_valley.specs.Ropes.{IsRope, Extends}
-use Rattle.hill_valley.specs.Side.{profile, IsSide, AllUpsWithin, HaveRopes, Run, runs_of, run_profile, insert_run}
+use Rattle.hill_valley.specs.Side.{profile, numbers, IsSide, AllUpsWithin, HaveRopes, Run, run_of, runs_of, run_profile, insert_run}
 use Rattle.hill_valley.specs.Descents.{segs_of, list_seen, list_joined}
 use Rattle.hill_valley.proofs.Kept.{list_kept, runs_kept, ropes_kept}
 use Rattle.hill_valley.proofs.Profiles.{profile_runs, profile_insert}
@@ -37,6 +37,10 @@ own_seen lists k es = option_map (list_seen lists) (lookup (is_at (nat_cmp k)) e
 pub length_segs : (es : List Entry) → length (segs_of es) ≡ length es
 length_segs [] = refl
 length_segs (e ∷ es) = ap suc (length_segs es)
+
+-- the numbers of the entries, where the first is at `up`
+pub seen_next : (es rest : List Entry) (up : ℕ) (d : Descent) → es ≡ (up, d) ∷ rest → profile (segs_of es) ≡ record { up = up; net = d.net } ∷ profile (segs_of rest)
+seen_next es rest up d e = ap (λ (l : List Entry). profile (segs_of l)) e
 
 -- ---- the runs
 
@@ -112,13 +116,13 @@ module _ (old new : List (List ℕ)) (before : Bool) (k : ℕ) (w : ℕ × List 
   pub runs_after : runs_of new (segs_of es') ≡ insert_run before (run k w) (runs_of old side)
   runs_after = rw p.entries (runs_put old new p.kept before k w v es p.sorted own_ropes p.value) ∙ ap (λ (l : List Seg). insert_run before (run k w) (runs_of old l)) p.same
 
-  pub profile_after : profile (segs_of es') ≡ insert_segment (record { up = k; net = w.0 }) (profile side)
-  profile_after =
-      sym (profile_runs new (segs_of es')) ∙ ap run_profile runs_after ∙ profile_insert before (run k w) (runs_of old side)
-      ∙ ap (insert_segment (record { up = k; net = w.0 })) (profile_runs old side)
-
   pub ropes_after : IsRope new v.tasks → HaveRopes new (segs_of es')
   ropes_after r = rw p.entries (ropes_put new es k v (ropes_kept old new (segs_of es) own_ropes p.kept) r)
+
+-- the numbers of a side after a segment s was put in among the segments of another
+pub profile_put : (old new : List (List ℕ)) (before : Bool) (s : Seg) (ss ss' : List Seg) → runs_of new ss' ≡ insert_run before (run_of old s) (runs_of old ss) → profile ss' ≡ insert_segment (numbers s) (profile ss)
+profile_put old new before s ss ss' e =
+    sym (profile_runs new ss') ∙ ap run_profile e ∙ profile_insert before (run_of old s) (runs_of old ss) ∙ ap (insert_segment (numbers s)) (profile_runs old ss)
 
 -- the numbers of a side after a segment s was put in
 module _ (s : Segment) (ss ss' : List Segment) (is : ss' ≡ insert_segment s ss) (side : IsSide ss) where

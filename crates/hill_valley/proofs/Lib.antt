@@ -3,6 +3,7 @@ pub mod Opening
 pub mod Kept
 pub mod Profiles
 pub mod Inserting
+pub mod InRow
 pub mod Last
 pub mod Walk
 pub mod Staircases

@@ -1,6 +1,6 @@
 use Rattle.hill_valley.specs.Descents.{segs_of}
 use Rattle.hill_valley.proofs.Tasks.{Listing}
-use Rattle.hill_valley.proofs.side.Side.tasks.Given as goal
+use Rattle.hill_valley.proofs.tree.Tree.tasks.Given as goal
 
 abbrev pub invariant-loop-up : goal.invariant-loop-up
 invariant-loop-up l = record {

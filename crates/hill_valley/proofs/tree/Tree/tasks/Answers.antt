@@ -2,7 +2,7 @@ use Rattle.std.proofs.Common.{ap, ◌∙◌}
 use Rattle.hill_valley.specs.Descents.{seg_of, segs_of}
 use Rattle.hill_valley.proofs.Kept.{extends_self}
 use Rattle.hill_valley.proofs.Tasks.{listing_starts, listing_first, listing_on}
-use Rattle.hill_valley.proofs.side.Side.tasks.Goals as goal
+use Rattle.hill_valley.proofs.tree.Tree.tasks.Goals as goal
 
 pub loop-up-init : goal.loop-up-init
 loop-up-init c = record {
