@@ -46,6 +46,14 @@ there k i [] own h p lt e same = absurd (omega arith)
 there k zero (s ∷ ss) own h p lt e same = (sym e, ap (λ (x : Seg). x.up) (sym e) ∙ same)
 there k (suc i) (s ∷ ss) own h p lt e same = (before_place k i s ss h p, there k i ss own h.1 (place_rest k i s ss p) (omega arith) e same)
 
+-- ---- the search for it
+
+pub below_more : (k m : ℕ) (ss : List Seg) (s : Seg) → m < length ss → s ≡ get_or ss m s → s.up < k → (i : ℕ) → i + 1 ≡ m + 1 → up_at i ss < k
+below_more k m ss s lt e h i same = let u = there_up ss m s lt e in let n : i ≡ m = omega arith in rw n (omega arith)
+
+pub above_at : (k m : ℕ) (ss : List Seg) (s : Seg) → m < length ss → s ≡ get_or ss m s → k ≤ s.up → k ≤ up_at m ss
+above_at k m ss s lt e h = let u = there_up ss m s lt e in omega arith
+
 -- ---- the runs
 
 less : (before : Bool) (r t : Run) (rs : List Run) → r.up < t.up → insert_run before r (t ∷ rs) ≡ r ∷ t ∷ rs
@@ -64,6 +72,10 @@ put_gap lists before s zero (t ∷ ss) h = sym (less before (run_of lists s) (ru
 put_gap lists before s (suc i) (t ∷ ss) h =
     ap (λ (l : List Run). run_of lists t ∷ l) (put_gap lists before s i ss h.1) ∙ sym (more before (run_of lists s) (run_of lists t) (runs_of lists ss) h.0)
 
+pub gap_runs : (lists : List (List ℕ)) (before : Bool) (s : Seg) (i : ℕ) (items side items' : List Seg) → items ≡ side → IsGap s.up i items → items' ≡ insert items i s
+    → runs_of lists items' ≡ insert_run before (run_of lists s) (runs_of lists side)
+gap_runs lists before s i items side items' view h e = rw (e, ← view) (put_gap lists before s i items h)
+
 pub ropes_gap : (lists : List (List ℕ)) (s : Seg) (i : ℕ) (ss : List Seg) → HaveRopes lists ss → IsRope lists s.tasks → HaveRopes lists (insert ss i s)
 ropes_gap lists s zero ss h r = (r, h)
 ropes_gap lists s (suc i) [] h r = (r, tt)
@@ -81,6 +93,10 @@ module _ (old new : List (List ℕ)) (kept : Extends old new) (before : Bool) (s
       ∙ sym (same before (run_of old s) (run_of old t) (runs_of old ss) h.1))
   put_there (suc i) (t ∷ ss) h ropes =
       rw (kept_run t ropes.0, put_there i ss h.1 ropes.1) (sym (more before (run_of old s) (run_of old t) (runs_of old ss) h.0))
+
+  pub there_runs : (i : ℕ) (items side : List Seg) → items ≡ side → IsThere s.up i items own → HaveRopes old side
+      → runs_of new (set items i whole) ≡ insert_run before (run_of old s) (runs_of old side)
+  there_runs i items side view h ropes = rw (← view) (put_there i items h (rw view ropes))
 
 pub ropes_there : (lists : List (List ℕ)) (whole : Seg) (i : ℕ) (ss : List Seg) → HaveRopes lists ss → IsRope lists whole.tasks → HaveRopes lists (set ss i whole)
 ropes_there lists whole i [] h r = tt
@@ -117,3 +133,7 @@ last_in (t ∷ []) zero s h e = ap (λ (x : Seg). x.up) e
 last_in (t ∷ []) (suc i) s h e = absurd (omega arith)
 last_in (t ∷ u ∷ ss) zero s h e = absurd (omega arith)
 last_in (t ∷ u ∷ ss) (suc i) s h e = last_in (u ∷ ss) i s (omega arith) e
+
+pub none_left : (ss : List Seg) → length ss ≡ 0 → ss ≡ []
+none_left [] h = refl
+none_left (s ∷ ss) h = absurd (omega arith)

@@ -5,6 +5,7 @@ pub mod Profiles
 pub mod Inserting
 pub mod InRow
 pub mod Last
+pub mod Fronts
 pub mod Walk
 pub mod Staircases
 pub mod Tasks

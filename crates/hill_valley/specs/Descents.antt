@@ -1,6 +1,6 @@
 -- No public clause names this.
 -- What the ordered map of a side has at each `up`.
-use Rattle.std.specs.Prelude.{ℕ, ◌+◌, Bool, if◌then◌else◌, List, ◌++◌, Option, Some, None, map}
+use Rattle.std.specs.Prelude.{ℕ, ◌+◌, Bool, if◌then◌else◌, List, [], ◌∷◌, ◌++◌, Option, Some, None, map}
 use Rattle.hill_valley.specs.declared.side.Seg.{Seg}
 use Rattle.hill_valley.specs.declared.tree.Descent.{Descent}
 use Rattle.hill_valley.specs.Ropes.{list_of}
