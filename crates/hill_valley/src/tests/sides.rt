@@ -108,7 +108,10 @@ fn a_long_side_takes_in_segments_anywhere(rt: HostRuntime) -> Result<(), Fail> {
     while taken < 603 {
         let seg = side.take_first(alloc)?;
         let (up, net, tasks) = nth_segment(taken);
-        assert_eq!(rt; seg.as_ref().map(|s| (s.up, s.net, s.tasks.len())), Some((up, net, tasks)));
+        assert_eq!(rt;
+            seg.as_ref().map(|s| (s.up, s.net, s.tasks.len())),
+            Some((up, net, tasks))
+        );
         taken += 1;
     }
     assert!(rt; side.take_first(alloc)?.is_none());

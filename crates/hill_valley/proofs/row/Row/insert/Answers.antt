@@ -26,13 +26,13 @@ index_mut-requires c =
 pub invariant_of-self : goal.invariant_of-self
 invariant_of-self c =
     let runs = there_runs c.args.ropes.now c.joined.new.ropes c.joined.ensures.kept c.args.before c.args.seg c.in-Some.own c.in_ok-whole-in-Some.whole c.in_ok-whole-in-Some.ensures.run
-        c.place_of-at.result c.self.inside.segments.items c.args.self.now c.self.view_is c.in-Some.ensures.own c.requires.ropes in
+    c.place_of-at.result c.self.inside.segments.items c.args.self.now c.self.view_is c.in-Some.ensures.own c.requires.ropes in
     side_after _ _ _ (profile_put c.args.ropes.now c.joined.new.ropes c.args.before c.args.seg c.args.self.now _ runs) (rw c.self.view_is at c.self.invariant) c.inserting.ensures.net c.inserting.ensures.rising c.requires.up c.requires.net
 
 pub invariant_of-self-in-Continue-branch-2 : goal.invariant_of-self-in-Continue-branch-2
 invariant_of-self-in-Continue-branch-2 c =
     let runs = gap_runs c.args.ropes.now c.args.before c.args.seg c.place_of-at.result c.self.inside.segments.items c.args.self.now c.put_at.new.row.items c.self.view_is c.in-None.ensures.own
-        c.in_ok-put_at-in-None.ensures.items in
+    c.in_ok-put_at-in-None.ensures.items in
     side_after _ _ _ (profile_put c.args.ropes.now c.args.ropes.now c.args.before c.args.seg c.args.self.now _ runs) (rw c.self.view_is at c.self.invariant) c.inserting.ensures.net c.inserting.ensures.rising c.requires.up c.requires.net
 
 pub returns-in_ok-whole-in-Some-clause-segments : goal.returns-in_ok-whole-in-Some-clause-segments
