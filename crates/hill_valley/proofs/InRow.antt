@@ -1,5 +1,5 @@
 -- A segment that is put into a row, as the list of segments sees it.
-use Rattle.std.proofs.Common.{◌≡◌, ℕ, zero, suc, ◌+◌, ◌<◌, ◌≤◌, List, [], ◌∷◌, ◌++◌, length, get_or, set, refl, ap, sym, ◌∙◌, arith, Bool, ◌≢◌}
+use Rattle.std.proofs.Common.{◌≡◌, ℕ, zero, suc, ◌+◌, ◌<◌, ◌≤◌, List, [], ◌∷◌, length, get_or, set, refl, ap, sym, ◌∙◌, arith, Bool, ◌≢◌}
 use Rattle.std.specs.List.{insert}
 use Rattle.std.proofs.lemmas.Bool.Decides.{nat_tests}
 use Rattle.side_laws.specs.Segments.{IsRising, net_sum, last_up}
@@ -56,13 +56,13 @@ above_at k m ss s lt e h = let u = there_up ss m s lt e in omega arith
 
 -- ---- the runs
 
-less : (before : Bool) (r t : Run) (rs : List Run) → r.up < t.up → insert_run before r (t ∷ rs) ≡ r ∷ t ∷ rs
+pub less : (before : Bool) (r t : Run) (rs : List Run) → r.up < t.up → insert_run before r (t ∷ rs) ≡ r ∷ t ∷ rs
 less before r t rs h = grind (arith, nat_tests)
 
-same : (before : Bool) (r t : Run) (rs : List Run) → t.up ≡ r.up → insert_run before r (t ∷ rs) ≡ join_runs before r t ∷ rs
+pub same : (before : Bool) (r t : Run) (rs : List Run) → t.up ≡ r.up → insert_run before r (t ∷ rs) ≡ join_runs before r t ∷ rs
 same before r t rs h = grind (arith, nat_tests)
 
-more : (before : Bool) (r t : Run) (rs : List Run) → t.up < r.up → insert_run before r (t ∷ rs) ≡ t ∷ insert_run before r rs
+pub more : (before : Bool) (r t : Run) (rs : List Run) → t.up < r.up → insert_run before r (t ∷ rs) ≡ t ∷ insert_run before r rs
 more before r t rs h = grind (arith, nat_tests)
 
 pub put_gap : (lists : List (List ℕ)) (before : Bool) (s : Seg) (i : ℕ) (ss : List Seg) → IsGap s.up i ss → runs_of lists (insert ss i s) ≡ insert_run before (run_of lists s) (runs_of lists ss)

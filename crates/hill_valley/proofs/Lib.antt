@@ -9,3 +9,5 @@ pub mod Fronts
 pub mod Walk
 pub mod Staircases
 pub mod Tasks
+pub mod Moved
+pub mod Weaving

@@ -4,5 +4,6 @@ pub mod Side
 pub mod Descents
 pub mod Rows
 pub mod Places
+pub mod Merging
 pub mod Staircase
 pub mod Laws

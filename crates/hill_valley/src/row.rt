@@ -50,6 +50,14 @@ impl Row {
         }
     }
 
+    // With room for this many segments.
+    pub fn with_room(alloc: Global, count: u64) -> Result<Row, NoMemory>
+        ensures empty { IfOk result (λ row. row ≡ []) }
+    {
+        let segments = VecDeque::with_capacity(alloc, count as usize)?;
+        Ok(Row { segments })
+    }
+
     pub fn keeps(&self)
         ensures { IsSide (profile self.now) }
     {
@@ -84,6 +92,15 @@ impl Row {
         ensures first { MatchOption result ((self.old ≡ []) × (self.new ≡ [])) (λ s. self.old ≡ s ∷ self.new) }
     {
         self.segments.pop_front()
+    }
+
+    // A segment behind all others.
+    pub fn push(&mut self, seg: Seg) -> Result<(), NoMemory>
+        requires side { IsSide (profile (self.old ++ seg ∷ [])) }
+        ensures segments { OnOk result (self.new ≡ self.old ++ seg ∷ []) }
+    {
+        self.segments.push_back(seg)?;
+        Ok(())
     }
 
     pub fn insert(&mut self, ropes: &mut Ropes, seg: Seg, before: bool) -> Result<(), NoMemory>
@@ -230,7 +247,7 @@ fn put_at(row: &mut VecDeque<Seg>, at: usize, seg: Seg) -> Result<(), NoMemory>
 }
 
 // Two segments of one `up` as one.
-fn joined(ropes: &mut Ropes, own: Seg, seg: Seg, before: bool) -> Result<Seg, NoMemory>
+pub(crate) fn joined(ropes: &mut Ropes, own: Seg, seg: Seg, before: bool) -> Result<Seg, NoMemory>
     requires own { IsRope ropes.old own.tasks }
     requires rope { IsRope ropes.old seg.tasks }
     requires net { own.net + seg.net ≤ most_total }

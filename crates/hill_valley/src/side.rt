@@ -5,18 +5,22 @@ ghost use Rattle.limits.specs.Limits.{most_total};
 ghost use Rattle.side_laws.specs.Segments.{net_sum, lowest, top, Passes, StartsAbove, last_up};
 ghost use Rattle.side_laws.specs.Merging.{AreStuckAt, IsLeastTogether};
 ghost use Rattle.hill_valley.specs.Ropes.{list_of, IsRope, Extends};
-ghost use Rattle.hill_valley.specs.Side.{limit_of, numbers, profile, IsSide, HaveRopes, run_of, runs_of, tasks_of, insert_run, append_run};
+ghost use Rattle.hill_valley.specs.Side.{limit_of, numbers, profile, IsSide, HaveRopes, run_of, runs_of, tasks_of, insert_run, move_runs, append_run};
 ghost use Rattle.hill_valley.specs.Staircase.{AreSteps};
 ghost use Rattle.hill_valley.specs.Descents.{first_up};
+ghost use Rattle.hill_valley.specs.Merging.{IsNext};
 
 use crate::NoMemory;
 use crate::ropes::{Rope, Ropes};
-use crate::row::Row;
+use crate::row::{Row, joined};
 use crate::steps::Step;
 use crate::tree::Tree;
 use side_laws::laws;
 use std::alloc::Global;
 use std::marker::Model;
+
+// A side that has at least an eighth as many segments as another goes into it in one pass over both.
+const ALIKE: u64 = 8;
 
 /// A segment: a run of tasks over a hill and down to a valley.
 #[derive(Clone, Copy)]
@@ -184,6 +188,27 @@ impl Side {
         self.insert(ropes, seg, false)
     }
 
+    /// Moves each segment of another side into this one. It is joined with one of the same `up`: its list comes first where
+    /// `before` is true. The ropes of both are of these ropes, and all `net` values sum to at most 2^60. Logarithmic time for
+    /// each segment of the other side. Where memory is wanting segments of this side may be lost, and the ropes may hold more.
+    pub fn merge(&mut self, other: Side, ropes: &mut Ropes, before: bool) -> Result<(), NoMemory>
+        requires other { HaveRopes ropes.old other }
+        requires ropes { HaveRopes ropes.old self.old }
+        requires net { net_sum (profile other) + net_sum (profile self.old) ≤ most_total }
+        ensures segments { OnOk result (
+            runs_of ropes.new self.new ≡ move_runs before (runs_of ropes.old other) (runs_of ropes.old self.old)) }
+        ensures net { OnOk result (net_sum (profile self.new) ≡ net_sum (profile other) + net_sum (profile self.old)) }
+        ensures ropes { HaveRopes ropes.new self.new }
+        ensures kept { Extends ropes.old ropes.new }
+    {
+        laws::inserting();
+        if other.len().saturating_mul(ALIKE) < self.len() {
+            self.take_in(other, ropes, before)
+        } else {
+            self.weave(other, ropes, before)
+        }
+    }
+
     /// The `up` of the last segment, the greatest, and 0 where there is none. Logarithmic time.
     pub fn last_up(&self) -> u64
         ensures value { result ≡ last_up (profile self.now) }
@@ -279,6 +304,44 @@ impl Side {
         }
     }
 
+    // Puts the segments of another side in, one after another.
+    fn take_in(&mut self, mut other: Side, ropes: &mut Ropes, before: bool) -> Result<(), NoMemory>
+        requires other { HaveRopes ropes.old other }
+        requires ropes { HaveRopes ropes.old self.old }
+        requires net { net_sum (profile other) + net_sum (profile self.old) ≤ most_total }
+        ensures segments { OnOk result (
+            runs_of ropes.new self.new ≡ move_runs before (runs_of ropes.old other) (runs_of ropes.old self.old)) }
+        ensures ropes { HaveRopes ropes.new self.new }
+        ensures kept { Extends ropes.old ropes.new }
+    {
+        while let Some(seg) = other.take_first() {
+            self.insert(ropes, seg, before)?;
+        }
+        Ok(())
+    }
+
+    // Makes one row of both sides, in one pass.
+    fn weave(&mut self, mut other: Side, ropes: &mut Ropes, before: bool) -> Result<(), NoMemory>
+        requires other { HaveRopes ropes.old other }
+        requires ropes { HaveRopes ropes.old self.old }
+        requires net { net_sum (profile other) + net_sum (profile self.old) ≤ most_total }
+        ensures segments { OnOk result (
+            runs_of ropes.new self.new ≡ move_runs before (runs_of ropes.old other) (runs_of ropes.old self.old)) }
+        ensures ropes { HaveRopes ropes.new self.new }
+        ensures kept { Extends ropes.old ropes.new }
+    {
+        laws::inserting();
+        self.keeps();
+        other.keeps();
+        let count = self.len().saturating_add(other.len());
+        let mut row = Row::with_room(ropes.alloc(), count)?;
+        while let Some(seg) = take_lesser(self, &mut other, ropes, before)? {
+            row.push(seg)?;
+        }
+        self.segments = Segments::Row(row);
+        Ok(())
+    }
+
     // Makes a tree of a row that is too long for a segment of this `up`.
     fn make_room(&mut self, up: u64) -> Result<(), NoMemory>
         ensures same { self.new ≡ self.old }
@@ -297,4 +360,36 @@ fn limit_above(bound: i64) -> u64
     ensures { result ≡ limit_of bound }
 {
     if bound < 0 { 0 } else { bound as u64 + 1 }
+}
+
+// Takes the first segment of both sides, by `up`. Where each has one of this `up`, they become one.
+fn take_lesser(
+    own: &mut Side,
+    other: &mut Side,
+    ropes: &mut Ropes,
+    before: bool,
+) -> Result<Option<Seg>, NoMemory>
+    requires other { HaveRopes ropes.old other.old }
+    requires own { HaveRopes ropes.old own.old }
+    requires net { net_sum (profile other.old) + net_sum (profile own.old) ≤ most_total }
+    ensures next { IfOk result (IsNext before ropes.old ropes.new other.old own.old other.new own.new) }
+    ensures rope { IfOk result (λ next. IfSome next (λ s. IsRope ropes.new s.tasks)) }
+    ensures fewer { IfOk result (λ next. IfSome next (λ _. length other.new + length own.new < length other.old + length own.old)) }
+    ensures net { net_sum (profile other.new) + net_sum (profile own.new) ≤ net_sum (profile other.old) + net_sum (profile own.old) }
+    ensures other { HaveRopes ropes.new other.new }
+    ensures own { HaveRopes ropes.new own.new }
+    ensures kept { Extends ropes.old ropes.new }
+{
+    own.keeps();
+    let Some(up) = own.first_up() else {
+        return Ok(other.take_first());
+    };
+    match other.take_first_within(up) {
+        None => Ok(own.take_first()),
+        Some(seg) if seg.up < up => Ok(Some(seg)),
+        Some(seg) => match own.take_first() {
+            Some(first) => Ok(Some(joined(ropes, first, seg, before)?)),
+            None => Ok(Some(seg)),
+        },
+    }
 }

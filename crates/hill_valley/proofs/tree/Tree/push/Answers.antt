@@ -1,4 +1,3 @@
-use Rattle.hill_valley.specs.declared.tree.Descent.{Descent}
 use Rattle.hill_valley.proofs.Inserting.{pushed}
 use Rattle.hill_valley.proofs.tree.Tree.push.Goals as goal
 
