@@ -1,5 +1,6 @@
 -- An entry that is put into the map, as the list of segments sees it.
-use Rattle.std.proofs.Common.{◌≡◌, ℕ, suc, ◌+◌, ◌<◌, ◌≤◌, ◌^◌, List, [], ◌∷◌, refl, ap, sym, ◌∙◌, arith, subst, Option, IfSome, Bool, length}
+use Rattle.std.proofs.Common.{◌≡◌, ℕ, suc, ◌+◌, ◌<◌, ◌≤◌, ◌^◌, List, [], ◌∷◌, ◌++◌, refl, ap, sym, ◌∙◌, arith, subst, Option, Some, IfSome, Bool, length}
+use Rattle.std.specs.List.{slice_get}
 use Rattle.std.specs.Ordering.{nat_cmp}
 use Rattle.std.specs.declared.cmp.Ordering.{Ordering}
 use Rattle.std.specs.declared.cmp.Ordering.TheVariants.{Less, Equal, Greater}
@@ -12,14 +13,14 @@ use Rattle.std.proofs.lemmas.Map.{lookup-none}
 use Rattle.std.proofs.lemmas.Map.Entries.{none_below_head}
 use Rattle.std.proofs.lemmas.Cmp.{nat_cmp_total}
 use Rattle.std.proofs.lemmas.Bool.Decides.{nat_tests}
-use Rattle.side_laws.specs.Segments.{Segment, net_sum, lowest, top}
+use Rattle.side_laws.specs.Segments.{Segment, net_sum, lowest, top, IsRising}
 use Rattle.side_laws.specs.Merging.{insert_segment, merge_segments, AreStuckAt, IsLeastTogether}
 use Rattle.side_laws.specs.Laws.{NetOfInsert, InsertRises, MergeOfOne, LowestOfMerge, TopOfMerge}
-use Rattle.hill_valley.specs.declared.side.Descent.{Descent}
+use Rattle.hill_valley.specs.declared.tree.Descent.{Descent}
 use Rattle.hill_valley.specs.declared.side.Seg.{Seg}
 use Rattle.hill_valley.specs.Ropes.{IsRope, Extends}
-use Rattle.hill_valley.specs.Side.{profile, IsSide, AllUpsWithin, HaveRopes, Run, runs_of, run_profile, insert_run}
-use Rattle.hill_valley.specs.Descents.{segs_of, list_seen, list_joined}
+use Rattle.hill_valley.specs.Side.{profile, numbers, IsSide, AllUpsWithin, HaveRopes, Run, run_of, runs_of, run_profile, insert_run}
+use Rattle.hill_valley.specs.Descents.{seg_of, segs_of, list_seen, list_joined, first_up}
 use Rattle.hill_valley.proofs.Kept.{list_kept, runs_kept, ropes_kept}
 use Rattle.hill_valley.proofs.Profiles.{profile_runs, profile_insert}
 
@@ -37,6 +38,10 @@ own_seen lists k es = option_map (list_seen lists) (lookup (is_at (nat_cmp k)) e
 pub length_segs : (es : List Entry) → length (segs_of es) ≡ length es
 length_segs [] = refl
 length_segs (e ∷ es) = ap suc (length_segs es)
+
+-- the numbers of the entries, where the first is at `up`
+pub seen_next : (es rest : List Entry) (up : ℕ) (d : Descent) → es ≡ (up, d) ∷ rest → profile (segs_of es) ≡ record { up = up; net = d.net } ∷ profile (segs_of rest)
+seen_next es rest up d e = ap (λ (l : List Entry). profile (segs_of l)) e
 
 -- ---- the runs
 
@@ -63,6 +68,33 @@ module _ (old new : List (List ℕ)) (kept : Extends old new) (before : Bool) (k
       → runs_of new (segs_of (insert_entry nat_cmp es k v)) ≡ insert_run before (run k w) (runs_of old (segs_of es))
   runs_put [] sorted ropes h = ap (λ (x : ℕ × List ℕ). run k x ∷ []) h
   runs_put (e ∷ es) sorted ropes h = put_step e es (nat_cmp k e.0) refl sorted ropes h (λ h'. runs_put es (sorted_tail nat_cmp e.0 (keys_of es) sorted) ropes.1 h')
+
+-- ---- behind all others
+
+below_last : (t : Seg) (ss : List Seg) (s : Seg) → IsRising (profile (t ∷ (ss ++ s ∷ []))) → t.up < s.up
+below_last t [] s h = h.0
+below_last t (u ∷ ss) s h = let e = below_last u ss s h.1 in let f = h.0 in omega arith
+
+past_entry : (e : Entry) (es : List Entry) (k : ℕ) (v : Descent) → e.0 < k → insert_entry nat_cmp (e ∷ es) k v ≡ e ∷ insert_entry nat_cmp es k v
+past_entry e es k v h = grind (arith, nat_tests)
+
+segs_append : (es fs : List Entry) → segs_of (es ++ fs) ≡ segs_of es ++ segs_of fs
+segs_append [] fs = refl
+segs_append (e ∷ es) fs = ap (λ (l : List Seg). seg_of e ∷ l) (segs_append es fs)
+
+put_last : (es : List Entry) (k : ℕ) (v : Descent) → IsRising (profile (segs_of es ++ seg_of (k, v) ∷ [])) → insert_entry nat_cmp es k v ≡ es ++ (k, v) ∷ []
+put_last [] k v h = refl
+put_last (e ∷ es) k v h =
+    past_entry e es k v (below_last (seg_of e) (segs_of es) (seg_of (k, v)) h) ∙ ap (λ (l : List Entry). e ∷ l) (put_last es k v h.1)
+
+pub pushed : (es es' : List Entry) (side : List Seg) (k : ℕ) (v : Descent) → segs_of es ≡ side → es' ≡ insert_entry nat_cmp es k v → IsRising (profile (side ++ seg_of (k, v) ∷ []))
+    → segs_of es' ≡ side ++ seg_of (k, v) ∷ []
+pushed es es' side k v view e h = rw (e, ← view) (ap segs_of (put_last es k v (rw view h)) ∙ segs_append es ((k, v) ∷ []))
+
+-- the first
+pub first_at : (es : List Entry) (e : Entry) → slice_get es 0 ≡ Some e → Some e.0 ≡ first_up (segs_of es)
+first_at [] e h = absurd (cc)
+first_at (f ∷ es) e h = let g : f ≡ e = cc in ap (λ (x : Entry). Some x.0) (sym g)
 
 -- ---- the ropes
 
@@ -112,13 +144,13 @@ module _ (old new : List (List ℕ)) (before : Bool) (k : ℕ) (w : ℕ × List 
   pub runs_after : runs_of new (segs_of es') ≡ insert_run before (run k w) (runs_of old side)
   runs_after = rw p.entries (runs_put old new p.kept before k w v es p.sorted own_ropes p.value) ∙ ap (λ (l : List Seg). insert_run before (run k w) (runs_of old l)) p.same
 
-  pub profile_after : profile (segs_of es') ≡ insert_segment (record { up = k; net = w.0 }) (profile side)
-  profile_after =
-      sym (profile_runs new (segs_of es')) ∙ ap run_profile runs_after ∙ profile_insert before (run k w) (runs_of old side)
-      ∙ ap (insert_segment (record { up = k; net = w.0 })) (profile_runs old side)
-
   pub ropes_after : IsRope new v.tasks → HaveRopes new (segs_of es')
   ropes_after r = rw p.entries (ropes_put new es k v (ropes_kept old new (segs_of es) own_ropes p.kept) r)
+
+-- the numbers of a side after a segment s was put in among the segments of another
+pub profile_put : (old new : List (List ℕ)) (before : Bool) (s : Seg) (ss ss' : List Seg) → runs_of new ss' ≡ insert_run before (run_of old s) (runs_of old ss) → profile ss' ≡ insert_segment (numbers s) (profile ss)
+profile_put old new before s ss ss' e =
+    sym (profile_runs new ss') ∙ ap run_profile e ∙ profile_insert before (run_of old s) (runs_of old ss) ∙ ap (insert_segment (numbers s)) (profile_runs old ss)
 
 -- the numbers of a side after a segment s was put in
 module _ (s : Segment) (ss ss' : List Segment) (is : ss' ≡ insert_segment s ss) (side : IsSide ss) where

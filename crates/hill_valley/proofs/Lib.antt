@@ -3,7 +3,11 @@ pub mod Opening
 pub mod Kept
 pub mod Profiles
 pub mod Inserting
+pub mod InRow
 pub mod Last
+pub mod Fronts
 pub mod Walk
 pub mod Staircases
 pub mod Tasks
+pub mod Moved
+pub mod Weaving

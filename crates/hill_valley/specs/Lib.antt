@@ -2,5 +2,8 @@ pub mod Ropes
 pub mod Listing
 pub mod Side
 pub mod Descents
+pub mod Rows
+pub mod Places
+pub mod Merging
 pub mod Staircase
 pub mod Laws

@@ -1,7 +1,7 @@
 -- A side as the list of its segments, in rising order of `up`.
 -- Source: J. W. H. Liu, An application of generalized tree pebbling to sparse matrix factorization, 1987 (hill-valley segments).
 use Rattle.std.specs.Prelude.{ℕ, ℤ, pos, negsuc, ◌+◌, ◌≤◌, Bool, false, if◌then◌else◌, nat_lt, List, [], ◌∷◌, ◌++◌, map}
-use Rattle.std.specs.List.{AllByRecursion, flat_map}
+use Rattle.std.specs.List.{AllByRecursion, fold, flat_map}
 use Rattle.std.specs.Ordering.{nat_cmp, match_ordering}
 use Rattle.limits.specs.Limits.{most_total}
 use Rattle.side_laws.specs.Segments.{Segment, net_sum, IsRising}
@@ -68,6 +68,10 @@ join_runs before r s = record { up = s.up; net = s.net + r.net; tasks = if befor
 abbrev pub insert_run : Bool → Run → List Run → List Run
 insert_run before r [] = r ∷ []
 insert_run before r (s ∷ ss) = match_ordering (nat_cmp r.up s.up) (r ∷ s ∷ ss) (join_runs before r s ∷ ss) (s ∷ insert_run before r ss)
+
+-- the runs of the first put in among those of the second, one after another
+abbrev pub move_runs : Bool → List Run → List Run → List Run
+move_runs before ss rs = fold (λ es s. insert_run before s es) rs ss
 
 -- with one more at the end, joined with the last where that goes at least as high
 abbrev pub append_run : Run → List Run → List Run

@@ -9,10 +9,12 @@
 
 pub mod laws;
 mod ropes;
+mod row;
 mod side;
 mod steps;
 #[cfg(test)]
 mod tests;
+mod tree;
 
 pub use ropes::{Rope, Ropes};
 pub use side::{Seg, Side};

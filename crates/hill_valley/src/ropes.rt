@@ -59,6 +59,10 @@ impl Ropes {
         }
     }
 
+    pub(crate) fn alloc(&self) -> Global {
+        *self.joins.allocator()
+    }
+
     /// The list of the one task. Constant time, and no memory.
     pub fn one(&self, task: u32) -> Rope
         ensures list { list_of self.now result ≡ task ∷ [] }

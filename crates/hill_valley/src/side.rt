@@ -1,22 +1,26 @@
-//! Sides over an ordered map.
+//! Sides: rows of few segments, ordered maps of many.
 
 ghost use Rattle.std.specs.Prelude.{◌≡◌, ℕ, ◌+◌, ◌-◌, ◌<◌, ◌≤◌, ◌^◌, max, if◌then◌else◌, nat_lt, [], ◌∷◌, ◌++◌, length, ◌↔◌, IfOk, IfSome, OnOk, OnErr, MatchOption};
-ghost use Rattle.std.specs.Option.{option_map};
 ghost use Rattle.limits.specs.Limits.{most_total};
 ghost use Rattle.side_laws.specs.Segments.{net_sum, lowest, top, Passes, StartsAbove, last_up};
 ghost use Rattle.side_laws.specs.Merging.{AreStuckAt, IsLeastTogether};
 ghost use Rattle.hill_valley.specs.Ropes.{list_of, IsRope, Extends};
-ghost use Rattle.hill_valley.specs.Side.{limit_of, numbers, profile, IsSide, HaveRopes, run_of, runs_of, tasks_of, insert_run, append_run};
+ghost use Rattle.hill_valley.specs.Side.{limit_of, numbers, profile, IsSide, HaveRopes, run_of, runs_of, tasks_of, insert_run, move_runs, append_run};
 ghost use Rattle.hill_valley.specs.Staircase.{AreSteps};
-ghost use Rattle.hill_valley.specs.Descents.{list_seen, list_joined};
+ghost use Rattle.hill_valley.specs.Descents.{first_up};
+ghost use Rattle.hill_valley.specs.Merging.{IsNext};
 
 use crate::NoMemory;
 use crate::ropes::{Rope, Ropes};
-use crate::steps::{Step, add_step};
+use crate::row::{Row, joined};
+use crate::steps::Step;
+use crate::tree::Tree;
 use side_laws::laws;
 use std::alloc::Global;
-use std::collections::BTreeMap;
 use std::marker::Model;
+
+// A side that has at least an eighth as many segments as another goes into it in one pass over both.
+const ALIKE: u64 = 8;
 
 /// A segment: a run of tasks over a hill and down to a valley.
 #[derive(Clone, Copy)]
@@ -29,32 +33,28 @@ pub struct Seg {
     pub tasks: Rope,
 }
 
-// What the map has at an `up`.
-#[derive(Clone, Copy)]
-struct Descent {
-    net: u64,
-    tasks: Rope,
-}
-
 /// Segments that lead from a level of memory down, each over a higher hill than the one before: the `up` values rise
 /// strictly. Each `up` is at most 2^60, and so is the sum of all `net` values.
 #[derive(Drop)]
 pub struct Side {
-    segments: BTreeMap<u64, Descent>,
+    segments: Segments,
+}
+
+// Both have the segments in rising order of `up`.
+#[derive(Drop)]
+enum Segments {
+    Row(Row),
+    Tree(Tree),
 }
 
 impl Model for Side {
     ghost use Rattle.std.specs.Prelude.{List};
     ghost use Rattle.hill_valley.specs.declared.side.Seg.{Seg};
-    ghost use Rattle.hill_valley.specs.Side.{profile, IsSide};
-    ghost use Rattle.hill_valley.specs.Staircase.{AreSteps};
-    ghost use Rattle.hill_valley.specs.Descents.{segs_of};
+    ghost use Rattle.hill_valley.specs.Rows.{segs_in};
 
     ghost Value = { List Seg };
 
-    ghost view = { λ s. segs_of s.segments.entries };
-
-    ghost invariant = { λ s. IsSide (profile (segs_of s.segments.entries)) };
+    ghost view = { λ s. segs_in s.segments };
 }
 
 impl Side {
@@ -63,7 +63,7 @@ impl Side {
         ensures empty { result ≡ [] }
     {
         Side {
-            segments: BTreeMap::new(alloc),
+            segments: Segments::Row(Row::new(alloc)),
         }
     }
 
@@ -71,14 +71,20 @@ impl Side {
     pub fn keeps(&self)
         ensures { IsSide (profile self.now) }
     {
-        let _ = &self.segments;
+        match &self.segments {
+            Segments::Row(row) => row.keeps(),
+            Segments::Tree(tree) => tree.keeps(),
+        }
     }
 
     /// How many segments the side has.
     pub fn len(&self) -> u64
         ensures len { result ≡ length self.now }
     {
-        self.segments.len() as u64
+        match &self.segments {
+            Segments::Row(row) => row.len(),
+            Segments::Tree(tree) => tree.len(),
+        }
     }
 
     /// Takes the first segment out, the one of the least `up`. None exactly where the side has none. Logarithmic time.
@@ -93,8 +99,11 @@ impl Side {
         // what holds of every side
         ensures side { IsSide (profile self.old) }
     {
-        let (up, Descent { net, tasks }) = self.segments.pop_first()?;
-        Some(Seg { up, net, tasks })
+        self.keeps();
+        match &mut self.segments {
+            Segments::Row(row) => row.take_first(),
+            Segments::Tree(tree) => tree.take_first(),
+        }
     }
 
     /// Takes the first segment out, if it goes up by at most `most`. Logarithmic time.
@@ -105,8 +114,8 @@ impl Side {
         // what holds of every side
         ensures side { IsSide (profile self.old) }
     {
-        match self.segments.first_key_value() {
-            Some((up, _)) if *up <= most => self.take_first(),
+        match self.first_up() {
+            Some(up) if up <= most => self.take_first(),
             _ => None,
         }
     }
@@ -133,10 +142,9 @@ impl Side {
     {
         laws::inserting();
         laws::merging();
-        let own = self.segments.get(&seg.up).copied();
-        let descent = joined(ropes, own, seg, before)?;
-        self.segments.insert(seg.up, descent)?;
-        Ok(())
+        self.keeps();
+        self.make_room(seg.up)?;
+        self.put(ropes, seg, before)
     }
 
     /// Adds a run of tasks at the end that goes `up` above the level there and ends `down` lower. Where the last segment
@@ -180,13 +188,34 @@ impl Side {
         self.insert(ropes, seg, false)
     }
 
+    /// Moves each segment of another side into this one. It is joined with one of the same `up`: its list comes first where
+    /// `before` is true. The ropes of both are of these ropes, and all `net` values sum to at most 2^60. Logarithmic time for
+    /// each segment of the other side. Where memory is wanting segments of this side may be lost, and the ropes may hold more.
+    pub fn merge(&mut self, other: Side, ropes: &mut Ropes, before: bool) -> Result<(), NoMemory>
+        requires other { HaveRopes ropes.old other }
+        requires ropes { HaveRopes ropes.old self.old }
+        requires net { net_sum (profile other) + net_sum (profile self.old) ≤ most_total }
+        ensures segments { OnOk result (
+            runs_of ropes.new self.new ≡ move_runs before (runs_of ropes.old other) (runs_of ropes.old self.old)) }
+        ensures net { OnOk result (net_sum (profile self.new) ≡ net_sum (profile other) + net_sum (profile self.old)) }
+        ensures ropes { HaveRopes ropes.new self.new }
+        ensures kept { Extends ropes.old ropes.new }
+    {
+        laws::inserting();
+        if other.len().saturating_mul(ALIKE) < self.len() {
+            self.take_in(other, ropes, before)
+        } else {
+            self.weave(other, ropes, before)
+        }
+    }
+
     /// The `up` of the last segment, the greatest, and 0 where there is none. Logarithmic time.
     pub fn last_up(&self) -> u64
         ensures value { result ≡ last_up (profile self.now) }
     {
-        match self.segments.last_key_value() {
-            Some((up, _)) => *up,
-            None => 0,
+        match &self.segments {
+            Segments::Row(row) => row.last_up(),
+            Segments::Tree(tree) => tree.last_up(),
         }
     }
 
@@ -197,11 +226,10 @@ impl Side {
         ensures rope { IfOk result (λ rope. IsRope ropes.new rope) }
         ensures kept { Extends ropes.old ropes.new }
     {
-        let mut tasks = ropes.empty();
-        for (_up, descent) in self.segments.iter() {
-            tasks = ropes.join(tasks, descent.tasks)?;
+        match &self.segments {
+            Segments::Row(row) => row.tasks(ropes),
+            Segments::Tree(tree) => tree.tasks(ropes),
         }
-        Ok(tasks)
     }
 
     /// The level at which the next segment would pass the bound, or the level after the last segment where none would.
@@ -212,14 +240,10 @@ impl Side {
         ensures lowest { result ≡ lowest (limit_of bound) level (profile self.now) }
     {
         let limit = limit_above(bound);
-        let mut at = level;
-        for (up, descent) in self.segments.iter() {
-            if limit <= at + *up {
-                break;
-            }
-            at -= descent.net;
+        match &self.segments {
+            Segments::Row(row) => row.lowest(level, limit),
+            Segments::Tree(tree) => tree.lowest(level, limit),
         }
-        at
     }
 
     /// The greatest of the level and of the memories that the segments reach when they are run from it. The level is as for
@@ -232,13 +256,10 @@ impl Side {
         ensures passes { (limit : ℕ) → (result < limit) ↔ ((level < limit) × Passes limit level (profile self.now)) }
     {
         laws::one_side();
-        let mut at = level;
-        let mut highest = level;
-        for (up, descent) in self.segments.iter() {
-            highest = highest.max(at + *up);
-            at -= descent.net;
+        match &self.segments {
+            Segments::Row(row) => row.top(level),
+            Segments::Tree(tree) => tree.top(level),
         }
-        highest
     }
 
     /// The steps of the side from a level, which is as for [`Side::lowest`]. Linear time.
@@ -247,17 +268,90 @@ impl Side {
         requires level { level ≤ most_total }
         ensures steps { IfOk result (λ steps. AreSteps level (profile self.now) steps.items) }
     {
-        let mut steps = Vec::new(alloc);
-        let mut at = level;
-        let mut most = level;
-        for (up, descent) in self.segments.iter() {
-            most = most.max(at + *up);
-            at -= descent.net;
-            if 0 < descent.net {
-                add_step(&mut steps, most, at)?;
-            }
+        match &self.segments {
+            Segments::Row(row) => row.steps(alloc, level),
+            Segments::Tree(tree) => tree.steps(alloc, level),
         }
-        Ok(steps)
+    }
+
+    // The `up` of the first segment.
+    fn first_up(&self) -> Option<u64>
+        ensures value { result ≡ first_up self.now }
+        ensures side { IsSide (profile self.now) }
+    {
+        self.keeps();
+        match &self.segments {
+            Segments::Row(row) => row.first_up(),
+            Segments::Tree(tree) => tree.first_up(),
+        }
+    }
+
+    // Puts the segment in as the side is.
+    fn put(&mut self, ropes: &mut Ropes, seg: Seg, before: bool) -> Result<(), NoMemory>
+        requires rope { IsRope ropes.old seg.tasks }
+        requires ropes { HaveRopes ropes.old self.old }
+        requires up { seg.up ≤ most_total }
+        requires net { net_sum (profile self.old) + seg.net ≤ most_total }
+        ensures segments { OnOk result (
+            runs_of ropes.new self.new ≡ insert_run before (run_of ropes.old seg) (runs_of ropes.old self.old)) }
+        ensures ropes { HaveRopes ropes.new self.new }
+        ensures err { OnErr result (self.new ≡ self.old) }
+        ensures kept { Extends ropes.old ropes.new }
+    {
+        match &mut self.segments {
+            Segments::Row(row) => row.insert(ropes, seg, before),
+            Segments::Tree(tree) => tree.insert(ropes, seg, before),
+        }
+    }
+
+    // Puts the segments of another side in, one after another.
+    fn take_in(&mut self, mut other: Side, ropes: &mut Ropes, before: bool) -> Result<(), NoMemory>
+        requires other { HaveRopes ropes.old other }
+        requires ropes { HaveRopes ropes.old self.old }
+        requires net { net_sum (profile other) + net_sum (profile self.old) ≤ most_total }
+        ensures segments { OnOk result (
+            runs_of ropes.new self.new ≡ move_runs before (runs_of ropes.old other) (runs_of ropes.old self.old)) }
+        ensures ropes { HaveRopes ropes.new self.new }
+        ensures kept { Extends ropes.old ropes.new }
+    {
+        while let Some(seg) = other.take_first() {
+            self.insert(ropes, seg, before)?;
+        }
+        Ok(())
+    }
+
+    // Makes one row of both sides, in one pass.
+    fn weave(&mut self, mut other: Side, ropes: &mut Ropes, before: bool) -> Result<(), NoMemory>
+        requires other { HaveRopes ropes.old other }
+        requires ropes { HaveRopes ropes.old self.old }
+        requires net { net_sum (profile other) + net_sum (profile self.old) ≤ most_total }
+        ensures segments { OnOk result (
+            runs_of ropes.new self.new ≡ move_runs before (runs_of ropes.old other) (runs_of ropes.old self.old)) }
+        ensures ropes { HaveRopes ropes.new self.new }
+        ensures kept { Extends ropes.old ropes.new }
+    {
+        laws::inserting();
+        self.keeps();
+        other.keeps();
+        let count = self.len().saturating_add(other.len());
+        let mut row = Row::with_room(ropes.alloc(), count)?;
+        while let Some(seg) = take_lesser(self, &mut other, ropes, before)? {
+            row.push(seg)?;
+        }
+        self.segments = Segments::Row(row);
+        Ok(())
+    }
+
+    // Makes a tree of a row that is too long for a segment of this `up`.
+    fn make_room(&mut self, up: u64) -> Result<(), NoMemory>
+        ensures same { self.new ≡ self.old }
+    {
+        if let Segments::Row(row) = &self.segments
+            && row.is_long_for(up)
+        {
+            self.segments = Segments::Tree(row.to_tree()?);
+        }
+        Ok(())
     }
 }
 
@@ -268,36 +362,34 @@ fn limit_above(bound: i64) -> u64
     if bound < 0 { 0 } else { bound as u64 + 1 }
 }
 
-// What the map is to have at the `up` of a segment, where it has `own` there so far.
-fn joined(
+// Takes the first segment of both sides, by `up`. Where each has one of this `up`, they become one.
+fn take_lesser(
+    own: &mut Side,
+    other: &mut Side,
     ropes: &mut Ropes,
-    own: Option<Descent>,
-    seg: Seg,
     before: bool,
-) -> Result<Descent, NoMemory>
-    requires rope { IsRope ropes.old seg.tasks }
-    requires own { IfSome own (λ d. IsRope ropes.old d.tasks × (d.net + seg.net < 2 ^ 64)) }
-    ensures value { IfOk result (λ d.
-        list_seen ropes.new d ≡ list_joined before (seg.net, list_of ropes.old seg.tasks) (option_map (list_seen ropes.old) own)) }
-    ensures rope { IfOk result (λ d. IsRope ropes.new d.tasks) }
+) -> Result<Option<Seg>, NoMemory>
+    requires other { HaveRopes ropes.old other.old }
+    requires own { HaveRopes ropes.old own.old }
+    requires net { net_sum (profile other.old) + net_sum (profile own.old) ≤ most_total }
+    ensures next { IfOk result (IsNext before ropes.old ropes.new other.old own.old other.new own.new) }
+    ensures rope { IfOk result (λ next. IfSome next (λ s. IsRope ropes.new s.tasks)) }
+    ensures fewer { IfOk result (λ next. IfSome next (λ _. length other.new + length own.new < length other.old + length own.old)) }
+    ensures net { net_sum (profile other.new) + net_sum (profile own.new) ≤ net_sum (profile other.old) + net_sum (profile own.old) }
+    ensures other { HaveRopes ropes.new other.new }
+    ensures own { HaveRopes ropes.new own.new }
     ensures kept { Extends ropes.old ropes.new }
 {
-    match own {
-        Some(descent) => {
-            let (first, second) = if before {
-                (seg.tasks, descent.tasks)
-            } else {
-                (descent.tasks, seg.tasks)
-            };
-            let tasks = ropes.join(first, second)?;
-            Ok(Descent {
-                net: descent.net + seg.net,
-                tasks,
-            })
-        }
-        None => Ok(Descent {
-            net: seg.net,
-            tasks: seg.tasks,
-        }),
+    own.keeps();
+    let Some(up) = own.first_up() else {
+        return Ok(other.take_first());
+    };
+    match other.take_first_within(up) {
+        None => Ok(own.take_first()),
+        Some(seg) if seg.up < up => Ok(Some(seg)),
+        Some(seg) => match own.take_first() {
+            Some(first) => Ok(Some(joined(ropes, first, seg, before)?)),
+            None => Ok(Some(seg)),
+        },
     }
 }

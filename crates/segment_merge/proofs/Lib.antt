@@ -5,7 +5,6 @@ pub mod Crossing
 pub mod Interleaving
 pub mod AtUp
 pub mod Kept
-pub mod Moved
 pub mod Earlier
 pub mod Later
 pub mod Longest

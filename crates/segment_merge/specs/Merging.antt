@@ -1,10 +1,11 @@
 -- Several sides merged into one.
 -- Source: Liu 1987: the segments of all subtrees by what they need above the level.
-use Rattle.std.specs.Prelude.{◌≡◌, ℕ, ◌==◌, ◌↔◌, Bool, true, List, [], ◌∷◌, length, map, filter, sum_by}
-use Rattle.std.specs.List.{AllByRecursion, fold, flat_map}
+use Rattle.std.specs.Prelude.{◌≡◌, ℕ, ◌==◌, ◌↔◌, true, List, [], ◌∷◌, length, map, filter, sum_by}
+use Rattle.std.specs.List.{AllByRecursion, flat_map}
 use Rattle.side_laws.specs.Counting.{greatest_of}
 use Rattle.side_laws.specs.Segments.{Segment, net_sum, IsRising}
 use Rattle.hill_valley.specs.declared.side.Seg.{Seg}
+pub use Rattle.hill_valley.specs.Side.{move_runs}
 use Rattle.hill_valley.specs.Side.{profile, IsSide, HaveRopes, Run, runs_of, run_profile, tasks_of, insert_run}
 
 -- ---- runs
@@ -18,10 +19,6 @@ insert_runs (s ∷ ss) rs = insert_run true s (insert_runs ss rs)
 abbrev pub merge_runs : List (List Run) → List Run
 merge_runs [] = []
 merge_runs (side ∷ sides) = insert_runs side (merge_runs sides)
-
--- the runs put in one after another, from the first on
-abbrev pub move_runs : Bool → List Run → List Run → List Run
-move_runs before ss rs = fold (λ es s. insert_run before s es) rs ss
 
 -- the runs that go up by this
 abbrev pub runs_at : ℕ → List Run → List Run

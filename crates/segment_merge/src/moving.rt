@@ -8,15 +8,15 @@ ghost use Rattle.hill_valley.specs.Side.{profile, HaveRopes, runs_of};
 ghost use Rattle.segment_merge.specs.Merging.{move_runs};
 
 use crate::NoMemory;
-use hill_valley::{Ropes, Side, laws as run_laws};
+use hill_valley::{Ropes, Side};
 use std::sync::ledger::Ledger;
 use step_count::Steps;
 
 /// Moves each segment of one side into another, a step for each. It is joined with one of the same `up`: its list comes first where
 /// `before` is true. The ropes of both are of these ropes, and all `net` values sum to at most 2^60. Logarithmic time for each segment.
-/// Where memory is wanting the ropes may hold more, and what was counted stays.
+/// Where memory is wanting segments may be lost, the ropes may hold more, and what was counted stays.
 pub fn move_all<L: Ledger>(
-    mut from: Side,
+    from: Side,
     into: &mut Side,
     before: bool,
     ropes: &mut Ropes,
@@ -33,11 +33,15 @@ pub fn move_all<L: Ledger>(
     ensures most_steps { steps.new ≤ steps.old + length from }
     ensures ticks_stay { steps.old ≤ steps.new }
 {
-    run_laws::runs();
-    from.keeps();
-    while let Some(seg) = from.take_first() {
+    count_moves(from.len(), steps);
+    into.merge(from, ropes, before)
+}
+
+// A step for each segment that is moved.
+fn count_moves<L: Ledger>(segments: u64, steps: &mut Steps<L>)
+    ensures { steps.new ≡ steps.old + segments }
+{
+    for _ in 0..segments {
         steps.tick();
-        into.insert(ropes, seg, before)?;
     }
-    Ok(())
 }

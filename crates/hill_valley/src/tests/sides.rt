@@ -80,6 +80,57 @@ fn segments_are_put_in_at_their_places(rt: HostRuntime) -> Result<(), Fail> {
     Ok(())
 }
 
+// A segment at each even `up` to 1,200, of the task of the same number, and then three inside and one at each end.
+fn long_side(alloc: Global) -> Result<RopedSide, Fail> {
+    let mut side = RopedSide::new(alloc);
+    for half in 1..601u32 {
+        side.append(u64::from(half) * 2, 1, half * 2)?;
+    }
+    side.insert(601, 1, 601, true)?;
+    side.insert(600, 2, 7, true)?;
+    side.insert(602, 2, 8, false)?;
+    side.insert(1, 1, 1, true)?;
+    side.append(1201, 1, 1201)?;
+    Ok(side)
+}
+
+#[test]
+fn a_long_side_takes_in_segments_anywhere(rt: HostRuntime) -> Result<(), Fail> {
+    let alloc = rt.alloc();
+    let mut side = long_side(alloc)?;
+    // 600 segments, one between two of them, and one at each end
+    assert_eq!(rt; side.len(), 603);
+    // from level 607, of which the last segment starts one above the end
+    assert_eq!(rt; side.top(0), 1202);
+    assert_eq!(rt; side.lowest(0, 608), 605);
+    assert_eq!(rt; side.tasks(alloc)?.len(), 605);
+    let mut taken = 0u64;
+    while taken < 603 {
+        let seg = side.take_first(alloc)?;
+        let (up, net, tasks) = nth_segment(taken);
+        assert_eq!(rt;
+            seg.as_ref().map(|s| (s.up, s.net, s.tasks.len())),
+            Some((up, net, tasks))
+        );
+        taken += 1;
+    }
+    assert!(rt; side.take_first(alloc)?.is_none());
+    Ok(())
+}
+
+// The `up`, the `net` and how many tasks the segment at this place of the long side has.
+fn nth_segment(place: u64) -> (u64, u64, usize) {
+    match place {
+        0 => (1, 1, 1),
+        300 => (600, 3, 2),
+        301 => (601, 1, 1),
+        302 => (602, 3, 2),
+        1..=299 => (place.saturating_mul(2), 1, 1),
+        602 => (1201, 1, 1),
+        _ => (place.saturating_sub(1).saturating_mul(2), 1, 1),
+    }
+}
+
 // A number below `below`.
 fn next(dice: &mut Pcg32, below: u64) -> u64 {
     u64::from(dice.next_word()) % below.max(1)
