@@ -8,12 +8,14 @@
 #![tactic(auto)]
 
 pub mod laws;
+mod numbers;
 mod ropes;
 mod side;
 mod steps;
 #[cfg(test)]
 mod tests;
 
+pub use numbers::Numbers;
 pub use ropes::{Rope, Ropes};
 pub use side::{Seg, Side};
 use std::alloc::AllocError;
