@@ -7,3 +7,4 @@ pub mod Last
 pub mod Walk
 pub mod Staircases
 pub mod Tasks
+pub mod Numbering

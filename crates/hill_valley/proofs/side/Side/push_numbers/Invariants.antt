@@ -1,0 +1,10 @@
+use Rattle.std.proofs.Common.{◌++◌}
+use Rattle.hill_valley.specs.Numbers.{segments_of, first_down_to}
+use Rattle.hill_valley.specs.Side.{profile}
+use Rattle.hill_valley.proofs.Numbering.{Numbering}
+use Rattle.hill_valley.proofs.side.Side.push_numbers.Given as goal
+
+abbrev pub invariant-loop-up : goal.invariant-loop-up
+invariant-loop-up l = record {
+  numbering : Numbering l.stop (segments_of l.fn.numbers.items ++ first_down_to l.stop l.level (profile l.self)) l.at l.up-iterator l.numbers.items;
+}
