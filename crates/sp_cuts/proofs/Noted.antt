@@ -35,7 +35,7 @@ use Rattle.sp_cuts.proofs.Unnamed.{same_numbers}
 -- ---- lists of notes
 
 abbrev lists : List SeriesNote → List PartNote → List Segment → Noted
-lists series parts gone = record { series = series; parts = parts; gone = gone }
+lists ss ps gone = record { series = ss; parts = ps; gone = gone }
 
 same_lists : (s s' : List SeriesNote) (p p' : List PartNote) (g g' : List Segment) → s ≡ s' → p ≡ p' → g ≡ g' → lists s p g ≡ lists s' p' g'
 same_lists s s' p p' g g' es ep eg = rw (es, ep, eg) refl
@@ -72,13 +72,13 @@ all_lead_down laws ropes (p ∷ ps) h = (leads_down laws ropes p h.0, all_lead_d
 
 -- ---- a series
 
-module _ (a b : Part) (between far : ℕ) (series series' : List SeriesNote) (parts : List PartNote) (g0 g1 g2 : List Numbers) (up : ℕ) where
+module _ (a b : Part) (between far : ℕ) (ss ss' : List SeriesNote) (ps : List PartNote) (g0 g1 g2 : List Numbers) (up : ℕ) where
   pub noted_in_first : a.least ≤ b.least
       → between ≡ length (first_down_to 0 b.initial (profile b.front)) → segments_of g1 ≡ segments_of g0 ++ first_down_to 0 b.initial (profile b.front)
       → far ≡ length (first_down_to (b.least + 1) a.fin (profile a.back)) → segments_of g2 ≡ segments_of g1 ++ first_down_to (b.least + 1) a.fin (profile a.back)
       → up ≡ last_up (profile b.back)
-      → series' ≡ series ++ record { in_first = true; near_up = up; near_least = b.least; between_start = b.initial; far_start = a.fin; between = between; far = far } ∷ []
-      → NotesSeries a b (lists series parts (segments_of g0)) (lists series' parts (segments_of g2))
+      → ss' ≡ ss ++ record { in_first = true; near_up = up; near_least = b.least; between_start = b.initial; far_start = a.fin; between = between; far = far } ∷ []
+      → NotesSeries a b (lists ss ps (segments_of g0)) (lists ss' ps (segments_of g2))
   noted_in_first le n1 e1 n2 e2 u put =
       let first : List Segment = first_down_to 0 b.initial (profile b.front) in
       let second : List Segment = first_down_to (b.least + 1) a.fin (profile a.back) in (
@@ -101,15 +101,15 @@ module _ (a b : Part) (between far : ℕ) (series series' : List SeriesNote) (pa
             far_is = refl;
           });
         },
-        same_lists _ _ _ _ _ _ put (sym (append-nil parts)) (e2 ∙ ap (λ (l : List Segment). l ++ second) e1 ∙ append_assoc (segments_of g0) first second),
+        same_lists _ _ _ _ _ _ put (sym (append-nil ps)) (e2 ∙ ap (λ (l : List Segment). l ++ second) e1 ∙ append_assoc (segments_of g0) first second),
       )
 
   pub noted_in_second : b.least < a.least
       → between ≡ length (first_down_to 0 a.fin (profile a.back)) → segments_of g1 ≡ segments_of g0 ++ first_down_to 0 a.fin (profile a.back)
       → far ≡ length (first_down_to (a.least + 1) b.initial (profile b.front)) → segments_of g2 ≡ segments_of g1 ++ first_down_to (a.least + 1) b.initial (profile b.front)
       → up ≡ last_up (profile a.front)
-      → series' ≡ series ++ record { in_first = false; near_up = up; near_least = a.least; between_start = a.fin; far_start = b.initial; between = between; far = far } ∷ []
-      → NotesSeries a b (lists series parts (segments_of g0)) (lists series' parts (segments_of g2))
+      → ss' ≡ ss ++ record { in_first = false; near_up = up; near_least = a.least; between_start = a.fin; far_start = b.initial; between = between; far = far } ∷ []
+      → NotesSeries a b (lists ss ps (segments_of g0)) (lists ss' ps (segments_of g2))
   noted_in_second lt n1 e1 n2 e2 u put =
       let first : List Segment = first_down_to 0 a.fin (profile a.back) in
       let second : List Segment = first_down_to (a.least + 1) b.initial (profile b.front) in (
@@ -132,23 +132,21 @@ module _ (a b : Part) (between far : ℕ) (series series' : List SeriesNote) (pa
             far_is = refl;
           });
         },
-        same_lists _ _ _ _ _ _ put (sym (append-nil parts)) (e2 ∙ ap (λ (l : List Segment). l ++ second) e1 ∙ append_assoc (segments_of g0) first second),
+        same_lists _ _ _ _ _ _ put (sym (append-nil ps)) (e2 ∙ ap (λ (l : List Segment). l ++ second) e1 ∙ append_assoc (segments_of g0) first second),
       )
 
 -- ---- a part of parts side by side
 
-pub part_noted : (p : Part) (read : Bool) (front back front_up back_up : ℕ) (series : List SeriesNote) (parts parts' : List PartNote) (g0 g1 : List Numbers)
-    → front ≡ (if read then length (profile p.front) else 0) → back ≡ (if read then length (profile p.back) else 0)
-    → segments_of g1 ≡ segments_of g0 ++ (if read then profile p.front ++ profile p.back else [])
-    → front_up ≡ last_up (profile p.front) → back_up ≡ last_up (profile p.back)
-    → parts' ≡ parts ++ record { least = p.least; front_up = front_up; back_up = back_up; read = read; front = front; back = back } ∷ []
-    → NotesPart p read (lists series parts (segments_of g0)) (lists series parts' (segments_of g1))
-part_noted p read front back front_up back_up series parts parts' g0 g1 nf nb e uf ub put = (
-  record { least = p.least; front_up = front_up; back_up = back_up; read = read; front = front; back = back },
-  refl,
-  record { least = refl; front_up = uf; back_up = ub; front_count = nf; back_count = nb },
-  same_lists _ _ _ _ _ _ (sym (append-nil series)) put e,
-)
+if_read : {A : Type 0} (read : Bool) (x y z : A) → read ≡ true → z ≡ x → z ≡ (if read then x else y)
+if_read read x y z is e = rw is e
+
+pub all_counted : (read : Bool) (n level : ℕ) (side : List Segment) → read ≡ true → n ≡ length (first_down_to 0 level side) → n ≡ (if read then length side else 0)
+all_counted read n level side is e = if_read read (length side) 0 n is (e ∙ ap length (all_of_side level side))
+
+pub all_put : (read : Bool) (front back : ℕ) (first second : List Segment) (g0 g1 g2 : List Segment) → read ≡ true → g1 ≡ g0 ++ first_down_to 0 front first → g2 ≡ g1 ++ first_down_to 0 back second
+    → g2 ≡ g0 ++ (if read then first ++ second else [])
+all_put read front back first second g0 g1 g2 is e f =
+    rw is (f ∙ ap (λ (l : List Segment). g1 ++ l) (all_of_side back second) ∙ ap (λ (l : List Segment). l ++ second) (e ∙ ap (λ (l : List Segment). g0 ++ l) (all_of_side front first)) ∙ append_assoc g0 first second)
 
 -- ---- all of them
 
@@ -183,18 +181,24 @@ pub record SoFar (ps : List Part) (most i : ℕ) (old now : Noted) : Type 0 wher
 pub so_far_starts : (ps : List Part) (most : ℕ) (old : Noted) → SoFar ps most 0 old old
 so_far_starts ps most old = record { ns = []; each = tt; none = λ le. refl; one = omega arith; told = nothing_more old }
 
-read_count : (b : Bool) (i most : ℕ) → b ≡ not (nat_eq i most) → (i < most → (if b then 0 else 1) ≡ 0) × (most < i → (if b then 0 else 1) ≡ 0) × ((if b then 0 else 1) ≤ 1)
-read_count b i most e = rw e (go (nat_eq i most) refl)
-  where
-    go : (x : Bool) → nat_eq i most ≡ x → (i < most → (if not x then 0 else 1) ≡ 0) × (most < i → (if not x then 0 else 1) ≡ 0) × ((if not x then 0 else 1) ≤ 1)
-    go true h = (λ lt. absurd (differ lt), λ lt. absurd (differ' lt), omega arith)
-      where
-        differ : i < most → ⊥
-        differ lt = grind (arith, nat_tests)
+-- whether one more was left unread
+abbrev left_unread : Bool → ℕ
+left_unread read = if read then 0 else 1
 
-        differ' : most < i → ⊥
-        differ' lt = grind (arith, nat_tests)
-    go false h = (λ lt. refl, λ lt. refl, omega arith)
+record LeftUnread (read : Bool) (i most : ℕ) : Type 0 where
+  before : i < most → left_unread read ≡ 0
+  behind : most < i → left_unread read ≡ 0
+  one : left_unread read ≤ 1
+
+left_unread_at : (x : Bool) (i most : ℕ) → nat_eq i most ≡ x → LeftUnread (not x) i most
+left_unread_at true i most h = record { before = λ lt. absurd (less lt); behind = λ lt. absurd (more lt); one = omega arith }
+  where
+    less : i < most → ⊥
+    less lt = grind (arith, nat_tests)
+
+    more : most < i → ⊥
+    more lt = grind (arith, nat_tests)
+left_unread_at false i most h = record { before = λ lt. refl; behind = λ lt. refl; one = omega arith }
 
 pub so_far_on : (ps : List Part) (most i : ℕ) (old now now' : Noted) (p : Part) → SoFar ps most i old now → i < length ps → p ≡ get_or ps i p → NotesPart p (not (nat_eq i most)) now now' → SoFar ps most (i + 1) old now'
 so_far_on ps most i old now now' p s lt here (n, read, note, more) =
@@ -203,11 +207,11 @@ so_far_on ps most i old now now' p s lt here (n, read, note, more) =
     let next : take (i + 1) ps ≡ take i ps ++ p ∷ [] = take_more ps i p lt ∙ ap (λ (x : Part). take i ps ++ x ∷ []) (sym here) in
     let cuts : map numbers_of_part (take (i + 1) ps) ≡ cs ++ c ∷ [] = ap (map numbers_of_part) next ∙ map-append numbers_of_part (take i ps) (p ∷ []) in
     let u = unread_snoc s.ns n in
-    let r = read_count n.read i most read in
+    let r : LeftUnread n.read i most = subst (λ (x : Bool). LeftUnread x i most) (sym read) (left_unread_at (nat_eq i most) i most refl) in
     record {
       ns = s.ns ++ n ∷ [];
       each = subst (λ (l : List CutNumbers). ArePartNotes l (s.ns ++ n ∷ [])) (sym cuts) (notes_snoc cs c s.ns n s.each note);
-      none = λ le. let z = s.none (omega arith) in let y = r.0 (omega arith) in omega arith;
+      none = λ le. let z = s.none (omega arith) in let y = r.before (omega arith) in omega arith;
       one = some (lt_or_le most i) u r;
       told = more ∙ ap (λ (x : Noted). both_noted x (lists [] (n ∷ []) (segments_read c n))) s.told ∙ more_twice old (parts_noted (take i ps) s.ns) (lists [] (n ∷ []) (segments_read c n))
           ∙ ap (λ (l : List Segment). both_noted old (lists [] (s.ns ++ n ∷ []) l)) (sym (segments_snoc cs c s.ns n s.each))
@@ -217,10 +221,9 @@ so_far_on ps most i old now now' p s lt here (n, read, note, more) =
     lt_or_le : (m k : ℕ) → (m < k) ⊎ (k ≤ m)
     lt_or_le m k = grind arith
 
-    some : (most < i) ⊎ (i ≤ most) → unread (s.ns ++ n ∷ []) ≡ unread s.ns + (if n.read then 0 else 1)
-        → (i < most → (if n.read then 0 else 1) ≡ 0) × (most < i → (if n.read then 0 else 1) ≡ 0) × ((if n.read then 0 else 1) ≤ 1) → unread (s.ns ++ n ∷ []) ≤ 1
-    some (inl less) u r = let z = r.1 less in let one = s.one in omega arith
-    some (inr more) u r = let z = s.none more in let le = r.2 in omega arith
+    some : (most < i) ⊎ (i ≤ most) → unread (s.ns ++ n ∷ []) ≡ unread s.ns + left_unread n.read → LeftUnread n.read i most → unread (s.ns ++ n ∷ []) ≤ 1
+    some (inl less) u r = let z = r.behind less in let one = s.one in omega arith
+    some (inr more) u r = let z = s.none more in let le = r.one in omega arith
 
 pub so_far_ends : (ps : List Part) (most i : ℕ) (old now : Noted) → SoFar ps most i old now → length ps ≤ i → NotesParts ps old now
 so_far_ends ps most i old now s le =
@@ -337,18 +340,34 @@ module _ (laws : SideLaws) where
       let q = gathered (gather many s.st no_parts) s.st' s.pushed in
       many_fit ropes s.st q.ts q.rest items many q.is s.piled
 
-  module _ (items ps : List Part) (many at : ℕ) (n : at + many ≡ length items) (d : ps ≡ drop at items) where
+  -- the slice from a place on
+  from_place : (items : List Part) (k : ℕ) → take (length items - k) (drop k items) ≡ drop k items
+  from_place items k = take_all (length items - k) (drop k items) (omega (arith, length-drop k items))
+
+  module _ (items : List Part) (many : ℕ) (enough : many ≤ length items) where
+    abbrev place : ℕ
+    place = length items - many
+
+    abbrev ps : List Part
+    ps = take (length items - place) (drop place items)
+
+    n : place + many ≡ length items
+    n = omega arith
+
+    d : ps ≡ drop place items
+    d = from_place items place
+
     pub parts_lead_down : (position : Position) (next : ℕ) (ropes : List (List ℕ)) → position ≡ Par many → PositionReady ropes items position next → AllByRecursion LeadsDown ps
     parts_lead_down position next ropes is r =
         let s = subst (λ (x : Position). PositionReady ropes items x next) is r in
         let q = gathered (gather many s.st no_parts) s.st' s.pushed in
-        let t = par_taken ropes s.st q.ts q.rest items (take at items) ps at many q.is s.piled n refl d in
+        let t = par_taken ropes s.st q.ts q.rest items (take place items) ps place many q.is s.piled n refl d in
         all_lead_down laws ropes ps (all_rough ropes (suc (stack_tasks q.rest)) q.ts ps t.all)
 
     par_go : (old new : Noted) → NotesParts ps old new → NotesPosition items (Par many) old new
     par_go old new (ns, each, one, put) ropes st st' piled pushed =
         let q = gathered (gather many st no_parts) st' pushed in
-        let t = par_taken ropes st q.ts q.rest items (take at items) ps at many q.is piled n refl d in
+        let t = par_taken ropes st q.ts q.rest items (take place items) ps place many q.is piled n refl d in
         let e = parts_numbers ropes (suc (stack_tasks q.rest)) q.ts ps t.all in
         let own : Noted = lists [] ns (all_segments_read (map numbers_at (list_of_parts q.ts)) ns) in (
           own,

@@ -1,6 +1,6 @@
 //! The notes of a position, made before the parts of its term are used up.
 
-ghost use Rattle.std.specs.Prelude.{◌≡◌, ◌+◌, ◌≤◌, ◌++◌, ℕ, List, length, if◌then◌else◌, IfOk, OnOk};
+ghost use Rattle.std.specs.Prelude.{◌≡◌, ◌+◌, ◌≤◌, ◌++◌, ℕ, List, [], length, if◌then◌else◌, IfOk, OnOk};
 ghost use Rattle.std.specs.List.{AllByRecursion};
 ghost use Rattle.side_laws.specs.Segments.{net_sum};
 ghost use Rattle.hill_valley.specs.Numbers.{segments_of, first_down_to};
