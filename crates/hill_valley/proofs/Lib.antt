@@ -9,5 +9,6 @@ pub mod Fronts
 pub mod Walk
 pub mod Staircases
 pub mod Tasks
+pub mod Numbering
 pub mod Moved
 pub mod Weaving

@@ -1,6 +1,7 @@
 pub mod Ropes
 pub mod Listing
 pub mod Side
+pub mod Numbers
 pub mod Descents
 pub mod Rows
 pub mod Places

@@ -8,6 +8,7 @@
 #![tactic(auto)]
 
 pub mod laws;
+mod numbers;
 mod ropes;
 mod row;
 mod side;
@@ -16,6 +17,7 @@ mod steps;
 mod tests;
 mod tree;
 
+pub use numbers::Numbers;
 pub use ropes::{Rope, Ropes};
 pub use side::{Seg, Side};
 use std::alloc::AllocError;

@@ -6,11 +6,13 @@ ghost use Rattle.side_laws.specs.Segments.{net_sum, lowest, top, Passes, StartsA
 ghost use Rattle.side_laws.specs.Merging.{AreStuckAt, IsLeastTogether};
 ghost use Rattle.hill_valley.specs.Ropes.{list_of, IsRope, Extends};
 ghost use Rattle.hill_valley.specs.Side.{limit_of, numbers, profile, IsSide, HaveRopes, run_of, runs_of, tasks_of, insert_run, move_runs, append_run};
+ghost use Rattle.hill_valley.specs.Numbers.{segments_of, first_down_to};
 ghost use Rattle.hill_valley.specs.Staircase.{AreSteps};
 ghost use Rattle.hill_valley.specs.Descents.{first_up};
 ghost use Rattle.hill_valley.specs.Merging.{IsNext};
 
 use crate::NoMemory;
+use crate::numbers::Numbers;
 use crate::ropes::{Rope, Ropes};
 use crate::row::{Row, joined};
 use crate::steps::Step;
@@ -259,6 +261,25 @@ impl Side {
         match &self.segments {
             Segments::Row(row) => row.top(level),
             Segments::Tree(tree) => tree.top(level),
+        }
+    }
+
+    /// Puts the numbers of the first segments behind the others, as long as they start at `stop` or above: all of them for a `stop` of 0.
+    /// The segments are run from `level`, which is at least the sum of the `net` values. Linear time in those that are put there.
+    /// Where memory is wanting some may be put there.
+    pub fn push_numbers(
+        &self,
+        level: u64,
+        stop: u64,
+        numbers: &mut Vec<Numbers>,
+    ) -> Result<(), NoMemory>
+        requires room { net_sum (profile self.now) ≤ level }
+        ensures numbers { OnOk result (
+            segments_of numbers.new.items ≡ segments_of numbers.old.items ++ first_down_to stop level (profile self.now)) }
+    {
+        match &self.segments {
+            Segments::Row(row) => row.push_numbers(level, stop, numbers),
+            Segments::Tree(tree) => tree.push_numbers(level, stop, numbers),
         }
     }
 

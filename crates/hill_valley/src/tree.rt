@@ -6,10 +6,12 @@ ghost use Rattle.limits.specs.Limits.{most_total};
 ghost use Rattle.side_laws.specs.Segments.{net_sum, lowest, top, last_up};
 ghost use Rattle.hill_valley.specs.Ropes.{list_of, IsRope, Extends};
 ghost use Rattle.hill_valley.specs.Side.{profile, IsSide, HaveRopes, run_of, runs_of, tasks_of, insert_run};
+ghost use Rattle.hill_valley.specs.Numbers.{segments_of, first_down_to};
 ghost use Rattle.hill_valley.specs.Staircase.{AreSteps};
 ghost use Rattle.hill_valley.specs.Descents.{list_seen, list_joined, first_up};
 
 use crate::NoMemory;
+use crate::numbers::Numbers;
 use crate::ropes::{Rope, Ropes};
 use crate::side::Seg;
 use crate::steps::{Step, add_step};
@@ -159,6 +161,30 @@ impl Tree {
             at -= descent.net;
         }
         highest
+    }
+
+    pub fn push_numbers(
+        &self,
+        level: u64,
+        stop: u64,
+        numbers: &mut Vec<Numbers>,
+    ) -> Result<(), NoMemory>
+        requires room { net_sum (profile self.now) ≤ level }
+        ensures numbers { OnOk result (
+            segments_of numbers.new.items ≡ segments_of numbers.old.items ++ first_down_to stop level (profile self.now)) }
+    {
+        let mut at = level;
+        for (up, descent) in self.segments.iter() {
+            if at < stop {
+                break;
+            }
+            numbers.push(Numbers {
+                up: *up,
+                net: descent.net,
+            })?;
+            at -= descent.net;
+        }
+        Ok(())
     }
 
     pub fn steps(&self, alloc: Global, level: u64) -> Result<Vec<Step>, NoMemory>

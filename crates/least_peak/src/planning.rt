@@ -81,7 +81,7 @@ fn plan_counted<L: Ledger>(
     system.keeps();
     let mut steps = Steps::<L>::new(blank);
     let plan = plan_terms(alloc, terms, &mut steps)?;
-    let claims = claims_of(alloc, terms, &plan, &mut steps)?;
+    let claims = claims_of(alloc, terms, &plan.part, plan.notes)?;
     let order = order_in_system(alloc, names, plan.order)?;
     Ok(PlanFile::new(order, plan.peak, claims, Vec::new(alloc)))
 }

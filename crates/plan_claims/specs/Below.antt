@@ -13,7 +13,7 @@ use Rattle.cut_laws.specs.Names.{Names, names_of}
 use Rattle.cut_laws.specs.Standing.{StandsFor}
 use Rattle.cut_laws.specs.TermCuts.{cut_of_term}
 use Rattle.cut_laws.specs.Tops.{SomeReaches, tops}
-use Rattle.sp_cuts.specs.Laws.{RoughPartsStay, AllRoughPartsStay}
+use Rattle.sp_cuts.specs.Laws.{NumbersWithoutNames}
 
 pub record LawsBelow : Type 0 where
   -- terms
@@ -24,8 +24,6 @@ pub record LawsBelow : Type 0 where
       → limit ≤ top_of d (par_cut cs) → level_sum (starts d cs) < limit → SomeReaches d limit (level_sum levels) cs levels
   pub together : (d : Direction) (cs : List Cut) → AllRising (sides d cs) → AllStart (starts d cs) (sides d cs)
       → top_of d (par_cut cs) ≤ tops d cs
-  -- parts
-  pub part_stays : RoughPartsStay
-  pub parts_stay : AllRoughPartsStay
+  pub names : NumbersWithoutNames
   -- sides and ropes; last, since the laws above speak of the sides of cuts
   pub sides : SideLaws

@@ -1,8 +1,7 @@
 pub mod Below
-pub mod Notes
 pub mod Wants
 pub mod Rows
-pub mod Noted
 pub mod Levels
 pub mod Crossings
+pub mod Handing
 pub mod Walks

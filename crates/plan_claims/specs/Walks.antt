@@ -9,10 +9,8 @@ use Rattle.claim_rules.specs.Placed.{MeetsAt}
 use Rattle.plan_text.specs.declared.claim.Claim.{Claim}
 use Rattle.plan_text.specs.Plan.{claim_at, IsClaimWithin, RiseFrom}
 use Rattle.claim_check.specs.Judged.{PassesAt}
-use Rattle.plan_claims.specs.declared.notes.Note.{Note}
-use Rattle.plan_claims.specs.declared.notes.Wanted.{Wanted}
-use Rattle.plan_claims.specs.Notes.{cut_at}
-use Rattle.plan_claims.specs.Noted.{AreNotesOf}
+use Rattle.sp_cuts.specs.Notes.{Noted, cut_at, AreNotesOf}
+use Rattle.plan_claims.specs.declared.wanted.Wanted.{Wanted}
 use Rattle.plan_claims.specs.Rows.{row_of}
 use Rattle.plan_claims.specs.Wants.{AllShow, claim_if, claim_of_wanted}
 
@@ -22,8 +20,8 @@ claims_put position None = []
 claims_put position (Some w) = record { position = position; dir = w.dir; bound = pos w.limit -ℤ pos 1; rest = w.low } ∷ []
 
 -- the first k positions: their notes, and what is wanted of the terms that they leave
-pub record IsLeft (ps : List Position) (k : ℕ) (ns : List Note) (todo : List (Option Wanted)) : Type 0 where
-  pub notes : AreNotesOf ps ns k
+pub record IsLeft (ps : List Position) (k : ℕ) (notes : Noted) (todo : List (Option Wanted)) : Type 0 where
+  pub noted : AreNotesOf ps k notes
   pub shows : AllShow (map cut_at (row_of ps k)) todo
 
 -- the claim on the whole term stands, and every claim behind the first k positions meets its rule

@@ -8,8 +8,8 @@ use Rattle.claim_rules.specs.Claims.{Claim}
 use Rattle.claim_rules.specs.Rules.{MeetsRule}
 use Rattle.plan_text.specs.Plan.{direction_of}
 use Rattle.cut_laws.specs.Cuts.{Cut, top_of, lowest_of}
-use Rattle.plan_claims.specs.declared.notes.Wanted.{Wanted}
-use Rattle.plan_claims.specs.Notes.{cut_at}
+use Rattle.sp_cuts.specs.Notes.{cut_at}
+use Rattle.plan_claims.specs.declared.wanted.Wanted.{Wanted}
 
 -- what is wanted, as a claim: its bound is the greatest below the limit
 abbrev pub claim_of_wanted : Wanted → Claim

@@ -9,5 +9,5 @@ pub(crate) fn below()
     sp_terms::laws::terms_law();
     cut_laws::laws::stands_law();
     cut_laws::laws::par_law();
-    sp_cuts::laws::parts_stay();
+    sp_cuts::laws::without_names();
 }

@@ -8,7 +8,7 @@ use claim_check::{Verdict, check};
 use mp_gen::{gen_tree, gen_workflow};
 use mp_outside::NoGate;
 use plan_text::{Claim, PlanFile, is_plan};
-use sp_cuts::{Plan, plan_terms};
+use sp_cuts::plan_terms;
 use sp_terms::{Position, TermBuilder, Terms, read_workflow, system_of};
 use std::alloc::Global;
 use std::marker::Brand;
@@ -19,20 +19,20 @@ use std::thread::Threads;
 use step_count::Steps;
 use tree_input::{Node, terms_of_tree};
 
-// A plan, and claims that certify its peak.
+// The order of a plan, its peak, and claims that certify the peak.
 fn certified<L: Ledger>(
     alloc: Global,
     blank: Blank,
     terms: &Terms,
-) -> Result<(Plan, Vec<Claim>), NoMemory>
+) -> Result<(Vec<u32>, u64, Vec<Claim>), NoMemory>
     requires name { blank.name ≡ L.name }
     requires parts { blank.parts ≡ L.parts }
     requires some { 0 < blank.parts }
 {
     let mut steps = Steps::<L>::new(blank);
     let plan = plan_terms(alloc, terms, &mut steps)?;
-    let claims = claims_of(alloc, terms, &plan, &mut steps)?;
-    Ok((plan, claims))
+    let claims = claims_of(alloc, terms, &plan.part, plan.notes)?;
+    Ok((plan.order, plan.peak, claims))
 }
 
 // The plan with its claims is accepted, with its peak.
@@ -41,10 +41,9 @@ fn assert_accepted<R: Threads + Sync + Abort>(
     alloc: Global,
     terms: &Terms,
 ) -> Result<u64, Fail> {
-    let (plan, claims) = certified::<Brand>(alloc, Blank::new(1), terms)?;
-    let peak = plan.peak;
-    assert!(rt; is_plan(alloc, &plan.order, peak, &claims, &[])?);
-    let file = PlanFile::new(plan.order, peak, claims, Vec::new(alloc));
+    let (order, peak, claims) = certified::<Brand>(alloc, Blank::new(1), terms)?;
+    assert!(rt; is_plan(alloc, &order, peak, &claims, &[])?);
+    let file = PlanFile::new(order, peak, claims, Vec::new(alloc));
     let system = system_of(alloc, terms)?;
     let said = check(rt, alloc, &system, terms, &file, 1, &NoGate)?;
     assert_eq!(rt; said, Verdict::Yes(peak));

@@ -11,3 +11,5 @@ pub mod Planned
 pub mod Standing
 pub mod OneStaircase
 pub mod Reached
+pub mod Unnamed
+pub mod Noted

@@ -250,16 +250,16 @@ pub standing_starts : (ps : List Position) (lists : List (List ℕ)) (items : Li
 standing_starts ps lists items e = record { st = []; pushed = refl; piled = subst (λ (l : List Part). ArePiled lists [] (reverse l)) (sym e) tt; next_is = omega arith }
 
 -- the stack after this position too
-record OneOn (ps : List Position) (i : ℕ) (p : Position) (st : List Term) : Type 0 where
-  st' : List Term
-  pushed : push p st ≡ Some st'
-  pushed_all : push_all (take (i + 1) ps) [] ≡ Some st'
-  allowed : AllAllowed st'
-  total_le : stack_total st' ≤ 2 ^ 60
-  tasks_le : stack_tasks st' ≤ task_count (term_of ps)
-  few : stack_tasks st' ≤ 1000000
+pub record OneOn (ps : List Position) (i : ℕ) (p : Position) (st : List Term) : Type 0 where
+  pub st' : List Term
+  pub pushed : push p st ≡ Some st'
+  pub pushed_all : push_all (take (i + 1) ps) [] ≡ Some st'
+  pub allowed : AllAllowed st'
+  pub total_le : stack_total st' ≤ 2 ^ 60
+  pub tasks_le : stack_tasks st' ≤ task_count (term_of ps)
+  pub few : stack_tasks st' ≤ 1000000
 
-one_on : (ps : List Position) (i : ℕ) (p : Position) (st : List Term) → IsTerms ps → i < length ps → get_or ps i p ≡ p → push_all (take i ps) [] ≡ Some st → OneOn ps i p st
+pub one_on : (ps : List Position) (i : ℕ) (p : Position) (st : List Term) → IsTerms ps → i < length ps → get_or ps i p ≡ p → push_all (take i ps) [] ≡ Some st → OneOn ps i p st
 one_on ps i p st a lt here pushed =
     let (after, e) = split_at ps i p lt here in
     let whole : push_all (take i ps ++ p ∷ after) [] ≡ Some (term_of ps ∷ []) = subst (λ (l : List Position). push_all l [] ≡ Some (term_of ps ∷ [])) e a.is in
@@ -349,6 +349,16 @@ module _ (laws : SideLaws) (ps : List Position) (i : ℕ) (p : Position) (lists 
       let le = y.le in
       let b = moved_bound laws y.st' y.total (task_count (term_of ps)) d y.moved y.tasks_le h in
       omega arith
+
+-- no more was moved than before the position
+pub spent_here : SideLaws → (ps : List Position) (i : ℕ) (p : Position) (s0 n : ℕ) → IsTerms ps → Spent ps i s0 n → i < length ps → get_or ps i p ≡ p → (d : ℕ) → task_count (term_of ps) < 2 ^ d → n ≤ s0 + task_count (term_of ps) * d
+spent_here laws ps i p s0 n a x lt here d h =
+    let o = one_on ps i p x.st a lt here x.pushed in
+    let w = (adds p x.st o.st' o.pushed).tasks_is in
+    let t = o.tasks_le in
+    let le = x.le in
+    let b = moved_bound laws x.st x.total (task_count (term_of ps)) d x.moved (omega arith) h in
+    omega arith
 
 pub spent_ends : SideLaws → (ps : List Position) (i s0 s : ℕ) → IsTerms ps → Spent ps i s0 s → i ≡ length ps → (d : ℕ) → task_count (term_of ps) < 2 ^ d → s ≤ s0 + task_count (term_of ps) * d
 spent_ends laws ps i s0 s a x n d h =

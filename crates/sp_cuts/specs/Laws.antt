@@ -4,6 +4,10 @@ use Rattle.hill_valley.specs.Ropes.{Extends}
 use Rattle.sp_cuts.specs.declared.parts.Part.{Part}
 use Rattle.sp_cuts.specs.Parts.{cut_of, cuts_of, IsPart, AreParts}
 use Rattle.sp_cuts.specs.Splits.{IsRough, AreRough}
+use Rattle.sp_terms.specs.Term.{Term}
+use Rattle.cut_laws.specs.Names.{Names}
+use Rattle.cut_laws.specs.TermCuts.{cut_of_term}
+use Rattle.sp_cuts.specs.Notes.{numbers_of}
 
 -- a part is the same cut for good, however many more ropes are made
 abbrev pub PartsStay : Type 0
@@ -26,3 +30,7 @@ AllRoughPartsStay =
 abbrev pub NumbersWithinPeak : Type 0
 NumbersWithinPeak = (lists : List (List ℕ)) (p : Part) → IsPart lists p
     → (p.least ≤ p.initial) × (p.least ≤ p.fin) × (p.initial ≤ p.peak) × (p.fin ≤ p.peak)
+
+-- the numbers of a term's cut are the same whatever its tasks are called
+abbrev pub NumbersWithoutNames : Type 0
+NumbersWithoutNames = (t : Term) (n m : Names t) → numbers_of (cut_of_term t n) ≡ numbers_of (cut_of_term t m)

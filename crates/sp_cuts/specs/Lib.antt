@@ -2,6 +2,8 @@ pub mod Parts
 pub mod Splits
 pub mod Laws
 pub mod Stacks
+pub mod Notes
+pub mod Noting
 pub mod Stairs
 pub mod StairLaws
 pub mod Reaching

@@ -1,6 +1,6 @@
 //! The laws, each as a clause of a function that does nothing.
 
-ghost use Rattle.sp_cuts.specs.Laws.{PartsStay, AllPartsStay, RoughPartsStay, AllRoughPartsStay, NumbersWithinPeak};
+ghost use Rattle.sp_cuts.specs.Laws.{PartsStay, AllPartsStay, RoughPartsStay, AllRoughPartsStay, NumbersWithinPeak, NumbersWithoutNames};
 ghost use Rattle.sp_cuts.specs.StairLaws.{SomeStaircase, OneStaircase, EachStepIsReached};
 ghost use Rattle.sp_cuts.specs.StairLaws.{SomeStairs, OneStairs};
 
@@ -17,6 +17,13 @@ pub fn parts_stay()
 /// The first, the last and the least memory of a part are within its peak, and the least is within the others.
 pub fn within_peak()
     ensures { NumbersWithinPeak }
+{
+    segment_merge::laws::all();
+}
+
+/// The numbers of a term's cut are the same whatever its tasks are called.
+pub fn without_names()
+    ensures { NumbersWithoutNames }
 {
     segment_merge::laws::all();
 }

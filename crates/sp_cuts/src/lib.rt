@@ -10,6 +10,8 @@ mod behind;
 mod composing;
 mod hills;
 pub mod laws;
+mod notes;
+mod noting;
 mod parts;
 mod planning;
 mod reaching;
@@ -17,6 +19,7 @@ mod reaching;
 mod tests;
 
 pub use composing::{parallel, parallel_part, series, series_part};
+pub use notes::{Notes, PartNote, SeriesNote};
 pub use parts::{Part, hill_between, hold};
 pub use planning::{Plan, plan_terms};
 pub use reaching::{Stairs, StairsRefusal, staircases};

@@ -1,6 +1,6 @@
 //! The plan of a term: one pass over its positions, with a stack of parts.
 
-ghost use Rattle.std.specs.Prelude.{◌≡◌, ℕ, ◌+◌, ◌*◌, ◌^◌, ◌<◌, ◌≤◌, IfOk, OnOk};
+ghost use Rattle.std.specs.Prelude.{◌≡◌, ℕ, ◌+◌, ◌*◌, ◌^◌, ◌<◌, ◌≤◌, length, IfOk, OnOk};
 ghost use Rattle.std.specs.List.{range_with_len};
 ghost use Rattle.mp_system.specs.Memory.{peak_of};
 ghost use Rattle.mp_system.specs.Traversal.{IsTraversal, IsLeast};
@@ -11,11 +11,14 @@ ghost use Rattle.cut_laws.specs.Cuts.{order_of};
 ghost use Rattle.cut_laws.specs.Names.{numbered};
 ghost use Rattle.cut_laws.specs.Standing.{StandsFor};
 ghost use Rattle.cut_laws.specs.TermCuts.{cut_of_term};
+ghost use Rattle.sp_cuts.specs.Notes.{noted_in, nothing_noted, AreNotesOf};
 ghost use Rattle.sp_cuts.specs.Parts.{cut_of, IsPart};
 ghost use Rattle.sp_cuts.specs.Stacks.{IsPartOf, SeriesReady, SeriesDone, SeriesSteps, ParReady, ParDone, ParSteps, PositionReady, PositionDone, PositionSteps};
 
 use crate::NoMemory;
 use crate::composing::{parallel_part, series_part, with_peak};
+use crate::notes::Notes;
+use crate::noting::note_position;
 use crate::parts::{Part, hill_between, hold};
 use hill_valley::Ropes;
 use mp_system::Task;
@@ -36,6 +39,8 @@ pub struct Plan {
     pub part: Part,
     /// The ropes of the part.
     pub ropes: Ropes,
+    /// What was used up to make it, position by position: what the claims of the plan are made of.
+    pub notes: Notes,
 }
 
 /// The plan of a term: down the front of its part, and up the back. One pass over the positions, with a stack of parts. Each
@@ -58,6 +63,8 @@ pub fn plan_terms<L: Ledger>(
     // and none has a lower one
     ensures least { IfOk result (λ p. IsLeast (system_of_term (term_of terms.now)) p.peak) }
     ensures part { IfOk result (λ p. IsPart p.ropes p.part) }
+    // what was noted of all positions
+    ensures notes { IfOk result (λ p. AreNotesOf terms.now (length terms.now) (noted_in p.notes)) }
     ensures steps { (d : ℕ) → task_count (term_of terms.now) < 2 ^ d → steps.new ≤ steps.old + task_count (term_of terms.now) * d }
 {
     laws::all();
@@ -66,7 +73,8 @@ pub fn plan_terms<L: Ledger>(
     term_laws::terms_law();
     let _positions = terms.len();
     let mut ropes = Ropes::new(alloc);
-    let rough = part_of(alloc, terms, &mut ropes, steps)?;
+    let mut notes = Notes::new(alloc);
+    let rough = part_of(alloc, terms, &mut ropes, &mut notes, steps)?;
     let part = with_peak(rough, &ropes);
     let down = part.front.tasks(&mut ropes)?;
     let back = part.back.tasks(&mut ropes)?;
@@ -78,18 +86,22 @@ pub fn plan_terms<L: Ledger>(
         peak: part.peak,
         part,
         ropes,
+        notes,
     })
 }
 
-// The part of the term, whose peak is a bound.
+// The part of the term, whose peak is a bound, and the notes of all positions.
 fn part_of<L: Ledger>(
     alloc: Global,
     terms: &Terms,
     ropes: &mut Ropes,
+    notes: &mut Notes,
     steps: &mut Steps<L>,
 ) -> Result<Part, NoMemory>
+    requires nothing { noted_in notes.old ≡ nothing_noted }
     ensures part { IfOk result (λ p. IsPartOf ropes.new 1 (term_of terms.now) p) }
     ensures kept { Extends ropes.old ropes.new }
+    ensures notes { OnOk result (AreNotesOf terms.now (length terms.now) (noted_in notes.new)) }
     ensures steps { (d : ℕ) → task_count (term_of terms.now) < 2 ^ d → steps.new ≤ steps.old + task_count (term_of terms.now) * d }
 {
     laws::all();
@@ -97,6 +109,7 @@ fn part_of<L: Ledger>(
     let mut next = 1;
     for done in 0..terms.len() {
         let position = terms.at(done + 1);
+        note_position(position, &stack, notes)?;
         next = push_position(alloc, position, next, &mut stack, ropes, steps)?;
     }
     match stack.pop() {
