@@ -109,6 +109,13 @@ fn too_many_steps(rt: HostRuntime) -> Result<(), Fail> {
     let refused = "refused limit tree steps\n";
     check_run(&rt, alloc, "segments --tree t", &mut files, Limit, refused)?;
     let refused = "refused limit workflow steps\n";
-    check_run(&rt, alloc, "segments --workflow w", &mut files, Limit, refused)?;
+    check_run(
+        &rt,
+        alloc,
+        "segments --workflow w",
+        &mut files,
+        Limit,
+        refused,
+    )?;
     Ok(())
 }
