@@ -305,12 +305,11 @@ class Tables:
 
     def planned_inputs(self) -> list[tuple[str, str, str]]:
         """Inputs, each with its kind."""
-        workflow = (
-            f"workflow: random, {self.sizes.tasks:,} tasks",
-            "workflow",
-            self.inputs.workflow("random"),
-        )
-        return [*((label, "tree", name) for label, name in self.trees()), workflow]
+        workflows = [
+            (f"workflow: {it}, {self.sizes.tasks:,} tasks", "workflow", self.inputs.workflow(it))
+            for it in ("random", "deep", "bushy")
+        ]
+        return [*((label, "tree", name) for label, name in self.trees()), *workflows]
 
     # memplan alone
 

@@ -4,10 +4,10 @@
 usage: shapes.py SHAPE SIZE FILE
 
 `binary` and `caterpillar` are trees, `cube` and `hub` matrices: SIZE is their number of nodes, the
-length of the cube's edge, the number of rows. All other shapes are workflows that are hard for a
-planner, of about SIZE tasks: stairs stairs_mid front_stairs both comb zip wide nested_wide
-alternate alternate_par broom. Numbers that look random come from a seed: the same call makes the
-same file.
+length of the cube's edge, the number of rows. All other shapes are workflows of about SIZE tasks:
+deep and bushy, and those that are hard for a planner: stairs stairs_mid front_stairs both comb zip
+wide nested_wide alternate alternate_par broom. Numbers that look random come from a seed: the same
+call makes the same file.
 
 A planner keeps segments for each part of a workflow: runs that each need more memory than the one
 before, and end lower. It is slow where parts keep many segments, and touches them again and again.
@@ -191,7 +191,39 @@ def broom(flow: Workflow, count: int) -> None:
         flow.task(1 + flow.draw(1000))
 
 
+def deep(flow: Workflow, count: int) -> None:
+    """A chain, with a leg of one task beside each second task; sizes at random."""
+    flow.data(flow.draw(1000))
+    for _ in range(count // 2):
+        flow.data(flow.draw(1000))
+        flow.task(flow.draw(1000))
+        flow.data(flow.draw(100), flow.draw(100))
+        flow.task(flow.draw(1000))
+        flow.par(2)
+
+
+def bushy(flow: Workflow, count: int) -> None:
+    """Halves one after the other or side by side, by chance, and so on; sizes at random."""
+    # what is left to be made, the last first: a part of so many tasks, the two last in series or beside
+    series, beside = -1, -2
+    left: list[int] = [count]
+    while left:
+        size = left.pop()
+        if size == series:
+            flow.task(flow.draw(1000))
+        elif size == beside:
+            flow.par(2)
+        elif size == 0:
+            flow.data(flow.draw(1000))
+        elif size < 4 or flow.draw(2):
+            left += [series, size - 1 - (size - 1) // 2, (size - 1) // 2]
+        else:
+            left += [beside, size - size // 2, size // 2]
+
+
 WORKFLOWS = {
+    "deep": deep,
+    "bushy": bushy,
     "stairs": stairs,
     "stairs_mid": stairs_mid,
     "front_stairs": front_stairs,
