@@ -1,0 +1,254 @@
+/* memplan for C: orders of least memory for the fronts of a sparse factorization, or for any tree of tasks, with proof.
+ *
+ * What is said of each call here is in the contract of its function (crates/memplan_c), which is proved for all arrays. That rests on
+ * duties of the caller, which no call can check:
+ *
+ *   - each pointer points to as many elements as the length beside it says, and none is null, also where the length is 0;
+ *   - what a call writes overlaps nothing else that it is given;
+ *   - malloc, realloc and free are those of one C library; no call is made from a signal handler, nor in a forked child of a process
+ *     with threads.
+ *
+ * All else is judged by the library: it refuses what is no tree, no order, or past a limit, and says why. A refused call answers a status
+ * that is not 0 and writes *fault, and nothing else. A call that is not refused answers MEMPLAN_DONE and leaves *fault as it was.
+ *
+ * Nothing is kept between calls, so calls on several threads are independent. A core is kept in memory that the caller gives; calls on one
+ * core are made one at a time (under one lock, where there are several threads).
+ *
+ * Sizes are in a unit of the caller's choice, at most 2^40 each and 2^60 together; there are at most 1,000,000 tasks. Tasks are numbered
+ * from 1, as they stand in their array.
+ */
+#ifndef MEMPLAN_H
+#define MEMPLAN_H
+
+#include <stddef.h>
+#include <stdint.h>
+
+#ifdef __cplusplus
+extern "C" {
+#endif
+
+#define MEMPLAN_VERSION "1.0.0"
+
+/* ---- data ---- */
+
+/* A node of a tree: a task, as a front, that leaves one block to its parent. */
+typedef struct memplan_node {
+    uint32_t parent; /* the number of the parent, from 1; 0 at a root */
+    uint64_t out;    /* the size of the block that it leaves to its parent */
+    uint64_t extra;  /* what it needs while it runs, beside the blocks of its children and its own */
+    uint64_t share;  /* how much of its need it takes over from the blocks of its children; else 0 */
+    uint64_t time;   /* how long it runs, 1 to 2^40; no call here uses it */
+} memplan_node;
+
+/* A task of a system, and a data item, which is in memory from the end of the task that produces it to the end of the one that consumes
+ * it. */
+typedef struct memplan_task {
+    uint64_t extra; /* what it needs while it runs, beside what it consumes and produces */
+    uint64_t share; /* how much of its need it takes over from what it consumes; else 0 */
+    uint64_t time;  /* how long it runs, 1 to 2^40; no call here uses it */
+} memplan_task;
+
+typedef struct memplan_item {
+    uint64_t size; /* 0 is a mere dependence */
+    uint32_t from; /* the task that produces it, from 1; 0 where it is there from the start */
+    uint32_t to;   /* the task that consumes it, from 1; 0 where it stays to the end */
+} memplan_item;
+
+/* A claim that certifies a plan: on the part of the tree's term that ends at a position. memplan_certify_tree writes claims, and
+ * memplan_check_tree judges them; between the two they may be kept or sent, as they are. */
+typedef struct memplan_claim {
+    uint32_t position; /* from 1, each greater than that of the claim before */
+    uint32_t backward; /* 0 forwards, else backwards */
+    int64_t bound;     /* from -2^60 to 2^60 */
+    uint64_t rest;     /* at most 2^60 */
+} memplan_claim;
+
+/* What is wrong. */
+typedef struct memplan_fault {
+    uint32_t kind;  /* a memplan_kind */
+    uint64_t at;    /* which node, place, step, position or claim, from 1; 0 where the kind has no place */
+    uint64_t value; /* what the kind tells beside that; else 0 */
+} memplan_fault;
+
+/* Room for an activation core, of memplan_core_size() bytes, aligned as a uint64_t is. */
+typedef struct memplan_core memplan_core;
+
+/* ---- statuses: those of the program, as its exit codes ---- */
+
+enum memplan_status {
+    MEMPLAN_DONE = 0,        /* the call did what it is for */
+    MEMPLAN_NO = 1,          /* the order is no traversal, or the plan is not accepted */
+    MEMPLAN_USAGE = 2,       /* a length, or the number of workers, does not fit */
+    MEMPLAN_FORMAT = 3,      /* the nodes are no tree, or a claim is out of place */
+    MEMPLAN_LIMIT = 4,       /* a limit is passed */
+    MEMPLAN_BOUND = 5,       /* the bound on memory is below the peak of the order */
+    MEMPLAN_NO_MEMORY = 8,   /* memory ran out, which says nothing of what was given */
+    MEMPLAN_WORKING_SET = 10 /* a step needs more for itself than the bound */
+};
+
+/* ---- kinds of faults ---- */
+
+enum memplan_kind {
+    MEMPLAN_KIND_NO_MEMORY = 1,
+    MEMPLAN_KIND_ROOM = 2,       /* value: the length that is needed */
+    MEMPLAN_KIND_CLAIM_ROOM = 3, /* value: how many claims there must be room for */
+    MEMPLAN_KIND_WORKERS = 4,    /* not from 1 to 4,096 */
+
+    /* nodes, or tasks of a system: the first of these tests that fails, with the lowest node that fails it (at) */
+    MEMPLAN_KIND_NO_NODE = 10,    /* there is none */
+    MEMPLAN_KIND_MANY_TASKS = 11, /* more than 1,000,000 */
+    MEMPLAN_KIND_PARENT = 12,     /* the parent is greater than the number of nodes */
+    MEMPLAN_KIND_TIME = 13,       /* the time is 0 */
+    MEMPLAN_KIND_SIZE = 14,       /* the out or the extra is greater than 2^40 */
+    MEMPLAN_KIND_LONG_TIME = 15,  /* the time is greater than 2^40 */
+    MEMPLAN_KIND_TOTAL = 16,      /* all outs and extras together are greater than 2^60 */
+    MEMPLAN_KIND_CYCLE = 17,      /* the parents lead to no root */
+    MEMPLAN_KIND_SHARE = 18,      /* the share is greater than what the task consumes, or than its extra and what it produces */
+
+    /* orders: the first place that fails (at) */
+    MEMPLAN_KIND_UNKNOWN = 20,   /* no task has this number */
+    MEMPLAN_KIND_REPEATED = 21,  /* the task stood before */
+    MEMPLAN_KIND_TOO_EARLY = 22, /* a task that produces what it consumes has not run */
+    MEMPLAN_KIND_MISSING = 23,   /* the order ends here, and not every task has run */
+
+    MEMPLAN_KIND_BOUND_BELOW = 30, /* value: the peak of the order */
+    MEMPLAN_KIND_WORKING_SET = 31, /* at: the first such step; value: what it needs */
+
+    /* plans with claims */
+    MEMPLAN_KIND_LONG_ORDER = 40,    /* the order has more than 1,000,000 places */
+    MEMPLAN_KIND_GREAT_PEAK = 41,    /* the peak is greater than 2^60 */
+    MEMPLAN_KIND_MANY_CLAIMS = 42,   /* more than 4,000,001 */
+    MEMPLAN_KIND_CLAIM = 43,         /* at: the first claim that is not past the one before, or not within its limits */
+    MEMPLAN_KIND_OTHER_PEAK = 44,    /* value: the peak that the order has */
+    MEMPLAN_KIND_NO_ROOT_CLAIM = 45, /* at: the last position, which has no claim with a bound of at least the peak less 1 */
+    MEMPLAN_KIND_WRONG_CLAIM = 46,   /* at: the position of the lowest claim that does not meet its rule */
+
+    /* items of a system: the first that fails (at) */
+    MEMPLAN_KIND_MANY_ITEMS = 50, /* more than 4,000,001 */
+    MEMPLAN_KIND_ENDS = 51,       /* from or to is greater than the number of tasks */
+    MEMPLAN_KIND_ITEM_SIZE = 52   /* the size is greater than 2^40 */
+};
+
+/* ---- trees ---- */
+
+/* A traversal of least peak of a tree.
+ *
+ * nodes, count   the nodes
+ * order, places  where the order goes; places must be count
+ * peak           where its peak goes
+ *
+ * MEMPLAN_DONE   order has the number of each node once, each after its children; *peak is the most memory that is needed at any moment
+ *                of this order; no such order has a lower peak.
+ * else           MEMPLAN_USAGE (room), MEMPLAN_FORMAT or MEMPLAN_LIMIT (nodes), MEMPLAN_NO_MEMORY.
+ *
+ * Near linear in the nodes. */
+uint32_t memplan_plan_tree(const memplan_node *nodes, size_t count, uint32_t *order, size_t places, uint64_t *peak,
+                           memplan_fault *fault);
+
+/* The same, with claims that certify it, which memplan_check_tree accepts. *claim_count says how many were written at the front of claims;
+ * what lies past them is left as it was. Where there is room for fewer than there are, the answer is MEMPLAN_USAGE, and the fault's value
+ * says how many there are. */
+uint32_t memplan_certify_tree(const memplan_node *nodes, size_t count, uint32_t *order, size_t places, uint64_t *peak,
+                              memplan_claim *claims, size_t claim_room, uint64_t *claim_count, memplan_fault *fault);
+
+/* Judges a plan by its claims, whoever made it, without planning.
+ *
+ * MEMPLAN_DONE   the order is a traversal of the tree, peak is its peak, and no traversal has a lower one.
+ * MEMPLAN_NO     the first objection: the order, the peak, the claim on the whole, or the lowest claim that fails.
+ * else           MEMPLAN_FORMAT or MEMPLAN_LIMIT (nodes; then order, peak and claims), MEMPLAN_NO_MEMORY.
+ *
+ * Linear in the nodes and claims. */
+uint32_t memplan_check_tree(const memplan_node *nodes, size_t count, const uint32_t *order, size_t places, uint64_t peak,
+                            const memplan_claim *claims, size_t claim_count, memplan_fault *fault);
+
+/* The best postorder of a tree: as memplan_plan_tree, among the orders in which the nodes of every subtree stand together. */
+uint32_t memplan_best_postorder(const memplan_node *nodes, size_t count, uint32_t *order, size_t places, uint64_t *peak,
+                                memplan_fault *fault);
+
+/* The peak of an order of a tree.
+ *
+ * MEMPLAN_DONE   the order is a traversal, and *peak is its peak.
+ * MEMPLAN_NO     the first place at which it is none.
+ * else           MEMPLAN_FORMAT or MEMPLAN_LIMIT (nodes), MEMPLAN_NO_MEMORY. */
+uint32_t memplan_replay_tree(const memplan_node *nodes, size_t count, const uint32_t *order, size_t places, uint64_t *peak,
+                             memplan_fault *fault);
+
+/* What has to go to disk where an order of a tree runs within a bound below its peak.
+ *
+ * amounts, room  where the amount of each node's block goes; room must be count
+ * volume         where all amounts together go
+ *
+ * MEMPLAN_DONE         with these amounts on disk, from the end of a node to the start of its parent, the order runs within the bound; no
+ *                      such amounts, constant or changing from step to step, have a lower volume.
+ * MEMPLAN_NO           the first place at which the order is no traversal.
+ * MEMPLAN_WORKING_SET  the first step that needs more for itself than the bound: nothing makes room for it.
+ * else                 MEMPLAN_USAGE (room), MEMPLAN_FORMAT or MEMPLAN_LIMIT (nodes), MEMPLAN_NO_MEMORY. */
+uint32_t memplan_spill_tree(const memplan_node *nodes, size_t count, const uint32_t *order, size_t places, uint64_t bound,
+                            uint64_t *amounts, size_t room, uint64_t *volume, memplan_fault *fault);
+
+/* ---- systems ---- */
+
+/* The peak of an order of tasks that hand items to each other: as memplan_replay_tree. Whether the tasks can be ordered at all is no
+ * matter of the system; an order is judged by its replay. MEMPLAN_FORMAT or MEMPLAN_LIMIT speak of the tasks and items. */
+uint32_t memplan_replay_system(const memplan_task *tasks, size_t count, const memplan_item *items, size_t item_count,
+                               const uint32_t *order, size_t places, uint64_t *peak, memplan_fault *fault);
+
+/* ---- the activation core: tasks on several workers within a bound on memory ----
+ *
+ * Whoever runs the tasks embeds it. Tasks are activated along an order, which books their memory; an activated task whose suppliers are
+ * done is started by a free worker. Memory that is used stays within what is booked, and that within the bound; a core never gets stuck:
+ * while not every task is done, one may be activated, started or finished.
+ *
+ *     memplan_core *core = malloc(memplan_core_size());
+ *     memplan_core_new(core);
+ *     if (memplan_core_begin(core, nodes, n, order, n, bound, workers, &fault) == MEMPLAN_DONE) ..
+ *     memplan_core_end(core);
+ *     free(core);
+ *
+ * All calls but the two that begin take no memory, and none of them is refused: a call that may not be is answered 0 and does nothing. */
+
+/* How many bytes a core takes. */
+size_t memplan_core_size(void);
+
+/* Makes memory of that size ready; it holds no core yet. Each such memory is given to memplan_core_end once. */
+void memplan_core_new(memplan_core *core);
+
+/* Puts a core for a tree at its start into the memory, in the place of any that was there.
+ *
+ * MEMPLAN_DONE   nothing is activated; the order is a traversal of the tree, and the bound is at least its peak.
+ * MEMPLAN_NO     the first place at which the order is no traversal.
+ * MEMPLAN_BOUND  the bound is below the peak of the order.
+ * else           MEMPLAN_USAGE (workers), MEMPLAN_FORMAT or MEMPLAN_LIMIT (nodes), MEMPLAN_NO_MEMORY; what was there stays. */
+uint32_t memplan_core_begin(memplan_core *core, const memplan_node *nodes, size_t count, const uint32_t *order, size_t places,
+                            uint64_t bound, uint32_t workers, memplan_fault *fault);
+
+/* The same for a system of tasks and items, which need be neither a tree nor series-parallel. */
+uint32_t memplan_core_begin_system(memplan_core *core, const memplan_task *tasks, size_t count, const memplan_item *items,
+                                   size_t item_count, const uint32_t *order, size_t places, uint64_t bound, uint32_t workers,
+                                   memplan_fault *fault);
+
+/* Activates the next task of the order where its need fits under the bound: its number, or 0. */
+uint32_t memplan_core_activate(memplan_core *core);
+
+/* Starts a task: 1 just where it is activated and has not started, what it consumes has been produced, and a worker is free; else 0. */
+uint32_t memplan_core_start(memplan_core *core, uint32_t task);
+
+/* Ends a task: 1 just where it runs; else 0. */
+uint32_t memplan_core_finish(memplan_core *core, uint32_t task);
+
+/* Whether memplan_core_start would answer 1; whether a task is done. */
+uint32_t memplan_core_is_startable(memplan_core *core, uint32_t task);
+uint32_t memplan_core_is_done(memplan_core *core, uint32_t task);
+
+/* Used memory: the items that are present, and the needs of the running tasks. Booked memory: the items that are present, and the needs
+ * of the activated tasks that are not done. Both are 0 where there is no core. */
+uint64_t memplan_core_used(memplan_core *core);
+uint64_t memplan_core_booked(memplan_core *core);
+
+/* Frees what a core holds; its memory is the caller's again. */
+void memplan_core_end(memplan_core *core);
+
+#ifdef __cplusplus
+}
+#endif
+#endif

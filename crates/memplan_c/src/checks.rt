@@ -1,0 +1,119 @@
+//! Plans of a tree with claims that certify them.
+
+ghost use Rattle.std.specs.Prelude.{◌≡◌, ◌≢◌, ◌≤◌, [], length, take, drop, IfOk, IfErr, OnOk};
+ghost use Rattle.plan_text.specs.Plan.{IsPlan};
+ghost use Rattle.memplan_c.specs.Answers.{IsCertified, IsBestOrder, IsCertificate};
+ghost use Rattle.memplan_c.specs.Faults.{IsRefused};
+ghost use Rattle.memplan_c.specs.Refusals.{IsCertifyRefusal, IsCheckRefusal};
+
+use crate::claims::{Claim, hand_out, plan_of_arrays};
+use crate::faults::{Fault, refuse};
+use crate::plans::check_room;
+use crate::refusal::Refusal;
+use claim_check::Verdict;
+use least_peak::Problem;
+use mp_system::laws::traversal_law;
+use plan_text::PlanFile;
+use std::alloc::Global;
+use tree_input::{Node, tree_of_nodes};
+
+fn check_plan(
+    alloc: Global,
+    nodes: &[Node],
+    order: &[u32],
+    peak: u64,
+    claims: &[Claim],
+) -> Result<(), Refusal>
+    ensures certified { OnOk result (IsCertified nodes.now order.now peak claims.now) }
+    ensures refused { IfErr result (IsCheckRefusal nodes.now order.now peak claims.now) }
+{
+    let tree = tree_of_nodes(alloc, nodes)?;
+    let plan = plan_of_arrays(alloc, order, peak, claims)?;
+    plan.keeps();
+    let problem = Problem::of_tree(alloc, tree)?;
+    match problem.check_alone(alloc, &plan)? {
+        Verdict::Yes(_) => Ok(()),
+        Verdict::No(objection) => Err(Refusal::Objection(objection)),
+    }
+}
+
+/// Judges a plan of the tree of these nodes by its claims, whoever made it.
+#[unsafe(no_mangle)]
+pub extern "C" fn memplan_check_tree(
+    alloc: Global,
+    nodes: &[Node],
+    order: &[u32],
+    peak: u64,
+    claims: &[Claim],
+    fault: &mut Fault,
+) -> u32
+    // 0: the order is a traversal of the tree's system, with this peak, none has a lower one, and the claims certify it
+    ensures certified { result ≡ 0 → IsCertified nodes.now order.now peak claims.now }
+    ensures refused { result ≢ 0 → IsRefused (IsCheckRefusal nodes.now order.now peak claims.now) result fault.new }
+    ensures no_fault { result ≡ 0 → fault.new ≡ fault.old }
+{
+    match check_plan(alloc, nodes, order, peak, claims) {
+        Ok(()) => 0,
+        Err(refusal) => refuse(refusal, fault),
+    }
+}
+
+fn certified(
+    alloc: Global,
+    nodes: &[Node],
+    room: usize,
+    claim_room: usize,
+) -> Result<PlanFile, Refusal>
+    ensures best { IfOk result (λ plan. IsBestOrder nodes.now plan.order plan.peak) }
+    ensures certificate { IfOk result (IsCertificate nodes.now) }
+    ensures within { IfOk result IsPlan }
+    ensures priority { IfOk result (λ plan. plan.priority ≡ []) }
+    ensures long { IfOk result (λ plan. length plan.order ≡ room) }
+    ensures fits { IfOk result (λ plan. length plan.claims ≤ claim_room) }
+    ensures refused { IfErr result (IsCertifyRefusal nodes.now room claim_room) }
+{
+    traversal_law();
+    check_room(nodes.len(), room)?;
+    let tree = tree_of_nodes(alloc, nodes)?;
+    let problem = Problem::of_tree(alloc, tree)?;
+    let plan = problem.plan(alloc)?;
+    let needed = plan.claims().len();
+    if claim_room < needed {
+        return Err(Refusal::ClaimRoom {
+            needed: needed as u64,
+        });
+    }
+    Ok(plan)
+}
+
+/// A traversal of least peak of the tree of these nodes, with claims that certify it at the front of their array, and how many they are.
+#[unsafe(no_mangle)]
+pub extern "C" fn memplan_certify_tree(
+    alloc: Global,
+    nodes: &[Node],
+    order: &mut [u32],
+    peak: &mut u64,
+    claims: &mut [Claim],
+    count: &mut u64,
+    fault: &mut Fault,
+) -> u32
+    // 0: the order is a traversal of the tree's system, with this peak, none has a lower one, and the first claims certify it
+    ensures certified { result ≡ 0 → IsCertified nodes.now order.new peak.new (take count.new claims.new) }
+    ensures counted { result ≡ 0 → count.new ≤ length claims.new }
+    ensures past { result ≡ 0 → drop count.new claims.new ≡ drop count.new claims.old }
+    ensures refused { result ≢ 0 → IsRefused (IsCertifyRefusal nodes.now (length order.old) (length claims.old)) result fault.new }
+    ensures unchanged { result ≢ 0 →
+        (order.new ≡ order.old) × (peak.new ≡ peak.old) × (claims.new ≡ claims.old) × (count.new ≡ count.old) }
+    ensures no_fault { result ≡ 0 → fault.new ≡ fault.old }
+{
+    match certified(alloc, nodes, order.len(), claims.len()) {
+        Ok(plan) => {
+            order.copy_from_slice(plan.order());
+            *peak = plan.peak();
+            hand_out(plan.claims(), claims);
+            *count = plan.claims().len() as u64;
+            0
+        }
+        Err(refusal) => refuse(refusal, fault),
+    }
+}

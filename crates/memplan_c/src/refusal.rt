@@ -1,0 +1,108 @@
+//! Why a call is refused.
+
+ghost use Rattle.std.specs.Prelude.{◌≡◌};
+ghost use Rattle.memplan_c.specs.declared.refusal.Refusal.TheVariants as refusals;
+
+use activation::CoreRefusal;
+use claim_check::Objection;
+use mp_system::ReplayRefusal;
+use spill_plan::SpillRefusal;
+use std::alloc::AllocError;
+use system_input::SystemRefusal;
+use tree_input::NodesRefusal;
+
+/// Why an order, a peak and claims are no plan that could be judged.
+#[derive(Clone, Copy)]
+pub enum PlanFault {
+    /// The order has more than 10^6 places.
+    LongOrder,
+    /// The peak is greater than 2^60.
+    GreatPeak,
+    /// There are more than 4,000,001 claims.
+    ManyClaims,
+    /// The first claim, counted from 1, whose position is not greater than that of the one before, or whose bound or rest is past 2^60.
+    Claim(u64),
+}
+
+/// Why a call is refused.
+#[derive(Clone, Copy)]
+pub enum Refusal {
+    /// An array that is to be written has not the length that is needed.
+    Room { needed: u64 },
+    /// There is room for fewer claims than are needed.
+    ClaimRoom { needed: u64 },
+    /// There is no worker, or there are more than 4,096.
+    Workers,
+    /// The nodes are no tree.
+    Nodes(NodesRefusal),
+    /// The tasks and items are no system.
+    System(SystemRefusal),
+    /// The order is no traversal.
+    Replay(ReplayRefusal),
+    /// There is no core for the order and the bound.
+    Core(CoreRefusal),
+    /// Nothing that goes to disk makes the order fit.
+    Spill(SpillRefusal),
+    /// The order, the peak and the claims are no plan.
+    Plan(PlanFault),
+    /// The plan is not accepted.
+    Objection(Objection),
+    /// Memory ran out.
+    NoMemory,
+}
+
+impl From<AllocError> for Refusal {
+    ghost from_gives = { λ _ e. e ≡ refusals.NoMemory };
+
+    fn from(_no_memory: AllocError) -> Refusal {
+        Refusal::NoMemory
+    }
+}
+
+impl From<NodesRefusal> for Refusal {
+    ghost from_gives = { λ r e. e ≡ refusals.Nodes r };
+
+    fn from(refusal: NodesRefusal) -> Refusal {
+        Refusal::Nodes(refusal)
+    }
+}
+
+impl From<SystemRefusal> for Refusal {
+    ghost from_gives = { λ r e. e ≡ refusals.System r };
+
+    fn from(refusal: SystemRefusal) -> Refusal {
+        Refusal::System(refusal)
+    }
+}
+
+impl From<ReplayRefusal> for Refusal {
+    ghost from_gives = { λ r e. e ≡ refusals.Replay r };
+
+    fn from(refusal: ReplayRefusal) -> Refusal {
+        Refusal::Replay(refusal)
+    }
+}
+
+impl From<CoreRefusal> for Refusal {
+    ghost from_gives = { λ r e. e ≡ refusals.Core r };
+
+    fn from(refusal: CoreRefusal) -> Refusal {
+        Refusal::Core(refusal)
+    }
+}
+
+impl From<SpillRefusal> for Refusal {
+    ghost from_gives = { λ r e. e ≡ refusals.Spill r };
+
+    fn from(refusal: SpillRefusal) -> Refusal {
+        Refusal::Spill(refusal)
+    }
+}
+
+impl From<PlanFault> for Refusal {
+    ghost from_gives = { λ r e. e ≡ refusals.Plan r };
+
+    fn from(fault: PlanFault) -> Refusal {
+        Refusal::Plan(fault)
+    }
+}

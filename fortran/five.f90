@@ -1,0 +1,41 @@
+! Two chains of two nodes below a root: an order of least peak, and the core run along it by one worker. Prints both peaks; ends with an
+! error where one is not as it was worked by hand.
+program five
+   use, intrinsic :: iso_c_binding, only: c_int32_t, c_int64_t, c_loc, c_ptr, c_size_t
+   use memplan
+   implicit none
+   integer(c_size_t), parameter :: count = 5
+   type(memplan_node) :: nodes(count)
+   integer(c_int32_t) :: order(count), status, task
+   integer(c_int64_t) :: peak, best, top
+   type(memplan_fault) :: fault
+   integer(c_int64_t), allocatable, target :: room(:)
+   type(c_ptr) :: core
+
+   nodes%parent = [2, 5, 4, 5, 0]
+   nodes%out = [1, 5, 1, 5, 0]
+   nodes%extra = [9, 0, 9, 0, 0]
+   status = memplan_best_postorder(nodes, count, order, count, best, fault)
+   if (status /= memplan_done .or. best /= 15) error stop 'best postorder'
+   status = memplan_plan_tree(nodes, count, order, count, peak, fault)
+   if (status /= memplan_done .or. peak /= 11) error stop 'plan'
+
+   allocate (room((memplan_core_size() + 7)/8))
+   core = c_loc(room)
+   call memplan_core_new(core)
+   status = memplan_core_begin(core, nodes, count, order, count, peak - 1, 1, fault)
+   if (status /= memplan_bound .or. fault%value /= peak) error stop 'a bound below the peak'
+   status = memplan_core_begin(core, nodes, count, order, count, peak, 1, fault)
+   if (status /= memplan_done) error stop 'begin'
+   top = 0
+   do
+      task = memplan_core_activate(core)
+      if (task == 0) exit
+      if (memplan_core_start(core, task) /= 1) error stop 'start'
+      top = max(top, memplan_core_used(core))
+      if (memplan_core_finish(core, task) /= 1) error stop 'finish'
+   end do
+   if (memplan_core_is_done(core, 5) /= 1 .or. top /= peak) error stop 'run'
+   call memplan_core_end(core)
+   print '(a, i0, a, i0)', 'least peak ', peak, ', best postorder ', best
+end program five

@@ -1,0 +1,220 @@
+! memplan for Fortran: the calls of memplan.h by iso_c_binding, which says what each needs and what its answers mean.
+!
+! Unsigned numbers of C are signed here of the same width: all sizes, peaks and counts are below 2^63. Numbers of tasks are from 1, as
+! Fortran counts. What is passed stays with the caller; arrays are contiguous.
+module memplan
+   use, intrinsic :: iso_c_binding, only: c_int32_t, c_int64_t, c_ptr, c_size_t
+   implicit none
+   private
+
+   ! A node of a tree.
+   type, bind(c), public :: memplan_node
+      integer(c_int32_t) :: parent = 0
+      integer(c_int64_t) :: out = 0
+      integer(c_int64_t) :: extra = 0
+      integer(c_int64_t) :: share = 0
+      integer(c_int64_t) :: time = 1
+   end type memplan_node
+
+   ! A task of a system, and a data item.
+   type, bind(c), public :: memplan_task
+      integer(c_int64_t) :: extra = 0
+      integer(c_int64_t) :: share = 0
+      integer(c_int64_t) :: time = 1
+   end type memplan_task
+
+   type, bind(c), public :: memplan_item
+      integer(c_int64_t) :: size = 0
+      integer(c_int32_t) :: from = 0
+      integer(c_int32_t) :: to = 0
+   end type memplan_item
+
+   ! A claim that certifies a plan.
+   type, bind(c), public :: memplan_claim
+      integer(c_int32_t) :: position = 0
+      integer(c_int32_t) :: backward = 0
+      integer(c_int64_t) :: bound = 0
+      integer(c_int64_t) :: rest = 0
+   end type memplan_claim
+
+   ! What is wrong.
+   type, bind(c), public :: memplan_fault
+      integer(c_int32_t) :: kind = 0
+      integer(c_int64_t) :: at = 0
+      integer(c_int64_t) :: value = 0
+   end type memplan_fault
+
+   ! Statuses.
+   integer(c_int32_t), parameter, public :: memplan_done = 0, memplan_no = 1, memplan_usage = 2, memplan_format = 3, &
+      memplan_limit = 4, memplan_bound = 5, memplan_no_memory = 8, memplan_working_set = 10
+
+   public :: memplan_plan_tree, memplan_certify_tree, memplan_check_tree, memplan_best_postorder, memplan_replay_tree
+   public :: memplan_spill_tree, memplan_replay_system
+   public :: memplan_core_size, memplan_core_new, memplan_core_begin, memplan_core_begin_system, memplan_core_activate
+   public :: memplan_core_start, memplan_core_finish, memplan_core_is_startable, memplan_core_is_done, memplan_core_used
+   public :: memplan_core_booked, memplan_core_end
+
+   interface
+      function memplan_plan_tree(nodes, count, order, places, peak, fault) result(status) bind(c)
+         import :: c_int32_t, c_int64_t, c_size_t, memplan_node, memplan_fault
+         type(memplan_node), intent(in) :: nodes(*)
+         integer(c_size_t), value :: count, places
+         integer(c_int32_t), intent(inout) :: order(*)
+         integer(c_int64_t), intent(inout) :: peak
+         type(memplan_fault), intent(inout) :: fault
+         integer(c_int32_t) :: status
+      end function memplan_plan_tree
+
+      function memplan_certify_tree(nodes, count, order, places, peak, claims, claim_room, claim_count, fault) &
+         result(status) bind(c)
+         import :: c_int32_t, c_int64_t, c_size_t, memplan_node, memplan_claim, memplan_fault
+         type(memplan_node), intent(in) :: nodes(*)
+         integer(c_size_t), value :: count, places, claim_room
+         integer(c_int32_t), intent(inout) :: order(*)
+         integer(c_int64_t), intent(inout) :: peak, claim_count
+         type(memplan_claim), intent(inout) :: claims(*)
+         type(memplan_fault), intent(inout) :: fault
+         integer(c_int32_t) :: status
+      end function memplan_certify_tree
+
+      function memplan_check_tree(nodes, count, order, places, peak, claims, claim_count, fault) result(status) bind(c)
+         import :: c_int32_t, c_int64_t, c_size_t, memplan_node, memplan_claim, memplan_fault
+         type(memplan_node), intent(in) :: nodes(*)
+         integer(c_size_t), value :: count, places, claim_count
+         integer(c_int32_t), intent(in) :: order(*)
+         integer(c_int64_t), value :: peak
+         type(memplan_claim), intent(in) :: claims(*)
+         type(memplan_fault), intent(inout) :: fault
+         integer(c_int32_t) :: status
+      end function memplan_check_tree
+
+      function memplan_best_postorder(nodes, count, order, places, peak, fault) result(status) bind(c)
+         import :: c_int32_t, c_int64_t, c_size_t, memplan_node, memplan_fault
+         type(memplan_node), intent(in) :: nodes(*)
+         integer(c_size_t), value :: count, places
+         integer(c_int32_t), intent(inout) :: order(*)
+         integer(c_int64_t), intent(inout) :: peak
+         type(memplan_fault), intent(inout) :: fault
+         integer(c_int32_t) :: status
+      end function memplan_best_postorder
+
+      function memplan_replay_tree(nodes, count, order, places, peak, fault) result(status) bind(c)
+         import :: c_int32_t, c_int64_t, c_size_t, memplan_node, memplan_fault
+         type(memplan_node), intent(in) :: nodes(*)
+         integer(c_size_t), value :: count, places
+         integer(c_int32_t), intent(in) :: order(*)
+         integer(c_int64_t), intent(inout) :: peak
+         type(memplan_fault), intent(inout) :: fault
+         integer(c_int32_t) :: status
+      end function memplan_replay_tree
+
+      function memplan_spill_tree(nodes, count, order, places, bound, amounts, room, volume, fault) result(status) bind(c)
+         import :: c_int32_t, c_int64_t, c_size_t, memplan_node, memplan_fault
+         type(memplan_node), intent(in) :: nodes(*)
+         integer(c_size_t), value :: count, places, room
+         integer(c_int32_t), intent(in) :: order(*)
+         integer(c_int64_t), value :: bound
+         integer(c_int64_t), intent(inout) :: amounts(*), volume
+         type(memplan_fault), intent(inout) :: fault
+         integer(c_int32_t) :: status
+      end function memplan_spill_tree
+
+      function memplan_replay_system(tasks, count, items, item_count, order, places, peak, fault) result(status) bind(c)
+         import :: c_int32_t, c_int64_t, c_size_t, memplan_task, memplan_item, memplan_fault
+         type(memplan_task), intent(in) :: tasks(*)
+         type(memplan_item), intent(in) :: items(*)
+         integer(c_size_t), value :: count, item_count, places
+         integer(c_int32_t), intent(in) :: order(*)
+         integer(c_int64_t), intent(inout) :: peak
+         type(memplan_fault), intent(inout) :: fault
+         integer(c_int32_t) :: status
+      end function memplan_replay_system
+
+      function memplan_core_size() result(bytes) bind(c)
+         import :: c_size_t
+         integer(c_size_t) :: bytes
+      end function memplan_core_size
+
+      subroutine memplan_core_new(core) bind(c)
+         import :: c_ptr
+         type(c_ptr), value :: core
+      end subroutine memplan_core_new
+
+      function memplan_core_begin(core, nodes, count, order, places, bound, workers, fault) result(status) bind(c)
+         import :: c_int32_t, c_int64_t, c_ptr, c_size_t, memplan_node, memplan_fault
+         type(c_ptr), value :: core
+         type(memplan_node), intent(in) :: nodes(*)
+         integer(c_size_t), value :: count, places
+         integer(c_int32_t), intent(in) :: order(*)
+         integer(c_int64_t), value :: bound
+         integer(c_int32_t), value :: workers
+         type(memplan_fault), intent(inout) :: fault
+         integer(c_int32_t) :: status
+      end function memplan_core_begin
+
+      function memplan_core_begin_system(core, tasks, count, items, item_count, order, places, bound, workers, fault) &
+         result(status) bind(c)
+         import :: c_int32_t, c_int64_t, c_ptr, c_size_t, memplan_task, memplan_item, memplan_fault
+         type(c_ptr), value :: core
+         type(memplan_task), intent(in) :: tasks(*)
+         type(memplan_item), intent(in) :: items(*)
+         integer(c_size_t), value :: count, item_count, places
+         integer(c_int32_t), intent(in) :: order(*)
+         integer(c_int64_t), value :: bound
+         integer(c_int32_t), value :: workers
+         type(memplan_fault), intent(inout) :: fault
+         integer(c_int32_t) :: status
+      end function memplan_core_begin_system
+
+      function memplan_core_activate(core) result(task) bind(c)
+         import :: c_int32_t, c_ptr
+         type(c_ptr), value :: core
+         integer(c_int32_t) :: task
+      end function memplan_core_activate
+
+      function memplan_core_start(core, task) result(yes) bind(c)
+         import :: c_int32_t, c_ptr
+         type(c_ptr), value :: core
+         integer(c_int32_t), value :: task
+         integer(c_int32_t) :: yes
+      end function memplan_core_start
+
+      function memplan_core_finish(core, task) result(yes) bind(c)
+         import :: c_int32_t, c_ptr
+         type(c_ptr), value :: core
+         integer(c_int32_t), value :: task
+         integer(c_int32_t) :: yes
+      end function memplan_core_finish
+
+      function memplan_core_is_startable(core, task) result(yes) bind(c)
+         import :: c_int32_t, c_ptr
+         type(c_ptr), value :: core
+         integer(c_int32_t), value :: task
+         integer(c_int32_t) :: yes
+      end function memplan_core_is_startable
+
+      function memplan_core_is_done(core, task) result(yes) bind(c)
+         import :: c_int32_t, c_ptr
+         type(c_ptr), value :: core
+         integer(c_int32_t), value :: task
+         integer(c_int32_t) :: yes
+      end function memplan_core_is_done
+
+      function memplan_core_used(core) result(memory) bind(c)
+         import :: c_int64_t, c_ptr
+         type(c_ptr), value :: core
+         integer(c_int64_t) :: memory
+      end function memplan_core_used
+
+      function memplan_core_booked(core) result(memory) bind(c)
+         import :: c_int64_t, c_ptr
+         type(c_ptr), value :: core
+         integer(c_int64_t) :: memory
+      end function memplan_core_booked
+
+      subroutine memplan_core_end(core) bind(c)
+         import :: c_ptr
+         type(c_ptr), value :: core
+      end subroutine memplan_core_end
+   end interface
+end module memplan
