@@ -51,22 +51,22 @@ small_tasks system order is walks = All-weaker (IsTask system) (λ v. v ≤ 4294
 
 module _
     (traversals : Traversals) (peaks : Peaks) (long : (system : TaskSystem) (order : List ℕ) → IsTraversal system order → length order ≡ length system.tasks)
-    (system : TaskSystem) (positions : List Position) (names : Option (List ℕ)) (term : IsNamedTerm names positions system) (is_system : IsSystem system)
+    (system : TaskSystem) (positions : List Position) (names : Option (List ℕ)) (term : IsNamedTerm names positions system)
     (order : List ℕ) (peak : ℕ) (walks : IsTraversal (system_of_term (term_of positions)) order) (peak_is : peak_of (system_of_term (term_of positions)) order ≡ peak)
     (named : List ℕ) (named_is : named ≡ order_named names order) where
   walks_named : IsTraversal system named
   walks_named =
-      subst (IsTraversal system) (sym named_is) (traversal_named traversals names (system_of_term (term_of positions)) system order term.1 walks)
+      subst (IsTraversal system) (sym named_is) (traversal_named traversals names (system_of_term (term_of positions)) system order term.named walks)
 
   peak_is_named : peak_of system named ≡ peak
   peak_is_named =
-      ap (peak_of system) named_is ∙ peak_named peaks names (system_of_term (term_of positions)) system order term.1 walks ∙ peak_is
+      ap (peak_of system) named_is ∙ peak_named peaks names (system_of_term (term_of positions)) system order term.named walks ∙ peak_is
 
   pub plan_within : (claims : List Claim) (priority : List ℕ) → priority ≡ [] → peak ≤ 2 ^ 60 → length claims ≤ 4000001 → All IsClaimWithin claims → RiseFrom 0 claims
       → IsPlan (record { order = named; peak = peak; claims = claims; priority = priority })
   plan_within claims priority none small few within rising = record {
-    few_tasks = few_tasks system named is_system (long system named walks_named);
-    tasks = small_tasks system named is_system walks_named;
+    few_tasks = few_tasks system named term.system (long system named walks_named);
+    tasks = small_tasks system named term.system walks_named;
     peak = small;
     few_claims = few;
     claims = within;
@@ -101,7 +101,7 @@ least_named own renamed (Some names) system ps terms same plan accepted = rename
 
 -- the peak of a plan that is accepted is least
 pub accepted_is_least : Own → Renamed → (names : Option (List ℕ)) (positions : List Position) (system : TaskSystem) → IsNamedTerm names positions system → (plan : PlanText) → IsAccepted system positions plan → IsLeast system plan.peak
-accepted_is_least own renamed names positions system (terms, same) plan accepted = least_named own renamed names system positions terms same plan accepted
+accepted_is_least own renamed names positions system term plan accepted = least_named own renamed names system positions term.terms term.named plan accepted
 
 pub accepted_is_best : Own → Renamed → (names : Option (List ℕ)) (positions : List Position) (system : TaskSystem) → IsNamedTerm names positions system
     → (plan : PlanText) → IsAccepted system positions plan → IsBestTraversal system plan.order plan.peak

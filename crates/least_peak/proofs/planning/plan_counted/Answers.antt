@@ -10,8 +10,8 @@ new-requires-2 g c =
     let made = c.in_ok-plan.ensures in
     let small : c.in_ok-plan.plan.peak ≤ 2 ^ 60 = subst (λ n. n ≤ 2 ^ 60) (sym made.peak) made.part.within in
     let claims = c.in_ok-claims.ensures in
-    plan_within c.renaming_law.ensures.traversal c.renaming_law.ensures.peak c.traversal_law.ensures.long c.args.system.now c.args.terms.now (option_map (λ n. n.now) c.args.names) c.requires.term c.keeps.ensures
-    c.in_ok-plan.plan.order.items c.in_ok-plan.plan.peak made.traversal.0 made.traversal.1 c.in_ok-order.order.items c.in_ok-order.ensures
+    plan_within c.renaming_law.ensures.traversal c.renaming_law.ensures.peak c.traversal_law.ensures.long c.requires.term.0 c.args.terms.now c.args.names c.requires.term.1
+    c.in_ok-plan_terms.order.items c.in_ok-plan_terms.peak made.traversal.0 made.traversal.1 c.in_ok-order.order.items c.in_ok-order.ensures
     c.in_ok-claims.claims.items c.new.result.items c.new.ensures.items small claims.few claims.within claims.rising
 
 pub returns-clause-accepted : goal.returns-clause-accepted
@@ -20,7 +20,7 @@ returns-clause-accepted g c =
     let claims = c.in_ok-claims.ensures in
     let is = c.new-2.ensures in
     plan_accepted c.renaming_law.ensures.traversal c.renaming_law.ensures.peak c.traversal_law.ensures.long c.args.system.now c.args.terms.now (option_map (λ n. n.now) c.args.names) c.requires.term c.keeps.ensures
-    c.in_ok-plan.plan.order.items c.in_ok-plan.plan.peak made.traversal.0 made.traversal.1 c.in_ok-order.order.items c.in_ok-order.ensures
+    c.in_ok-plan_terms.order.items c.in_ok-plan_terms.peak made.traversal.0 made.traversal.1 c.in_ok-order.order.items c.in_ok-order.ensures
     c.new-2.result (ap (λ (p : PlanText). p.order) is) (ap (λ (p : PlanText). p.peak) is)
     (subst (HasRoot c.args.terms.now) (sym is) claims.root)
     (subst (λ (p : PlanText). (k : ℕ) → PassesAt c.args.terms.now (claim_at p.claims) k) (sym is) claims.pass)
