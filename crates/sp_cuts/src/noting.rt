@@ -133,12 +133,7 @@ fn note_sides(part: &Part, read: bool, gone: &mut Vec<Numbers>) -> Result<(u32, 
 
 // The first segments of a side, as long as they start at `stop` or above, and how many they are. Want of memory, too, is what 2^32 of
 // them answer.
-fn note_side(
-    side: &Side,
-    level: u64,
-    stop: u64,
-    gone: &mut Vec<Numbers>,
-) -> Result<u32, NoMemory>
+fn note_side(side: &Side, level: u64, stop: u64, gone: &mut Vec<Numbers>) -> Result<u32, NoMemory>
     requires room { net_sum (profile side.now) ≤ level }
     ensures count { IfOk result (λ n. n ≡ length (first_down_to stop level (profile side.now))) }
     ensures gone { OnOk result (segments_of gone.new.items ≡ segments_of gone.old.items ++ first_down_to stop level (profile side.now)) }
