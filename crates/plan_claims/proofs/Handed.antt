@@ -8,7 +8,7 @@ use Rattle.side_laws.specs.Segments.{Segment}
 use Rattle.sp_terms.specs.declared.position.Position.{Position}
 use Rattle.sp_terms.specs.declared.position.Position.TheVariants.{Hold}
 use Rattle.sp_terms.specs.Places.{IsTermAt}
-use Rattle.sp_terms.specs.Term.{Term, hold, series, Direction, forward, backward, initial_of, final_of, least_of, hill_of, IsAllowed}
+use Rattle.sp_terms.specs.Term.{Term, hold, series, par, Parts, no_parts, part, Direction, forward, backward, first_memory, first_memory_of_parts, initial_of, final_of, least_of, hill_of, IsAllowed}
 use Rattle.sp_term_laws.specs.Moves.{other}
 use Rattle.claim_rules.specs.Claims.{Claim}
 use Rattle.claim_rules.specs.Rules.{MeetsData, MeetsSeries, first_is_stuck, first_is_closed, hill_is_above, last_is_stuck, passed_first, passed_last}
@@ -19,7 +19,7 @@ use Rattle.cut_laws.specs.Cuts.{Cut, hold_cut, cut_first, cut_second, top_of, lo
 use Rattle.sp_cuts.specs.declared.notes.PartNote.{PartNote}
 use Rattle.sp_cuts.specs.declared.notes.SeriesNote.{SeriesNote}
 use Rattle.sp_cuts.specs.Notes.{Noted, nothing_noted, both_noted, IsSeriesNote, IsCutInFirst, IsCutInSecond, IsNote, cut_at, numbers_at, unnamed}
-use Rattle.sp_cuts.specs.Stacks.{total_of}
+use Rattle.sp_cuts.specs.Stacks.{total_of, total_of_parts}
 use Rattle.plan_claims.specs.declared.wanted.Wanted.{Wanted}
 use Rattle.plan_claims.specs.Below.{LawsBelow}
 use Rattle.plan_claims.specs.Crossings.{LeadsOver, IsCrossing, note_direction, IsObstacle, far_stuck, near_stuck, near_closed, hill_above, last_stuck, AreHandedOver}
@@ -46,16 +46,28 @@ module _ (a : Term) (v : Task) (b : Term) (d : Direction) (near : Cut) (w : Want
 pub lifted : (t : Term) (o : Option Wanted) (w : Wanted) (ws : List (Option Wanted)) → o ≡ Some w → (Shows (cut_at t) w → AreHanded t (Some w) ws) → ShowsIf (cut_at t) o → AreHanded t o ws
 lifted t o w ws e f s = subst (λ (x : Option Wanted). AreHanded t x ws) (sym e) (f (subst (ShowsIf (cut_at t)) e s))
 
+-- ---- the first and the last memory are within the sum of all sizes
+
+mutual
+  pub first_within : (d : Direction) (t : Term) → first_memory d t ≤ total_of t
+  first_within forward (hold size) = omega arith
+  first_within backward (hold size) = omega arith
+  first_within forward (series a v b) = let h = first_within forward a in omega arith
+  first_within backward (series a v b) = let h = first_within backward b in omega arith
+  first_within forward (par ts) = all_within forward ts
+  first_within backward (par ts) = all_within backward ts
+
+  all_within : (d : Direction) (ts : Parts) → first_memory_of_parts d ts ≤ total_of_parts ts
+  all_within d no_parts = omega arith
+  all_within d (part t ts) = let h = first_within d t in let k = all_within d ts in omega arith
+
 -- ---- a series
 
 -- what was noted, as segments between and beyond
 both_lists : (xs ys : List Segment) (n : ℕ) → n ≡ length xs → (take n (xs ++ ys) ≡ xs) × (drop n (xs ++ ys) ≡ ys)
-both_lists xs ys n e = (ap (λ (k : ℕ). take k (xs ++ ys)) e ∙ first xs, ap (λ (k : ℕ). drop k (xs ++ ys)) e ∙ drop_at xs ys (length xs) refl)
-  where
-    first : (xs : List Segment) → take (length xs) (xs ++ ys) ≡ xs
-    first xs = take_at xs ys (length xs) refl
+both_lists xs ys n e = (take_at xs ys n (sym e), drop_at xs ys n (sym e))
 
-module _ (a : Term) (v : Task) (b : Term) (n : SeriesNote) (gone between beyond : List Segment) (s : IsSeriesReady a v b n gone) where
+module _ (a : Term) (v : Task) (b : Term) (n : SeriesNote) (gone : List Segment) (s : IsSeriesReady a v b n gone) where
   -- the note is in the segments
   pub between_there : n.between ≤ length gone
   between_there = let t = s.note.between_count in omega (arith, ap (length {A = Segment}) s.note.gone_is, length-append s.note.between s.note.far)
@@ -81,8 +93,8 @@ module _ (laws : LawsBelow) where
             omega (arith, (laws.stands a (unnamed a) s.allowed.2).final, (laws.stands b (unnamed b) s.allowed.3).initial)
 
     -- the sum of what is there beside the task fits
-    pub starts_fit : (final_of a ≤ total_of a) × (initial_of b ≤ total_of b) → n.between_start + n.far_start + v.extra ≤ 2 ^ 60
-    starts_fit w = let t = starts_there in let h = s.within in omega (arith, w.0, w.1)
+    pub starts_fit : n.between_start + n.far_start + v.extra ≤ 2 ^ 60
+    starts_fit = let t = starts_there in let h = s.within in let i = first_within backward a in let o = first_within forward b in omega arith
 
     pub share_fits : v.share ≤ n.between_start + n.far_start + v.extra
     share_fits = let t = starts_there in let h = s.allowed.1 in omega arith
@@ -91,7 +103,7 @@ module _ (laws : LawsBelow) where
     hill_is = let t = starts_there in let h = s.allowed.1 in omega arith
 
     ends_before : (cut_at a).fin ≤ hill_of a v b
-    ends_before = let s = laws.stands a (unnamed a) s.allowed.2 in let e = s.final in omega arith
+    ends_before = let t = laws.stands a (unnamed a) s.allowed.2 in let e = t.final in omega arith
 
     starts_before : (cut_at b).initial ≤ hill_of a v b
     starts_before = let t = laws.stands b (unnamed b) s.allowed.3 in let e = t.initial in let h = s.allowed.0 in omega arith

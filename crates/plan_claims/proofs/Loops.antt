@@ -1,5 +1,5 @@
 -- Loops over segments and over parts, from what is left of them.
-use Rattle.std.proofs.Common.{◌≡◌, ℕ, zero, suc, ◌+◌, ◌-◌, ◌<◌, ◌≤◌, leb, refl, sym, subst, ap, arith, ◌∙◌, List, [], ◌∷◌, ◌++◌, take, drop, length, length-drop, get_or, append_assoc, append-nil, Option, Some, None}
+use Rattle.std.proofs.Common.{◌≡◌, ℕ, zero, suc, ◌+◌, ◌-◌, ◌<◌, ◌≤◌, leb, Bool, true, refl, sym, subst, ap, arith, ◌∙◌, List, [], ◌∷◌, ◌++◌, take, drop, length, length-drop, get_or, append_assoc, append-nil, Option, Some, None}
 use Rattle.std.proofs.lemmas.Bool.Decides.{nat_tests}
 use Rattle.std.proofs.lemmas.List.{at_drop_more, at_drop_all, drop_more, drop-drop, take_all}
 use Rattle.std.specs.Prelude.{if◌then◌else◌}
@@ -9,6 +9,7 @@ use Rattle.side_laws.specs.Segments.{Segment, net_sum, lowest, last_up}
 use Rattle.hill_valley.specs.declared.numbers.Numbers.{Numbers}
 use Rattle.hill_valley.specs.Numbers.{segments_of}
 use Rattle.sp_terms.specs.Term.{Direction}
+use Rattle.plan_text.specs.declared.claim.Dir.{Dir}
 use Rattle.plan_text.specs.Plan.{direction_of}
 use Rattle.sp_cuts.specs.declared.notes.PartNote.{PartNote}
 use Rattle.plan_claims.specs.declared.wanted.Wanted.{Wanted}
@@ -98,6 +99,31 @@ segments_length (n ∷ ns) = ap suc (segments_length ns)
 
 drop_twice : (a b : ℕ) (ss : List Segment) → drop b (drop a ss) ≡ drop (a + b) ss
 drop_twice a b ss = drop-drop b a ss
+
+-- ---- one part
+
+-- its sides, in the slices of its segments
+pub back_side : (front back count : ℕ) (gone : List Numbers) → count ≡ front + back → segments_of (take (count - front) (drop front gone)) ≡ take back (drop front (segments_of gone))
+back_side front back count gone e =
+    let n : count - front ≡ back = omega arith in
+    ap (λ (k : ℕ). segments_of (take k (drop front gone))) n ∙ segments_take back (drop front gone) ∙ ap (take back) (segments_drop front gone)
+
+pub level_read : (n : PartNote) (dir : Dir) (d : Direction) (over rest level : ℕ) (gone : List Segment) → n.read ≡ true → direction_of dir ≡ d → level ≡ noted_level d over n gone
+    → level ≡ (if n.read then noted_level (direction_of dir) over n gone else rest)
+level_read n dir d over rest level gone is_read is e =
+    e ∙ ap (λ (x : Direction). noted_level x over n gone) (sym is) ∙ sym (first n.read (noted_level (direction_of dir) over n gone) rest is_read)
+  where
+    first : (b : Bool) (x y : ℕ) → b ≡ true → (if b then x else y) ≡ x
+    first b x y h = rw h refl
+
+-- a note that is read from a list, whatever stands in for one that is not there
+pub any_default : (parts : List PartNote) (i : ℕ) (d : PartNote) → i < length parts → get_or parts i d ≡ get_or parts i (get_or parts i d)
+any_default parts i d h = same parts i d (get_or parts i d) h
+  where
+    same : (parts : List PartNote) (i : ℕ) (d e : PartNote) → i < length parts → get_or parts i d ≡ get_or parts i e
+    same [] i d e h = absurd (omega arith)
+    same (p ∷ parts) zero d e h = refl
+    same (p ∷ parts) (suc i) d e h = same parts i d e (omega arith)
 
 -- ---- parts
 
