@@ -13,7 +13,7 @@ use Rattle.sp_terms.specs.Term.{Term, series, par, Parts, count}
 use Rattle.plan_text.specs.Plan.{direction_of}
 use Rattle.sp_cuts.specs.declared.notes.PartNote.{PartNote}
 use Rattle.sp_cuts.specs.declared.notes.SeriesNote.{SeriesNote}
-use Rattle.sp_cuts.specs.Notes.{Noted, both_noted, cut_at, unread, ArePartNotes}
+use Rattle.sp_cuts.specs.Notes.{Noted, numbers_at, cut_at, unread, IsSeriesNote, ArePartNotes}
 use Rattle.plan_claims.specs.declared.wanted.Wanted.{Wanted}
 use Rattle.plan_claims.specs.Below.{LawsBelow}
 use Rattle.plan_claims.specs.Handing.{HasLast, HasLastTerm, HasLastTask, HasLastPar, IsSeriesReady, IsHandedDown}
@@ -45,6 +45,77 @@ rest_length : {X : Type 0} (xs first second : List X) (n m : ℕ) → xs ≡ fir
 rest_length {X} xs first second n m whole e f =
     let l = ap (length {A = X}) whole ∙ length-append first second in
     (omega arith, omega arith)
+
+-- the last one of a list
+snoc_same : {X : Type 0} (xs ys : List X) (x y : X) → xs ++ x ∷ [] ≡ ys ++ y ∷ [] → (xs ≡ ys) × (x ≡ y)
+snoc_same [] [] x y e = (refl, head_same e)
+  where
+    head_same : {X : Type 0} {x y : X} → ◌≡◌ {A = List X} (x ∷ []) (y ∷ []) → x ≡ y
+    head_same e = cc
+snoc_same {X} [] (z ∷ ys) x y e = let l = ap (length {A = X}) e in let m = length-append ys (y ∷ []) in absurd (omega arith)
+snoc_same {X} (z ∷ xs) [] x y e = let l = ap (length {A = X}) e in let m = length-append xs (x ∷ []) in absurd (omega arith)
+snoc_same (z ∷ xs) (w ∷ ys) x y e = let r = snoc_same xs ys x y (tail_same e) in (both (head_same e) r.0, r.1)
+  where
+    head_same : {X : Type 0} {x y : X} {xs ys : List X} → ◌≡◌ {A = List X} (x ∷ xs) (y ∷ ys) → x ≡ y
+    head_same e = cc
+
+    tail_same : {X : Type 0} {x y : X} {xs ys : List X} → ◌≡◌ {A = List X} (x ∷ xs) (y ∷ ys) → xs ≡ ys
+    tail_same e = cc
+
+    both : {X : Type 0} {x y : X} {xs ys : List X} → x ≡ y → xs ≡ ys → ◌≡◌ {A = List X} (x ∷ xs) (y ∷ ys)
+    both p q = λ i. p i ∷ q i
+
+-- ---- a series
+
+module _ (a : Term) (v : Task) (b : Term) (before : Noted) (ss : List SeriesNote) (ps : List PartNote) (gs : List Numbers)
+    (x : HasLastTask a v b before (lists ss ps (segments_of gs))) where
+  some_series : 0 < length ss
+  some_series =
+      let l = ap (λ (n : Noted). length n.series) x.whole in
+      let m = ap (length {A = SeriesNote}) x.note.1 in
+      omega (arith, length-append before.series x.own.series)
+
+  pub no_series : length ss ≡ 0 → ⊥
+  no_series e = let s = some_series in absurd (omega arith)
+
+  module _ (ss' : List SeriesNote) (n : SeriesNote) (last : ss ≡ ss' ++ n ∷ []) where
+    taken : (ss' ≡ before.series) × (n ≡ x.note.0)
+    taken = snoc_same ss' before.series n x.note.0 (sym last ∙ ap (λ (m : Noted). m.series) x.whole ∙ ap (λ (l : List SeriesNote). before.series ++ l) x.note.1)
+
+    noted : IsSeriesNote (numbers_at a) (numbers_at b) n x.own.gone
+    noted = subst (λ (m : SeriesNote). IsSeriesNote (numbers_at a) (numbers_at b) m x.own.gone) (sym taken.1) x.note.3
+
+    own_count : n.between + n.far ≡ length x.own.gone
+    own_count = let f = noted.between_count in let s = noted.far_count in omega (arith, ap (length {A = Segment}) noted.gone_is, length-append noted.between noted.far)
+
+    gone_whole : segments_of gs ≡ before.gone ++ x.own.gone
+    gone_whole = ap (λ (m : Noted). m.gone) x.whole
+
+    module _ (len : ℕ) (long : len ≡ length gs) where
+      rest_count : (n.between + n.far ≤ len) × (len - (n.between + n.far) ≡ length before.gone)
+      rest_count = rest_length (segments_of gs) before.gone x.own.gone len (n.between + n.far) gone_whole (long ∙ sym (segments_length gs)) own_count
+
+      pub own_there : n.between + n.far ≤ len
+      own_there = rest_count.0
+
+      pub series_here : (gs1 : List Numbers) → gs1 ≡ gs
+          → IsSeriesReady a v b n (segments_of (take (length gs1 - (len - (n.between + n.far))) (drop (len - (n.between + n.far)) gs1)))
+      series_here gs1 same =
+          let k : ℕ = len - (n.between + n.far) in
+          let e : segments_of (take (length gs1 - k) (drop k gs1)) ≡ x.own.gone =
+          segments_from k gs1 ∙ seconds (segments_of gs1) before.gone x.own.gone (ap segments_of same ∙ gone_whole) k rest_count.1 in
+          subst (IsSeriesReady a v b n) (sym e) (record { allowed = x.allowed; within = x.within; note = noted })
+
+      pub series_down : (o p q : Option Wanted) (old mid new : List (Option Wanted)) (gs' : List Numbers) → gs' ≡ take (len - (n.between + n.far)) gs → mid ≡ old ++ p ∷ [] → new ≡ mid ++ q ∷ []
+          → AreHanded (series a v b) o (p ∷ q ∷ []) → IsHandedDown (series a v b) before o (lists ss' ps (segments_of gs')) old new
+      series_down o p q old mid new gs' cutg first second handed = record {
+        left = same_lists ss' before.series ps before.parts (segments_of gs') before.gone taken.0
+            (ap (λ (m : Noted). m.parts) x.whole ∙ ap (λ (l : List PartNote). before.parts ++ l) x.note.2 ∙ append-nil before.parts)
+            (ap segments_of cutg ∙ segments_take (len - (n.between + n.far)) gs ∙ firsts (segments_of gs) before.gone x.own.gone gone_whole (len - (n.between + n.far)) rest_count.1);
+        parts = p ∷ q ∷ [];
+        behind = second ∙ ap (λ (l : List (Option Wanted)). l ++ q ∷ []) first ∙ append_assoc old (p ∷ []) (q ∷ []);
+        handed = handed;
+      }
 
 -- ---- parts side by side
 
@@ -147,3 +218,30 @@ module _ (laws : LawsBelow) (many : ℕ) (ts : Parts) (before : Noted) (ss : Lis
               behind = put;
               handed = handed;
             }
+
+-- ---- any position
+
+pub record TaskLast (extra share time : ℕ) (t : Term) (before notes : Noted) : Type 0 where
+  pub a : Term
+  pub b : Term
+  pub is : t ≡ series a (record { extra = extra; share = share; time = time }) b
+  pub last : HasLastTask a (record { extra = extra; share = share; time = time }) b before notes
+
+pub task_last : (position : Position) (extra share time : ℕ) (t : Term) (before notes : Noted) → position ≡ at.Task extra share time → HasLast position t before notes → TaskLast extra share time t before notes
+task_last position extra share time t before notes is (own, l) =
+    let (a, b, e) = subst (λ (p : Position). IsTermAt p t) is own in
+    record { a = a; b = b; is = e; last = subst (λ (u : Term). HasLastTerm u before notes) e l }
+
+pub record PartsLast (many : ℕ) (t : Term) (before notes : Noted) : Type 0 where
+  pub ts : Parts
+  pub is : t ≡ par ts
+  pub last : HasLastPar many ts before notes
+
+pub parts_last : (position : Position) (many : ℕ) (t : Term) (before notes : Noted) → position ≡ Par many → HasLast position t before notes → PartsLast many t before notes
+parts_last position many t before notes is (own, l) =
+    let (ts, n, e) = subst (λ (p : Position). IsTermAt p t) is own in
+    record { ts = ts; is = e; last = (n, subst (λ (u : Term). HasLastTerm u before notes) e l) }
+
+-- what is handed down for the term that stands there
+pub down_for : (t u : Term) (before notes : Noted) (o : Option Wanted) (old new : List (Option Wanted)) → t ≡ u → (ShowsIf (cut_at u) o → IsHandedDown u before o notes old new) → ShowsIf (cut_at t) o → IsHandedDown t before o notes old new
+down_for t u before notes o old new e f s = subst (λ (x : Term). IsHandedDown x before o notes old new) (sym e) (f (subst (λ (x : Term). ShowsIf (cut_at x) o) e s))
