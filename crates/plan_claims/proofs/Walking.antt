@@ -27,7 +27,7 @@ use Rattle.plan_claims.specs.Walks.{IsLeft, IsRight, AreMet, AreClaimsOf, claims
 use Rattle.plan_claims.specs.Wants.{Shows, ShowsIf, AllShow, AreHanded, MeetsIf, claim_if}
 use Rattle.plan_claims.proofs.Peaks.{top_within, start_below}
 use Rattle.plan_claims.proofs.Sides.{lt_or_le}
-use Rattle.plan_claims.proofs.Standing.{row_width, row_width_before, row_width_is, row_whole, next_at, next_there, ends_append, ends_length}
+use Rattle.plan_claims.proofs.Standing.{row_width, row_width_before, row_width_is, row_whole, index_there, next_at, next_there, ends_append, ends_length}
 
 -- ---- what is left
 
@@ -329,6 +329,9 @@ module _ (laws : LawsBelow) (ps : List Position) (k : ℕ) (terms : IsTerms ps) 
 -- the position at this place
 pub place_there : (ps : List Position) (k : ℕ) (p : Position) → ((d : Position) → p ≡ slice_index_or ps (k - 1) d) → get_or ps (k - 1) p ≡ p
 place_there ps k p h = sym (h p)
+
+pub some_place : (ps : List Position) (k : ℕ) → 1 ≤ k → k ≤ length ps → (p : Position) × (get_or ps (k - 1) p ≡ p)
+some_place ps k low high = index_there ps (k - 1) (omega arith)
 
 -- something is to be done at each position
 pub todo_there : (ps : List Position) (k : ℕ) → IsTerms ps → 1 ≤ k → k ≤ length ps → (notes : Noted) (todo : List (Option Wanted)) → IsLeft ps k notes todo → 0 < length todo
