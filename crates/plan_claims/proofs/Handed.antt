@@ -18,7 +18,7 @@ use Rattle.plan_text.specs.Plan.{direction_of}
 use Rattle.cut_laws.specs.Cuts.{Cut, hold_cut, cut_first, cut_second, top_of, lowest_of}
 use Rattle.sp_cuts.specs.declared.notes.PartNote.{PartNote}
 use Rattle.sp_cuts.specs.declared.notes.SeriesNote.{SeriesNote}
-use Rattle.sp_cuts.specs.Notes.{Noted, nothing_noted, both_noted, IsSeriesNote, IsCutInFirst, IsCutInSecond, IsNote, cut_at, numbers_at, unnamed}
+use Rattle.sp_cuts.specs.Notes.{Noted, nothing_noted, both_noted, IsCutInFirst, IsCutInSecond, cut_at, numbers_at, unnamed}
 use Rattle.sp_cuts.specs.Stacks.{total_of, total_of_parts}
 use Rattle.plan_claims.specs.declared.wanted.Wanted.{Wanted}
 use Rattle.plan_claims.specs.Below.{LawsBelow}

@@ -174,7 +174,7 @@ module _ (parts : List PartNote) (i : ℕ) where
         let l : level ≡ (if x.read then noted_level e over x (drop at (segments_of gone)) else 0) = is ∙ ap (λ (s : List Segment). if x.read then noted_level e over x s else 0) (segments_from at gone) in
         ap (λ (n : ℕ). left_over e over n (drop (i + 1) parts) (drop at' (segments_of gone))) (is' ∙ ap (λ (n : ℕ). left - n) l)
         ∙ ap (λ (s : List Segment). left_over e over (left - (if x.read then noted_level e over x (drop at (segments_of gone)) else 0)) (drop (i + 1) parts) s)
-            (ap (λ (k : ℕ). drop k (segments_of gone)) on ∙ sym (drop_twice at (x.front + x.back) (segments_of gone)))
+        (ap (λ (k : ℕ). drop k (segments_of gone)) on ∙ sym (drop_twice at (x.front + x.back) (segments_of gone)))
         ∙ at_one (λ l. left_over e over left l (drop at (segments_of gone))) x h here ∙ told
 
     pub each_goes : (w : Wanted) (over rest : ℕ) (done done' whole : List (Option Wanted)) (level at' : ℕ) (v : Option Wanted)

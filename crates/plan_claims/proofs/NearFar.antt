@@ -3,7 +3,6 @@ use Rattle.std.proofs.Common.{◌≡◌, ℕ, ◌+◌, ◌-◌, ◌<◌, ◌≤�
 use Rattle.std.specs.Prelude.{if◌then◌else◌, nat_lt}
 use Rattle.std.proofs.lemmas.Bool.Decides.{nat_tests}
 use Rattle.side_laws.specs.Segments.{Segment, lowest, last_up}
-use Rattle.hill_valley.specs.Numbers.{first_down_to}
 use Rattle.hill_valley.specs.Side.{run_profile}
 use Rattle.sp_terms.specs.Term.{Direction}
 use Rattle.sp_term_laws.specs.Moves.{other}

@@ -1,5 +1,5 @@
 -- What is wanted of parts side by side meets their rule.
-use Rattle.std.proofs.Common.{◌≡◌, ℕ, zero, suc, ◌+◌, ◌-◌, ◌<◌, ◌≤◌, ◌^◌, ◌⊎◌, inl, inr, Bool, true, false, refl, sym, subst, ap, arith, ◌∙◌, List, [], ◌∷◌, ◌++◌, append_assoc, append-nil, length, length-append, map, take, drop, Option, Some, None}
+use Rattle.std.proofs.Common.{◌≡◌, ℕ, suc, ◌+◌, ◌-◌, ◌<◌, ◌≤◌, ◌^◌, ◌⊎◌, inl, inr, Bool, true, false, refl, sym, subst, ap, arith, ◌∙◌, List, [], ◌∷◌, ◌++◌, append_assoc, length, length-append, map, take, drop, Option, Some, None}
 use Rattle.std.specs.Prelude.{ℤ, pos, ◌-ℤ◌, ◌≤ℤ◌, if◌then◌else◌}
 use Rattle.std.proofs.lemmas.Bool.Decides.{nat_tests}
 use Rattle.std.proofs.lemmas.Int.{ints}
@@ -9,10 +9,10 @@ use Rattle.std.proofs.lemmas.List.Sums.{sum_by-cons}
 use Rattle.side_laws.specs.Segments.{Segment, net_sum, lowest, IsRising}
 use Rattle.side_laws.specs.Merging.{merge_segments, AllRising}
 use Rattle.side_laws.specs.Levels.{level_sum, AllStart, EachStuck, AreLevels}
-use Rattle.hill_valley.specs.Side.{run_profile, profile}
+use Rattle.hill_valley.specs.Side.{run_profile}
 use Rattle.segment_merge.specs.Merging.{run_profiles}
 use Rattle.sp_terms.specs.Places.{list_of_parts}
-use Rattle.sp_terms.specs.Term.{Term, hold, series, par, Parts, no_parts, part, count, Direction, forward, backward, initial_of, final_of, least_of, IsAllowed, AreAllowed}
+use Rattle.sp_terms.specs.Term.{Term, par, Parts, no_parts, part, count, Direction, forward, backward, least_of, IsAllowed, AreAllowed}
 use Rattle.claim_rules.specs.Claims.{Claim}
 use Rattle.claim_rules.specs.Rules.{SomeClaim, HasRoom, HaveRoom, value_in, values_in}
 use Rattle.plan_text.specs.Plan.{direction_of}
@@ -175,15 +175,15 @@ module _ (laws : LawsBelow) where
       let own = h.least in
       elim (read_or_not n.read) [
         | inl is_read ↦ record {
-            there = omega (arith, length-append (segments_read c n) later, own_length c n h later);
-            front = omega (arith, ap net_sum (front_here c n h later is_read));
-            back = omega (arith, ap net_sum (back_here c n h later is_read));
-          }
+          there = omega (arith, length-append (segments_read c n) later, own_length c n h later);
+          front = omega (arith, ap net_sum (front_here c n h later is_read));
+          back = omega (arith, ap net_sum (back_here c n h later is_read));
+        }
         | inr is_not ↦ record {
-            there = omega (arith, length-append (segments_read c n) later, own_length c n h later);
-            front = omega (arith, ap net_sum (none_front c n h later is_not));
-            back = omega (arith, ap net_sum (none_back c n h later is_not));
-          }
+          there = omega (arith, length-append (segments_read c n) later, own_length c n h later);
+          front = omega (arith, ap net_sum (none_front c n h later is_not));
+          back = omega (arith, ap net_sum (none_back c n h later is_not));
+        }
       ]
 
   pub places_there : (ts : Parts) (ns : List PartNote) → AreAllowed ts → total_of_parts ts ≤ 2 ^ 60 → ArePartNotes (numbers ts) ns → HavePlaces ns (gone_of ts ns)
@@ -267,9 +267,9 @@ module _ (d : Direction) (over : ℕ) where
   one_unread rest (n ∷ ns) gone [] h u e = absurd h
   one_unread rest (n ∷ ns) gone (l ∷ ls) h u e = elim (read_or_not n.read) [
     | inl is_read ↦ (
-        if_true n.read (noted_level d over n gone) rest is_read ∙ h.0 is_read,
-        one_unread rest ns (drop (n.front + n.back) gone) ls h.1 (omega (arith, if_true n.read 0 1 is_read)) (omega (arith, e, if_true n.read 0 l is_read)),
-      )
+      if_true n.read (noted_level d over n gone) rest is_read ∙ h.0 is_read,
+      one_unread rest ns (drop (n.front + n.back) gone) ls h.1 (omega (arith, if_true n.read 0 1 is_read)) (omega (arith, e, if_true n.read 0 l is_read)),
+    )
     | inr is_not ↦
         let r = none_unread rest ns (drop (n.front + n.back) gone) ls h.1 (omega (arith, if_false n.read 0 1 is_not)) in
         (if_false n.read (noted_level d over n gone) rest is_not ∙ omega (arith, e, r.0, if_false n.read 0 l is_not), r.1)
@@ -458,4 +458,3 @@ module _ (laws : LawsBelow) (w : Wanted) where
           rest = omega (arith, total, h.values_are);
         };
       }
-

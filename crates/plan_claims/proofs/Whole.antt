@@ -1,9 +1,9 @@
 -- What is wanted of the whole term, from its part.
-use Rattle.std.proofs.Common.{◌≡◌, ℕ, ◌≤◌, refl, sym, subst, ap, arith, ◌∙◌, List}
-use Rattle.side_laws.specs.Segments.{Segment, lowest, top}
+use Rattle.std.proofs.Common.{◌≡◌, ℕ, refl, sym, ap, arith, ◌∙◌}
+use Rattle.side_laws.specs.Segments.{lowest, top}
 use Rattle.sp_terms.specs.Term.{Term, Direction, forward, backward}
 use Rattle.plan_text.specs.Plan.{direction_of}
-use Rattle.cut_laws.specs.Cuts.{Cut, side_of, start_of, top_of, lowest_of}
+use Rattle.cut_laws.specs.Cuts.{Cut, top_of, lowest_of}
 use Rattle.cut_laws.specs.Names.{numbered}
 use Rattle.cut_laws.specs.TermCuts.{cut_of_term}
 use Rattle.sp_cuts.specs.Notes.{CutNumbers, numbers_of, cut_at, unnamed}

@@ -1,5 +1,5 @@
 use Rattle.std.proofs.Common.{refl}
-use Rattle.plan_claims.proofs.Loops.{keeping_ends, keeping_fits, keeping_on}
+use Rattle.plan_claims.proofs.Loops.{keeping_ends}
 use Rattle.plan_claims.proofs.beside.level_above.Goals as goal
 
 pub loop-seg-init : goal.loop-seg-init

@@ -1,5 +1,4 @@
 use Rattle.std.proofs.Common.{◌+◌, ◌≤◌, ◌∙◌, ap, sym, subst}
-use Rattle.std.proofs.lemmas.Grind.{common_steps}
 use Rattle.limits.specs.Limits.{most_total}
 use Rattle.side_laws.specs.Segments.{net_sum}
 use Rattle.sp_terms.specs.Term.{forward, backward}

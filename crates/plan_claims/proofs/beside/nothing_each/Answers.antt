@@ -1,4 +1,4 @@
-use Rattle.std.proofs.Common.{false, get_or, refl}
+use Rattle.std.proofs.Common.{false, get_or}
 use Rattle.sp_cuts.specs.declared.notes.PartNote.{PartNote}
 use Rattle.plan_claims.proofs.Loops.{any_default, none_ends, none_goes}
 use Rattle.plan_claims.proofs.beside.nothing_each.Goals as goal

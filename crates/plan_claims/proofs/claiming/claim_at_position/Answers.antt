@@ -1,4 +1,4 @@
-use Rattle.std.proofs.Common.{arith, get_or, ◌-◌}
+use Rattle.std.proofs.Common.{arith}
 use Rattle.std.proofs.lemmas.Grind.{common_steps}
 use Rattle.plan_claims.proofs.Walking.{some_place, place_there, here_last, here_limit, here_left, here_right, todo_there}
 use Rattle.plan_claims.proofs.claiming.claim_at_position.Goals as goal

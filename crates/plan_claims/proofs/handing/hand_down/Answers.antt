@@ -19,13 +19,13 @@ returns-in-Hold c t before x shows = hold_handed c.args.position _ t before _ c.
 pub returns-in-Task : goal.returns-in-Task
 returns-in-Task c = on_ok_weaker c.hand_series.result
     (λ f t before x shows.
-        let y = task_last c.args.position _ _ _ t before _ c.in-Task.is x in
-        down_for t _ before _ c.args.wanted c.args.todo.now.items _ y.is (f y.a y.b before y.last) shows)
+    let y = task_last c.args.position _ _ _ t before _ c.in-Task.is x in
+    down_for t _ before _ c.args.wanted c.args.todo.now.items _ y.is (f y.a y.b before y.last) shows)
     c.hand_series.ensures
 
 pub returns-in-Par : goal.returns-in-Par
 returns-in-Par c = on_ok_weaker c.hand_par.result
     (λ f t before x shows.
-        let y = parts_last c.args.position _ t before _ c.in-Par.is x in
-        down_for t _ before _ c.args.wanted c.args.todo.now.items _ y.is (f y.ts before y.last) shows)
+    let y = parts_last c.args.position _ t before _ c.in-Par.is x in
+    down_for t _ before _ c.args.wanted c.args.todo.now.items _ y.is (f y.ts before y.last) shows)
     c.hand_par.ensures

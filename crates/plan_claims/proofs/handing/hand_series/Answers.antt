@@ -1,5 +1,5 @@
 use Rattle.std.proofs.Common.{arith}
-use Rattle.plan_claims.proofs.Tails.{no_series, own_there, series_here, series_down}
+use Rattle.plan_claims.proofs.Tails.{own_there, series_here, series_down}
 use Rattle.plan_claims.proofs.handing.hand_series.Goals as goal
 
 pub overflow_sub-at : goal.overflow_sub-at

@@ -1,4 +1,4 @@
-use Rattle.std.proofs.Common.{◌-◌, ◌<◌, ◌≤◌, ◌∙◌, ap, arith}
+use Rattle.std.proofs.Common.{◌∙◌, ap, arith}
 use Rattle.hill_valley.specs.Numbers.{segments_of}
 use Rattle.sp_term_laws.specs.Moves.{other}
 use Rattle.plan_claims.proofs.NearFar.{handed_other, handed_near, handed_closed, handed_hill, handed_last}
