@@ -13,7 +13,7 @@ use mp_system::System;
 use mp_system::laws::{renaming_law, traversal_law};
 use plan_claims::claims_of;
 use plan_text::PlanFile;
-use sp_cuts::plan_terms;
+use sp_cuts::{Plan, plan_terms};
 use sp_terms::Terms;
 use sp_terms::laws::terms_law;
 use std::alloc::Global;
@@ -81,9 +81,18 @@ fn plan_counted<L: Ledger>(
     system.keeps();
     let mut steps = Steps::<L>::new(blank);
     let plan = plan_terms(alloc, terms, &mut steps)?;
-    let claims = claims_of(alloc, terms, &plan.part, plan.notes)?;
-    let order = order_in_system(alloc, names, plan.order)?;
-    Ok(PlanFile::new(order, plan.peak, claims, Vec::new(alloc)))
+    let Plan {
+        order,
+        peak,
+        part,
+        ropes,
+        notes,
+    } = plan;
+    // the claims need no ropes, and can have their room
+    drop(ropes);
+    let claims = claims_of(alloc, terms, &part, notes)?;
+    let named = order_in_system(alloc, names, order)?;
+    Ok(PlanFile::new(named, peak, claims, Vec::new(alloc)))
 }
 
 /// The plan of a system, by a term of it: what the tasks of the term are called in the system; without names each has its own number.
