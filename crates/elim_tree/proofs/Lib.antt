@@ -14,3 +14,4 @@ pub mod PermCounts
 pub mod Reorderings
 pub mod Renumberings
 pub mod Postordered
+mod RowsTaken

@@ -67,3 +67,7 @@ abbrev pub IsTaken : Rooted → ℕ → List ℕ → List ℕ → ℕ → List �
 IsTaken forest k row order n parents ancestors =
     (root : ℕ → ℕ) × IsGrown forest.joined k root (slice_index parents) (slice_index ancestors)
     × ((j : ℕ) → j < n → column_in row order j < k → root (column_in row order j) ≡ k)
+
+-- the vertices of a row are their own columns
+abbrev pub IsInTurn : List ℕ → List ℕ → Type 0
+IsInTurn row order = (j : ℕ) → j < length row → column_in row order j ≡ slice_index row j

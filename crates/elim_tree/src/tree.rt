@@ -1,9 +1,12 @@
 //! The elimination tree, by compressed ways to the roots.
 
-ghost use Rattle.std.specs.Prelude.{◌≡◌, ℕ, ◌+◌, ◌<◌, ◌≤◌, length, slice_index, IfOk};
+ghost use Rattle.std.specs.Prelude.{◌≡◌, ℕ, ◌+◌, ◌<◌, ◌≤◌, true, List, length, slice_index, IfOk};
+ghost use Rattle.std.specs.List.Sorted.{IsStrictlyIncreasing};
+ghost use Rattle.limits.specs.Limits.{most_order};
 ghost use Rattle.matrix_market.specs.Pattern.{is_joined};
 ghost use Rattle.ordering.specs.Fill.{renumbered, parents_of};
-ghost use Rattle.elim_tree.specs.Forests.{Rooted, CanLink, IsLinked, CanTake, IsTaken};
+ghost use Rattle.ordering.specs.Perm.{place_of};
+ghost use Rattle.elim_tree.specs.Forests.{Rooted, CanLink, IsLinked, CanTake, IsTaken, IsInTurn};
 ghost use Rattle.elim_tree.specs.Reaches.{IsFirstReached};
 
 use crate::NoMemory;
@@ -51,6 +54,36 @@ fn take_row(parents: &mut [u32], ancestors: &mut [u32], row: &[u32], perm: &Perm
     }
 }
 
+// The same where each vertex is its own column: then the earlier columns are the head of the row, and no place is looked up.
+fn take_head(parents: &mut [u32], ancestors: &mut [u32], row: &[u32], k: u32)
+    requires room { (k < length parents.old) × (length ancestors.old ≡ length parents.old) }
+    requires rising { IsStrictlyIncreasing row.now }
+    requires start { (forest : Rooted) × (order : List ℕ) × IsInTurn row.now order
+        × CanTake forest k row.now order parents.old ancestors.old }
+    ensures { (forest : Rooted) → (order : List ℕ) → IsInTurn row.now order → CanTake forest k row.now order parents.old ancestors.old →
+        IsTaken forest k row.now order (length row.now) parents.new ancestors.new }
+{
+    for column in row {
+        if k <= *column {
+            return;
+        }
+        link(parents, ancestors, *column, k);
+    }
+}
+
+// Whether each vertex is its own column: then the order is 1, 2, .., n.
+fn is_in_turn(perm: &Perm) -> bool
+    requires { length perm.now ≤ most_order }
+    ensures { result ≡ true → (v : ℕ) → v ≤ length perm.now → place_of perm.now v ≡ v }
+{
+    for v in 0..perm.len() + 1 {
+        if perm.place(v) != v {
+            return false;
+        }
+    }
+    true
+}
+
 // Lets each column in turn take its children.
 fn grow(parents: &mut [u32], ancestors: &mut [u32], pattern: &Pattern, perm: &Perm)
     requires room { (length parents.old ≡ length perm.now + 1) × (length ancestors.old ≡ length perm.now + 1) }
@@ -62,14 +95,20 @@ fn grow(parents: &mut [u32], ancestors: &mut [u32], pattern: &Pattern, perm: &Pe
 {
     places_are_inverse();
     perm.keeps();
+    pattern.keeps();
+    let in_turn = is_in_turn(perm);
     for k in 1..pattern.order() + 1 {
         let row = pattern.neighbours(perm.at(k));
-        take_row(parents, ancestors, row, perm, k);
+        if in_turn {
+            take_head(parents, ancestors, row, k);
+        } else {
+            take_row(parents, ancestors, row, perm, k);
+        }
     }
 }
 
 /// The elimination tree of a pattern whose vertices are eliminated in this order: the parents of all columns. Liu 1986 and 1990, by
-/// compressed ways to the roots: near linear in the entries.
+/// compressed ways to the roots: near linear in the entries. In the order 1, 2, .., n no place of a vertex is looked up.
 pub fn etree(alloc: Global, pattern: &Pattern, perm: &Perm) -> Result<Parents, NoMemory>
     requires { length perm.now ≡ length pattern.now }
     ensures { IfOk result (λ parents. parents ≡ parents_of (renumbered (is_joined pattern.now) perm.now) (length perm.now)) }

@@ -14,6 +14,9 @@ use Rattle.plan_text.specs.Plan.{PlanText, IsPlan, IsClaimWithin, RiseFrom, clai
 use Rattle.claim_check.specs.Accepted.{IsAccepted, HasRoot}
 use Rattle.claim_check.specs.Judged.{PassesAt}
 use Rattle.least_peak.specs.Best.{IsBestTraversal}
+use Rattle.least_peak.specs.Problem.{system_of, IsTermOf}
+use Rattle.least_peak.specs.declared.problem.Origin.{Origin}
+use Rattle.least_peak.specs.declared.problem.Origin.TheVariants as origins
 use Rattle.least_peak.specs.Named.{IsNamedBy, IsNamedTerm, order_named}
 
 -- ---- an order under the names of a system
@@ -65,8 +68,8 @@ module _
   pub plan_within : (claims : List Claim) (priority : List ℕ) → priority ≡ [] → peak ≤ 2 ^ 60 → length claims ≤ 4000001 → All IsClaimWithin claims → RiseFrom 0 claims
       → IsPlan (record { order = named; peak = peak; claims = claims; priority = priority })
   plan_within claims priority none small few within rising = record {
-    few_tasks = few_tasks system named term.system (long system named walks_named);
-    tasks = small_tasks system named term.system walks_named;
+    few_tasks = few_tasks system named term.within (long system named walks_named);
+    tasks = small_tasks system named term.within walks_named;
     peak = small;
     few_claims = few;
     claims = within;
@@ -110,3 +113,12 @@ accepted_is_best own renamed names positions system term plan accepted = record 
   is_peak = accepted.peak;
   least = accepted_is_least own renamed names positions system term plan accepted;
 }
+
+-- ---- the plan of a workflow
+
+pub workflow_accepted : (origin : Origin) (own : List Position) → origin ≡ origins.Workflow own → IsTerms own → IsSystem (system_of_term (term_of own))
+    → (plan : PlanText) → ((system : TaskSystem) → IsNamedTerm None own system → IsAccepted system own plan)
+    → (positions : List Position) × IsTermOf origin positions × IsAccepted (system_of origin) positions plan
+workflow_accepted origin own is terms within plan accepted =
+    subst (λ (o : Origin). (positions : List Position) × IsTermOf o positions × IsAccepted (system_of o) positions plan) (sym is)
+    (own, refl, accepted (system_of_term (term_of own)) (record { terms = terms; within = within; named = refl }))

@@ -15,7 +15,7 @@ IsNamedBy (Some names) own system = IsRenamed names own system
 -- the positions are a term within the limits, and the system, which is within them too, is that of the term, under the names
 pub record IsNamedTerm (names : Option (List ℕ)) (positions : List Position) (system : TaskSystem) : Type 0 where
   pub terms : IsTerms positions
-  pub system : IsSystem system
+  pub within : IsSystem system
   pub named : IsNamedBy names (system_of_term (term_of positions)) system
 
 -- the tasks of an order, each by its name

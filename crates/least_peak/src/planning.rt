@@ -60,7 +60,7 @@ fn order_in_system(
     }
 }
 
-// The plan, with a count of the segments that are moved. What it does not need any more is dropped before the claims are made.
+// The plan, with a count of the segments that are moved.
 fn plan_counted<L: Ledger>(
     alloc: Global,
     blank: Blank,
@@ -79,26 +79,24 @@ fn plan_counted<L: Ledger>(
     traversal_law();
     terms_law();
     let mut steps = Steps::<L>::new(blank);
+    let plan = plan_terms(alloc, terms, &mut steps)?;
     let Plan {
         order,
         peak,
         part,
         ropes,
         notes,
-    } = plan_terms(alloc, terms, &mut steps)?;
+    } = plan;
+    // the claims need no ropes, and can have their room
     drop(ropes);
-    let order = order_in_system(alloc, names, order)?;
+    let named = order_in_system(alloc, names, order)?;
     let claims = claims_of(alloc, terms, &part, notes)?;
-    Ok(PlanFile::new(order, peak, claims, Vec::new(alloc)))
+    Ok(PlanFile::new(named, peak, claims, Vec::new(alloc)))
 }
 
 /// The plan of a term, and of each system that is that of the term: what the tasks of the term are called in the system; without names
 /// each has its own number.
-pub fn plan_term(
-    alloc: Global,
-    terms: &Terms,
-    names: Option<Names>,
-) -> Result<PlanFile, NoMemory>
+pub fn plan_term(alloc: Global, terms: &Terms, names: Option<Names>) -> Result<PlanFile, NoMemory>
     requires { (system : TaskSystem) × IsNamedTerm names terms.now system }
     ensures accepted { IfOk result (λ plan. (system : TaskSystem) → IsNamedTerm names terms.now system → IsAccepted system terms.now plan) }
     ensures best { IfOk result

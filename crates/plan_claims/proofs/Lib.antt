@@ -5,9 +5,7 @@ pub mod Loops
 pub mod Handed
 pub mod Parted
 pub mod Tails
-pub mod PartsRead
 pub mod Peaks
 pub mod Standing
 pub mod Walking
-pub mod Stacked
-pub mod Least
+pub mod Whole

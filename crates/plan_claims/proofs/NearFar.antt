@@ -1,20 +1,19 @@
 -- What is wanted of the near part of a series and of the far one.
-use Rattle.std.proofs.Common.{◌≡◌, ℕ, ◌+◌, ◌-◌, ◌<◌, ◌≤◌, inl, inr, max, min, refl, sym, subst, ap, arith, ◌∙◌, Some, None}
+use Rattle.std.proofs.Common.{◌≡◌, ℕ, ◌+◌, ◌-◌, ◌<◌, ◌≤◌, inl, inr, max, min, refl, sym, subst, ap, arith, ◌∙◌, List, Some, None}
 use Rattle.std.specs.Prelude.{if◌then◌else◌, nat_lt}
 use Rattle.std.proofs.lemmas.Bool.Decides.{nat_tests}
-use Rattle.side_laws.specs.Segments.{lowest, last_up}
-use Rattle.hill_valley.specs.Side.{profile, run_profile}
+use Rattle.side_laws.specs.Segments.{Segment, lowest, last_up}
+use Rattle.hill_valley.specs.Side.{run_profile}
 use Rattle.sp_terms.specs.Term.{Direction}
 use Rattle.sp_term_laws.specs.Moves.{other}
 use Rattle.plan_text.specs.Plan.{direction_of}
-use Rattle.cut_laws.specs.Cuts.{Cut, top_of, lowest_of, side_of}
-use Rattle.plan_claims.specs.declared.notes.SeriesNote.{SeriesNote}
-use Rattle.plan_claims.specs.declared.notes.Wanted.{Wanted}
+use Rattle.cut_laws.specs.Cuts.{Cut, top_of, lowest_of, side_of, start_of}
+use Rattle.sp_cuts.specs.declared.notes.SeriesNote.{SeriesNote}
+use Rattle.plan_claims.specs.declared.wanted.Wanted.{Wanted}
 use Rattle.plan_claims.specs.Below.{LawsBelow}
-use Rattle.plan_claims.specs.Crossings.{LeadsOver, far_stuck, near_stuck, near_closed, hill_above, last_stuck, turned_low, IsTurned, AreHandedOver}
-use Rattle.plan_claims.specs.Notes.{IsCrossing, up_of}
+use Rattle.plan_claims.specs.Crossings.{up_of, LeadsOver, IsCrossing, far_stuck, near_stuck, near_closed, hill_above, last_stuck, turned_low, IsTurned, AreHandedOver}
 use Rattle.plan_claims.specs.Wants.{Shows}
-use Rattle.plan_claims.proofs.Sides.{lowest_of_first, all_of_first, lt_or_le}
+use Rattle.plan_claims.proofs.Sides.{lowest_of_first, lt_or_le}
 
 stuck : (limit m l a b z : ℕ) → z ≡ (if nat_lt (max m l) limit then a else b) → limit ≤ max m l → z ≡ b
 stuck limit m l a b z e h = grind (arith, nat_tests)
@@ -28,8 +27,8 @@ first_if m n a b h = grind (arith, nat_tests)
 second_if : (m n a b : ℕ) → n ≤ m → (if nat_lt m n then a else b) ≡ b
 second_if m n a b h = grind (arith, nat_tests)
 
-module _ (laws : LawsBelow) (d : Direction) (near far whole : Cut) (hill : ℕ) (n : SeriesNote) (w : Wanted)
-    (x : IsCrossing d near far hill n) (o : LeadsOver d near far whole hill) (s : Shows whole w) where
+module _ (laws : LawsBelow) (d : Direction) (near far whole : Cut) (hill : ℕ) (n : SeriesNote) (between beyond : List Segment) (w : Wanted)
+    (x : IsCrossing d near far n between beyond) (o : LeadsOver d near far whole hill) (s : Shows whole w) where
   -- in the other direction the far part is passed first
   pub handed_other : direction_of w.dir ≡ other d → AreHandedOver d near far hill w None (Some w)
   handed_other e =
@@ -97,24 +96,22 @@ module _ (laws : LawsBelow) (d : Direction) (near far whole : Cut) (hill : ℕ) 
           omega (arith, y, o.near_low w.limit past_near)
 
       -- the near part's other side, which was read to its end
-      turned_is : turned_low n w ≡ lowest_of (other d) w.limit near
-      turned_is =
-          lowest_of_first laws (run_profile (side_of (other d) near)) (profile n.between.items) n.between_start 0 w.limit x.between (omega arith)
-          ∙ ap (λ (m : ℕ). lowest w.limit m (run_profile (side_of (other d) near))) x.between_start
+      turned_is : turned_low n.between_start between w ≡ lowest_of (other d) w.limit near
+      turned_is = ap (lowest w.limit n.between_start) x.between_is ∙ ap (λ (m : ℕ). lowest w.limit m (run_profile (side_of (other d) near))) x.between_start
 
-      turned_up : last_up (profile n.between.items) ≡ up_of (other d) near
-      turned_up = ap last_up (all_of_first (run_profile (side_of (other d) near)) (profile n.between.items) n.between_start x.between)
+      turned_up : last_up between ≡ up_of (other d) near
+      turned_up = ap last_up x.between_is
 
-      turned_stops : w.limit - turned_low n w ≤ last_up (profile n.between.items) → w.limit ≤ top_of (other d) near
+      turned_stops : w.limit - turned_low n.between_start between w ≤ last_up between → w.limit ≤ top_of (other d) near
       turned_stops h = let l = turned_is in let u = turned_up in (o.turned_stuck w.limit).1 (omega arith)
 
-      turned_passes : last_up (profile n.between.items) < w.limit - turned_low n w → top_of (other d) near < w.limit
+      turned_passes : last_up between < w.limit - turned_low n.between_start between w → top_of (other d) near < w.limit
       turned_passes h = elim (lt_or_le (top_of (other d) near) w.limit) [
         | inl lt ↦ lt
         | inr le ↦ let l = turned_is in let u = turned_up in absurd (omega (arith, (o.turned_stuck w.limit).0 le))
       ]
 
-      pub handed_closed : (v : Wanted) → IsTurned n w (Some v) → AreHandedOver d near far hill w (Some v) None
+      pub handed_closed : (v : Wanted) → IsTurned n.between_start between w (Some v) → AreHandedOver d near far hill w (Some v) None
       handed_closed v t =
           let turned : direction_of v.dir ≡ other d = t.1 ∙ ap other e in
           let stops = turned_stops t.0 in
@@ -128,28 +125,25 @@ module _ (laws : LawsBelow) (d : Direction) (near far whole : Cut) (hill : ℕ) 
             obstacle = near_closed e (low_least (omega arith)) v refl refl turned t.2;
           }
 
-      pub handed_hill : w.limit ≤ n.hill → AreHandedOver d near far hill w None None
+      pub handed_hill : w.limit ≤ hill → AreHandedOver d near far hill w None None
       handed_hill h =
-          let t = x.hill_is in
           record { near_shows = tt; far_shows = tt; obstacle = hill_above e (low_least (omega arith)) refl refl (omega arith) }
 
-      pub handed_last : IsTurned n w None → n.hill < w.limit → (l : ℕ) → l ≡ (if nat_lt w.low n.least then w.low else lowest w.limit n.far_start (profile n.far.items))
+      pub handed_last : IsTurned n.between_start between w None → hill < w.limit → (l : ℕ) → l ≡ (if nat_lt w.low n.near_least then w.low else lowest w.limit n.far_start beyond)
           → AreHandedOver d near far hill w None (Some (record { dir = w.dir; limit = w.limit; low = l }))
       handed_last h h' l is =
           let t = turned_passes h in
-          let u = x.hill_is in
           let top = o.top_is in
           let pn = past_near in
           let z : w.low ≡ min near.least (lowest_of d w.limit far) =
           over w.limit (top_of d near) (max (top_of (other d) near) hill) (min near.least (lowest_of d w.limit far)) (lowest_of d w.limit near) w.low low (omega arith) in
           let le = x.least_is in
-          let same : l ≡ lowest_of d w.limit far = elim (lt_or_le w.low n.least) [
-            | inl lt ↦ is ∙ first_if w.low n.least w.low (lowest w.limit n.far_start (profile n.far.items)) lt ∙ omega arith
+          let same : l ≡ lowest_of d w.limit far = elim (lt_or_le w.low n.near_least) [
+            | inl lt ↦ is ∙ first_if w.low n.near_least w.low (lowest w.limit n.far_start beyond) lt ∙ omega arith
             | inr ge ↦
-                let start = ap (λ (m : ℕ). lowest w.limit m (run_profile (side_of d far))) x.far_start in
-                is ∙ second_if w.low n.least w.low (lowest w.limit n.far_start (profile n.far.items)) ge
-                ∙ lowest_of_first laws (run_profile (side_of d far)) (profile n.far.items) n.far_start (n.least + 1) w.limit x.far_is (omega arith)
-                ∙ start
+                is ∙ second_if w.low n.near_least w.low (lowest w.limit n.far_start beyond) ge
+                ∙ ap (λ (m : ℕ). lowest w.limit m beyond) x.far_start ∙ ap (lowest w.limit (start_of d far)) x.beyond_is
+                ∙ lowest_of_first laws w.limit (near.least + 1) (start_of d far) (run_profile (side_of d far)) (omega arith)
           ] in
           record {
             near_shows = tt;

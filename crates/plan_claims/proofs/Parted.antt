@@ -1,17 +1,18 @@
 -- What is wanted of parts side by side meets their rule.
-use Rattle.std.proofs.Common.{◌≡◌, ℕ, ◌+◌, ◌-◌, ◌<◌, ◌≤◌, ◌⊎◌, inl, inr, Bool, true, false, refl, sym, subst, ap, arith, ◌∙◌, List, [], ◌∷◌, ◌++◌, map, Vec, Global, Option, Some, None}
+use Rattle.std.proofs.Common.{◌≡◌, ℕ, suc, ◌+◌, ◌-◌, ◌<◌, ◌≤◌, ◌^◌, ◌⊎◌, inl, inr, Bool, true, false, refl, sym, subst, ap, arith, ◌∙◌, List, [], ◌∷◌, ◌++◌, append_assoc, length, length-append, map, take, drop, Option, Some, None}
 use Rattle.std.specs.Prelude.{ℤ, pos, ◌-ℤ◌, ◌≤ℤ◌, if◌then◌else◌}
 use Rattle.std.proofs.lemmas.Bool.Decides.{nat_tests}
 use Rattle.std.proofs.lemmas.Int.{ints}
+use Rattle.std.proofs.lemmas.List.{take_at, drop_at}
 use Rattle.std.specs.List.{sum_by}
 use Rattle.std.proofs.lemmas.List.Sums.{sum_by-cons}
 use Rattle.side_laws.specs.Segments.{Segment, net_sum, lowest, IsRising}
 use Rattle.side_laws.specs.Merging.{merge_segments, AllRising}
 use Rattle.side_laws.specs.Levels.{level_sum, AllStart, EachStuck, AreLevels}
-use Rattle.hill_valley.specs.Side.{run_profile, profile}
+use Rattle.hill_valley.specs.Side.{run_profile}
 use Rattle.segment_merge.specs.Merging.{run_profiles}
 use Rattle.sp_terms.specs.Places.{list_of_parts}
-use Rattle.sp_terms.specs.Term.{Term, hold, series, par, Parts, no_parts, part, count, Direction, forward, backward, least_of, IsAllowed, AreAllowed}
+use Rattle.sp_terms.specs.Term.{Term, par, Parts, no_parts, part, count, Direction, forward, backward, least_of, IsAllowed, AreAllowed}
 use Rattle.claim_rules.specs.Claims.{Claim}
 use Rattle.claim_rules.specs.Rules.{SomeClaim, HasRoom, HaveRoom, value_in, values_in}
 use Rattle.plan_text.specs.Plan.{direction_of}
@@ -19,18 +20,26 @@ use Rattle.cut_laws.specs.Cuts.{Cut, par_cut, fronts, backs, side_of, start_of, 
 use Rattle.cut_laws.specs.TermCuts.{cuts_of_parts}
 use Rattle.cut_laws.specs.Tops.{SomeReaches}
 use Rattle.cut_laws.specs.Cuts.{starts, sides}
-use Rattle.plan_claims.specs.declared.notes.Note.{Note}
-use Rattle.plan_claims.specs.declared.notes.Note.TheVariants.{Par}
-use Rattle.plan_claims.specs.declared.notes.PartNote.{PartNote}
-use Rattle.plan_claims.specs.declared.notes.Wanted.{Wanted}
+use Rattle.sp_cuts.specs.declared.notes.PartNote.{PartNote}
+use Rattle.sp_cuts.specs.Notes.{CutNumbers, numbers_at, IsPartNote, ArePartNotes, segments_read, all_segments_read, unread, cut_at, unnamed, unnamed_parts}
+use Rattle.sp_cuts.specs.Stacks.{total_of, total_of_parts}
+use Rattle.plan_claims.specs.declared.wanted.Wanted.{Wanted}
 use Rattle.plan_claims.specs.Below.{LawsBelow}
-use Rattle.plan_claims.specs.Levels.{level_below, noted_start, noted_side, noted_up, noted_level, left_over, wanted_at, wanted_each}
-use Rattle.plan_claims.specs.Notes.{IsNote, IsPartNote, ArePartNotes, unread, cut_at, up_of, unnamed, unnamed_parts}
+use Rattle.plan_claims.specs.Crossings.{up_of}
+use Rattle.plan_claims.specs.Levels.{kept_level, noted_side, noted_up, noted_level, counted, HasPlace, HavePlaces, left_over, wanted_at, wanted_each}
 use Rattle.plan_claims.specs.Wants.{Shows, ShowsIf, AllShow, AreHanded, claim_if, none_each}
-use Rattle.plan_claims.proofs.Sides.{lt_or_le, lowest_end, taken_below}
+use Rattle.plan_claims.proofs.Handed.{first_within}
+use Rattle.plan_claims.proofs.Sides.{lt_or_le, lowest_end, kept_above}
 
 abbrev cuts : Parts → List Cut
 cuts ts = map cut_at (list_of_parts ts)
+
+abbrev pub numbers : Parts → List CutNumbers
+numbers ts = map numbers_at (list_of_parts ts)
+
+-- all segments that were noted with these
+abbrev pub gone_of : Parts → List PartNote → List Segment
+gone_of ts ns = all_segments_read (numbers ts) ns
 
 pub cuts_same : (ts : Parts) → cuts_of_parts ts (unnamed_parts ts) ≡ map cut_at (list_of_parts ts)
 cuts_same no_parts = refl
@@ -38,11 +47,11 @@ cuts_same (part t ts) = ap (λ (cs : List Cut). cut_at t ∷ cs) (cuts_same ts)
 
 -- ---- nothing wanted
 
-pub none_shown : (cs : List Cut) (ns : List PartNote) → ArePartNotes cs ns → AllShow cs (none_each ns)
-none_shown [] [] h = tt
-none_shown [] (n ∷ ns) h = absurd h
-none_shown (c ∷ cs) [] h = absurd h
-none_shown (c ∷ cs) (n ∷ ns) h = (tt, none_shown cs ns h.1)
+pub none_shown : (ts : Parts) (ns : List PartNote) → ArePartNotes (numbers ts) ns → AllShow (cuts ts) (none_each ns)
+none_shown no_parts [] h = tt
+none_shown no_parts (n ∷ ns) h = absurd h
+none_shown (part t ts) [] h = absurd h
+none_shown (part t ts) (n ∷ ns) h = (tt, none_shown ts ns h.1)
 
 -- ---- the merged side
 
@@ -89,44 +98,7 @@ module _ (laws : LawsBelow) where
   all_start d no_parts h = tt
   all_start d (part t ts) h = (let f = fit d t h.0 in omega arith, all_start d ts h.1)
 
-noted_start_is : (d : Direction) (c : Cut) (n : PartNote) → IsPartNote c n → noted_start d n ≡ start_of d c
-noted_start_is forward c n h = h.initial_is
-noted_start_is backward c n h = h.fin_is
-
-noted_up_is : (d : Direction) (c : Cut) (n : PartNote) → IsPartNote c n → noted_up d n ≡ up_of d c
-noted_up_is forward c n h = h.front_up
-noted_up_is backward c n h = h.back_up
-
-noted_side_is : (d : Direction) (c : Cut) (n : PartNote) → IsPartNote c n → n.read ≡ true → profile (noted_side d n) ≡ run_profile (side_of d c)
-noted_side_is forward c n h r = h.front_is r
-noted_side_is backward c n h r = h.back_is r
-
-noted_level_is : (d : Direction) (over : ℕ) (c : Cut) (n : PartNote) → IsPartNote c n → n.read ≡ true → noted_level d over n ≡ level_below over (start_of d c) (run_profile (side_of d c))
-noted_level_is d over c n h r = ap (λ (l : List Segment). level_below over (noted_start d n) l) (noted_side_is d c n h r) ∙ ap (λ (s : ℕ). level_below over s (run_profile (side_of d c))) (noted_start_is d c n h)
-
--- ---- the levels that the notes give
-
--- each part that was read has its level
-AreRead : Direction → ℕ → List PartNote → List ℕ → Type 0
-AreRead d over [] [] = Unit {0}
-AreRead d over [] (l ∷ ls) = ⊥
-AreRead d over (n ∷ ns) [] = ⊥
-AreRead d over (n ∷ ns) (l ∷ ls) = (n.read ≡ true → noted_level d over n ≡ l) × AreRead d over ns ls
-
-abbrev level_or : Direction → ℕ → ℕ → PartNote → ℕ
-level_or d over rest n = if n.read then noted_level d over n else rest
-
--- with this level for a part that was not read, all have theirs
-AreFilled : Direction → ℕ → ℕ → List PartNote → List ℕ → Type 0
-AreFilled d over rest [] [] = Unit {0}
-AreFilled d over rest [] (l ∷ ls) = ⊥
-AreFilled d over rest (n ∷ ns) [] = ⊥
-AreFilled d over rest (n ∷ ns) (l ∷ ls) = (level_or d over rest n ≡ l) × AreFilled d over rest ns ls
-
-unread_sum : List PartNote → List ℕ → ℕ
-unread_sum [] ls = 0
-unread_sum (n ∷ ns) [] = 0
-unread_sum (n ∷ ns) (l ∷ ls) = (if n.read then 0 else l) + unread_sum ns ls
+-- ---- what was noted of one part
 
 read_or_not : (b : Bool) → (b ≡ true) ⊎ (b ≡ false)
 read_or_not true = inl refl
@@ -138,43 +110,169 @@ if_true b x y e = rw e refl
 if_false : (b : Bool) (x y : ℕ) → b ≡ false → (if b then x else y) ≡ y
 if_false b x y e = rw e refl
 
-module _ (d : Direction) (over : ℕ) where
-  left_is : (m : ℕ) (ns : List PartNote) (ls : List ℕ) → AreRead d over ns ls → left_over d over (m + level_sum ls) ns ≡ m + unread_sum ns ls
-  unfolding unread_sum AreRead
-  left_is m [] [] h = omega arith
-  left_is m [] (l ∷ ls) h = absurd h
-  left_is m (n ∷ ns) [] h = absurd h
-  left_is m (n ∷ ns) (l ∷ ls) h = elim (read_or_not n.read) [
+segments_if : (b : Bool) (xs : List Segment) → b ≡ true → (if b then xs else []) ≡ xs
+segments_if b xs e = rw e refl
+
+no_segments : (b : Bool) (xs : List Segment) → b ≡ false → (if b then xs else []) ≡ []
+no_segments b xs e = rw e refl
+
+noted_up_is : (d : Direction) (t : Term) (n : PartNote) → IsPartNote (numbers_at t) n → noted_up d n ≡ up_of d (cut_at t)
+noted_up_is forward t n h = h.front_up
+noted_up_is backward t n h = h.back_up
+
+module _ (c : CutNumbers) (n : PartNote) (h : IsPartNote c n) (later : List Segment) where
+  own_length : length (segments_read c n) ≡ n.front + n.back
+  own_length = elim (read_or_not n.read) [
     | inl is_read ↦
-        let e : (m + (l + level_sum ls)) - (if n.read then noted_level d over n else 0) ≡ m + level_sum ls = omega (arith, if_true n.read (noted_level d over n) 0 is_read, h.0 is_read) in
-        ap (λ (k : ℕ). left_over d over k ns) e ∙ left_is m ns ls h.1 ∙ omega (arith, if_true n.read 0 l is_read)
+        ap (length {A = Segment}) (segments_if n.read (c.front ++ c.back) is_read) ∙ length-append c.front c.back
+        ∙ (let f = h.front_count ∙ if_true n.read (length c.front) 0 is_read in let b = h.back_count ∙ if_true n.read (length c.back) 0 is_read in omega arith)
     | inr is_not ↦
-        let e : (m + (l + level_sum ls)) - (if n.read then noted_level d over n else 0) ≡ (m + l) + level_sum ls = omega (arith, if_false n.read (noted_level d over n) 0 is_not) in
-        ap (λ (k : ℕ). left_over d over k ns) e ∙ left_is (m + l) ns ls h.1 ∙ omega (arith, if_false n.read 0 l is_not)
+        ap (length {A = Segment}) (no_segments n.read (c.front ++ c.back) is_not)
+        ∙ (let f = h.front_count ∙ if_false n.read (length c.front) 0 is_not in let b = h.back_count ∙ if_false n.read (length c.back) 0 is_not in omega arith)
   ]
 
-  none_unread : (rest : ℕ) (ns : List PartNote) (ls : List ℕ) → AreRead d over ns ls → unread ns ≤ 0 → (unread_sum ns ls ≡ 0) × AreFilled d over rest ns ls
-  unfolding unread_sum AreRead AreFilled
-  none_unread rest [] [] h u = (refl, tt)
-  none_unread rest [] (l ∷ ls) h u = absurd h
-  none_unread rest (n ∷ ns) [] h u = absurd h
-  none_unread rest (n ∷ ns) (l ∷ ls) h u = elim (read_or_not n.read) [
+  -- behind them stand those of the later parts
+  later_is : drop (n.front + n.back) (segments_read c n ++ later) ≡ later
+  later_is = drop_at (segments_read c n) later (n.front + n.back) own_length
+
+  module _ (is_read : n.read ≡ true) where
+    own_is : segments_read c n ++ later ≡ c.front ++ (c.back ++ later)
+    own_is = ap (λ (l : List Segment). l ++ later) (segments_if n.read (c.front ++ c.back) is_read) ∙ append_assoc c.front c.back later
+
+    front_here : take n.front (segments_read c n ++ later) ≡ c.front
+    front_here = ap (take n.front) own_is ∙ take_at c.front (c.back ++ later) n.front (sym (h.front_count ∙ if_true n.read (length c.front) 0 is_read))
+
+    back_here : take n.back (drop n.front (segments_read c n ++ later)) ≡ c.back
+    back_here =
+        ap (λ (l : List Segment). take n.back (drop n.front l)) own_is
+        ∙ ap (take n.back) (drop_at c.front (c.back ++ later) n.front (sym (h.front_count ∙ if_true n.read (length c.front) 0 is_read)))
+        ∙ take_at c.back later n.back (sym (h.back_count ∙ if_true n.read (length c.back) 0 is_read))
+
+  none_front : n.read ≡ false → take n.front (segments_read c n ++ later) ≡ []
+  none_front is_not = ap (λ (k : ℕ). take k (segments_read c n ++ later)) (h.front_count ∙ if_false n.read (length c.front) 0 is_not)
+
+  none_back : n.read ≡ false → take n.back (drop n.front (segments_read c n ++ later)) ≡ []
+  none_back is_not = ap (λ (k : ℕ). take k (drop n.front (segments_read c n ++ later))) (h.back_count ∙ if_false n.read (length c.back) 0 is_not)
+
+noted_side_is : (d : Direction) (t : Term) (n : PartNote) (later : List Segment) → IsPartNote (numbers_at t) n → n.read ≡ true → noted_side d n (segments_read (numbers_at t) n ++ later) ≡ run_profile (side_of d (cut_at t))
+noted_side_is forward t n later h r = front_here (numbers_at t) n h later r
+noted_side_is backward t n later h r = back_here (numbers_at t) n h later r
+
+noted_level_is : (d : Direction) (over : ℕ) (t : Term) (n : PartNote) (later : List Segment) → IsPartNote (numbers_at t) n → n.read ≡ true
+    → noted_level d over n (segments_read (numbers_at t) n ++ later) ≡ kept_level over (cut_at t).least (run_profile (side_of d (cut_at t)))
+noted_level_is d over t n later h r =
+    ap (kept_level over n.least) (noted_side_is d t n later h r) ∙ ap (λ (l : ℕ). kept_level over l (run_profile (side_of d (cut_at t)))) h.least
+
+-- ---- their places
+
+module _ (laws : LawsBelow) where
+  place_there : (t : Term) (n : PartNote) (later : List Segment) → IsAllowed t → total_of t ≤ 2 ^ 60 → IsPartNote (numbers_at t) n → HasPlace n (segments_read (numbers_at t) n ++ later)
+  place_there t n later allowed within h =
+      let c : CutNumbers = numbers_at t in
+      let s = laws.stands t (unnamed t) allowed in
+      let start = s.initial in let end = s.final in let low = s.low in let front = s.front_net in let back = s.back_net in
+      let le = first_within forward t in let ge = first_within backward t in
+      let own = h.least in
+      elim (read_or_not n.read) [
+        | inl is_read ↦ record {
+          there = omega (arith, length-append (segments_read c n) later, own_length c n h later);
+          front = omega (arith, ap net_sum (front_here c n h later is_read));
+          back = omega (arith, ap net_sum (back_here c n h later is_read));
+        }
+        | inr is_not ↦ record {
+          there = omega (arith, length-append (segments_read c n) later, own_length c n h later);
+          front = omega (arith, ap net_sum (none_front c n h later is_not));
+          back = omega (arith, ap net_sum (none_back c n h later is_not));
+        }
+      ]
+
+  pub places_there : (ts : Parts) (ns : List PartNote) → AreAllowed ts → total_of_parts ts ≤ 2 ^ 60 → ArePartNotes (numbers ts) ns → HavePlaces ns (gone_of ts ns)
+  places_there no_parts [] a w h = tt
+  places_there no_parts (n ∷ ns) a w h = absurd h
+  places_there (part t ts) [] a w h = absurd h
+  places_there (part t ts) (n ∷ ns) a w h = (
+    place_there t n (gone_of ts ns) a.0 (omega arith) h.0,
+    subst (HavePlaces ns) (sym (later_is (numbers_at t) n h.0 (gone_of ts ns))) (places_there ts ns a.1 (omega arith) h.1),
+  )
+
+-- as many as were noted
+pub counted_is : (ts : Parts) (ns : List PartNote) → ArePartNotes (numbers ts) ns → counted ns ≡ length (gone_of ts ns)
+counted_is no_parts [] h = refl
+counted_is no_parts (n ∷ ns) h = absurd h
+counted_is (part t ts) [] h = absurd h
+counted_is (part t ts) (n ∷ ns) h =
+    omega (arith, counted_is ts ns h.1, own_length (numbers_at t) n h.0 [], length-append (segments_read (numbers_at t) n) (gone_of ts ns))
+
+pub noted_count : (ts : Parts) (ns : List PartNote) → ArePartNotes (numbers ts) ns → length ns ≡ count ts
+noted_count no_parts [] h = refl
+noted_count no_parts (n ∷ ns) h = absurd h
+noted_count (part t ts) [] h = absurd h
+noted_count (part t ts) (n ∷ ns) h = ap suc (noted_count ts ns h.1)
+
+-- ---- the levels that the notes give
+
+-- each part that was read has its level
+AreRead : Direction → ℕ → List PartNote → List Segment → List ℕ → Type 0
+AreRead d over [] gone [] = Unit {0}
+AreRead d over [] gone (l ∷ ls) = ⊥
+AreRead d over (n ∷ ns) gone [] = ⊥
+AreRead d over (n ∷ ns) gone (l ∷ ls) = (n.read ≡ true → noted_level d over n gone ≡ l) × AreRead d over ns (drop (n.front + n.back) gone) ls
+
+abbrev level_or : Direction → ℕ → ℕ → PartNote → List Segment → ℕ
+level_or d over rest n gone = if n.read then noted_level d over n gone else rest
+
+-- with this level for a part that was not read, all have theirs
+AreFilled : Direction → ℕ → ℕ → List PartNote → List Segment → List ℕ → Type 0
+AreFilled d over rest [] gone [] = Unit {0}
+AreFilled d over rest [] gone (l ∷ ls) = ⊥
+AreFilled d over rest (n ∷ ns) gone [] = ⊥
+AreFilled d over rest (n ∷ ns) gone (l ∷ ls) = (level_or d over rest n gone ≡ l) × AreFilled d over rest ns (drop (n.front + n.back) gone) ls
+
+unread_sum : List PartNote → List ℕ → ℕ
+unread_sum [] ls = 0
+unread_sum (n ∷ ns) [] = 0
+unread_sum (n ∷ ns) (l ∷ ls) = (if n.read then 0 else l) + unread_sum ns ls
+
+module _ (d : Direction) (over : ℕ) where
+  left_is : (m : ℕ) (ns : List PartNote) (gone : List Segment) (ls : List ℕ) → AreRead d over ns gone ls → left_over d over (m + level_sum ls) ns gone ≡ m + unread_sum ns ls
+  unfolding unread_sum AreRead
+  left_is m [] gone [] h = omega arith
+  left_is m [] gone (l ∷ ls) h = absurd h
+  left_is m (n ∷ ns) gone [] h = absurd h
+  left_is m (n ∷ ns) gone (l ∷ ls) h = elim (read_or_not n.read) [
     | inl is_read ↦
-        let r = none_unread rest ns ls h.1 (omega (arith, if_true n.read 0 1 is_read)) in
-        (omega (arith, if_true n.read 0 l is_read, r.0), (if_true n.read (noted_level d over n) rest is_read ∙ h.0 is_read, r.1))
+        let e : (m + (l + level_sum ls)) - (if n.read then noted_level d over n gone else 0) ≡ m + level_sum ls = omega (arith, if_true n.read (noted_level d over n gone) 0 is_read, h.0 is_read) in
+        ap (λ (k : ℕ). left_over d over k ns (drop (n.front + n.back) gone)) e ∙ left_is m ns (drop (n.front + n.back) gone) ls h.1 ∙ omega (arith, if_true n.read 0 l is_read)
+    | inr is_not ↦
+        let e : (m + (l + level_sum ls)) - (if n.read then noted_level d over n gone else 0) ≡ (m + l) + level_sum ls = omega (arith, if_false n.read (noted_level d over n gone) 0 is_not) in
+        ap (λ (k : ℕ). left_over d over k ns (drop (n.front + n.back) gone)) e ∙ left_is (m + l) ns (drop (n.front + n.back) gone) ls h.1 ∙ omega (arith, if_false n.read 0 l is_not)
+  ]
+
+  none_unread : (rest : ℕ) (ns : List PartNote) (gone : List Segment) (ls : List ℕ) → AreRead d over ns gone ls → unread ns ≤ 0 → (unread_sum ns ls ≡ 0) × AreFilled d over rest ns gone ls
+  unfolding unread_sum AreRead AreFilled
+  none_unread rest [] gone [] h u = (refl, tt)
+  none_unread rest [] gone (l ∷ ls) h u = absurd h
+  none_unread rest (n ∷ ns) gone [] h u = absurd h
+  none_unread rest (n ∷ ns) gone (l ∷ ls) h u = elim (read_or_not n.read) [
+    | inl is_read ↦
+        let r = none_unread rest ns (drop (n.front + n.back) gone) ls h.1 (omega (arith, if_true n.read 0 1 is_read)) in
+        (omega (arith, if_true n.read 0 l is_read, r.0), (if_true n.read (noted_level d over n gone) rest is_read ∙ h.0 is_read, r.1))
     | inr is_not ↦ absurd (omega (arith, if_false n.read 0 1 is_not))
   ]
 
-  one_unread : (rest : ℕ) (ns : List PartNote) (ls : List ℕ) → AreRead d over ns ls → unread ns ≤ 1 → rest ≡ unread_sum ns ls → AreFilled d over rest ns ls
+  one_unread : (rest : ℕ) (ns : List PartNote) (gone : List Segment) (ls : List ℕ) → AreRead d over ns gone ls → unread ns ≤ 1 → rest ≡ unread_sum ns ls → AreFilled d over rest ns gone ls
   unfolding unread_sum AreRead AreFilled
-  one_unread rest [] [] h u e = tt
-  one_unread rest [] (l ∷ ls) h u e = absurd h
-  one_unread rest (n ∷ ns) [] h u e = absurd h
-  one_unread rest (n ∷ ns) (l ∷ ls) h u e = elim (read_or_not n.read) [
-    | inl is_read ↦ (if_true n.read (noted_level d over n) rest is_read ∙ h.0 is_read, one_unread rest ns ls h.1 (omega (arith, if_true n.read 0 1 is_read)) (omega (arith, e, if_true n.read 0 l is_read)))
+  one_unread rest [] gone [] h u e = tt
+  one_unread rest [] gone (l ∷ ls) h u e = absurd h
+  one_unread rest (n ∷ ns) gone [] h u e = absurd h
+  one_unread rest (n ∷ ns) gone (l ∷ ls) h u e = elim (read_or_not n.read) [
+    | inl is_read ↦ (
+      if_true n.read (noted_level d over n gone) rest is_read ∙ h.0 is_read,
+      one_unread rest ns (drop (n.front + n.back) gone) ls h.1 (omega (arith, if_true n.read 0 1 is_read)) (omega (arith, e, if_true n.read 0 l is_read)),
+    )
     | inr is_not ↦
-        let r = none_unread rest ns ls h.1 (omega (arith, if_false n.read 0 1 is_not)) in
-        (if_false n.read (noted_level d over n) rest is_not ∙ omega (arith, e, r.0, if_false n.read 0 l is_not), r.1)
+        let r = none_unread rest ns (drop (n.front + n.back) gone) ls h.1 (omega (arith, if_false n.read 0 1 is_not)) in
+        (if_false n.read (noted_level d over n gone) rest is_not ∙ omega (arith, e, r.0, if_false n.read 0 l is_not), r.1)
   ]
 
 -- ---- one part at its level
@@ -201,13 +299,13 @@ less_room limit n = elim (lt_or_le n limit) [
   | inr le ↦ omega (arith, ints)
 ]
 
-module _ (laws : LawsBelow) (w : Wanted) (t : Term) (allowed : IsAllowed t) (n : PartNote) (noted : IsPartNote (cut_at t) n) (l : ℕ) (lower : l ≤ w.low)
+module _ (laws : LawsBelow) (w : Wanted) (t : Term) (allowed : IsAllowed t) (n : PartNote) (noted : IsPartNote (numbers_at t) n) (l : ℕ) (lower : l ≤ w.low)
     (stuck : lowest (w.limit - (w.low - l)) (start_of (direction_of w.dir) (cut_at t)) (run_profile (side_of (direction_of w.dir) (cut_at t))) ≡ l) where
   pub part_handed : PartHanded w t l (wanted_at w n l)
   part_handed =
       let d : Direction = direction_of w.dir in
       let m : ℕ = w.limit - (w.low - l) in
-      let same = noted_up_is d (cut_at t) n noted in
+      let same = noted_up_is d t n noted in
       let fits = fit laws d t allowed in
       let side : List Segment = run_profile (side_of d (cut_at t)) in
       let law = laws.sides.by_last m (start_of d (cut_at t)) side (rises laws d t allowed) (omega arith) in
@@ -261,24 +359,29 @@ module _ (laws : LawsBelow) (w : Wanted) where
       let m : w.limit - (others + level_sum ls) ≡ w.limit - (w.low - l) = omega arith in
       (subst (λ (k : ℕ). lowest k (start_of dw (cut_at t)) (run_profile (side_of dw (cut_at t))) ≡ l) m h.0, each_stuck (others + l) ts ls h.2 (omega arith))
 
-  are_read : (ts : Parts) (ns : List PartNote) (ls : List ℕ) → ArePartNotes (cuts ts) ns → AreStuck ts ls → level_sum ls ≤ w.low → AreRead dw (w.limit - w.low) ns ls
+  are_read : (ts : Parts) (ns : List PartNote) (ls : List ℕ) → AreAllowed ts → ArePartNotes (numbers ts) ns → AreStuck ts ls → level_sum ls ≤ w.low → AreRead dw (w.limit - w.low) ns (gone_of ts ns) ls
   unfolding AreRead AreStuck
-  are_read no_parts [] [] h s le = tt
-  are_read no_parts [] (l ∷ ls) h s le = absurd s
-  are_read no_parts (n ∷ ns) ls h s le = absurd h
-  are_read (part t ts) [] ls h s le = absurd h
-  are_read (part t ts) (n ∷ ns) [] h s le = absurd s
-  are_read (part t ts) (n ∷ ns) (l ∷ ls) h s le =
+  are_read no_parts [] [] a h s le = tt
+  are_read no_parts [] (l ∷ ls) a h s le = absurd s
+  are_read no_parts (n ∷ ns) ls a h s le = absurd h
+  are_read (part t ts) [] ls a h s le = absurd h
+  are_read (part t ts) (n ∷ ns) [] a h s le = absurd s
+  are_read (part t ts) (n ∷ ns) (l ∷ ls) a h s le =
       let c : Cut = cut_at t in
       let m : ℕ = w.limit - (w.low - l) in
+      let side : List Segment = run_profile (side_of dw c) in
       let over : m - l ≡ w.limit - w.low = omega arith in
-      let e : l ≡ level_below (w.limit - w.low) (start_of dw c) (run_profile (side_of dw c)) =
-      sym s.0 ∙ taken_below laws m (start_of dw c) (run_profile (side_of dw c)) ∙ ap (λ (k : ℕ). level_below (m - k) (start_of dw c) (run_profile (side_of dw c))) s.0
-      ∙ ap (λ (k : ℕ). level_below k (start_of dw c) (run_profile (side_of dw c))) over in
-      (λ is_read. noted_level_is dw (w.limit - w.low) c n h.0 is_read ∙ sym e, are_read ts ns ls h.1 s.1 (omega arith))
+      let low : c.least ≡ least_of t = (laws.stands t (unnamed t) a.0).low in
+      let falls : net_sum side + c.least ≡ start_of dw c = (let f = fit laws dw t a.0 in omega arith) in
+      let e : l ≡ kept_level (w.limit - w.low) c.least side =
+      sym s.0 ∙ kept_above laws m (start_of dw c) c.least side (rises laws dw t a.0) falls ∙ ap (λ (k : ℕ). kept_level (m - k) c.least side) s.0
+      ∙ ap (λ (k : ℕ). kept_level k c.least side) over in (
+        λ is_read. noted_level_is dw (w.limit - w.low) t n (gone_of ts ns) h.0 is_read ∙ sym e,
+        subst (λ (g : List Segment). AreRead dw (w.limit - w.low) ns g ls) (sym (later_is (numbers_at t) n h.0 (gone_of ts ns))) (are_read ts ns ls a.1 h.1 s.1 (omega arith)),
+      )
 
-  each_handed : (rest : ℕ) (ts : Parts) (ns : List PartNote) (ls : List ℕ) → AreAllowed ts → ArePartNotes (cuts ts) ns → AreStuck ts ls → AreFilled dw (w.limit - w.low) rest ns ls → level_sum ls ≤ w.low
-      → PartsHanded w ts ls (wanted_each w (w.limit - w.low) rest ns)
+  each_handed : (rest : ℕ) (ts : Parts) (ns : List PartNote) (ls : List ℕ) → AreAllowed ts → ArePartNotes (numbers ts) ns → AreStuck ts ls → AreFilled dw (w.limit - w.low) rest ns (gone_of ts ns) ls → level_sum ls ≤ w.low
+      → PartsHanded w ts ls (wanted_each w (w.limit - w.low) rest ns (gone_of ts ns))
   unfolding AreFilled AreStuck
   each_handed rest no_parts [] [] a h s f le = record { all = tt; values_are = refl; room = tt; claimed = λ r. absurd r }
   each_handed rest no_parts [] (l ∷ ls) a h s f le = absurd s
@@ -286,16 +389,22 @@ module _ (laws : LawsBelow) (w : Wanted) where
   each_handed rest (part t ts) [] ls a h s f le = absurd h
   each_handed rest (part t ts) (n ∷ ns) [] a h s f le = absurd s
   each_handed rest (part t ts) (n ∷ ns) (l ∷ ls) a h s f le =
-      let v : Option Wanted = wanted_at w n (level_or dw (w.limit - w.low) rest n) in
+      let gone : List Segment = gone_of (part t ts) (n ∷ ns) in
+      let later : List Segment = drop (n.front + n.back) gone in
+      let same : later ≡ gone_of ts ns = later_is (numbers_at t) n h.0 (gone_of ts ns) in
+      let v : Option Wanted = wanted_at w n (level_or dw (w.limit - w.low) rest n gone) in
+      let vs : List (Option Wanted) = wanted_each w (w.limit - w.low) rest ns later in
       let one : PartHanded w t l v = subst (λ (k : ℕ). PartHanded w t l (wanted_at w n k)) (sym f.0) (part_handed laws w t a.0 n h.0 l (omega arith) s.0) in
-      let r : PartsHanded w ts ls (wanted_each w (w.limit - w.low) rest ns) = each_handed rest ts ns ls a.1 h.1 s.1 f.1 (omega arith) in
+      let r : PartsHanded w ts ls vs =
+      subst (λ (g : List Segment). PartsHanded w ts ls (wanted_each w (w.limit - w.low) rest ns g)) (sym same)
+      (each_handed rest ts ns ls a.1 h.1 s.1 (subst (λ (g : List Segment). AreFilled dw (w.limit - w.low) rest ns g ls) same f.1) (omega arith)) in
       record {
         all = (one.shows, r.all);
         values_are = omega (arith, one.value_is, r.values_are);
         room = (subst (λ (k : ℕ). HasRoom (pos w.limit -ℤ pos 1) (w.low - k) (claim_if v)) (sym one.value_is) one.room, r.room);
         claimed = λ x. elim x [
-          | inl here ↦ one.claimed here (map claim_if (wanted_each w (w.limit - w.low) rest ns))
-          | inr later ↦ some_later (claim_if v) (map claim_if (wanted_each w (w.limit - w.low) rest ns)) (r.claimed later)
+          | inl here ↦ one.claimed here (map claim_if vs)
+          | inr later ↦ some_later (claim_if v) (map claim_if vs) (r.claimed later)
         ];
       }
 
@@ -316,8 +425,8 @@ module _ (laws : LawsBelow) (w : Wanted) where
   lowest_start limit level [] h = refl
   lowest_start limit level (s ∷ ss) h = grind (arith, nat_tests)
 
-  pub par_handed : (ts : Parts) (ns : List PartNote) → IsAllowed (par ts) → ArePartNotes (cuts ts) ns → unread ns ≤ 1 → Shows (cut_at (par ts)) w
-      → AreHanded (par ts) (Some w) (wanted_each w (w.limit - w.low) (left_over dw (w.limit - w.low) w.low ns) ns)
+  pub par_handed : (ts : Parts) (ns : List PartNote) → IsAllowed (par ts) → ArePartNotes (numbers ts) ns → unread ns ≤ 1 → Shows (cut_at (par ts)) w
+      → AreHanded (par ts) (Some w) (wanted_each w (w.limit - w.low) (left_over dw (w.limit - w.low) w.low ns (gone_of ts ns)) ns (gone_of ts ns))
   par_handed ts ns allowed noted one s =
       let cs : List Cut = cuts ts in
       let start : ℕ = level_sum (starts dw cs) in
@@ -332,10 +441,11 @@ module _ (laws : LawsBelow) (w : Wanted) where
       let total : w.low ≡ level_sum ls = low ∙ together in
       let stuck : AreStuck ts ls = each_stuck 0 ts ls x.1.each (omega arith) in
       let over : ℕ = w.limit - w.low in
-      let read : AreRead dw over ns ls = are_read ts ns ls noted stuck (omega arith) in
-      let rest : ℕ = left_over dw over w.low ns in
-      let rest_is : rest ≡ unread_sum ns ls = ap (λ (k : ℕ). left_over dw over k ns) (let e : w.low ≡ 0 + level_sum ls = omega arith in e) ∙ left_is dw over 0 ns ls read ∙ omega arith in
-      let h : PartsHanded w ts ls (wanted_each w over rest ns) = each_handed rest ts ns ls allowed.1 noted stuck (one_unread dw over rest ns ls read one rest_is) (omega arith) in
+      let gone : List Segment = gone_of ts ns in
+      let read : AreRead dw over ns gone ls = are_read ts ns ls allowed.1 noted stuck (omega arith) in
+      let rest : ℕ = left_over dw over w.low ns gone in
+      let rest_is : rest ≡ unread_sum ns ls = ap (λ (k : ℕ). left_over dw over k ns gone) (let e : w.low ≡ 0 + level_sum ls = omega arith in e) ∙ left_is dw over 0 ns gone ls read ∙ omega arith in
+      let h : PartsHanded w ts ls (wanted_each w over rest ns gone) = each_handed rest ts ns ls allowed.1 noted stuck (one_unread dw over rest ns gone ls read one rest_is) (omega arith) in
       let reach : SomeReaches dw w.limit w.low cs ls = elim (lt_or_le start w.limit) [
         | inl lt ↦ subst (λ (n : ℕ). SomeReaches dw w.limit n cs ls) (sym total) (laws.some dw w.limit cs ls x.1 whole.below lt)
         | inr le ↦ first_reaches ts ls (omega (arith, allowed.0)) stuck (sym total) (omega (arith, low, lowest_start w.limit start all le))
@@ -344,27 +454,7 @@ module _ (laws : LawsBelow) (w : Wanted) where
         all = h.all;
         meets = record {
           some = h.claimed reach;
-          room = subst (λ (n : ℕ). HaveRoom dw (pos w.limit -ℤ pos 1) n (list_of_parts ts) (map claim_if (wanted_each w over rest ns))) (total ∙ sym h.values_are) h.room;
+          room = subst (λ (n : ℕ). HaveRoom dw (pos w.limit -ℤ pos 1) n (list_of_parts ts) (map claim_if (wanted_each w over rest ns gone))) (total ∙ sym h.values_are) h.room;
           rest = omega (arith, total, h.values_are);
         };
       }
-
--- ---- any term
-
-par_at : LawsBelow → (ns : Vec PartNote Global) (t : Term) (o : Option Wanted) (old new : List (Option Wanted)) → IsAllowed t → IsNote t (Par ns) → ShowsIf (cut_at t) o
-    → (o ≡ None → new ≡ old ++ none_each ns.items)
-    → ((w : Wanted) → o ≡ Some w → new ≡ old ++ wanted_each w (w.limit - w.low) (left_over (direction_of w.dir) (w.limit - w.low) w.low ns.items) ns.items)
-    → (ws : List (Option Wanted)) × (new ≡ old ++ ws) × AreHanded t o ws
-par_at laws ns (hold size) o old new a h s f g = absurd h
-par_at laws ns (series x v y) o old new a h s f g = absurd h
-par_at laws ns (par ts) None old new a h s f g = (none_each ns.items, f refl, record { all = none_shown (cuts ts) ns.items h.0; meets = tt })
-par_at laws ns (par ts) (Some w) old new a h s f g =
-    (wanted_each w (w.limit - w.low) (left_over (direction_of w.dir) (w.limit - w.low) w.low ns.items) ns.items, g w refl, par_handed laws w ts ns.items a h.0 h.1 s)
-
-pub parts_handed : LawsBelow → (n : Note) (ns : Vec PartNote Global) (ms : List PartNote) (t : Term) (o : Option Wanted) (old new : List (Option Wanted)) → n ≡ Par ns → ms ≡ ns.items → IsAllowed t → IsNote t n → ShowsIf (cut_at t) o
-    → (o ≡ None → new ≡ old ++ none_each ms)
-    → ((w : Wanted) → o ≡ Some w → new ≡ old ++ wanted_each w (w.limit - w.low) (left_over (direction_of w.dir) (w.limit - w.low) w.low ms) ms)
-    → (ws : List (Option Wanted)) × (new ≡ old ++ ws) × AreHanded t o ws
-parts_handed laws n ns ms t o old new e d a h s f g =
-    par_at laws ns t o old new a (subst (IsNote t) e h) s (λ x. f x ∙ ap (λ (l : List PartNote). old ++ none_each l) d)
-    (λ w x. g w x ∙ ap (λ (l : List PartNote). old ++ wanted_each w (w.limit - w.low) (left_over (direction_of w.dir) (w.limit - w.low) w.low l) l) d)

@@ -6,7 +6,7 @@ use Rattle.sp_terms.specs.Term.{Term, hold, series, par, Parts, no_parts, part, 
 use Rattle.cut_laws.specs.Cuts.{Cut, par_cut, top_of, start_of}
 use Rattle.cut_laws.specs.Tops.{tops}
 use Rattle.plan_claims.specs.Below.{LawsBelow}
-use Rattle.plan_claims.specs.Notes.{cut_at, unnamed}
+use Rattle.sp_cuts.specs.Notes.{cut_at, unnamed}
 use Rattle.sp_cuts.specs.Stacks.{total_of, total_of_parts}
 use Rattle.plan_claims.proofs.Crossed.{first_over, second_over, is_first, is_second}
 use Rattle.plan_claims.proofs.Handed.{meets, rises}

@@ -228,7 +228,7 @@ next_width : (p : Position) (t : Term) (row row' : List Term) → IsNext p t row
 next_width p t row row' n =
     omega (arith, ap row_width n.was, ap row_width n.now_is, row_width_append n.before (parts_of t), row_width_append n.before (t ∷ []), width_parts t)
 
-index_there : (ps : List Position) (i : ℕ) → i < length ps → (p : Position) × (get_or ps i p ≡ p)
+pub index_there : (ps : List Position) (i : ℕ) → i < length ps → (p : Position) × (get_or ps i p ≡ p)
 index_there [] i h = absurd (omega arith)
 index_there (p ∷ ps) zero h = (p, refl)
 index_there (p ∷ ps) (suc i) h = index_there ps i (omega arith)

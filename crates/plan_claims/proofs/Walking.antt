@@ -1,5 +1,5 @@
 -- One step of the walk from the last position down.
-use Rattle.std.proofs.Common.{◌≡◌, ℕ, zero, suc, ◌+◌, ◌-◌, ◌<◌, ◌≤◌, ◌^◌, ◌⊎◌, inl, inr, refl, sym, subst, ap, arith, ◌∙◌, List, [], ◌∷◌, ◌++◌, length, reverse, map, Option, Some, None}
+use Rattle.std.proofs.Common.{◌≡◌, ℕ, zero, suc, ◌+◌, ◌-◌, ◌<◌, ◌≤◌, ◌^◌, ◌⊎◌, inl, inr, refl, sym, subst, ap, arith, ◌∙◌, List, [], ◌∷◌, ◌++◌, length, get_or, slice_index_or, reverse, map, Option, Some, None}
 use Rattle.std.specs.Prelude.{pos, ◌-ℤ◌, ℤ, All, unsigned_abs, IfSome}
 use Rattle.std.proofs.lemmas.Bool.Decides.{nat_tests}
 use Rattle.std.proofs.lemmas.Grind.{common_steps}
@@ -17,50 +17,19 @@ use Rattle.claim_rules.specs.Rules.{MeetsRule}
 use Rattle.plan_text.specs.declared.claim.Claim.{Claim}
 use Rattle.plan_text.specs.Plan.{claim_at, claim_of, IsClaimWithin, RiseFrom, direction_of}
 use Rattle.cut_laws.specs.Cuts.{Cut, start_of, side_of}
-use Rattle.plan_claims.specs.declared.notes.Note.{Note}
-use Rattle.plan_claims.specs.declared.notes.Wanted.{Wanted}
-use Rattle.plan_claims.specs.Below.{LawsBelow}
-use Rattle.plan_claims.specs.Notes.{IsNote, cut_at}
-use Rattle.plan_claims.specs.Noted.{AreNotes, AreNotesOf, first_terms}
+use Rattle.sp_cuts.specs.Notes.{Noted, cut_at, AreNotesOf}
 use Rattle.sp_cuts.specs.Stacks.{total_of}
+use Rattle.plan_claims.specs.declared.wanted.Wanted.{Wanted}
+use Rattle.plan_claims.specs.Below.{LawsBelow}
+use Rattle.plan_claims.specs.Handing.{HasLast, IsHandedDown}
 use Rattle.plan_claims.specs.Rows.{row_of}
 use Rattle.plan_claims.specs.Walks.{IsLeft, IsRight, AreMet, AreClaimsOf, claims_put}
 use Rattle.plan_claims.specs.Wants.{Shows, ShowsIf, AllShow, AreHanded, MeetsIf, claim_if}
 use Rattle.plan_claims.proofs.Peaks.{top_within, start_below}
 use Rattle.plan_claims.proofs.Sides.{lt_or_le}
-use Rattle.plan_claims.proofs.Standing.{row_width, row_width_before, row_width_is, row_whole, next_there, ends_append, ends_length}
+use Rattle.plan_claims.proofs.Standing.{row_width, row_width_before, row_width_is, row_whole, index_there, next_at, next_there, ends_append, ends_length}
 
 -- ---- what is left
-
-pub notes_snoc : (ts : List Term) (t : Term) (ns : List Note) (n : Note) → AreNotes ts ns → IsNote t n → AreNotes (ts ++ t ∷ []) (ns ++ n ∷ [])
-notes_snoc [] t [] n h one = (one, tt)
-notes_snoc [] t (m ∷ ns) n h one = absurd h
-notes_snoc (s ∷ ts) t [] n h one = absurd h
-notes_snoc (s ∷ ts) t (m ∷ ns) n h one = (h.0, notes_snoc ts t ns n h.1 one)
-
-notes_last : (ts : List Term) (t : Term) (ns : List Note) (n : Note) → AreNotes (ts ++ t ∷ []) (ns ++ n ∷ []) → AreNotes ts ns × IsNote t n
-notes_last [] t [] n h = (tt, h.0)
-notes_last [] t (m ∷ []) n h = absurd h.1
-notes_last [] t (m ∷ k ∷ ns) n h = absurd h.1
-notes_last (s ∷ []) t [] n h = absurd h.1
-notes_last (s ∷ u ∷ ts) t [] n h = absurd h.1
-notes_last (s ∷ ts) t (m ∷ ns) n h = let r = notes_last ts t ns n h.1 in ((h.0, r.0), r.1)
-
-notes_length : (ts : List Term) (ns : List Note) → AreNotes ts ns → length ts ≡ length ns
-notes_length [] [] h = refl
-notes_length [] (n ∷ ns) h = absurd h
-notes_length (t ∷ ts) [] h = absurd h
-notes_length (t ∷ ts) (n ∷ ns) h = ap suc (notes_length ts ns h.1)
-
-terms_length : (ps : List Position) (k : ℕ) → length (first_terms ps k) ≡ k
-terms_length ps zero = refl
-terms_length ps (suc k) =
-    let e : length (first_terms ps k ++ term_at ps k ∷ []) ≡ length (first_terms ps k) + 1 = grind (arith, common_steps) in
-    e ∙ omega (arith, terms_length ps k)
-
--- a position has a note
-pub some_note : (ps : List Position) (k : ℕ) (ns : List Note) → AreNotesOf ps ns k → 1 ≤ k → length ns ≡ 0 → ⊥
-some_note ps k ns h le e = absurd (omega (arith, notes_length (first_terms ps k) ns h, terms_length ps k))
 
 show_append : (a b : List Cut) (x y : List (Option Wanted)) → AllShow a x → AllShow b y → AllShow (a ++ b) (x ++ y)
 show_append [] b [] y h k = k
@@ -198,31 +167,36 @@ claims_lengths [] = refl
 claims_lengths (x ∷ xs) = ap suc (claims_lengths xs)
 
 module _ (laws : LawsBelow) (ps : List Position) (m : ℕ) (terms : IsTerms ps) (few : suc m ≤ length ps) where
-  -- the note and the want of the last term, and those before
-  pub record Last (ns : List Note) (n : Note) (todo : List (Option Wanted)) (w : Option Wanted) : Type 0 where
-    pub notes : AreNotesOf ps ns m
-    pub note : IsNote (term_at ps m) n
-    pub allowed : IsAllowed (term_at ps m)
-    pub within : total_of (term_at ps m) ≤ 2 ^ 60
+  -- the notes and the want of the last term, and those before
+  pub record Last (p : Position) (notes : Noted) (w : Option Wanted) : Type 0 where
+    pub before : Noted
+    pub noted : AreNotesOf ps m before
+    pub last : HasLast p (term_at ps m) before notes
     pub shows : ShowsIf (cut_at (term_at ps m)) w
 
-  pub last_of : (ns : List Note) (n : Note) (todo : List (Option Wanted)) (w : Option Wanted) → IsLeft ps (suc m) (ns ++ n ∷ []) (todo ++ w ∷ []) → Last ns n todo w
-  last_of ns n todo w l =
-      let (p, x) = next_there ps m terms (omega arith) in
+  pub last_of : (p : Position) (notes : Noted) (todo : List (Option Wanted)) (w : Option Wanted) → get_or ps m p ≡ p → IsLeft ps (suc m) notes (todo ++ w ∷ []) → Last p notes w
+  last_of p notes todo w here l =
+      let x = next_at ps m p terms (omega arith) here in
       let t : Term = term_at ps m in
-      let h = notes_last (first_terms ps m) t ns n l.notes in
-      let s : AllShow (map cut_at x.before ++ cut_at t ∷ []) (todo ++ w ∷ []) =
-      subst (λ (l : List Cut). AllShow l (todo ++ w ∷ [])) (ap (map cut_at) x.now_is ∙ map-append cut_at x.before (t ∷ [])) l.shows in
-      record { notes = h.0; note = h.1; allowed = x.allowed; within = x.within; shows = (show_last (map cut_at x.before) (cut_at t) todo w s).1 }
-
-  pub left_on : (ns : List Note) (n : Note) (todo ws : List (Option Wanted)) (w : Option Wanted) → IsLeft ps (suc m) (ns ++ n ∷ []) (todo ++ w ∷ []) → AreHanded (term_at ps m) w ws → IsLeft ps m ns (todo ++ ws)
-  left_on ns n todo ws w l h =
-      let (p, x) = next_there ps m terms (omega arith) in
-      let t : Term = term_at ps m in
+      let (before, own, noted, note, whole) = l.noted in
       let s : AllShow (map cut_at x.before ++ cut_at t ∷ []) (todo ++ w ∷ []) =
       subst (λ (l : List Cut). AllShow l (todo ++ w ∷ [])) (ap (map cut_at) x.now_is ∙ map-append cut_at x.before (t ∷ [])) l.shows in
       record {
-        notes = (notes_last (first_terms ps m) t ns n l.notes).0;
+        before = before;
+        noted = noted;
+        last = (x.own, record { own = own; allowed = x.allowed; within = x.within; note = note; whole = whole });
+        shows = (show_last (map cut_at x.before) (cut_at t) todo w s).1;
+      }
+
+  pub left_on : (before notes' : Noted) (todo ws : List (Option Wanted)) (w : Option Wanted) → AllShow (map cut_at (row_of ps (suc m))) (todo ++ w ∷ []) → AreNotesOf ps m before → notes' ≡ before
+      → AreHanded (term_at ps m) w ws → IsLeft ps m notes' (todo ++ ws)
+  left_on before notes' todo ws w shows noted same h =
+      let (p, x) = next_there ps m terms (omega arith) in
+      let t : Term = term_at ps m in
+      let s : AllShow (map cut_at x.before ++ cut_at t ∷ []) (todo ++ w ∷ []) =
+      subst (λ (l : List Cut). AllShow l (todo ++ w ∷ [])) (ap (map cut_at) x.now_is ∙ map-append cut_at x.before (t ∷ [])) shows in
+      record {
+        noted = subst (AreNotesOf ps m) (sym same) noted;
         shows = subst (λ (l : List Cut). AllShow l (todo ++ ws)) (sym (ap (map cut_at) x.was ∙ map-append cut_at x.before (parts_of t)))
             (show_append (map cut_at x.before) (map cut_at (parts_of t)) todo ws (show_last (map cut_at x.before) (cut_at t) todo w s).0 h.all);
       }
@@ -323,38 +297,45 @@ limits_if laws t a h None s = tt
 limits_if laws t a h (Some w) s = limit_within laws t a h w s
 
 module _ (laws : LawsBelow) (ps : List Position) (k : ℕ) (terms : IsTerms ps) (low : 1 ≤ k) (high : k ≤ length ps)
-    (notes ns : List Note) (n : Note) (all todo : List (Option Wanted)) (w : Option Wanted) (en : notes ≡ ns ++ n ∷ []) (et : all ≡ todo ++ w ∷ []) (l : IsLeft ps k notes all) where
+    (p : Position) (here : get_or ps (k - 1) p ≡ p) (notes : Noted) (all todo : List (Option Wanted)) (w : Option Wanted) (et : all ≡ todo ++ w ∷ []) (l : IsLeft ps k notes all) where
   pub same : k ≡ suc (k - 1)
   same = omega arith
 
   pub few : suc (k - 1) ≤ length ps
   few = omega arith
 
-  left : IsLeft ps (suc (k - 1)) (ns ++ n ∷ []) (todo ++ w ∷ [])
-  left = subst (λ (j : ℕ). IsLeft ps j (ns ++ n ∷ []) (todo ++ w ∷ [])) same (subst (λ (x : List Note). IsLeft ps k x (todo ++ w ∷ [])) en (subst (IsLeft ps k notes) et l))
+  left : IsLeft ps (suc (k - 1)) notes (todo ++ w ∷ [])
+  left = subst (λ (j : ℕ). IsLeft ps j notes (todo ++ w ∷ [])) same (subst (IsLeft ps k notes) et l)
 
-  pub here_last : Last laws ps (k - 1) terms few ns n todo w
-  here_last = last_of laws ps (k - 1) terms few ns n todo w left
+  pub here_last : Last laws ps (k - 1) terms few p notes w
+  here_last = last_of laws ps (k - 1) terms few p notes todo w here left
 
   pub here_limit : IfSome w (λ w. w.limit ≤ 2 ^ 60)
-  here_limit = let x = here_last in limits_if laws (term_at ps (k - 1)) x.allowed x.within w x.shows
+  here_limit = let x = here_last in limits_if laws (term_at ps (k - 1)) x.last.1.allowed x.last.1.within w x.shows
 
-  module _ (ws new : List (Option Wanted)) (e : new ≡ todo ++ ws) (h : AreHanded (term_at ps (k - 1)) w ws) where
-    pub here_left : IsLeft ps (k - 1) ns new
-    here_left = subst (IsLeft ps (k - 1) ns) (sym e) (left_on laws ps (k - 1) terms few ns n todo ws w left h)
+  module _ (before : Noted) (noted : AreNotesOf ps (k - 1) before) (notes' : Noted) (new : List (Option Wanted)) (h : IsHandedDown (term_at ps (k - 1)) before w notes' todo new) where
+    pub here_left : IsLeft ps (k - 1) notes' new
+    here_left = subst (IsLeft ps (k - 1) notes') (sym h.behind) (left_on laws ps (k - 1) terms few before notes' todo h.parts w left.shows noted h.left h.handed)
 
     pub here_right : (root : Wanted) (cs cs' : List Claim) → cs' ≡ cs ++ claims_put k w → IsRight ps k root all (reverse cs) → IsRight ps (k - 1) root new (reverse cs')
     here_right root cs cs' put r =
         let r' : IsRight ps (suc (k - 1)) root (todo ++ w ∷ []) (reverse cs) =
         subst (λ (j : ℕ). IsRight ps j root (todo ++ w ∷ []) (reverse cs)) same (subst (λ (x : List (Option Wanted)). IsRight ps k root x (reverse cs)) et r) in
-        let z : IsRight ps (k - 1) root (todo ++ ws) (claims_put (suc (k - 1)) w ++ reverse cs) = right_on laws ps (k - 1) terms few root todo ws w (reverse cs) left.shows h r' in
+        let z : IsRight ps (k - 1) root (todo ++ h.parts) (claims_put (suc (k - 1)) w ++ reverse cs) = right_on laws ps (k - 1) terms few root todo h.parts w (reverse cs) left.shows h.handed r' in
         let y : IsRight ps (k - 1) root new (claims_put k w ++ reverse cs) =
-        subst (λ (j : ℕ). IsRight ps (k - 1) root new (claims_put j w ++ reverse cs)) (sym same) (subst (λ (x : List (Option Wanted)). IsRight ps (k - 1) root x (claims_put (suc (k - 1)) w ++ reverse cs)) (sym e) z) in
+        subst (λ (j : ℕ). IsRight ps (k - 1) root new (claims_put j w ++ reverse cs)) (sym same) (subst (λ (x : List (Option Wanted)). IsRight ps (k - 1) root x (claims_put (suc (k - 1)) w ++ reverse cs)) (sym h.behind) z) in
         subst (IsRight ps (k - 1) root new) (sym (reverse_put k w cs cs' put)) y
 
+-- the position at this place
+pub place_there : (ps : List Position) (k : ℕ) (p : Position) → ((d : Position) → p ≡ slice_index_or ps (k - 1) d) → get_or ps (k - 1) p ≡ p
+place_there ps k p h = sym (h p)
+
+pub some_place : (ps : List Position) (k : ℕ) → 1 ≤ k → k ≤ length ps → (p : Position) × (get_or ps (k - 1) p ≡ p)
+some_place ps k low high = index_there ps (k - 1) (omega arith)
+
 -- something is to be done at each position
-pub todo_there : (ps : List Position) (k : ℕ) → IsTerms ps → 1 ≤ k → k ≤ length ps → (ns : List Note) (todo : List (Option Wanted)) → IsLeft ps k ns todo → 0 < length todo
-todo_there ps k terms low high ns todo l =
+pub todo_there : (ps : List Position) (k : ℕ) → IsTerms ps → 1 ≤ k → k ≤ length ps → (notes : Noted) (todo : List (Option Wanted)) → IsLeft ps k notes todo → 0 < length todo
+todo_there ps k terms low high notes todo l =
     let (p, x) = next_there ps (k - 1) terms (omega arith) in
     let same : suc (k - 1) ≡ k = omega arith in
     let row : row_of ps k ≡ x.before ++ term_at ps (k - 1) ∷ [] = ap (row_of ps) (sym same) ∙ x.now_is in
@@ -366,9 +347,9 @@ todo_there ps k terms low high ns todo l =
 
 -- ---- the ends of the walk
 
-pub left_starts : (ps : List Position) (root : Wanted) (ns : List Note) (todo : List (Option Wanted)) → IsTerms ps → AreNotesOf ps ns (length ps) → Shows (cut_at (term_of ps)) root → todo ≡ Some root ∷ [] → IsLeft ps (length ps) ns todo
-left_starts ps root ns todo terms h s e = record {
-  notes = h;
+pub left_starts : (ps : List Position) (root : Wanted) (notes : Noted) (todo : List (Option Wanted)) → IsTerms ps → AreNotesOf ps (length ps) notes → Shows (cut_at (term_of ps)) root → todo ≡ Some root ∷ [] → IsLeft ps (length ps) notes todo
+left_starts ps root notes todo terms h s e = record {
+  noted = h;
   shows = subst (λ (l : List Term). AllShow (map cut_at l) todo) (sym (row_whole ps terms)) (subst (AllShow (cut_at (term_of ps) ∷ [])) (sym e) (s, tt));
 }
 
@@ -393,8 +374,8 @@ right_starts ps root todo claims terms e none =
     head_same : {x y : Option RuleClaim} {xs ys : List (Option RuleClaim)} → ◌≡◌ {A = List (Option RuleClaim)} (x ∷ xs) (y ∷ ys) → x ≡ y
     head_same e = cc
 
-pub right_ends : (ps : List Position) (root : Wanted) (ns : List Note) (todo : List (Option Wanted)) (claims : List Claim) → IsTerms ps → IsLeft ps 0 ns todo → IsRight ps 0 root todo claims → AreClaimsOf ps root claims
-right_ends ps root ns todo claims terms l r =
+pub right_ends : (ps : List Position) (root : Wanted) (notes : Noted) (todo : List (Option Wanted)) (claims : List Claim) → IsTerms ps → IsLeft ps 0 notes todo → IsRight ps 0 root todo claims → AreClaimsOf ps root claims
+right_ends ps root notes todo claims terms l r =
     let none : todo ≡ [] = no_todo todo l.shows in
     let met : AreMet ps 0 root (claim_at claims) = r.whatever (claim_at claims) (ap (map claim_if) (sym none)) (λ j lt. refl) in
     let n = r.few in

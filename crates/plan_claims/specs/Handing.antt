@@ -1,6 +1,6 @@
 -- No public clause names this.
 -- The notes of the last position, and what is left when they are taken from the ends.
-use Rattle.std.specs.Prelude.{◌≡◌, ℕ, ◌≤◌, List, [], ◌∷◌, ◌++◌, Option}
+use Rattle.std.specs.Prelude.{◌≡◌, ℕ, ◌≤◌, List, ◌++◌, Option}
 use Rattle.limits.specs.Limits.{most_total}
 use Rattle.mp_system.specs.declared.system.Task.{Task}
 use Rattle.side_laws.specs.Segments.{Segment}

@@ -8,7 +8,7 @@ use claim_check::{Verdict, check};
 use mp_gen::{gen_tree, gen_workflow};
 use mp_outside::NoGate;
 use plan_text::{Claim, PlanFile, is_plan};
-use sp_cuts::plan_terms;
+use sp_cuts::{Plan, plan_terms};
 use sp_terms::{Position, TermBuilder, Terms, read_workflow, system_of};
 use std::alloc::Global;
 use std::marker::Brand;
@@ -31,8 +31,15 @@ fn certified<L: Ledger>(
 {
     let mut steps = Steps::<L>::new(blank);
     let plan = plan_terms(alloc, terms, &mut steps)?;
-    let claims = claims_of(alloc, terms, &plan.part, plan.notes)?;
-    Ok((plan.order, plan.peak, claims))
+    let Plan {
+        order,
+        peak,
+        part,
+        notes,
+        ..
+    } = plan;
+    let claims = claims_of(alloc, terms, &part, notes)?;
+    Ok((order, peak, claims))
 }
 
 // The plan with its claims is accepted, with its peak.

@@ -1,10 +1,9 @@
 -- What is noted of the parts on top of the stack, and of all positions one after the other.
-use Rattle.std.proofs.Common.{◌≡◌, ℕ, zero, suc, ◌+◌, ◌-◌, ◌<◌, ◌≤◌, ◌⊎◌, inl, inr, Bool, true, false, not, nat_eq, refl, ap, sym, subst, ◌∙◌, arith, List, [], ◌∷◌, ◌++◌, append_assoc, append-nil, length, length-drop, take-append-drop, map, take, drop, get_or, reverse, Option, Some, None}
+use Rattle.std.proofs.Common.{◌≡◌, ℕ, suc, ◌+◌, ◌-◌, ◌<◌, ◌≤◌, ◌⊎◌, inl, inr, Bool, true, false, not, nat_eq, refl, ap, sym, subst, ◌∙◌, arith, List, [], ◌∷◌, ◌++◌, append_assoc, append-nil, length, length-drop, take-append-drop, map, take, drop, get_or, reverse, Option, Some, None}
 use Rattle.std.specs.Prelude.{if◌then◌else◌, option_and_then}
-use Rattle.std.specs.List.{AllByRecursion, AllZip}
+use Rattle.std.specs.List.{AllByRecursion}
 use Rattle.std.proofs.lemmas.Bool.Decides.{nat_tests}
-use Rattle.std.proofs.lemmas.Grind.{common_steps}
-use Rattle.std.proofs.lemmas.List.{map-append, drop_more, take_more, take_all, reverse-append}
+use Rattle.std.proofs.lemmas.List.{map-append, drop_more, take_more, take_all}
 use Rattle.side_laws.specs.Segments.{Segment, last_up}
 use Rattle.hill_valley.specs.declared.numbers.Numbers.{Numbers}
 use Rattle.hill_valley.specs.Numbers.{segments_of, first_down_to}
@@ -16,7 +15,7 @@ use Rattle.sp_terms.specs.declared.position.Position.TheVariants as at
 use Rattle.sp_terms.specs.Places.{list_of_parts}
 use Rattle.sp_terms.specs.Postfix.{gather, push, push_all}
 use Rattle.sp_terms.specs.SystemOfTerm.{task_count}
-use Rattle.sp_terms.specs.Term.{Term, hold, series, par, Parts, no_parts, part}
+use Rattle.sp_terms.specs.Term.{Term, hold, par, Parts, no_parts, part}
 use Rattle.sp_terms.specs.Values.{IsTerms, term_at, last_term, stack_from}
 use Rattle.cut_laws.specs.Names.{numbered}
 use Rattle.sp_cuts.specs.declared.notes.PartNote.{PartNote}
@@ -24,11 +23,10 @@ use Rattle.sp_cuts.specs.declared.notes.SeriesNote.{SeriesNote}
 use Rattle.sp_cuts.specs.declared.parts.Part.{Part}
 use Rattle.sp_cuts.specs.Notes.{CutNumbers, numbers_of, numbers_of_part, numbers_at, unnamed, Noted, nothing_noted, both_noted, IsSeriesNote, IsPartNote, ArePartNotes, segments_read, all_segments_read, unread, IsNote, AreNotesOf}
 use Rattle.sp_cuts.specs.Noting.{LeadsDown, NotesSeries, NotesPart, NotesParts, NotesPosition}
-use Rattle.sp_cuts.specs.Parts.{cut_of}
 use Rattle.sp_cuts.specs.Splits.{IsRough, AreRough}
 use Rattle.sp_cuts.specs.Stacks.{IsPartOf, ArePiled, ArePartsOf, PositionReady, stack_tasks}
 use Rattle.sp_cuts.proofs.Kept.{within}
-use Rattle.sp_cuts.proofs.Pushed.{Standing, OneOn, one_on}
+use Rattle.sp_cuts.proofs.Pushed.{Standing, one_on}
 use Rattle.sp_cuts.proofs.Stacked.{none_some, some_same, stack_length, many_fit, par_taken, two_tops, all_rough}
 use Rattle.sp_cuts.proofs.Unnamed.{same_numbers}
 

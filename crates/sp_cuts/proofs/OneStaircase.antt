@@ -3,18 +3,17 @@ use Rattle.std.proofs.Common.{◌≡◌, ℕ, zero, suc, ◌+◌, ◌-◌, ◌<�
 use Rattle.std.proofs.Common.{if◌then◌else◌, nat_lt, List, [], ◌∷◌, length, slice_index_or, refl}
 use Rattle.std.proofs.Common.{ap, sym, ◌∙◌, subst, arith}
 use Rattle.std.proofs.lemmas.Bool.Decides.{nat_tests}
-use Rattle.std.specs.List.{sum_by}
 use Rattle.std.proofs.lemmas.List.Sums.{sum_by-cons}
 use Rattle.side_laws.specs.Segments.{Segment, lowest}
 use Rattle.hill_valley.specs.declared.steps.Step.{Step}
-use Rattle.hill_valley.specs.Laws.{StepsAreUnique, ProfileOfRuns}
-use Rattle.hill_valley.specs.Side.{Run, run_profile}
+use Rattle.hill_valley.specs.Laws.{StepsAreUnique}
+use Rattle.hill_valley.specs.Side.{run_profile}
 use Rattle.hill_valley.specs.Staircase.{IsStaircase, level_at, AreSteps}
 use Rattle.sp_terms.specs.declared.position.Position.{Position}
 use Rattle.sp_terms.specs.Places.{term_of_position}
 use Rattle.sp_terms.specs.Term.{Term, Direction, forward, backward, first_memory, IsAllowed}
-use Rattle.sp_terms.specs.Values.{IsTerms, term_at}
-use Rattle.cut_laws.specs.Cuts.{Cut, start_of, side_of, lowest_of}
+use Rattle.sp_terms.specs.Values.{term_at}
+use Rattle.cut_laws.specs.Cuts.{Cut, start_of, side_of}
 use Rattle.cut_laws.specs.Names.{Names, names_of, numbered}
 use Rattle.cut_laws.specs.Standing.{IsLowestReached, StandsFor}
 use Rattle.cut_laws.specs.TermCuts.{cut_of_term}

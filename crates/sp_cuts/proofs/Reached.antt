@@ -8,16 +8,15 @@ use Rattle.std.proofs.lemmas.Grind.{common_steps}
 use Rattle.std.proofs.lemmas.List.Sums.{sum_by-append}
 use Rattle.std.proofs.lemmas.Option.{slice_get_read, slice_get-get_or}
 use Rattle.limits.specs.Limits.{most_steps}
-use Rattle.side_laws.specs.Segments.{net_sum, lowest}
-use Rattle.hill_valley.specs.declared.steps.Step.{Step}
-use Rattle.hill_valley.specs.Side.{profile, run_profile, runs_of}
-use Rattle.hill_valley.specs.Staircase.{IsStaircase, AreSteps}
+use Rattle.side_laws.specs.Segments.{lowest}
+use Rattle.hill_valley.specs.Side.{profile}
+use Rattle.hill_valley.specs.Staircase.{AreSteps}
 use Rattle.segment_merge.specs.Laws.{SideLaws}
 use Rattle.sp_terms.specs.declared.position.Position.{Position}
 use Rattle.sp_terms.specs.declared.position.Position.TheVariants.{Hold, Par}
 use Rattle.sp_terms.specs.declared.position.Position.TheVariants as at
 use Rattle.sp_terms.specs.Postfix.{gather, push, push_all}
-use Rattle.sp_terms.specs.Term.{Term, par, Parts, no_parts, Direction, forward, backward, IsAllowed}
+use Rattle.sp_terms.specs.Term.{Term, par, Parts, no_parts, forward, backward, IsAllowed}
 use Rattle.sp_terms.specs.Values.{IsTerms, term_at, last_term, stack_from}
 use Rattle.cut_laws.specs.Names.{Names, names_of, numbered}
 use Rattle.cut_laws.specs.Standing.{IsLowestReached, StandsFor}

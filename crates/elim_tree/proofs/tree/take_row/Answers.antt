@@ -1,36 +1,8 @@
-use Rattle.std.proofs.Common.{◌≡◌, ℕ, ◌+◌, ◌<◌, List, length, arith, sym, ◌∙◌, ap, subst, below_more}
-use Rattle.elim_tree.specs.Reaches.{Reaches}
-use Rattle.elim_tree.specs.Forests.{Rooted, CanLink, CanTake, IsTaken, IsLinked, column_in}
+use Rattle.std.proofs.Common.{◌≡◌, length, arith, subst}
+use Rattle.elim_tree.specs.Forests.{Rooted, IsTaken}
+use Rattle.elim_tree.proofs.RowsTaken.{can_link, more_taken, none_taken}
 use Rattle.elim_tree.proofs.tree.take_row.Goals as goal
 use Rattle.elim_tree.proofs.tree.take_row.Goals.{then-column-k, else-column-k}
-
--- an earlier column of the row may be put under k
-can_link : (forest : Rooted) (k i column : ℕ) (row order parents ancestors parents' ancestors' : List ℕ) → CanTake forest k row order parents ancestors → i < length row
-    → (t : IsTaken forest k row order i parents' ancestors') → column ≡ column_in row order i → column < k
-    → CanLink (record { joined = forest.joined; root = t.0 }) k column parents' ancestors'
-can_link forest k i column row order parents ancestors parents' ancestors' can lt t e below =
-    (can.0, below, subst (λ x. Reaches forest.joined x k) (sym e) (can.1 i lt (subst (λ x. x < k) e below)), t.1)
-
--- one more of the row is under k
-more_taken : (forest : Rooted) (k i column : ℕ) (row order parents ancestors : List ℕ)
-    → (t : IsTaken forest k row order i parents ancestors) → column ≡ column_in row order i → (parents' ancestors' : List ℕ)
-    → IsLinked (record { joined = forest.joined; root = t.0 }) k column parents' ancestors'
-    → IsTaken forest k row order (i + 1) parents' ancestors'
-more_taken forest k i column row order parents ancestors t e parents' ancestors' new = (
-  new.0,
-  new.1,
-  below_more (λ j. column_in row order j < k → new.0 (column_in row order j) ≡ k) i (λ j b l. new.3 (column_in row order j) (t.2 j b l)) (λ _. ap new.0 (sym e) ∙ new.2),
-)
-
--- .. and so it is where its column is not before k
-none_taken : (forest : Rooted) (k i column : ℕ) (row order parents ancestors : List ℕ)
-    → (t : IsTaken forest k row order i parents ancestors) → column ≡ column_in row order i → (column < k → ⊥)
-    → IsTaken forest k row order (i + 1) parents ancestors
-none_taken forest k i column row order parents ancestors t e not = (
-  t.0,
-  t.1,
-  below_more (λ j. column_in row order j < k → t.0 (column_in row order j) ≡ k) i t.2 (λ below. absurd (not (subst (λ x. x < k) (sym e) below))),
-)
 
 pub link-requires-clause-start : goal.link-requires-clause-start
 link-requires-clause-start c =

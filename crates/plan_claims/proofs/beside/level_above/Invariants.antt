@@ -1,7 +1,9 @@
-use Rattle.std.proofs.Common.{◌≡◌, drop}
-use Rattle.hill_valley.specs.Side.{profile}
-use Rattle.plan_claims.specs.Levels.{level_below}
-use Rattle.plan_claims.proofs.handing.level_after.Given as goal
+use Rattle.hill_valley.specs.Numbers.{segments_of}
+use Rattle.plan_claims.specs.Levels.{kept_level}
+use Rattle.plan_claims.proofs.Loops.{Keeping}
+use Rattle.plan_claims.proofs.beside.level_above.Given as goal
 
 abbrev pub invariant-loop-seg : goal.invariant-loop-seg
-invariant-loop-seg l = level_below l.over l.at (profile (drop l.seg-index l.segments)) ≡ level_below l.over l.start (profile l.segments)
+invariant-loop-seg l = record {
+  keeping : Keeping l.segments l.seg-index (record { up = 0; net = 0 }) l.over l.level (kept_level l.over l.least (segments_of l.segments));
+}

@@ -1,13 +1,23 @@
-use Rattle.std.proofs.Common.{refl}
-use Rattle.plan_claims.proofs.Loops.{each_ends, each_goes}
-use Rattle.plan_claims.proofs.handing.wants_each.Goals as goal
+use Rattle.std.proofs.Common.{false, get_or, arith}
+use Rattle.sp_cuts.specs.declared.notes.PartNote.{PartNote}
+use Rattle.plan_claims.proofs.Loops.{any_default, place_here, places_on, each_goes}
+use Rattle.plan_claims.proofs.beside.wants_each.Goals as goal
 
-pub loop-part-init : goal.loop-part-init
-loop-part-init c = refl
+abbrev none : PartNote
+none = record { least = 0; front_up = 0; back_up = 0; read = false; front = 0; back = 0 }
+
+pub level_or-level-requires : goal.level_or-level-requires
+level_or-level-requires c = record {
+  place = place_here c.args.parts.now c.loop-part.part-index c.args.gone.now c.loop-part.at c.loop-part.invariant.places (get_or c.args.parts.now c.loop-part.part-index none) c.loop-part-test.true
+      (any_default c.args.parts.now c.loop-part.part-index none c.loop-part-test.true);
+}
 
 pub loop-part-preserved : goal.loop-part-preserved
-loop-part-preserved c = each_goes c.args.parts.now c.loop-part.part-index c.args.wanted.now c.args.over c.args.rest c.part-item.result c.loop-part.todo.items c.args.todo.now.items _ c.level_or-level.result c.want_at.result
-    c.loop-part.invariant c.loop-part-test.true c.part-item.is c.level_or-level.ensures c.want_at.ensures c.in_ok-push.ensures.items
-
-pub returns : goal.returns
-returns c = each_ends c.args.parts.now c.loop-part.part-index c.args.wanted.now c.args.over c.args.rest c.loop-part.todo.items c.args.todo.now.items c.loop-part.invariant c.loop-part-test.false
+loop-part-preserved c =
+    let x : PartNote = get_or c.args.parts.now c.loop-part.part-index none in
+    let here = any_default c.args.parts.now c.loop-part.part-index none c.loop-part-test.true in
+    record {
+      places = places_on c.args.parts.now c.loop-part.part-index c.args.gone.now c.loop-part.at c.loop-part.invariant.places x c.loop-part-test.true here _ (let e = c.count_of-at.ensures in omega arith);
+      told = each_goes c.args.parts.now c.loop-part.part-index c.args.gone.now c.loop-part.at c.loop-part.invariant.places x c.loop-part-test.true here c.args.wanted.now c.args.over c.args.rest c.loop-part.todo.items _ _ c.level_or-level.result _ c.want_at.result
+          c.loop-part.invariant.told c.level_or-level.ensures c.want_at.ensures c.in_ok-push.ensures.items (let e = c.count_of-at.ensures in omega arith);
+    }

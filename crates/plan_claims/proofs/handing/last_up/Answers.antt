@@ -1,4 +1,3 @@
-use Rattle.std.proofs.Common.{sym}
 use Rattle.plan_claims.proofs.Loops.{last_is}
 use Rattle.plan_claims.proofs.handing.last_up.Goals as goal
 

@@ -1,4 +1,3 @@
-use Rattle.std.proofs.Common.{arith}
 use Rattle.std.proofs.lemmas.Result.{on_ok_weaker}
 use Rattle.sp_cuts.proofs.Noted.{hold_noted, many_there, parts_lead_down, par_noted, two_there, two_lead_down, task_noted}
 use Rattle.sp_cuts.proofs.noting.note_position.Goals as goal

@@ -1,4 +1,3 @@
-use Rattle.std.proofs.Common.{arith}
 use Rattle.sp_cuts.proofs.Noted.{all_counted, all_put}
 use Rattle.sp_cuts.proofs.noting.note_sides.Goals as goal
 
