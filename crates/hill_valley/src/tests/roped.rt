@@ -8,10 +8,13 @@ ghost use Rattle.hill_valley.specs.declared.side.Seg.{Seg};
 ghost use Rattle.hill_valley.specs.Side.{profile, HaveRopes};
 
 use crate::tests::plain::PlainSeg;
-use crate::{NoMemory, Ropes, Seg, Side};
+use crate::{NoMemory, Ropes, Seg, Side, laws};
 use limits::MOST_TOTAL;
 use std::alloc::Global;
 use std::marker::Model;
+
+/// A segment of one task: its `up`, its `net`, and the task.
+pub type One = (u64, u64, u32);
 
 #[derive(Drop)]
 pub struct RopedSide {
@@ -59,6 +62,31 @@ impl RopedSide {
             self.net += net;
         }
         Ok(())
+    }
+
+    // Merges in a side of these segments, in rising order of `up`. One that is too large is left out, which the comparison shows.
+    pub fn merge(self, alloc: Global, ones: &[One], before: bool) -> Result<RopedSide, NoMemory> {
+        laws::runs();
+        let RopedSide {
+            mut ropes,
+            mut side,
+            net,
+        } = self;
+        let mut other = Side::new(alloc);
+        let mut sum = net;
+        for &(up, down, task) in ones {
+            if fits(sum, up, down) {
+                let tasks = ropes.one(task);
+                other.append(&mut ropes, up, down, tasks)?;
+                sum += down;
+            }
+        }
+        side.merge(other, &mut ropes, before)?;
+        Ok(RopedSide {
+            ropes,
+            side,
+            net: sum,
+        })
     }
 
     pub fn take_first(&mut self, alloc: Global) -> Result<Option<PlainSeg>, NoMemory> {
