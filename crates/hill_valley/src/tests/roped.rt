@@ -1,10 +1,11 @@
 //! A side with its ropes, for the tests alone: what each call requires is checked here.
 
-ghost use Rattle.std.specs.Prelude.{◌≡◌, ◌+◌, ◌≤◌, List};
+ghost use Rattle.std.specs.Prelude.{◌≡◌, ◌+◌, ◌≤◌, List, IfOk};
 ghost use Rattle.std.specs.Bool.{OnTrue};
 ghost use Rattle.limits.specs.Limits.{most_total};
 ghost use Rattle.side_laws.specs.Segments.{net_sum};
 ghost use Rattle.hill_valley.specs.declared.side.Seg.{Seg};
+ghost use Rattle.hill_valley.specs.Ropes.{Extends};
 ghost use Rattle.hill_valley.specs.Side.{profile, HaveRopes};
 
 use crate::tests::plain::PlainSeg;
@@ -72,21 +73,9 @@ impl RopedSide {
             mut side,
             net,
         } = self;
-        let mut other = Side::new(alloc);
-        let mut sum = net;
-        for &(up, down, task) in ones {
-            if fits(sum, up, down) {
-                let tasks = ropes.one(task);
-                other.append(&mut ropes, up, down, tasks)?;
-                sum += down;
-            }
-        }
+        let (other, net) = side_of(alloc, &mut ropes, net, ones)?;
         side.merge(other, &mut ropes, before)?;
-        Ok(RopedSide {
-            ropes,
-            side,
-            net: sum,
-        })
+        Ok(RopedSide { ropes, side, net })
     }
 
     pub fn take_first(&mut self, alloc: Global) -> Result<Option<PlainSeg>, NoMemory> {
@@ -135,4 +124,30 @@ fn fits(sum: u64, up: u64, net: u64) -> bool
     ensures { OnTrue result ((up ≤ most_total) × (sum + net ≤ most_total)) }
 {
     up <= MOST_TOTAL && sum <= MOST_TOTAL && net <= MOST_TOTAL - sum
+}
+
+// The side of these segments, and the sum of `net` and of theirs. One that is too large is left out.
+fn side_of(
+    alloc: Global,
+    ropes: &mut Ropes,
+    net: u64,
+    ones: &[One],
+) -> Result<(Side, u64), NoMemory>
+    requires { net ≤ most_total }
+    ensures ropes { IfOk result (λ r. HaveRopes ropes.new r.0) }
+    ensures net { IfOk result (λ r. net_sum (profile r.0) + net ≡ r.1) }
+    ensures within { IfOk result (λ r. r.1 ≤ most_total) }
+    ensures kept { Extends ropes.old ropes.new }
+{
+    laws::runs();
+    let mut side = Side::new(alloc);
+    let mut sum = net;
+    for &(up, down, task) in ones {
+        if fits(sum, up, down) {
+            let tasks = ropes.one(task);
+            side.append(ropes, up, down, tasks)?;
+            sum += down;
+        }
+    }
+    Ok((side, sum))
 }
