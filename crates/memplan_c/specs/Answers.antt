@@ -11,7 +11,7 @@ use Rattle.tree_input.specs.declared.node.Node.{Node}
 use Rattle.tree_input.specs.Tree.{IsTree, system_of_nodes}
 use Rattle.plan_text.specs.declared.claim.Claim.{Claim as PlanClaim}
 use Rattle.plan_text.specs.declared.claim.Dir.TheVariants.{F, R}
-use Rattle.plan_text.specs.Plan.{PlanText}
+use Rattle.plan_text.specs.Plan.{PlanText, IsPlan}
 use Rattle.claim_check.specs.Accepted.{IsAccepted}
 use Rattle.postorder_best.specs.Postorder.{IsTreePostorder}
 use Rattle.postorder_best.specs.BestPostorder.{IsBestPostorder}
@@ -67,8 +67,9 @@ pub record IsCertificate (nodes : List Node) (plan : PlanText) : Type 0 where
   pub term : IsTermOf (origins.Tree nodes) positions
   pub accepted : IsAccepted (system_of_nodes nodes) positions plan
 
--- a traversal of least peak, with the claims that certify it
+-- a traversal of least peak, with the claims that certify it, within the limits of a plan
 pub record IsCertified (nodes : List Node) (order : List ℕ) (peak : ℕ) (claims : List Claim) : Type 0 where
   pub tree : IsTree nodes
+  pub plan : IsPlan (plan_given order peak claims)
   pub best : IsBestTraversal (system_of_nodes nodes) order peak
   pub certificate : IsCertificate nodes (plan_given order peak claims)

@@ -1,6 +1,7 @@
 -- A slot for a core, as C holds it: what a call leaves in it, which the answer determines, and what the answer says.
 use Rattle.std.specs.Prelude.{◌≡◌, ◌≢◌, ◌==◌, ◌↔◌, ◌≤◌, ℕ, true, if◌then◌else◌, Option, Some, None, option_map, MatchOption, MatchBool, List}
 use Rattle.std.specs.Option.{option_map_or}
+use Rattle.limits.specs.Limits.{most_workers}
 use Rattle.mp_system.specs.System.{TaskSystem}
 use Rattle.activation.specs.Machine.{CoreValue, Setting, IsSetting, MayActivate, MayStart, MayFinish, state_after, start_state, used_memory, booked_memory, is_done}
 use Rattle.activation.specs.declared.events.EventKind.{EventKind}
@@ -25,11 +26,12 @@ core_at_start setting = record { setting = setting; state = start_state setting 
 abbrev pub begun : SlotValue → Setting → ℕ → SlotValue
 begun s setting answer = if answer == 0 then record { core = Some (core_at_start setting) } else s
 
--- 0: what is given is what it must be, the order is a traversal of its system, and the bound is at least its peak; else there is a cause
--- why there is no core
+-- 0: what is given is what it must be, the order is a traversal of its system, the bound is at least its peak, and there are 1 to 4,096
+-- workers; else there is a cause why there is no core
 pub record IsBegun (given : Type 0) (cause : Refusal → Type 0) (setting : Setting) (answer : ℕ) (before after : Fault) : Type 0 where
   pub is_given : answer ≡ 0 → given
   pub is_setting : answer ≡ 0 → IsSetting setting
+  pub few_workers : answer ≡ 0 → setting.workers ≤ most_workers
   pub no_fault : answer ≡ 0 → after ≡ before
   pub refused : answer ≢ 0 → IsRefused cause answer after
 

@@ -1,6 +1,7 @@
 //! Plans of a tree with claims that certify them.
 
 ghost use Rattle.std.specs.Prelude.{◌≡◌, ◌≢◌, ◌≤◌, [], length, take, drop, IfOk, IfErr, OnOk};
+ghost use Rattle.plan_text.specs.Plan.{IsPlan};
 ghost use Rattle.memplan_c.specs.Answers.{IsCertified, IsBestOrder, IsCertificate};
 ghost use Rattle.memplan_c.specs.Faults.{IsRefused};
 ghost use Rattle.memplan_c.specs.Refusals.{IsCertifyRefusal, IsCheckRefusal};
@@ -28,6 +29,7 @@ fn check_plan(
 {
     let tree = tree_of_nodes(alloc, nodes)?;
     let plan = plan_of_arrays(alloc, order, peak, claims)?;
+    plan.keeps();
     let problem = Problem::of_tree(alloc, tree)?;
     match problem.check_alone(alloc, &plan)? {
         Verdict::Yes(_) => Ok(()),
@@ -64,6 +66,7 @@ fn certified(
 ) -> Result<PlanFile, Refusal>
     ensures best { IfOk result (λ plan. IsBestOrder nodes.now plan.order plan.peak) }
     ensures certificate { IfOk result (IsCertificate nodes.now) }
+    ensures within { IfOk result IsPlan }
     ensures priority { IfOk result (λ plan. plan.priority ≡ []) }
     ensures long { IfOk result (λ plan. length plan.order ≡ room) }
     ensures fits { IfOk result (λ plan. length plan.claims ≤ claim_room) }

@@ -1,6 +1,7 @@
 //! The memory that C gives for a core, and what each call does to it.
 
 ghost use Rattle.std.specs.Prelude.{◌≡◌, ◌↔◌, ◌≤◌, IfOk, IfErr, IsTrue};
+ghost use Rattle.limits.specs.Limits.{most_workers};
 ghost use Rattle.mp_system.specs.System.{IsSystem};
 ghost use Rattle.system_input.specs.Given.{system_given};
 ghost use Rattle.activation.specs.Machine.{IsSetting};
@@ -61,6 +62,7 @@ fn core_of_tree(
     ensures core { IfOk result (λ core. core ≡ core_at_start (setting_of (system_of_nodes nodes.now) order.now bound workers)) }
     ensures tree { IfOk result (λ _. IsTree nodes.now) }
     ensures setting { IfOk result (λ core. IsSetting core.setting) }
+    ensures few_workers { IfOk result (λ _. workers ≤ most_workers) }
     ensures refused { IfErr result (IsBeginRefusal nodes.now order.now bound workers) }
 {
     if workers == 0 || workers > MOST_WORKERS {
@@ -104,6 +106,7 @@ fn core_of_system(
     ensures core { IfOk result (λ core. core ≡ core_at_start (setting_of (system_given tasks.now items.now) order.now bound workers)) }
     ensures system { IfOk result (λ _. IsSystem (system_given tasks.now items.now)) }
     ensures setting { IfOk result (λ core. IsSetting core.setting) }
+    ensures few_workers { IfOk result (λ _. workers ≤ most_workers) }
     ensures refused { IfErr result (IsSystemBeginRefusal tasks.now items.now order.now bound workers) }
 {
     if workers == 0 || workers > MOST_WORKERS {

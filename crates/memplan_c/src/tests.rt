@@ -6,7 +6,8 @@ use crate::faults::Fault;
 use crate::plans::{memplan_best_postorder, memplan_plan_tree};
 use crate::replays::{memplan_replay_system, memplan_replay_tree, memplan_spill_tree};
 use crate::slot::{
-    Slot, activate, begin, booked, end, finish, is_done, is_startable, make, start, used,
+    Slot, activate, begin, begin_system, booked, end, finish, is_done, is_startable, make, start,
+    used,
 };
 use system_input::{GivenItem, GivenTask};
 use tree_input::Node;
@@ -128,17 +129,26 @@ fn task(extra: u64) -> GivenTask {
     }
 }
 
-#[test]
-fn a_diamond(rt: HostRuntime) {
-    let tasks = [task(0), task(0), task(2), task(0)];
-    let items = [
+// Task 1 hands data to 2 and 3, and both hand data to 4.
+fn diamond_tasks() -> [GivenTask; 4] {
+    [task(0), task(0), task(2), task(0)]
+}
+
+fn diamond_items() -> [GivenItem; 6] {
+    [
         item(6, 0, 1),
         item(3, 1, 2),
         item(4, 1, 3),
         item(2, 2, 4),
         item(5, 3, 4),
         item(1, 4, 0),
-    ];
+    ]
+}
+
+#[test]
+fn the_peak_of_a_diamond(rt: HostRuntime) {
+    let tasks = diamond_tasks();
+    let items = diamond_items();
     let mut peak = 0;
     let mut fault = no_fault();
     let order = [1, 3, 2, 4];
@@ -184,5 +194,32 @@ fn a_core_runs_five_nodes(rt: HostRuntime) {
         ),
         (0, 1, 1)
     );
+    end(slot);
+}
+
+// Runs a task that may start; whether it was so.
+fn run(slot: &mut Slot, task: u32) -> bool {
+    start(slot, task) == 1 && finish(slot, task) == 1
+}
+
+#[test]
+fn a_core_runs_a_diamond(rt: HostRuntime) {
+    let tasks = diamond_tasks();
+    let items = diamond_items();
+    let order = [1, 3, 2, 4];
+    let mut fault = no_fault();
+    let mut slot = make(rt.alloc());
+    assert_eq!(rt;
+        begin_system(&mut slot, &tasks, &items, &order, 14, 2, &mut fault),
+        0
+    );
+    assert_eq!(rt; (activate(&mut slot), activate(&mut slot)), (1, 0));
+    assert_eq!(rt; (run(&mut slot, 1), used(&mut slot)), (true, 7));
+    assert_eq!(rt; (activate(&mut slot), activate(&mut slot)), (3, 0));
+    assert_eq!(rt; (booked(&mut slot), start(&mut slot, 2)), (14, 0));
+    assert_eq!(rt; (run(&mut slot, 3), used(&mut slot)), (true, 8));
+    assert_eq!(rt; (activate(&mut slot), activate(&mut slot)), (2, 4));
+    assert_eq!(rt; (start(&mut slot, 4), run(&mut slot, 2)), (0, true));
+    assert_eq!(rt; (run(&mut slot, 4), used(&mut slot)), (true, 1));
     end(slot);
 }
