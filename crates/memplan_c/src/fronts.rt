@@ -1,6 +1,7 @@
 //! The fronts of a matrix.
 
 ghost use Rattle.std.specs.Prelude.{◌≡◌, ◌≢◌, ◌≤◌, ◌<◌, length, take, drop, IfOk, IfErr, OnOk};
+ghost use Rattle.limits.specs.Limits.{most_order};
 ghost use Rattle.ordering.specs.Perm.{IsPerm};
 ghost use Rattle.symbolic.specs.FrontTree.{relaxed};
 ghost use Rattle.memplan_c.specs.declared.refusal.Refusal.TheVariants as refusals;
@@ -88,7 +89,8 @@ fn merged(alloc: Global, assembly: Assembly, zeros: Option<u64>) -> Result<Assem
 
 // The supernode in which each vertex lies.
 fn supernodes_of(alloc: Global, assembly: &Assembly, perm: &Perm) -> Result<Vec<u32>, AllocError>
-    requires { length perm.now ≡ length assembly.now.nodes }
+    requires len { length perm.now ≡ length assembly.now.nodes }
+    requires few { length perm.now ≤ most_order }
     ensures { IfOk result (λ fronts. fronts.items ≡ fronts_of_columns assembly.now perm.now) }
 {
     (1..perm.len() + 1)
