@@ -1,6 +1,6 @@
 //! The fronts of a matrix.
 
-ghost use Rattle.std.specs.Prelude.{◌≡◌, ◌≢◌, ◌≤◌, ◌<◌, length, take, drop, IfOk, IfErr, OnOk};
+ghost use Rattle.std.specs.Prelude.{◌≡◌, ◌≢◌, ◌≤◌, ◌<◌, length, take, drop, IfOk, IfErr};
 ghost use Rattle.limits.specs.Limits.{most_order};
 ghost use Rattle.ordering.specs.Perm.{IsPerm};
 ghost use Rattle.symbolic.specs.FrontTree.{relaxed};
@@ -125,19 +125,6 @@ fn fronts_of_matrix(
     Ok(Fronts { tree, of_columns })
 }
 
-// Whether there is room for as many nodes as are needed.
-fn check_node_room(needed: usize, room: usize) -> Result<(), Refusal>
-    ensures room { OnOk result (needed ≤ room) }
-    ensures refused { IfErr result (λ e. (room < needed) × (e ≡ refusals.NodeRoom needed)) }
-{
-    if room < needed {
-        return Err(Refusal::NodeRoom {
-            needed: needed as u64,
-        });
-    }
-    Ok(())
-}
-
 // With room for so many nodes, and for the fronts of so many columns.
 fn fronts_of_arrays(
     alloc: Global,
@@ -160,7 +147,12 @@ fn fronts_of_arrays(
     let pattern = pattern_of_columns(alloc, base, starts, rows)?;
     let order = order_of(alloc, base, numbers, &pattern)?;
     let made = fronts_of_matrix(alloc, &pattern, &order, options)?;
-    check_node_room(made.tree.nodes().len(), room)?;
+    let needed = made.tree.nodes().len();
+    if room < needed {
+        return Err(Refusal::NodeRoom {
+            needed: needed as u64,
+        });
+    }
     Ok(made)
 }
 
