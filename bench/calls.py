@@ -4,9 +4,9 @@
 usage: calls.py PROGRAM COST
 
 PROGRAM is the built program, COST the program of c/test/cost.c, linked with the library. Both plan the same trees, which
-tools/make_tree.py makes. Of the program's processor time that of a run is taken off which only reads and judges the tree: `replay` of
-an order of no tasks, which is refused at its first place. So what is left is the planning and the printing of the plan; the call judges the
-nodes, plans, and copies the order. Each run is made three times, in turn, and the least time counts.
+tools/make_tree.py makes. Of the program's processor time that of a run is taken off which only reads the text: of the same file without its
+last line, which is refused there. So what is left is to judge the tree, to plan, and to print the plan; the call judges the nodes, plans, and
+copies the order. Each run is made five times, in turn, and the least time counts.
 """
 import re
 import resource
@@ -17,7 +17,7 @@ from pathlib import Path
 
 ROOT = Path(__file__).resolve().parent.parent
 NODES = 1_000_000
-ROUNDS = 3
+ROUNDS = 5
 
 
 def seconds_of(words, statuses=(0,)):
@@ -40,15 +40,15 @@ def main():
     print("| tree | the program's planning | the call | ratio |")
     print("|---|---|---|---|")
     with tempfile.TemporaryDirectory() as work:
-        tree, order, none = f"{work}/tree", f"{work}/order", f"{work}/none"
-        Path(none).write_text("")
+        tree, order, cut = f"{work}/tree", f"{work}/order", f"{work}/cut"
         for shape in ("near", "random", "chain", "binary"):
             make = [sys.executable, ROOT / "tools/make_tree.py", str(NODES), tree, order, shape]
             subprocess.run(make, check=True)
+            Path(cut).write_text(Path(tree).read_text().removesuffix("end\n"))
             whole, reading, call = [], [], []
             for _ in range(ROUNDS):
                 whole.append(seconds_of([program, "plan", "--tree", tree]))
-                reading.append(seconds_of([program, "replay", "--tree", tree, "--order", none], (1,)))
+                reading.append(seconds_of([program, "plan", "--tree", cut], (3,)))
                 call.append(call_seconds(cost, tree))
             planning = min(whole) - min(reading)
             print(f"| {shape} | {planning:.2f} s | {min(call):.2f} s | {min(call) / planning:.2f} |")
