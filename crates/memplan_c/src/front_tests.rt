@@ -136,7 +136,10 @@ fn squares_in_place(rt: HostRuntime) {
 
 fn refused<R: Abort>(rt: &R, made: &Written, status: u32, kind: u32, at: u64, value: u64) {
     assert_eq!(rt; made.status, status);
-    assert_eq!(rt; (made.fault.kind, made.fault.at, made.fault.value), (kind, at, value));
+    assert_eq!(rt;
+        (made.fault.kind, made.fault.at, made.fault.value),
+        (kind, at, value)
+    );
     assert_eq!(rt; (made.count, made.front_of), (9, [9, 9, 9, 9]));
     check_front(rt, made, 0, (9, 9, 9, 9, 9));
 }

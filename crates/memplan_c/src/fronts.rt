@@ -59,12 +59,7 @@ fn options_of(given: GivenOptions) -> Result<FrontOptions, Refusal>
 }
 
 // The order in which a matrix is eliminated, whose columns these numbers tell, or none.
-fn order_of(
-    alloc: Global,
-    base: u32,
-    numbers: &[u32],
-    pattern: &Pattern,
-) -> Result<Perm, Refusal>
+fn order_of(alloc: Global, base: u32, numbers: &[u32], pattern: &Pattern) -> Result<Perm, Refusal>
     ensures order { IfOk result (IsOrderOf base numbers.now pattern.now) }
     ensures perm { IfOk result (λ order. IsPerm (length pattern.now) order) }
     ensures refused { IfErr result (IsOrderRefusal base numbers.now (length pattern.now)) }
