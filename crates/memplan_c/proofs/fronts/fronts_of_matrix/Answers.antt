@@ -1,0 +1,20 @@
+use Rattle.std.proofs.Common.{◌∙◌, sym}
+use Rattle.memplan_c.proofs.FrontsMade.{columns_long, made, relaxed_long}
+use Rattle.memplan_c.proofs.fronts.fronts_of_matrix.Goals as goal
+
+pub supernodes_of-requires-clause-len : goal.supernodes_of-requires-clause-len
+supernodes_of-requires-clause-len c =
+    let rows = c.args.pattern.now in
+    let analysis = c.in_ok-numbered.field-0 in
+    let is = c.in_ok-numbered.ensures in
+    let assembly = c.one_analysis.ensures.tree rows c.args.order.now analysis.numbered.perm analysis.assembly c.keeps.ensures c.requires.len is.analysis in
+    columns_long rows analysis.numbered.perm analysis.numbered.parents _ analysis.assembly is.tree is.supernodes
+    ∙ sym (relaxed_long c.amalgamation_is_relaxed.ensures c.args.options.zeros analysis.assembly c.in_ok-merged.merged assembly c.in_ok-merged.ensures)
+
+pub returns-clause-fronts : goal.returns-clause-fronts
+returns-clause-fronts c =
+    let analysis = c.in_ok-numbered.field-0 in
+    let is = c.in_ok-numbered.ensures in
+    made c.args.options c.args.pattern.now c.args.order.now analysis.numbered.perm analysis.assembly c.in_ok-merged.merged c.in_ok-tree.tree
+    c.in_ok-of_columns.of_columns.items is.analysis (is.len ∙ sym c.requires.len) c.in_ok-merged.ensures c.in_ok-tree.ensures
+    c.in_ok-of_columns.ensures
