@@ -109,6 +109,19 @@ impl RopedSide {
         self.ropes.list(alloc, tasks)
     }
 
+    // The `up` and the `net` of the first segments, as long as they start at `stop` or above.
+    pub fn numbers(
+        &self,
+        alloc: Global,
+        more: u64,
+        stop: u64,
+    ) -> Result<Vec<(u64, u64)>, NoMemory> {
+        let mut numbers = Vec::new(alloc);
+        self.side
+            .push_numbers(self.level(more), stop, &mut numbers)?;
+        numbers.iter().map(|n| (n.up, n.net)).collect(alloc)
+    }
+
     // The bound and the level of each step.
     pub fn steps(&self, alloc: Global, more: u64) -> Result<Vec<(u64, u64)>, NoMemory> {
         let steps = self.side.steps(alloc, self.level(more))?;

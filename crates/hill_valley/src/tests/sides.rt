@@ -71,6 +71,21 @@ fn a_side_of_three_segments(rt: HostRuntime) -> Result<(), Fail> {
 }
 
 #[test]
+fn the_first_segments_are_those_above_a_level(rt: HostRuntime) -> Result<(), Fail> {
+    let alloc = rt.alloc();
+    let side = three_segments(alloc)?;
+    // they start at 10, 7 and 6
+    assert_eq!(rt;
+        side.numbers(alloc, 2, 0)?.as_slice(),
+        [(5, 3), (7, 1), (9, 4)].as_slice()
+    );
+    for (stop, many) in [(6, 3), (7, 2), (8, 1), (10, 1), (11, 0)] {
+        assert_eq!(rt; side.numbers(alloc, 2, stop)?.len(), many);
+    }
+    Ok(())
+}
+
+#[test]
 fn segments_are_put_in_at_their_places(rt: HostRuntime) -> Result<(), Fail> {
     let alloc = rt.alloc();
     let mut side = three_segments(alloc)?;
