@@ -14,6 +14,9 @@ use Rattle.plan_text.specs.Plan.{PlanText, IsPlan, IsClaimWithin, RiseFrom, clai
 use Rattle.claim_check.specs.Accepted.{IsAccepted, HasRoot}
 use Rattle.claim_check.specs.Judged.{PassesAt}
 use Rattle.least_peak.specs.Best.{IsBestTraversal}
+use Rattle.least_peak.specs.Problem.{system_of, IsTermOf}
+use Rattle.least_peak.specs.declared.problem.Origin.{Origin}
+use Rattle.least_peak.specs.declared.problem.Origin.TheVariants as origins
 use Rattle.least_peak.specs.Named.{IsNamedBy, IsNamedTerm, order_named}
 
 -- ---- an order under the names of a system
@@ -51,22 +54,22 @@ small_tasks system order is walks = All-weaker (IsTask system) (λ v. v ≤ 4294
 
 module _
     (traversals : Traversals) (peaks : Peaks) (long : (system : TaskSystem) (order : List ℕ) → IsTraversal system order → length order ≡ length system.tasks)
-    (system : TaskSystem) (positions : List Position) (names : Option (List ℕ)) (term : IsNamedTerm names positions system) (is_system : IsSystem system)
+    (system : TaskSystem) (positions : List Position) (names : Option (List ℕ)) (term : IsNamedTerm names positions system)
     (order : List ℕ) (peak : ℕ) (walks : IsTraversal (system_of_term (term_of positions)) order) (peak_is : peak_of (system_of_term (term_of positions)) order ≡ peak)
     (named : List ℕ) (named_is : named ≡ order_named names order) where
   walks_named : IsTraversal system named
   walks_named =
-      subst (IsTraversal system) (sym named_is) (traversal_named traversals names (system_of_term (term_of positions)) system order term.1 walks)
+      subst (IsTraversal system) (sym named_is) (traversal_named traversals names (system_of_term (term_of positions)) system order term.named walks)
 
   peak_is_named : peak_of system named ≡ peak
   peak_is_named =
-      ap (peak_of system) named_is ∙ peak_named peaks names (system_of_term (term_of positions)) system order term.1 walks ∙ peak_is
+      ap (peak_of system) named_is ∙ peak_named peaks names (system_of_term (term_of positions)) system order term.named walks ∙ peak_is
 
   pub plan_within : (claims : List Claim) (priority : List ℕ) → priority ≡ [] → peak ≤ 2 ^ 60 → length claims ≤ 4000001 → All IsClaimWithin claims → RiseFrom 0 claims
       → IsPlan (record { order = named; peak = peak; claims = claims; priority = priority })
   plan_within claims priority none small few within rising = record {
-    few_tasks = few_tasks system named is_system (long system named walks_named);
-    tasks = small_tasks system named is_system walks_named;
+    few_tasks = few_tasks system named term.within (long system named walks_named);
+    tasks = small_tasks system named term.within walks_named;
     peak = small;
     few_claims = few;
     claims = within;
@@ -101,7 +104,7 @@ least_named own renamed (Some names) system ps terms same plan accepted = rename
 
 -- the peak of a plan that is accepted is least
 pub accepted_is_least : Own → Renamed → (names : Option (List ℕ)) (positions : List Position) (system : TaskSystem) → IsNamedTerm names positions system → (plan : PlanText) → IsAccepted system positions plan → IsLeast system plan.peak
-accepted_is_least own renamed names positions system (terms, same) plan accepted = least_named own renamed names system positions terms same plan accepted
+accepted_is_least own renamed names positions system term plan accepted = least_named own renamed names system positions term.terms term.named plan accepted
 
 pub accepted_is_best : Own → Renamed → (names : Option (List ℕ)) (positions : List Position) (system : TaskSystem) → IsNamedTerm names positions system
     → (plan : PlanText) → IsAccepted system positions plan → IsBestTraversal system plan.order plan.peak
@@ -110,3 +113,12 @@ accepted_is_best own renamed names positions system term plan accepted = record 
   is_peak = accepted.peak;
   least = accepted_is_least own renamed names positions system term plan accepted;
 }
+
+-- ---- the plan of a workflow
+
+pub workflow_accepted : (origin : Origin) (own : List Position) → origin ≡ origins.Workflow own → IsTerms own → IsSystem (system_of_term (term_of own))
+    → (plan : PlanText) → ((system : TaskSystem) → IsNamedTerm None own system → IsAccepted system own plan)
+    → (positions : List Position) × IsTermOf origin positions × IsAccepted (system_of origin) positions plan
+workflow_accepted origin own is terms within plan accepted =
+    subst (λ (o : Origin). (positions : List Position) × IsTermOf o positions × IsAccepted (system_of o) positions plan) (sym is)
+    (own, refl, accepted (system_of_term (term_of own)) (record { terms = terms; within = within; named = refl }))

@@ -2,7 +2,7 @@
 -- A system that is that of a term, under the names of its tasks.
 use Rattle.std.specs.Prelude.{◌≡◌, ℕ, List, Option, Some, None, map}
 use Rattle.mp_system.specs.Renaming.{IsRenamed, name_in}
-use Rattle.mp_system.specs.System.{TaskSystem}
+use Rattle.mp_system.specs.System.{TaskSystem, IsSystem}
 use Rattle.sp_terms.specs.declared.position.Position.{Position}
 use Rattle.sp_terms.specs.SystemOfTerm.{system_of_term}
 use Rattle.sp_terms.specs.Values.{IsTerms, term_of}
@@ -12,9 +12,11 @@ abbrev pub IsNamedBy : Option (List ℕ) → TaskSystem → TaskSystem → Type 
 IsNamedBy None own system = own ≡ system
 IsNamedBy (Some names) own system = IsRenamed names own system
 
--- the positions are a term within the limits, and the system is that of the term, under the names
-abbrev pub IsNamedTerm : Option (List ℕ) → List Position → TaskSystem → Type 0
-IsNamedTerm names positions system = IsTerms positions × IsNamedBy names (system_of_term (term_of positions)) system
+-- the positions are a term within the limits, and the system, which is within them too, is that of the term, under the names
+pub record IsNamedTerm (names : Option (List ℕ)) (positions : List Position) (system : TaskSystem) : Type 0 where
+  pub terms : IsTerms positions
+  pub within : IsSystem system
+  pub named : IsNamedBy names (system_of_term (term_of positions)) system
 
 -- the tasks of an order, each by its name
 abbrev pub order_named : Option (List ℕ) → List ℕ → List ℕ

@@ -3,7 +3,7 @@
 //!
 //! ```
 //! let tree = read_tree(alloc, text)?;
-//! let problem = Problem::of_tree(alloc, tree)?;
+//! let problem = Problem::of_tree(tree);
 //! let plan = problem.plan(alloc)?;
 //! let verdict = problem.check(rt, alloc, &plan, 1, &NoGate)?;
 //! assert_eq!(rt; verdict, Verdict::Yes(plan.peak()));

@@ -1,15 +1,15 @@
-//! The plan of a system whose term is known.
+//! The plan of a term. It needs no system: what is said of its order and its peak is said of every system that is that of the term.
 
-ghost use Rattle.std.specs.Prelude.{◌≡◌, ◌<◌, [], map, option_map, IfOk};
+ghost use Rattle.std.specs.Prelude.{◌≡◌, ◌<◌, [], map, IfOk};
 ghost use Rattle.claim_check.specs.Accepted.{IsAccepted};
 ghost use Rattle.mp_system.specs.Renaming.{name_in};
+ghost use Rattle.mp_system.specs.System.{TaskSystem};
 ghost use Rattle.plan_text.specs.Plan.{IsPlan};
 ghost use Rattle.least_peak.specs.Best.{IsBestTraversal};
 ghost use Rattle.least_peak.specs.Named.{IsNamedTerm, order_named};
 
 use crate::NoMemory;
 use claim_check::laws::accepted_law;
-use mp_system::System;
 use mp_system::laws::{renaming_law, traversal_law};
 use plan_claims::claims_of;
 use plan_text::PlanFile;
@@ -20,6 +20,7 @@ use std::alloc::Global;
 use std::marker::Brand;
 use std::sync::ledger::{Blank, Ledger};
 use step_count::Steps;
+use tree_input::Names;
 
 // What a task is called; a number that is no task's is called 0.
 fn name_in(names: &[u32], task: u32) -> u32
@@ -48,13 +49,13 @@ fn named(alloc: Global, names: &[u32], order: &[u32]) -> Result<Vec<u32>, NoMemo
 // The tasks, each by its name in the system.
 fn order_in_system(
     alloc: Global,
-    names: Option<&[u32]>,
+    names: Option<Names>,
     order: Vec<u32>,
 ) -> Result<Vec<u32>, NoMemory>
-    ensures { IfOk result (λ named. named.items ≡ order_named (option_map (λ n. n.now) names.entry) order.items) }
+    ensures { IfOk result (λ named. named.items ≡ order_named names order.items) }
 {
     match names {
-        Some(names) => named(alloc, names, &order),
+        Some(names) => named(alloc, names.as_slice(), &order),
         None => Ok(order),
     }
 }
@@ -63,22 +64,20 @@ fn order_in_system(
 fn plan_counted<L: Ledger>(
     alloc: Global,
     blank: Blank,
-    system: &System,
     terms: &Terms,
-    names: Option<&[u32]>,
+    names: Option<Names>,
 ) -> Result<PlanFile, NoMemory>
     requires name { blank.name ≡ L.name }
     requires parts { blank.parts ≡ L.parts }
     requires some { 0 < blank.parts }
-    requires term { IsNamedTerm (option_map (λ n. n.now) names) terms.now system.now }
-    ensures accepted { IfOk result (λ plan. IsAccepted system.now terms.now plan) }
+    requires term { (system : TaskSystem) × IsNamedTerm names terms.now system }
+    ensures accepted { IfOk result (λ plan. (system : TaskSystem) → IsNamedTerm names terms.now system → IsAccepted system terms.now plan) }
     ensures within { IfOk result IsPlan }
     ensures priority { IfOk result (λ plan. plan.priority ≡ []) }
 {
     renaming_law();
     traversal_law();
     terms_law();
-    system.keeps();
     let mut steps = Steps::<L>::new(blank);
     let plan = plan_terms(alloc, terms, &mut steps)?;
     let Plan {
@@ -90,24 +89,21 @@ fn plan_counted<L: Ledger>(
     } = plan;
     // the claims need no ropes, and can have their room
     drop(ropes);
-    let claims = claims_of(alloc, terms, &part, notes)?;
     let named = order_in_system(alloc, names, order)?;
+    let claims = claims_of(alloc, terms, &part, notes)?;
     Ok(PlanFile::new(named, peak, claims, Vec::new(alloc)))
 }
 
-/// The plan of a system, by a term of it: what the tasks of the term are called in the system; without names each has its own number.
-pub fn plan_term(
-    alloc: Global,
-    system: &System,
-    terms: &Terms,
-    names: Option<&[u32]>,
-) -> Result<PlanFile, NoMemory>
-    requires { IsNamedTerm (option_map (λ n. n.now) names) terms.now system.now }
-    ensures accepted { IfOk result (λ plan. IsAccepted system.now terms.now plan) }
-    ensures best { IfOk result (λ plan. IsBestTraversal system.now plan.order plan.peak) }
+/// The plan of a term, and of each system that is that of the term: what the tasks of the term are called in the system; without names
+/// each has its own number.
+pub fn plan_term(alloc: Global, terms: &Terms, names: Option<Names>) -> Result<PlanFile, NoMemory>
+    requires { (system : TaskSystem) × IsNamedTerm names terms.now system }
+    ensures accepted { IfOk result (λ plan. (system : TaskSystem) → IsNamedTerm names terms.now system → IsAccepted system terms.now plan) }
+    ensures best { IfOk result
+        (λ plan. (system : TaskSystem) → IsNamedTerm names terms.now system → IsBestTraversal system plan.order plan.peak) }
     ensures within { IfOk result IsPlan }
     ensures priority { IfOk result (λ plan. plan.priority ≡ []) }
 {
     accepted_law();
-    plan_counted::<Brand>(alloc, Blank::new(1), system, terms, names)
+    plan_counted::<Brand>(alloc, Blank::new(1), terms, names)
 }

@@ -1,8 +1,10 @@
-ghost use Rattle.std.specs.Prelude.{◌≡◌, ◌≤◌, ℕ, List, [], IfOk, IfErr, IsErrAnd};
+ghost use Rattle.std.specs.Prelude.{◌≡◌, ◌≤◌, ℕ, List, [], length, IfOk, IfErr};
 ghost use Rattle.limits.specs.Limits.{most_workers};
 ghost use Rattle.mp_system.specs.Memory.{peak_of};
 ghost use Rattle.mp_system.specs.Refusal.{IsOrderRefusal};
 ghost use Rattle.mp_system.specs.Traversal.{IsTraversal};
+ghost use Rattle.sp_terms.specs.SystemOfTerm.{system_of_term};
+ghost use Rattle.sp_terms.specs.Values.{term_of};
 ghost use Rattle.sp_terms.specs.declared.position.Position.{Position};
 ghost use Rattle.plan_text.specs.Plan.{IsPlan};
 ghost use Rattle.claim_check.specs.Accepted.{IsAccepted};
@@ -22,12 +24,13 @@ use claim_check::{Verdict, check, check_alone};
 use mp_outside::Gate;
 use mp_system::{ReplayRefusal, System, replay};
 use plan_text::PlanFile;
-use sp_terms::Terms;
+use sp_terms::laws::terms_law;
+use sp_terms::{Position, Terms, system_of};
 use std::alloc::Global;
 use std::marker::Model;
 use std::thread::Threads;
-use tree_input::laws::{forest_law, tree_term};
-use tree_input::{Tree, system_of_tree, terms_of_tree};
+use tree_input::laws::{forest_law, tree_system, tree_term};
+use tree_input::{Named, Tree, system_of_tree, terms_of_tree};
 
 /// What a problem is made of.
 #[derive(Drop)]
@@ -38,54 +41,73 @@ pub enum Origin {
     Workflow(Terms),
 }
 
-/// Tasks that hand data to each other, for which a traversal of least peak is wanted. The term of a tree is made where it is needed.
+/// Tasks that hand data to each other, for which a traversal of least peak is wanted. Its system and the term of a tree are made where
+/// they are needed.
 #[derive(Drop)]
 pub struct Problem {
     origin: Origin,
-    system: System,
 }
 
 impl Model for Problem {
-    ghost use Rattle.std.specs.Prelude.{◌≡◌};
     ghost use Rattle.least_peak.specs.declared.problem.Origin.{Origin};
-    ghost use Rattle.least_peak.specs.Problem.{system_of};
 
     ghost Value = { Origin };
 
     ghost view = { λ p. p.origin };
+}
 
-    ghost invariant = { λ p. p.system ≡ system_of p.origin };
+// The number of tasks of a term.
+fn count_tasks(terms: &Terms) -> u32
+    ensures { result ≡ length (system_of_term (term_of terms.now)).tasks }
+{
+    terms_law();
+    terms.keeps();
+    let mut count = 0;
+    for done in 0..terms.len() {
+        if let Position::Task { .. } = terms.at(done + 1) {
+            count += 1;
+        }
+    }
+    count
 }
 
 impl Problem {
-    /// The problem of a tree: a task for each node. `NoMemory` says nothing of the tree. Linear.
-    pub fn of_tree(alloc: Global, tree: Tree) -> Result<Problem, NoMemory>
-        ensures { IfOk result (λ problem. problem ≡ origins.Tree tree) }
+    /// The problem of a tree: a task for each node. It takes no memory.
+    pub fn of_tree(tree: Tree) -> Problem
+        ensures { result ≡ origins.Tree tree }
     {
-        let system = system_of_tree(alloc, &tree)?;
-        Ok(Problem {
+        Problem {
             origin: Origin::Tree(tree),
-            system,
-        })
+        }
     }
 
-    /// The problem of a workflow. `NoMemory` says nothing of the workflow. Linear.
-    pub fn of_workflow(alloc: Global, terms: Terms) -> Result<Problem, NoMemory>
-        ensures { IfOk result (λ problem. problem ≡ origins.Workflow terms) }
+    /// The problem of a workflow. It takes no memory.
+    pub fn of_workflow(terms: Terms) -> Problem
+        ensures { result ≡ origins.Workflow terms }
     {
-        terms.keeps();
-        let system = sp_terms::system_of(alloc, &terms)?;
-        Ok(Problem {
+        Problem {
             origin: Origin::Workflow(terms),
-            system,
-        })
+        }
     }
 
-    /// The tasks, numbered from 1, and what they hand to each other.
-    pub fn system(&self) -> &System
-        ensures { result.now ≡ system_of self.now }
+    /// The tasks, numbered from 1, and what they hand to each other. `NoMemory` says nothing of the problem. Linear.
+    pub fn system(&self, alloc: Global) -> Result<System, NoMemory>
+        ensures { IfOk result (λ system. system ≡ system_of self.now) }
     {
-        &self.system
+        match &self.origin {
+            Origin::Tree(tree) => system_of_tree(alloc, tree),
+            Origin::Workflow(terms) => system_of(alloc, terms),
+        }
+    }
+
+    /// The number of tasks, from 0 to 10^6. It takes no memory. Linear in the positions of a workflow.
+    pub fn task_count(&self) -> u32
+        ensures { result ≡ length (system_of self.now).tasks }
+    {
+        match &self.origin {
+            Origin::Tree(tree) => tree.nodes().len() as u32,
+            Origin::Workflow(terms) => count_tasks(terms),
+        }
     }
 
     /// A traversal of least peak, with claims that certify it; `check` accepts it. `NoMemory` says nothing of the problem. Near linear;
@@ -100,21 +122,47 @@ impl Problem {
         ensures priority { IfOk result (λ plan. plan.priority ≡ []) }
     {
         forest_law();
-        tree_term();
+        tree_system();
+        terms_law();
         match &self.origin {
             Origin::Tree(tree) => {
                 tree.keeps();
-                let named = terms_of_tree(alloc, tree)?;
-                plan_term(
-                    alloc,
-                    &self.system,
-                    &named.terms,
-                    Some(named.names.as_slice()),
-                )
+                let Named { terms, names } = terms_of_tree(alloc, tree)?;
+                terms.keeps();
+                plan_term(alloc, &terms, Some(names))
             }
             Origin::Workflow(terms) => {
                 terms.keeps();
-                plan_term(alloc, &self.system, terms, None)
+                plan_term(alloc, terms, None)
+            }
+        }
+    }
+
+    /// A plan as [`plan`](Problem::plan) makes it, where the problem is not needed any more: a tree is dropped once its term is made.
+    pub fn into_plan(self, alloc: Global) -> Result<PlanFile, NoMemory>
+        // the order is a traversal, the peak is its own, and no traversal has a lower one
+        ensures best { IfOk result (λ plan. IsBestTraversal (system_of self) plan.order plan.peak) }
+        // and the claims show it
+        ensures accepted { IfOk result (λ plan.
+            (positions : List Position) × IsTermOf self positions × IsAccepted (system_of self) positions plan) }
+        ensures within { IfOk result IsPlan }
+        ensures priority { IfOk result (λ plan. plan.priority ≡ []) }
+    {
+        forest_law();
+        tree_system();
+        terms_law();
+        let Problem { origin } = self;
+        match origin {
+            Origin::Tree(tree) => {
+                tree.keeps();
+                let Named { terms, names } = terms_of_tree(alloc, &tree)?;
+                drop(tree);
+                terms.keeps();
+                plan_term(alloc, &terms, Some(names))
+            }
+            Origin::Workflow(terms) => {
+                terms.keeps();
+                plan_term(alloc, &terms, None)
             }
         }
     }
@@ -140,15 +188,16 @@ impl Problem {
         accepted_law();
         forest_law();
         tree_term();
+        let system = self.system(alloc)?;
         match &self.origin {
             Origin::Tree(tree) => {
                 tree.keeps();
                 let named = terms_of_tree(alloc, tree)?;
-                check(rt, alloc, &self.system, &named.terms, plan, workers, gate)
+                check(rt, alloc, &system, &named.terms, plan, workers, gate)
             }
             Origin::Workflow(terms) => {
                 terms.keeps();
-                check(rt, alloc, &self.system, terms, plan, workers, gate)
+                check(rt, alloc, &system, terms, plan, workers, gate)
             }
         }
     }
@@ -164,15 +213,16 @@ impl Problem {
         accepted_law();
         forest_law();
         tree_term();
+        let system = self.system(alloc)?;
         match &self.origin {
             Origin::Tree(tree) => {
                 tree.keeps();
                 let named = terms_of_tree(alloc, tree)?;
-                check_alone(alloc, &self.system, &named.terms, plan)
+                check_alone(alloc, &system, &named.terms, plan)
             }
             Origin::Workflow(terms) => {
                 terms.keeps();
-                check_alone(alloc, &self.system, terms, plan)
+                check_alone(alloc, &system, terms, plan)
             }
         }
     }
@@ -183,7 +233,8 @@ impl Problem {
             IsTraversal (system_of self.now) order.now × (peak ≡ peak_of (system_of self.now) order.now)) }
         ensures fault { IfErr result (IsOrderRefusal (system_of self.now) order.now) }
     {
-        replay(alloc, &self.system, order)
+        let system = self.system(alloc)?;
+        replay(alloc, &system, order)
     }
 
     /// The core that runs the tasks on 1 to 4,096 workers within a bound on memory, activated in an order;
@@ -203,6 +254,7 @@ impl Problem {
         ensures within { IfOk result (λ core. IsSetting core.setting) }
         ensures refused { IfErr result (IsCoreRefusal (system_of self.now) order.now bound) }
     {
-        Core::new(alloc, &self.system, order, bound, workers)
+        let system = self.system(alloc)?;
+        Core::new(alloc, &system, order, bound, workers)
     }
 }

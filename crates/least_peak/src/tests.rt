@@ -37,7 +37,7 @@ fn check_plan<R: Abort + Threads + Sync>(
 fn plans(rt: HostRuntime) -> Result<(), Fail> {
     let alloc = rt.alloc();
     let tree = read_tree(alloc, FIVE)?;
-    check_plan(&rt, alloc, &Problem::of_tree(alloc, tree)?, 11)?;
+    check_plan(&rt, alloc, &Problem::of_tree(tree), 11)?;
     let terms = read_workflow(alloc, BRANCHES)?;
-    check_plan(&rt, alloc, &Problem::of_workflow(alloc, terms)?, 13)
+    check_plan(&rt, alloc, &Problem::of_workflow(terms), 13)
 }

@@ -145,13 +145,13 @@ pub fn judge_input<F: Files>(
     match input {
         Input::Tree(input) => {
             let tree = judge_tree(alloc, files, input)?;
-            Ok(Problem::of_tree(alloc, tree)?)
+            Ok(Problem::of_tree(tree))
         }
         Input::Workflow(name) => {
             terms_law();
             let terms = judge(alloc, files, name, &WorkflowFile)?;
             terms.keeps();
-            Ok(Problem::of_workflow(alloc, terms)?)
+            Ok(Problem::of_workflow(terms))
         }
     }
 }

@@ -30,7 +30,7 @@ fn check_plan(
     let tree = tree_of_nodes(alloc, nodes)?;
     let plan = plan_of_arrays(alloc, order, peak, claims)?;
     plan.keeps();
-    let problem = Problem::of_tree(alloc, tree)?;
+    let problem = Problem::of_tree(tree);
     match problem.check_alone(alloc, &plan)? {
         Verdict::Yes(_) => Ok(()),
         Verdict::No(objection) => Err(Refusal::Objection(objection)),
@@ -75,8 +75,8 @@ fn certified(
     traversal_law();
     check_room(nodes.len(), room)?;
     let tree = tree_of_nodes(alloc, nodes)?;
-    let problem = Problem::of_tree(alloc, tree)?;
-    let plan = problem.plan(alloc)?;
+    let problem = Problem::of_tree(tree);
+    let plan = problem.into_plan(alloc)?;
     let needed = plan.claims().len();
     if claim_room < needed {
         return Err(Refusal::ClaimRoom {

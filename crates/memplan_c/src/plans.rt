@@ -35,8 +35,8 @@ fn plan_of(alloc: Global, nodes: &[Node], room: usize) -> Result<PlanFile, Refus
     traversal_law();
     check_room(nodes.len(), room)?;
     let tree = tree_of_nodes(alloc, nodes)?;
-    let problem = Problem::of_tree(alloc, tree)?;
-    let plan = problem.plan(alloc)?;
+    let problem = Problem::of_tree(tree);
+    let plan = problem.into_plan(alloc)?;
     Ok(plan)
 }
 

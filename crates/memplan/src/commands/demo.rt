@@ -137,7 +137,7 @@ fn made_tree(alloc: Global, tree: Tree) -> Result<Made, AllocError>
     tree.keeps();
     let positions = terms_of_tree(alloc, &tree)?.terms.len();
     let postorder = Some(best_postorder(alloc, &tree)?.peak);
-    let problem = Problem::of_tree(alloc, tree)?;
+    let problem = Problem::of_tree(tree);
     Ok(Made {
         problem,
         positions,
@@ -145,18 +145,18 @@ fn made_tree(alloc: Global, tree: Tree) -> Result<Made, AllocError>
     })
 }
 
-fn made_workflow(alloc: Global, terms: Terms) -> Result<Made, AllocError>
-    ensures problem { IfOk result (λ made. made.problem ≡ origins.Workflow terms) }
-    ensures positions { IfOk result (λ made. HasPositions made.problem made.positions) }
-    ensures postorder { IfOk result (λ made. IsPostorderPeak made.problem made.postorder) }
+fn made_workflow(terms: Terms) -> Made
+    ensures problem { result.problem ≡ origins.Workflow terms }
+    ensures positions { HasPositions result.problem result.positions }
+    ensures postorder { IsPostorderPeak result.problem result.postorder }
 {
     let positions = terms.len();
-    let problem = Problem::of_workflow(alloc, terms)?;
-    Ok(Made {
+    let problem = Problem::of_workflow(terms);
+    Made {
         problem,
         positions,
         postorder: None,
-    })
+    }
 }
 
 // The tree of the fronts of a grid.
@@ -193,7 +193,7 @@ fn make(alloc: Global, demo: Demo) -> Result<Made, AllocError>
         }
         Demo::Workflow { seed, tasks } => {
             let terms = gen_workflow(alloc, seed, tasks)?;
-            made_workflow(alloc, terms)
+            Ok(made_workflow(terms))
         }
         Demo::Grid { rows, cols } => {
             let tree = grid_tree(alloc, rows, cols)?;
@@ -268,7 +268,7 @@ fn summary_page(
     printed_lines();
     let mut report = Report::new(alloc);
     print_word("demo", kind, &mut report)?;
-    let tasks = made.problem.system().tasks().len() as u64;
+    let tasks = u64::from(made.problem.task_count());
     print_count("tasks", tasks, &mut report)?;
     print_count("positions", u64::from(made.positions), &mut report)?;
     print_count("peak", peak, &mut report)?;

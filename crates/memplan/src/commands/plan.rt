@@ -63,6 +63,6 @@ pub fn report_plan<F: Files>(
     ensures later { (other : List ℕ) → F.faults_of files.old other ≤ F.faults_of files.new other }
 {
     let problem = judge_input(alloc, files, input)?;
-    let plan = problem.plan(alloc)?;
+    let plan = problem.into_plan(alloc)?;
     Ok(plan_page(alloc, format, &plan)?)
 }

@@ -166,7 +166,7 @@ pub fn report_simulate<F: Files>(
     ensures later { (other : List ℕ) → F.faults_of files.old other ≤ F.faults_of files.new other }
 {
     let ordered = judge_ordered(alloc, files, asked.input, asked.source)?;
-    let count = ordered.problem.system().tasks().len() as u32;
+    let count = ordered.problem.task_count();
     let priority = judge_priority(alloc, files, asked.priority, count)?;
     let priority = chosen(&ordered, &priority);
     Ok(simulation_page(alloc, &ordered, priority, asked.bound, asked.workers)?)

@@ -93,7 +93,8 @@ fn spill_page(
 ) -> Result<Page, AllocError>
     ensures { IfOk result (λ page. IsSpillAnswer (system_of problem.now) order.now bound (answer_of page)) }
 {
-    match spill_plan::spill(alloc, problem.system(), order, bound) {
+    let system = problem.system(alloc)?;
+    match spill_plan::spill(alloc, &system, order, bound) {
         Ok(spill) => amounts_page(alloc, &spill),
         Err(SpillRefusal::Order(fault)) => order_page(alloc, fault),
         Err(SpillRefusal::WorkingSet { step, need, bound }) => {

@@ -1,4 +1,4 @@
-use Rattle.std.proofs.Common.{◌≡◌, ◌≤◌, ◌^◌, ℕ, sym, ap, subst, option_map, length, Some}
+use Rattle.std.proofs.Common.{◌≡◌, ◌≤◌, ◌^◌, ℕ, sym, ap, subst, length, Some}
 use Rattle.std.specs.Prelude.{pos, ◌+ℤ◌, ◌≤ℤ◌}
 use Rattle.claim_rules.specs.Claims.{Claim}
 use Rattle.claim_check.specs.Accepted.{HasRoot}
@@ -18,7 +18,7 @@ new-requires-2 g c =
     let made = c.in_ok-plan.ensures in
     let small : c.in_ok-plan.plan.peak ≤ 2 ^ 60 = subst (λ n. n ≤ 2 ^ 60) (sym made.peak) made.part.within in
     let claims = c.in_ok-claims.ensures in
-    plan_within c.renaming_law.ensures.traversal c.renaming_law.ensures.peak c.traversal_law.ensures.long c.args.system.now c.args.terms.now (option_map (λ n. n.now) c.args.names) c.requires.term c.keeps.ensures
+    plan_within c.renaming_law.ensures.traversal c.renaming_law.ensures.peak c.traversal_law.ensures.long c.requires.term.0 c.args.terms.now c.args.names c.requires.term.1
     c.in_ok-plan.plan.order.items c.in_ok-plan.plan.peak made.traversal.0 made.traversal.1 c.in_ok-named.named.items c.in_ok-named.ensures
     c.in_ok-claims.claims.items c.new.result.items c.new.ensures.items small claims.few claims.within claims.rising
 
@@ -27,7 +27,7 @@ returns-clause-accepted g c =
     let made = c.in_ok-plan.ensures in
     let claims = c.in_ok-claims.ensures in
     let is = c.new-2.ensures in
-    plan_accepted c.renaming_law.ensures.traversal c.renaming_law.ensures.peak c.traversal_law.ensures.long c.args.system.now c.args.terms.now (option_map (λ n. n.now) c.args.names) c.requires.term c.keeps.ensures
+    λ system term. plan_accepted c.renaming_law.ensures.traversal c.renaming_law.ensures.peak c.traversal_law.ensures.long system c.args.terms.now c.args.names term
     c.in_ok-plan.plan.order.items c.in_ok-plan.plan.peak made.traversal.0 made.traversal.1 c.in_ok-named.named.items c.in_ok-named.ensures
     c.new-2.result (ap (λ (p : PlanText). p.order) is) (ap (λ (p : PlanText). p.peak) is)
     (subst (HasRoot c.args.terms.now) (sym is) (subst (λ n. (k : Claim) × (claim_at c.in_ok-claims.claims.items (length c.args.terms.now) ≡ Some k) × (pos n ≤ℤ (k.bound +ℤ pos 1))) (sym made.peak) claims.root))

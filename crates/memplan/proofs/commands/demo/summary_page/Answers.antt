@@ -1,6 +1,5 @@
 use Rattle.std.proofs.Common.{◌∙◌, ℕ, List, [], ◌∷◌, ◌++◌, ap, length, decimal, codes}
 use Rattle.least_peak.specs.Problem.{system_of}
-use Rattle.mp_system.specs.System.{TaskSystem}
 use Rattle.mp_text.specs.Report.{line_text}
 use Rattle.memplan.specs.Demo.{postorder_lines}
 use Rattle.memplan.specs.declared.status.Status.TheVariants as status
@@ -13,7 +12,7 @@ returns c =
     let kind = codes "demo" ∷ c.args.kind.now ∷ [] in
     let tasks = λ (n : ℕ). codes "tasks" ∷ decimal n ∷ [] in
     let positions = λ (n : ℕ). codes "positions" ∷ decimal n ∷ [] in
-    let many = ap length (c.tasks.ensures.value ∙ ap (λ (system : TaskSystem). system.tasks) c.system.ensures) in
+    let many = c.from-tasks.ensures ∙ c.task_count.ensures in
     ap (λ (text : List ℕ). record { status = status.Done; text = text })
     (summary-lines c.printed_lines.ensures.more kind (tasks (length (system_of made.problem).tasks))
     (positions made.positions) (codes "peak" ∷ decimal c.args.peak ∷ [])

@@ -1,7 +1,5 @@
-use Rattle.std.proofs.Common.{◌∙◌, List, [], ◌∷◌, ◌++◌, ap, subst, length}
+use Rattle.std.proofs.Common.{ℕ, List, [], ◌∷◌, ◌++◌, subst, length}
 use Rattle.least_peak.specs.Problem.{system_of}
-use Rattle.mp_system.specs.System.{TaskSystem}
-use Rattle.mp_system.specs.declared.system.Task.{Task}
 use Rattle.memplan.specs.Judged.{IsStop, IsPriorityOf, IsRefusedRanking}
 use Rattle.memplan.specs.Pages.{answer_of}
 use Rattle.memplan.specs.Request.{input_files, source_file, priority_file, priority_files}
@@ -42,7 +40,7 @@ returns-in_err-priority-clause-told g c =
     (input_files input ++ source_file source ∷ []) (λ texts are. (c.in_ok-ordered.ensures.judged texts are).accepted) more (few_priority (priority_file input) s.priority)
     (IsRefusedRanking (length (system_of ordered.problem).tasks))
     (λ one two answer are are_more refused. ranking_refused told input source s ordered s.priority one two answer (c.in_ok-ordered.ensures.judged one are) are_more refused) e
-    (subst (λ (ts : List Task). IsStop now then after more (IsRefusedRanking (length ts)) e) (c.tasks.ensures.value ∙ ap (λ (system : TaskSystem). system.tasks) c.system.ensures) (c.in_err-priority.ensures.judged (priority_file input)))))
+    (subst (λ (n : ℕ). IsStop now then after more (IsRefusedRanking n) e) c.task_count-count.ensures (c.in_err-priority.ensures.judged (priority_file input)))))
 
 pub returns-clause-told : goal.returns-clause-told
 returns-clause-told g c =
@@ -56,6 +54,6 @@ returns-clause-told g c =
     let more = priority_files (priority_file input) s.priority in
     let answer = answer_of c.in_ok-simulation_page.field-0 in
     simulated told input source s ordered c.in_ok-ordered.ensures.judged priority answer
-    (λ texts are. subst (λ (ts : List Task). IsPriorityOf s.priority (length ts) texts priority) (c.tasks.ensures.value ∙ ap (λ (system : TaskSystem). system.tasks) c.system.ensures)
+    (λ texts are. subst (λ (n : ℕ). IsPriorityOf s.priority n texts priority) c.task_count-count.ensures
     (c.in_ok-priority.ensures.judged (priority_file input) texts (told_same told now c.in_ok-ordered.ensures.same more texts are)))
     (rw (← c.chosen-priority.ensures.value) c.in_ok-simulation_page.ensures)
