@@ -1,5 +1,5 @@
 -- What a refused call answers: its status, as the program's, and its fault, by the kinds of the header.
-use Rattle.std.specs.Prelude.{◌≡◌, ◌≢◌, ℕ}
+use Rattle.std.specs.Prelude.{◌≡◌, ℕ}
 use Rattle.mp_system.specs.declared.order.OrderFault.{OrderFault}
 use Rattle.mp_system.specs.declared.order.ReplayRefusal.{ReplayRefusal}
 use Rattle.mp_system.specs.declared.order.ReplayRefusal.TheVariants as replays

@@ -10,6 +10,8 @@ ghost use Rattle.tree_input.specs.Tree.{IsTree, system_of_nodes};
 ghost use Rattle.memplan_c.specs.Refusals.{IsBeginRefusal, IsSystemBeginRefusal};
 ghost use Rattle.memplan_c.specs.Slots.{SlotValue, empty, setting_of, begun, IsBegun, activated, IsActivated, stepped, IsStarted, IsFinished, IsDone, used_in, booked_in};
 ghost use Rattle.memplan_c.specs.contracts.slot.Slot.{the_row};
+ghost use prog.Memory.{size, capped};
+ghost use denote.Param.{layout};
 
 use crate::faults::Fault;
 use crate::slot::{
@@ -28,7 +30,10 @@ pub struct Handle {
 
 /// How many bytes of memory a core takes; they are aligned as a 64-bit number is.
 #[unsafe(no_mangle)]
-pub extern "C" fn memplan_core_size() -> usize {
+pub extern "C" fn memplan_core_size() -> usize
+    // the bytes of one slot, for which `memplan_core_new` needs room
+    ensures { result ≡ capped (size (layout the_row)) }
+{
     std::mem::size_of::<Slot>()
 }
 

@@ -1,4 +1,4 @@
-use Rattle.memplan_c.proofs.Steps.{◌≡◌, ℕ, List, [], ◌∷◌, ◌++◌, refl, sym, ap, ◌∙◌, w32, w64, MutBor, proved, full_share, id⊢, ftrue, flft, fres, flent, named, Val, vint, fact, tables, ‵, raw, prop, ◌⊛◌, some, later, ◌$◌, ◌∵◌, !, qed, done, move, keep, drop, use1, use2, use3, split, join, fsplit, pick, await, rewrite, regoal, suffices, frame, group, enter, of_opd, addr, stop, no_more, and_then, returns, alloc_all, pass_all, free_all, look_at, get, through, sets, lands_as, lft_new, lft_end, u32, u64, yes, shows, Is, lends_ref, ref_back, mem, uint_Lawful, uint_Makes, uint_vals, uint_Tells, Ptr, RawPtr, block_ptr, lies_at, in_a_block, rawptr_vals, rawptr_Tells, MutRef, mut_vals, plain, nothing, owned, heard, peeks, calls_at, lasts, on_entry, triple_of, Stays, walk_of, says, stay_dropped, Goes-dropped, ends_at, framed, WpFn, Body}
+use Rattle.memplan_c.proofs.Steps.{◌≡◌, ℕ, [], ◌∷◌, ◌++◌, refl, w32, MutBor, proved, full_share, id⊢, ftrue, flft, fres, flent, named, fact, tables, ‵, raw, prop, ◌⊛◌, some, later, ◌$◌, ◌∵◌, !, qed, done, move, keep, drop, use1, use2, use3, split, join, fsplit, pick, await, rewrite, regoal, suffices, frame, group, enter, of_opd, addr, stop, no_more, and_then, returns, alloc_all, pass_all, free_all, look_at, get, through, sets, lands_as, lft_new, lft_end, u32, yes, shows, Is, lends_ref, ref_back, mem, uint_Lawful, uint_Makes, uint_vals, uint_Tells, Ptr, RawPtr, block_ptr, lies_at, in_a_block, rawptr_vals, rawptr_Tells, MutRef, mut_vals, plain, nothing, owned, heard, peeks, calls_at, lasts, on_entry, triple_of, Stays, walk_of, says, stay_dropped, Goes-dropped, ends_at, framed, WpFn, Body}
 use Rattle.memplan_c.specs.Slots.{SlotValue, IsDone}
 use Rattle.memplan_c.specs.contracts.slot.Slot.{the_row as R}
 use Rattle.memplan_c.specs.contracts.cores.memplan_core_is_done as f
