@@ -1,5 +1,8 @@
 """The Python package over the shared library, on trees and a diamond that are worked by hand."""
 
+import pathlib
+import re
+
 import memplan
 
 try:
@@ -81,6 +84,14 @@ def matrices():
     assert refused(memplan.fronts, ([0, 3, 3, 3, 3], [1, 2, 4])) == (3, 66, 3, 0)
 
 
+# The lines of Python of c/README.md.
+def page():
+    text = (pathlib.Path(__file__).parent.parent / "README.md").read_text(encoding="utf-8")
+    scope = {"matrix": scipy.sparse.csc_matrix([[1, 0, 0, 0], [5, 1, 0, 0], [5, 0, 1, 0], [5, 0, 0, 1]])}
+    exec(re.search(r"```python\n(.*?)```", text, re.DOTALL)[1], scope)
+    assert scope["peak"] == 5 and len(scope["order"]) == 3
+
+
 # What does not fit a number of C is refused here.
 def unfit():
     for call, arguments in (
@@ -98,6 +109,8 @@ def unfit():
 
 trees()
 matrices()
+if scipy:
+    page()
 unfit()
 certificates()
 cores()
