@@ -1,5 +1,5 @@
 -- The places of an order of all columns, and the columns at its places, undo each other.
-use Rattle.std.proofs.Common.{◌≡◌, ◌≢◌, ℕ, zero, suc, ◌+◌, ◌-◌, ◌<◌, ◌≤◌, All, List, [], ◌∷◌, length, map, get_or, true, false, refl, sym, ap, subst, ◌∙◌, arith}
+use Rattle.std.proofs.Common.{◌≡◌, ◌≢◌, ℕ, zero, suc, ◌+◌, ◌-◌, ◌<◌, ◌≤◌, All, List, ◌∷◌, length, get_or, true, false, refl, sym, ap, subst, ◌∙◌, arith}
 use Rattle.std.specs.List.{list_any}
 use Rattle.std.proofs.Math.Dec.{eqb}
 use Rattle.std.proofs.lemmas.Bool.{eqb-true, ne_eqb}
@@ -10,7 +10,7 @@ use Rattle.std.proofs.lemmas.Map.Keys.{IsDistinct-from_apart}
 use Rattle.std.proofs.lemmas.Map.Steps.{length-le_from_distinct_below}
 use Rattle.ordering.specs.Perm.{AreInverse}
 use Rattle.matrix_input.specs.Numbers.{IsNumber, from_one, number_at}
-use Rattle.matrix_input.specs.Order.{PlaceFits, order_given}
+use Rattle.matrix_input.specs.Order.{order_given}
 use Rattle.matrix_input.specs.PlaceTables.{ArePlaced}
 
 pub all_numbers : (base n : ℕ) (numbers places : List ℕ) → length numbers ≡ n → ArePlaced base n numbers places n → All (IsNumber base n) numbers

@@ -1,6 +1,6 @@
 -- An order in which the columns of a matrix are eliminated, as an array of their numbers, which count from a base.
 use Rattle.std.specs.Prelude.{◌≡◌, ◌≢◌, ℕ, ◌<◌, ◌≤◌, List, length, map}
-use Rattle.matrix_input.specs.Numbers.{Each, IsFirstWithout, IsNumber, from_one, number_at}
+use Rattle.matrix_input.specs.Numbers.{IsFirstWithout, IsNumber, from_one, number_at}
 use Rattle.matrix_input.specs.declared.perm.PermRefusal.{PermRefusal}
 use Rattle.matrix_input.specs.declared.perm.PermRefusal.TheVariants as refusals
 

@@ -1,5 +1,5 @@
 -- An analysis, merged and laid out, has the fronts of the definition.
-use Rattle.std.proofs.Common.{◌≡◌, ◌∙◌, ℕ, Option, Some, None, List, length, map, sym, ap, subst, refl}
+use Rattle.std.proofs.Common.{◌≡◌, ◌∙◌, ℕ, Option, Some, None, List, length, sym, ap, subst}
 use Rattle.std.proofs.lemmas.List.{length-map}
 use Rattle.std.proofs.lemmas.List.FromFn.{length-map-range_with_len}
 use Rattle.ordering.specs.Fill.{parent_of, parents_of, counts_of}
@@ -8,7 +8,7 @@ use Rattle.assembly_tree.specs.Assembly.{AssemblyTree, IsAssembly}
 use Rattle.assembly_tree.specs.Fronts.{fronts_of}
 use Rattle.assembly_tree.specs.Relaxation.{IsRelaxed, number_among}
 use Rattle.assembly_tree.specs.Supernodes.{AreSupernodes}
-use Rattle.symbolic.specs.FrontTree.{columns, relaxed, IsAnalysis, IsFrontTree}
+use Rattle.symbolic.specs.FrontTree.{columns, relaxed, IsAnalysis}
 use Rattle.symbolic.specs.declared.options.FrontOptions.{FrontOptions}
 use Rattle.tree_input.specs.declared.node.Node.{Node}
 use Rattle.memplan_c.specs.Fronts.{HaveFronts, fronts_of_columns}

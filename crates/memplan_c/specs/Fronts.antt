@@ -1,5 +1,5 @@
 -- The fronts of a matrix of compressed columns: what the call for matrices answers, and why it is refused.
-use Rattle.std.specs.Prelude.{◌≡◌, ◌==◌, ℕ, ◌<◌, Bool, not, if◌then◌else◌, Option, Some, None, List, [], ◌∷◌, length, map}
+use Rattle.std.specs.Prelude.{◌≡◌, ◌==◌, ℕ, ◌<◌, not, if◌then◌else◌, Option, Some, None, List, [], ◌∷◌, length, map}
 use Rattle.std.specs.List.{range_with_len}
 use Rattle.matrix_market.specs.Pattern.{IsPatternOf, is_joined}
 use Rattle.matrix_input.specs.Columns.{AreColumns, IsColumnsRefusal, columns_in, pairs_given}

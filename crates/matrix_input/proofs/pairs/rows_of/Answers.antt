@@ -1,4 +1,4 @@
-use Rattle.std.proofs.Common.{◌+◌, ◌-◌, ◌≤◌, arith, drop, get_or, length}
+use Rattle.std.proofs.Common.{◌-◌, arith, drop, get_or}
 use Rattle.std.proofs.lemmas.List.{length-take-le, length-drop}
 use Rattle.matrix_input.proofs.Starts.{part_rows, span}
 use Rattle.matrix_input.proofs.pairs.rows_of.Goals as goal
