@@ -1,5 +1,5 @@
 -- The fronts of a matrix of compressed columns: what the call for matrices answers, and why it is refused.
-use Rattle.std.specs.Prelude.{◌≡◌, ◌==◌, ℕ, ◌<◌, not, if◌then◌else◌, Option, Some, None, List, [], ◌∷◌, length, map}
+use Rattle.std.specs.Prelude.{◌≡◌, ◌==◌, ℕ, ◌<◌, ◌≤◌, not, if◌then◌else◌, Option, Some, None, List, [], ◌∷◌, length, map}
 use Rattle.std.specs.List.{range_with_len}
 use Rattle.matrix_market.specs.Pattern.{IsPatternOf, is_joined}
 use Rattle.matrix_input.specs.Columns.{AreColumns, IsColumnsRefusal, columns_in, pairs_given}
@@ -86,6 +86,8 @@ pub record IsNodeRoomRefused (m : GivenMatrix) (options : FrontOptions) (room ne
   pub are_fronts : AreFronts m options nodes fronts
   pub needed_is : needed ≡ length nodes
   pub less : room < needed
+  -- room for as many as there are columns does
+  pub few : needed ≤ columns_in m.starts
 
 -- numbers, counted from a base, that are no order of n columns; or none, and there is no order of minimum degree
 abbrev pub IsOrderRefusal : ℕ → List ℕ → ℕ → Refusal → Type 0

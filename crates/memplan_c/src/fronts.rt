@@ -11,7 +11,7 @@ ghost use Rattle.memplan_c.specs.Fronts.{AreFronts, HaveFronts, IsFrontsRefusal,
 use crate::faults::{Fault, refuse};
 use crate::plans::check_room;
 use crate::refusal::Refusal;
-use assembly_tree::laws::amalgamation_is_relaxed;
+use assembly_tree::laws::{amalgamation_is_assembly, amalgamation_is_relaxed};
 use assembly_tree::{Assembly, Shape, amalgamate, fronts};
 use matrix_input::{pattern_of_columns, perm_of_numbers};
 use matrix_market::Pattern;
@@ -109,8 +109,10 @@ fn fronts_of_matrix(
     requires { IsPerm (length pattern.now) order.now }
     ensures fronts { IfOk result (λ made. HaveFronts options pattern.now order.now made.tree made.of_columns.items) }
     ensures len { IfOk result (λ made. length made.of_columns.items ≡ length pattern.now) }
+    ensures few { IfOk result (λ made. length made.tree ≤ length pattern.now) }
 {
     amalgamation_is_relaxed();
+    amalgamation_is_assembly();
     one_analysis();
     pattern.keeps();
     let Analysis { numbered, assembly } = analyse(alloc, pattern, order)?;
@@ -135,6 +137,7 @@ fn fronts_of_arrays(
         AreFronts (matrix_given base starts.now rows.now numbers.now) (options_given given) made.tree made.of_columns.items) }
     ensures fits { IfOk result (λ made. length made.tree ≤ room) }
     ensures len { IfOk result (λ made. length made.of_columns.items ≡ columns) }
+    ensures few { IfOk result (λ made. length made.tree ≤ columns) }
     ensures refused { IfErr result (IsFrontsRefusal (matrix_given base starts.now rows.now numbers.now) given room columns) }
 {
     let options = options_of(given)?;
@@ -182,6 +185,8 @@ pub extern "C" fn memplan_fronts(
     ensures fronts { result ≡ 0 →
         AreFronts (matrix_given base starts.now rows.now order.now) (options_given options.now) (take count.new nodes.new) front_of.new }
     ensures counted { result ≡ 0 → count.new ≤ length nodes.new }
+    // there are at most as many as columns
+    ensures few { result ≡ 0 → count.new ≤ length front_of.new }
     ensures past { result ≡ 0 → drop count.new nodes.new ≡ drop count.new nodes.old }
     ensures refused { result ≢ 0 → IsRefused
         (IsFrontsRefusal (matrix_given base starts.now rows.now order.now) options.now (length nodes.old) (length front_of.old))
