@@ -2,14 +2,15 @@
 """Measures memplan beside other programs, and prints the tables of docs/BENCHMARKS.md.
 
 usage: bench/run.py [--quick] [--program FILE] [--out FOLDER] [--turns N] [--limit SECONDS]
-                    [--only TABLE] [--anew]
+                    [--only TABLE] [--growth TASKS,TASKS,..] [--anew]
 
 It wants an idle machine, g++ and make, and Debian's package libsuitesparse-dev (CXSparse, CHOLMOD,
 AMD); it builds the peers in bench/peers, makes the inputs, and runs memplan and the peers in turn.
 A whole run takes an hour or two and some 3 GB of disk. It can be stopped at any time: what is
 measured stands in FOLDER (bench/out), and the next run goes on from there; --anew forgets it.
 --quick tries every line on small inputs, in some seconds; its figures mean nothing. --only makes
-one table alone (reading, analysis, mindeg, post, plan, check, simulate, spill, fronts, growth).
+one table alone (reading, analysis, mindeg, post, plan, check, simulate, spill, fronts, growth);
+--growth names the numbers of tasks of the last one.
 
 Of each program the least of N turns (5) counts. Each run has SECONDS (100) of processor time.
 Where memplan has no such command yet, the table says so. The program stops where two sides differ
@@ -526,6 +527,7 @@ def parsed() -> argparse.Namespace:
     parser.add_argument("--turns", type=int, default=5, help=argparse.SUPPRESS)
     parser.add_argument("--limit", type=int, default=100, help=argparse.SUPPRESS)
     parser.add_argument("--only", help=argparse.SUPPRESS)
+    parser.add_argument("--growth", help=argparse.SUPPRESS)
     parser.add_argument("--anew", action="store_true", help=argparse.SUPPRESS)
     return parser.parse_args()
 
@@ -551,7 +553,10 @@ def main() -> None:
     words = parsed()
     folder = prepared(words)
     bench = Bench(folder, 1 if words.quick else words.turns, words.limit)
-    inputs = Inputs(folder, QUICK if words.quick else WHOLE)
+    sizes = QUICK if words.quick else WHOLE
+    if words.growth:
+        sizes = sizes._replace(growth=tuple(map(int, words.growth.split(","))))
+    inputs = Inputs(folder, sizes)
     tables = Tables(bench, inputs, str(words.program.resolve())).all()
     print(f"# Benchmarks\n\nMade by `bench/run.py`. {machine()}\n")
     print("Times are of the processor, user and system together, unless by the clock.")

@@ -63,6 +63,14 @@ typedef struct memplan_claim {
     uint64_t rest;     /* at most 2^60 */
 } memplan_claim;
 
+/* How the fronts of a matrix are made. */
+typedef struct memplan_front_options {
+    uint32_t shape;    /* a memplan_shape: which entries of a front and of a block are kept */
+    uint32_t in_place; /* any number but 0: a front is built over the greatest block of its children, which is its share */
+    uint32_t merge;    /* any number but 0: fronts are merged into their parents where that adds at most so many zeros */
+    uint64_t zeros;    /* how many explicit zeros a merge may add; not read where merge is 0 */
+} memplan_front_options;
+
 /* What is wrong. */
 typedef struct memplan_fault {
     uint32_t kind;  /* a memplan_kind */
@@ -78,12 +86,17 @@ typedef struct memplan_core memplan_core;
 enum memplan_status {
     MEMPLAN_DONE = 0,        /* the call did what it is for */
     MEMPLAN_NO = 1,          /* the order is no traversal, or the plan is not accepted */
-    MEMPLAN_USAGE = 2,       /* a length, or the number of workers, does not fit */
-    MEMPLAN_FORMAT = 3,      /* the nodes are no tree, or a claim is out of place */
+    MEMPLAN_USAGE = 2,       /* a length, an option, or the number of workers, does not fit */
+    MEMPLAN_FORMAT = 3,      /* the nodes are no tree, the columns no matrix, or a claim is out of place */
     MEMPLAN_LIMIT = 4,       /* a limit is passed */
     MEMPLAN_BOUND = 5,       /* the bound on memory is below the peak of the order */
     MEMPLAN_NO_MEMORY = 8,   /* memory ran out, which says nothing of what was given */
     MEMPLAN_WORKING_SET = 10 /* a step needs more for itself than the bound */
+};
+
+enum memplan_shape {
+    MEMPLAN_TRIANGLE = 0, /* the lower triangle: r (r + 1) / 2 entries of order r */
+    MEMPLAN_SQUARE = 1    /* all: r r entries */
 };
 
 /* ---- kinds of faults ---- */
@@ -126,7 +139,25 @@ enum memplan_kind {
     /* items of a system: the first that fails (at) */
     MEMPLAN_KIND_MANY_ITEMS = 50, /* more than 4,000,001 */
     MEMPLAN_KIND_ENDS = 51,       /* from or to is greater than the number of tasks */
-    MEMPLAN_KIND_ITEM_SIZE = 52   /* the size is greater than 2^40 */
+    MEMPLAN_KIND_ITEM_SIZE = 52,  /* the size is greater than 2^40 */
+
+    /* compressed columns: the first of these tests that fails, with the first place that fails it (at) */
+    MEMPLAN_KIND_BASE = 60,         /* the base is neither 0 nor 1 */
+    MEMPLAN_KIND_NO_COLUMN = 61,    /* there is none: fewer than two starts */
+    MEMPLAN_KIND_MANY_COLUMNS = 62, /* more than 1,000,000 */
+    MEMPLAN_KIND_MANY_ENTRIES = 63, /* more than 10,000,000 */
+    MEMPLAN_KIND_START = 64,        /* a start is below the one before, or the first is not the base */
+    MEMPLAN_KIND_ENTRIES = 65,      /* value: how many entries the starts tell; there are not as many rows */
+    MEMPLAN_KIND_ROW = 66,          /* the row of an entry is none */
+
+    /* orders of elimination: the first place that fails (at) */
+    MEMPLAN_KIND_PLACES = 67,          /* there are not as many places as columns */
+    MEMPLAN_KIND_NO_SUCH_COLUMN = 68,  /* no column has this number */
+    MEMPLAN_KIND_COLUMN_REPEATED = 69, /* the column stood before */
+    MEMPLAN_KIND_DEGREE = 70,          /* more than 50,000 columns are not ordered by minimum degree */
+
+    MEMPLAN_KIND_SHAPE = 71,    /* no shape has this number */
+    MEMPLAN_KIND_NODE_ROOM = 72 /* value: how many nodes there must be room for */
 };
 
 /* ---- trees ---- */
@@ -185,6 +216,36 @@ uint32_t memplan_replay_tree(const memplan_node *nodes, size_t count, const uint
  * else                 MEMPLAN_USAGE (room), MEMPLAN_FORMAT or MEMPLAN_LIMIT (nodes), MEMPLAN_NO_MEMORY. */
 uint32_t memplan_spill_tree(const memplan_node *nodes, size_t count, const uint32_t *order, size_t places, uint64_t bound,
                             uint64_t *amounts, size_t room, uint64_t *volume, memplan_fault *fault);
+
+/* ---- matrices ---- */
+
+/* The fronts of a sparse symmetric matrix, as a multifrontal solver makes them, as a tree of nodes: its columns are eliminated in an
+ * order, along a postorder of their elimination tree, and cut into fundamental supernodes; each is a front, whose block is its
+ * contribution block.
+ *
+ * base            0 or 1: what starts, rows and order count from
+ * starts          for each column where its entries start, and at the end where those of the last one end; so start_count is one more
+ *                 than the number of columns
+ * rows            the row of each entry, column by column; the lower triangle, the upper one, or both; the diagonal and what is given
+ *                 again change nothing
+ * order, places   the columns in the order in which they are eliminated; where places is 0, that of minimum degree, which takes no more
+ *                 than 50,000 columns
+ * options         how the fronts are made
+ * nodes, room     where the fronts go; there are at most as many as columns
+ * count           where their number goes
+ * front_of        where the front of each column goes, which counts from 1 as all numbers of nodes do; columns must be the number of
+ *                 columns
+ *
+ * MEMPLAN_DONE    the first *count nodes are the tree of the fronts, what lies past them is left as it was, and front_of has the front of
+ *                 each column. The columns sorted by their fronts are an order of elimination with these fronts.
+ * MEMPLAN_USAGE   a length, the base or the shape does not fit; or there is room for fewer nodes than there are fronts.
+ * MEMPLAN_FORMAT  the first place at which the columns are none of a matrix, or the order is none of its columns.
+ * else            MEMPLAN_LIMIT, MEMPLAN_NO_MEMORY.
+ *
+ * A node's time is the number of columns of its front. Near linear in the entries, but for an order of minimum degree. */
+uint32_t memplan_fronts(uint32_t base, const uint32_t *starts, size_t start_count, const uint32_t *rows, size_t entries,
+                        const uint32_t *order, size_t places, const memplan_front_options *options, memplan_node *nodes, size_t room,
+                        uint64_t *count, uint32_t *front_of, size_t columns, memplan_fault *fault);
 
 /* ---- systems ---- */
 

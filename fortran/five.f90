@@ -1,5 +1,6 @@
-! Two chains of two nodes below a root: an order of least peak, and the core run along it by one worker. Prints both peaks; ends with an
-! error where one is not as it was worked by hand.
+! Two chains of two nodes below a root: an order of least peak, and the core run along it by one worker; and the fronts of a matrix of four
+! columns, of which the first is joined to all others. Prints both peaks; ends with an error where something is not as it was worked by
+! hand.
 program five
    use, intrinsic :: iso_c_binding, only: c_int32_t, c_int64_t, c_loc, c_ptr, c_size_t
    use memplan
@@ -37,5 +38,22 @@ program five
    end do
    if (memplan_core_is_done(core, 5) /= 1 .or. top /= peak) error stop 'run'
    call memplan_core_end(core)
+   call arrow()
    print '(a, i0, a, i0)', 'least peak ', peak, ', best postorder ', best
+
+contains
+
+   subroutine arrow()
+      integer(c_int32_t), parameter :: starts(5) = [1, 4, 4, 4, 4], rows(3) = [2, 3, 4], ends_first(4) = [2, 3, 1, 4]
+      type(memplan_front_options) :: options
+      type(memplan_node) :: fronts(4)
+      integer(c_int32_t) :: front_of(4)
+      integer(c_int64_t) :: made
+      options%shape = memplan_square
+      status = memplan_fronts(1, starts, 5_c_size_t, rows, 3_c_size_t, ends_first, 4_c_size_t, options, fronts, 4_c_size_t, made, &
+         front_of, 4_c_size_t, fault)
+      if (status /= memplan_done .or. made /= 3) error stop 'fronts'
+      if (any(fronts(1:3)%parent /= [3, 3, 0]) .or. any(fronts(1:3)%extra /= [3, 3, 4])) error stop 'nodes'
+      if (any(front_of /= [3, 1, 2, 3])) error stop 'fronts of columns'
+   end subroutine arrow
 end program five

@@ -37,6 +37,14 @@ module memplan
       integer(c_int64_t) :: rest = 0
    end type memplan_claim
 
+   ! How the fronts of a matrix are made.
+   type, bind(c), public :: memplan_front_options
+      integer(c_int32_t) :: shape = 0
+      integer(c_int32_t) :: in_place = 0
+      integer(c_int32_t) :: merge = 0
+      integer(c_int64_t) :: zeros = 0
+   end type memplan_front_options
+
    ! What is wrong.
    type, bind(c), public :: memplan_fault
       integer(c_int32_t) :: kind = 0
@@ -48,8 +56,11 @@ module memplan
    integer(c_int32_t), parameter, public :: memplan_done = 0, memplan_no = 1, memplan_usage = 2, memplan_format = 3, &
       memplan_limit = 4, memplan_bound = 5, memplan_no_memory = 8, memplan_working_set = 10
 
+   ! Shapes.
+   integer(c_int32_t), parameter, public :: memplan_triangle = 0, memplan_square = 1
+
    public :: memplan_plan_tree, memplan_certify_tree, memplan_check_tree, memplan_best_postorder, memplan_replay_tree
-   public :: memplan_spill_tree, memplan_replay_system
+   public :: memplan_spill_tree, memplan_fronts, memplan_replay_system
    public :: memplan_core_size, memplan_core_new, memplan_core_begin, memplan_core_begin_system, memplan_core_activate
    public :: memplan_core_start, memplan_core_finish, memplan_core_is_startable, memplan_core_is_done, memplan_core_used
    public :: memplan_core_booked, memplan_core_end
@@ -118,6 +129,20 @@ module memplan
          type(memplan_fault), intent(inout) :: fault
          integer(c_int32_t) :: status
       end function memplan_spill_tree
+
+      function memplan_fronts(base, starts, start_count, rows, entries, order, places, options, nodes, room, count, front_of, &
+         columns, fault) result(status) bind(c)
+         import :: c_int32_t, c_int64_t, c_size_t, memplan_node, memplan_front_options, memplan_fault
+         integer(c_int32_t), value :: base
+         integer(c_int32_t), intent(in) :: starts(*), rows(*), order(*)
+         integer(c_size_t), value :: start_count, entries, places, room, columns
+         type(memplan_front_options), intent(in) :: options
+         type(memplan_node), intent(inout) :: nodes(*)
+         integer(c_int64_t), intent(inout) :: count
+         integer(c_int32_t), intent(inout) :: front_of(*)
+         type(memplan_fault), intent(inout) :: fault
+         integer(c_int32_t) :: status
+      end function memplan_fronts
 
       function memplan_replay_system(tasks, count, items, item_count, order, places, peak, fault) result(status) bind(c)
          import :: c_int32_t, c_int64_t, c_size_t, memplan_task, memplan_item, memplan_fault

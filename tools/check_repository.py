@@ -78,7 +78,7 @@ def files_of_repository() -> list[str]:
     """The repository's files, without what was built or measured."""
     found = []
     for above, folders, names in os.walk(ROOT):
-        folders[:] = [it for it in folders if it not in (".git", "out", "__pycache__")]
+        folders[:] = [it for it in folders if it not in (".git", "out", "build", "__pycache__")]
         found += [str((Path(above) / name).relative_to(ROOT)) for name in names]
     return sorted(found)
 
@@ -297,7 +297,7 @@ class Contracts:
                 owner = ""
             elif found := re.match(r"pub (?:struct|enum|type|const|trait) (\w+)", line):
                 self.items.add(found[1])
-            if found := re.match(r"(\s*)(pub )?(?:const )?fn (\w+)", line):
+            if found := re.match(r'(\s*)(pub )?(?:const )?(?:unsafe )?(?:extern "C" )?fn (\w+)', line):
                 scope = owner if found[1] else module
                 is_public = found[2] or found[1] and is_trait
                 function = f"{scope}::{found[3]}" if is_public else ""

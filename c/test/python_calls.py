@@ -1,6 +1,14 @@
 """The Python package over the shared library, on trees and a diamond that are worked by hand."""
 
+import pathlib
+import re
+
 import memplan
+
+try:
+    import scipy.sparse
+except ImportError:
+    scipy = None
 
 PARENT, OUT, EXTRA = [2, 5, 4, 5, 0], [1, 5, 1, 5, 0], [9, 0, 9, 0, 0]
 IN_TURN, ACROSS = [1, 2, 3, 4, 5], [1, 3, 2, 4, 5]
@@ -54,7 +62,56 @@ def systems():
     assert core.used == 6 and core.activate() == 1 and core.booked == 13
 
 
+# Column 0 is joined to all others: eliminated third, it leaves two fronts of one column, and one of two.
+def check_arrow(arrow):
+    for order in ([1, 2, 0, 3], None):
+        made = memplan.fronts(arrow, order)
+        assert list(made.parent) == [3, 3, 0] and list(made.out) == [1, 1, 0] and list(made.extra) == [2, 2, 3]
+        assert list(made.share) == [0, 0, 0] and list(made.columns) == [1, 1, 2] and list(made.front_of) == [3, 1, 2, 3]
+        assert memplan.plan(made.parent, made.out, made.extra, made.share)[1] == 5
+    made = memplan.fronts(arrow, [1, 2, 0, 3], shape="square", in_place=True)
+    assert list(made.extra) == [3, 3, 4] and list(made.share) == [0, 0, 1]
+    made = memplan.fronts(arrow, [1, 2, 0, 3], zeros=1)
+    assert list(made.parent) == [2, 0] and list(made.columns) == [1, 3] and list(made.front_of) == [2, 2, 1, 2]
+    assert refused(memplan.fronts, arrow, [1, 2, 0, 1]) == (3, 69, 4, 0)
+
+
+def matrices():
+    check_arrow(([0, 3, 3, 3, 3], [1, 2, 3]))
+    if scipy:
+        check_arrow(scipy.sparse.csc_matrix([[1, 0, 0, 0], [5, 1, 0, 0], [5, 0, 1, 0], [5, 0, 0, 1]]))
+        check_arrow(scipy.sparse.coo_matrix([[1, 5, 5, 5], [5, 1, 0, 0], [5, 0, 1, 0], [5, 0, 0, 1]]))
+    assert refused(memplan.fronts, ([0, 3, 3, 3, 3], [1, 2, 4])) == (3, 66, 3, 0)
+
+
+# The lines of Python of c/README.md.
+def page():
+    text = (pathlib.Path(__file__).parent.parent / "README.md").read_text(encoding="utf-8")
+    scope = {"matrix": scipy.sparse.csc_matrix([[1, 0, 0, 0], [5, 1, 0, 0], [5, 0, 1, 0], [5, 0, 0, 1]])}
+    exec(re.search(r"```python\n(.*?)```", text, re.DOTALL)[1], scope)
+    assert scope["peak"] == 5 and len(scope["order"]) == 3
+
+
+# What does not fit a number of C is refused here.
+def unfit():
+    for call, arguments in (
+        (memplan.plan, ([2 ** 32 + 2, 0], [1, 1], [1, 1])),
+        (memplan.plan, ([2, 0], [1, -1], [1, 1])),
+        (memplan.replay, (PARENT, OUT, EXTRA, [2 ** 32 + 1, 2, 3, 4, 5])),
+        (memplan.fronts, (([0, 1, 1], [-1]),)),
+    ):
+        try:
+            call(*arguments)
+        except OverflowError:
+            continue
+        assert False
+
+
 trees()
+matrices()
+if scipy:
+    page()
+unfit()
 certificates()
 cores()
 systems()

@@ -1,12 +1,16 @@
-/* With less and less address space each call answers that memory is wanting, and leaves its outputs as they were. */
+/* With little address space more than the program has, at 28 places, each call that takes memory answers that memory is wanting, and
+ * leaves its outputs as they were. */
 #include "check.h"
+#include <malloc.h>
 #include <sys/resource.h>
 #include <unistd.h>
 
-enum { COUNT = 300000 };
+enum { COUNT = 300000, CALLS = 8, PLACES = 28 };
 
 static memplan_node *nodes;
 static uint32_t *order;
+static uint32_t *starts, *rows, *front_of;
+static memplan_node *fronts;
 static uint64_t *amounts;
 static memplan_claim *claims;
 
@@ -33,6 +37,21 @@ static void leave_all(void)
 
 static uint64_t peak, second;
 static memplan_core *core;
+static const memplan_front_options triangles = {MEMPLAN_TRIANGLE, 0, 1, 0};
+
+/* A band: each column is joined to the next one. */
+static void make_band(void)
+{
+    starts = malloc((COUNT + 1) * sizeof *starts);
+    rows = malloc(COUNT * sizeof *rows);
+    front_of = calloc(COUNT, sizeof *front_of);
+    fronts = calloc(COUNT, sizeof *fronts);
+    CHECK(starts && rows && front_of && fronts);
+    for (uint32_t i = 0; i <= COUNT; i++)
+        starts[i] = i + 1;
+    for (uint32_t i = 0; i < COUNT; i++)
+        rows[i] = i + 1 < COUNT ? i + 2 : i + 1;
+}
 
 static uint32_t call(int which, memplan_fault *fault)
 {
@@ -43,48 +62,65 @@ static uint32_t call(int which, memplan_fault *fault)
     case 3: return memplan_certify_tree(nodes, COUNT, order, COUNT, &peak, claims, 3 * COUNT + 1, &second, fault);
     case 4: return memplan_check_tree(nodes, COUNT, order, COUNT, 2, claims, 0, fault);
     case 5: return memplan_spill_tree(nodes, COUNT, order, COUNT, 3, amounts, COUNT, &peak, fault);
+    case 6:
+        return memplan_fronts(1, starts, COUNT + 1, rows, COUNT, order, COUNT, &triangles, fronts, COUNT, &second, front_of, COUNT, fault);
     default: return memplan_core_begin(core, nodes, COUNT, order, COUNT, 3, 1, fault);
     }
 }
 
 int main(void)
 {
+    /* each large block is taken from the system, and given back, by itself */
+    CHECK(mallopt(M_MMAP_THRESHOLD, 1 << 16) == 1);
     nodes = chain(COUNT);
     order = malloc(COUNT * sizeof *order);
     amounts = calloc(COUNT, sizeof *amounts);
     claims = calloc(3 * COUNT + 1, sizeof *claims);
     core = malloc(memplan_core_size());
     CHECK(order && amounts && claims && core);
+    make_band();
     memplan_core_new(core);
-    int wanting = 0;
-    for (int which = 0; which < 7; which++)
-        for (long step = 0; step < 14; step++) {
+    int wanting = 0, of_call[CALLS] = {0};
+    for (int which = 0; which < CALLS; which++)
+        for (long step = 0; step < PLACES; step++) {
             for (uint32_t i = 0; i < COUNT; i++)
                 order[i] = i + 1;
             peak = 76;
             second = 75;
             amounts[0] = 74;
             claims[0].position = 73;
+            front_of[0] = front_of[COUNT - 1] = 72;
+            fronts[0].parent = fronts[COUNT - 1].parent = 71;
             memplan_fault fault = untouched;
-            leave(step * (4l << 20));
+            leave(step * (2l << 20));
             uint32_t status = call(which, &fault);
             leave_all();
             if (status != MEMPLAN_NO_MEMORY)
                 continue;
             wanting++;
+            of_call[which]++;
             CHECK(is_fault(fault, MEMPLAN_KIND_NO_MEMORY, 0, 0));
             CHECK(peak == 76 && second == 75 && amounts[0] == 74 && claims[0].position == 73);
+            CHECK(front_of[0] == 72 && front_of[COUNT - 1] == 72 && fronts[0].parent == 71 && fronts[COUNT - 1].parent == 71);
             for (uint32_t i = 0; i < COUNT; i++)
                 CHECK(order[i] == i + 1);
             CHECK(memplan_core_used(core) == 0 && memplan_core_is_done(core, 1) == 0);
         }
-    printf("memory was wanting in %d calls\n", wanting);
-    CHECK(wanting >= 12);
+    printf("memory was wanting in %d of %d calls:", wanting, CALLS * PLACES);
+    for (int which = 0; which < CALLS; which++)
+        printf(" %d", of_call[which]);
+    printf("\n");
+    for (int which = 0; which < CALLS; which++)
+        CHECK(of_call[which] >= 8);
     memplan_core_end(core);
     free(core);
     free(nodes);
     free(order);
     free(amounts);
     free(claims);
+    free(starts);
+    free(rows);
+    free(front_of);
+    free(fronts);
     return 0;
 }

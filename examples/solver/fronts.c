@@ -65,16 +65,16 @@ static double *cut(double *block, uint64_t before, uint64_t after)
 
 /* ---- where an entry of the lower triangle stands ---- */
 
-uint64_t kept_entries(enum shape shape, int order)
+uint64_t kept_entries(uint32_t shape, int order)
 {
     uint64_t m = (uint64_t)order;
-    return shape == SQUARE ? m * m : m * (m + 1) / 2;
+    return shape == MEMPLAN_SQUARE ? m * m : m * (m + 1) / 2;
 }
 
-static uint64_t at(enum shape shape, int order, int i, int j)
+static uint64_t at(uint32_t shape, int order, int i, int j)
 {
     uint64_t m = (uint64_t)order, c = (uint64_t)j, r = (uint64_t)i;
-    return shape == SQUARE ? c * m + r : c * m - c * (c - 1) / 2 + (r - c);
+    return shape == MEMPLAN_SQUARE ? c * m + r : c * m - c * (c - 1) / 2 + (r - c);
 }
 
 static int columns_of(const struct analysis *analysis, int front)
@@ -99,15 +99,15 @@ static double *over_child(struct factorization *work, int child, int order, cons
     const struct analysis *analysis = work->analysis;
     int size = analysis->rest[child];
     const int *rows = analysis->rows[child];
-    double *front = grown(work->block[child], kept_entries(work->shape, size), kept_entries(work->shape, order));
+    double *front = grown(work->block[child], kept_entries(work->analysis->shape, size), kept_entries(work->analysis->shape, order));
     work->block[child] = NULL;
     for (int j = size - 1; j >= 0; j--)
-        for (int i = size - 1; i >= (work->shape == TRIANGLE ? j : 0); i--) {
-            uint64_t from = at(work->shape, size, i, j);
+        for (int i = size - 1; i >= (work->analysis->shape == MEMPLAN_TRIANGLE ? j : 0); i--) {
+            uint64_t from = at(work->analysis->shape, size, i, j);
             double value = front[from];
             front[from] = 0;
             if (i >= j)
-                front[at(work->shape, order, local[rows[i]], local[rows[j]])] = value;
+                front[at(work->analysis->shape, order, local[rows[i]], local[rows[j]])] = value;
         }
     return front;
 }
@@ -118,10 +118,10 @@ static void add_columns(const struct factorization *work, int front, int order, 
     const struct analysis *analysis = work->analysis;
     for (int c = analysis->first[front]; c < analysis->first[front + 1]; c++) {
         int v = analysis->vertex[c], j = local[c];
-        entries[at(work->shape, order, j, j)] += matrix->diagonal[v];
+        entries[at(work->analysis->shape, order, j, j)] += matrix->diagonal[v];
         for (int64_t k = matrix->start[v]; k < matrix->start[v + 1]; k++)
             if (analysis->column[matrix->row[k]] > c)
-                entries[at(work->shape, order, local[analysis->column[matrix->row[k]]], j)] += matrix->value[k];
+                entries[at(work->analysis->shape, order, local[analysis->column[matrix->row[k]]], j)] += matrix->value[k];
     }
 }
 
@@ -132,8 +132,8 @@ static void add_child(struct factorization *work, int child, int order, const in
     const double *block = work->block[child];
     for (int j = 0; j < size; j++)
         for (int i = j; i < size; i++)
-            entries[at(work->shape, order, local[rows[i]], local[rows[j]])] += block[at(work->shape, size, i, j)];
-    work->block[child] = cut(work->block[child], kept_entries(work->shape, size), 0);
+            entries[at(work->analysis->shape, order, local[rows[i]], local[rows[j]])] += block[at(work->analysis->shape, size, i, j)];
+    work->block[child] = cut(work->block[child], kept_entries(work->analysis->shape, size), 0);
 }
 
 static double *assembled(struct factorization *work, int front, int order, int *local)
@@ -145,7 +145,7 @@ static double *assembled(struct factorization *work, int front, int order, int *
     for (int r = 0; r < analysis->rest[front]; r++)
         local[analysis->rows[front][r]] = columns + r;
     int under = work->in_place ? greatest_child(analysis, front) : -1;
-    double *entries = under >= 0 ? over_child(work, under, order, local) : new_block(kept_entries(work->shape, order));
+    double *entries = under >= 0 ? over_child(work, under, order, local) : new_block(kept_entries(work->analysis->shape, order));
     add_columns(work, front, order, local, entries);
     for (int g = analysis->child[front]; g >= 0; g = analysis->sibling[g])
         if (g != under)
@@ -188,9 +188,9 @@ static void eliminate_triangle(double *entries, int columns, int rest)
 }
 
 /* The columns of the factor, packed, apart from the counted memory. */
-static double *kept_columns(enum shape shape, const double *entries, int columns, int order)
+static double *kept_columns(uint32_t shape, const double *entries, int columns, int order)
 {
-    uint64_t length = kept_entries(TRIANGLE, order) - kept_entries(TRIANGLE, order - columns), to = 0;
+    uint64_t length = kept_entries(MEMPLAN_TRIANGLE, order) - kept_entries(MEMPLAN_TRIANGLE, order - columns), to = 0;
     double *factor = table(length, sizeof *factor);
     for (int j = 0; j < columns; j++) {
         memcpy(factor + to, entries + at(shape, order, j, j), 8 * (size_t)(order - j));
@@ -200,11 +200,11 @@ static double *kept_columns(enum shape shape, const double *entries, int columns
 }
 
 /* What is left of a front moves to its begin. */
-static double *left_block(enum shape shape, double *entries, int columns, int rest)
+static double *left_block(uint32_t shape, double *entries, int columns, int rest)
 {
     int order = columns + rest;
     uint64_t before = kept_entries(shape, order), after = kept_entries(shape, rest);
-    if (shape == TRIANGLE)
+    if (shape == MEMPLAN_TRIANGLE)
         memmove(entries, entries + (before - after), 8 * after);
     else
         for (int j = 0; j < rest; j++)
@@ -217,12 +217,12 @@ void run_front(struct factorization *work, int front, int *local)
 {
     int columns = columns_of(work->analysis, front), rest = work->analysis->rest[front];
     double *entries = assembled(work, front, columns + rest, local);
-    if (work->shape == SQUARE)
+    if (work->analysis->shape == MEMPLAN_SQUARE)
         eliminate_square(entries, columns, rest);
     else
         eliminate_triangle(entries, columns, rest);
-    work->factor[front] = kept_columns(work->shape, entries, columns, columns + rest);
-    work->block[front] = left_block(work->shape, entries, columns, rest);
+    work->factor[front] = kept_columns(work->analysis->shape, entries, columns, columns + rest);
+    work->block[front] = left_block(work->analysis->shape, entries, columns, rest);
 }
 
 void begin_factorization(struct factorization *work)
@@ -265,7 +265,7 @@ static void substitute(const struct factorization *work, double *y)
     }
     for (int f = analysis->fronts - 1; f >= 0; f--) {
         int columns = columns_of(analysis, f), order = columns + analysis->rest[f];
-        const double *column = work->factor[f] + (kept_entries(TRIANGLE, order) - kept_entries(TRIANGLE, order - columns));
+        const double *column = work->factor[f] + (kept_entries(MEMPLAN_TRIANGLE, order) - kept_entries(MEMPLAN_TRIANGLE, order - columns));
         for (int j = columns - 1; j >= 0; j--) {
             column -= order - j;
             double z = y[analysis->first[f] + j];

@@ -1,4 +1,4 @@
-/* Matrices: from a Matrix Market file, and the five-point stencil on a square with its nested dissection. */
+/* Matrices: from a Matrix Market file, and grids. */
 #include "solver.h"
 #include <stdio.h>
 #include <stdlib.h>
@@ -102,49 +102,56 @@ void read_matrix(struct matrix *matrix, const char *name)
         set_laplacian(matrix);
 }
 
-/* A rectangle of the square is cut along its longer side; the cut is eliminated last. */
-static void dissect(int side, int left, int top, int width, int height, int *vertex, int *next)
+/* ---- grids ---- */
+
+/* From a vertex to one that it is joined to. */
+struct step {
+    int x, y, z;
+};
+
+static const struct step FIVE_POINT[] = {{1, 0, 0}, {0, 1, 0}};
+static const struct step NINE_POINT[] = {{1, 0, 0}, {0, 1, 0}, {1, 1, 0}, {-1, 1, 0}};
+static const struct step SEVEN_POINT[] = {{1, 0, 0}, {0, 1, 0}, {0, 0, 1}};
+
+static int is_inside(int side, int depth, int x, int y, int z)
 {
-    if (width <= 2 && height <= 2) {
-        for (int y = top; y < top + height; y++)
-            for (int x = left; x < left + width; x++)
-                vertex[(*next)++] = y * side + x;
-        return;
-    }
-    if (width >= height) {
-        int cut = left + width / 2;
-        dissect(side, left, top, cut - left, height, vertex, next);
-        dissect(side, cut + 1, top, left + width - cut - 1, height, vertex, next);
-        for (int y = top; y < top + height; y++)
-            vertex[(*next)++] = y * side + cut;
-    } else {
-        int cut = top + height / 2;
-        dissect(side, left, top, width, cut - top, vertex, next);
-        dissect(side, left, cut + 1, width, top + height - cut - 1, vertex, next);
-        for (int x = left; x < left + width; x++)
-            vertex[(*next)++] = cut * side + x;
-    }
+    return x >= 0 && x < side && y >= 0 && y < side && z >= 0 && z < depth;
 }
 
-void make_grid(struct matrix *matrix, int side, int *vertex)
+/* Vertices in rows of a square, and in layers of so many; each is joined by these steps. */
+static void make_grid(struct matrix *matrix, int side, int depth, const struct step *steps, int step_count)
 {
-    matrix->order = side * side;
-    struct entry *entries = table(4 * (uint64_t)matrix->order, sizeof *entries);
+    int order = matrix->order = side * side * depth;
+    struct entry *entries = table(2 * (uint64_t)step_count * (uint64_t)order, sizeof *entries);
     int64_t count = 0;
-    for (int v = 0; v < matrix->order; v++) {
-        int near[2] = {v % side + 1 < side ? v + 1 : -1, v + side < matrix->order ? v + side : -1};
-        for (int k = 0; k < 2; k++)
-            if (near[k] >= 0) {
-                entries[count++] = (struct entry){v, near[k], -1};
-                entries[count++] = (struct entry){near[k], v, -1};
-            }
-    }
-    matrix->diagonal = table((uint64_t)matrix->order, sizeof *matrix->diagonal);
+    for (int v = 0; v < order; v++)
+        for (const struct step *step = steps; step < steps + step_count; step++) {
+            int x = v % side + step->x, y = v / side % side + step->y, z = v / side / side + step->z;
+            if (!is_inside(side, depth, x, y, z))
+                continue;
+            int w = (z * side + y) * side + x;
+            entries[count++] = (struct entry){v, w, -1};
+            entries[count++] = (struct entry){w, v, -1};
+        }
+    matrix->diagonal = table((uint64_t)order, sizeof *matrix->diagonal);
     set_columns(matrix, entries, count);
     free(entries);
     set_laplacian(matrix);
-    int next = 0;
-    dissect(side, 0, 0, side, side, vertex, &next);
+}
+
+void make_square(struct matrix *matrix, int side)
+{
+    make_grid(matrix, side, 1, FIVE_POINT, 2);
+}
+
+void make_nine_point_square(struct matrix *matrix, int side)
+{
+    make_grid(matrix, side, 1, NINE_POINT, 4);
+}
+
+void make_cube(struct matrix *matrix, int side)
+{
+    make_grid(matrix, side, side, SEVEN_POINT, 3);
 }
 
 void free_matrix(struct matrix *matrix)

@@ -1,10 +1,14 @@
 /* Factorizes a matrix in the orders that memplan gives, and compares the memory that was predicted with the memory that was taken.
  *
- *     solver --grid SIDE                     the five-point stencil on a square, by nested dissection
- *     solver MATRIX.mtx [PERMUTATION]        a Matrix Market file, by an order of elimination: vertices from 1, one on a line
+ *     solver [--orders | --workers] INPUT ORDER [ZEROS]
  *
- * On one thread each order has to take just its peak times 8 bytes; on several threads, within a bound that the activation core keeps,
- * at most the bound. The program ends with 1 where one of this fails, or a residual is greater than 1e-9. */
+ * INPUT is a Matrix Market file, or a grid: square:SIDE (five-point stencil), nine:SIDE (nine-point), cube:SIDE (seven-point, in space).
+ * ORDER is natural, degree (minimum degree), or a file with the vertices from 1 in the order in which they are eliminated. With ZEROS fronts
+ * are merged where that adds at most so many zeros.
+ *
+ * On one thread each order of the fronts has to take just its peak times 8 bytes; on several threads, within a bound that the activation
+ * core keeps, at most the bound. The program ends with 1 where one of this fails, or a residual is greater than 1e-9. --orders and
+ * --workers print the rows of the tables in README.md. */
 #include "solver.h"
 #include <inttypes.h>
 #include <pthread.h>
@@ -12,14 +16,33 @@
 #include <stdlib.h>
 #include <string.h>
 
+void check(uint32_t status, const memplan_fault *fault)
+{
+    if (status == MEMPLAN_DONE)
+        return;
+    fprintf(stderr, "solver: memplan answered %u: kind %u at %" PRIu64 " (%" PRIu64 ")\n", status, fault->kind, fault->at, fault->value);
+    exit(2);
+}
+
+/* ---- what is told ---- */
+
+static enum { TALK, ORDER_ROWS, WORKER_ROWS } telling;
 static int failures;
+static double worst;
 
 static void tell(const char *what, const struct factorization *work, uint64_t predicted, int holds)
 {
     double off = residual(work);
+    if (!(off <= worst))
+        worst = off;
     if (!holds || !(off < 1e-9))
         failures++;
-    printf("  %-20s %14" PRIu64 " %14" PRIu64 "  %-6s  %.1e\n", what, 8 * predicted, most_bytes(), holds ? "holds" : "FAILS", off);
+    if (telling == TALK)
+        printf("  %-32s %14" PRIu64 " %14" PRIu64 "  %-6s  %.1e\n", what, 8 * predicted, most_bytes(), holds ? "holds" : "FAILS", off);
+    else if (telling == ORDER_ROWS)
+        printf(" %" PRIu64 " | %" PRIu64 " |", 8 * predicted, most_bytes());
+    else
+        printf(" %" PRIu64 " |", most_bytes());
 }
 
 /* ---- on one thread ---- */
@@ -33,14 +56,6 @@ static void run_order(struct factorization *work, const char *what, const uint32
     free(local);
     tell(what, work, peak, most_bytes() == 8 * peak);
     end_factorization(work);
-}
-
-static void check(uint32_t status, const memplan_fault *fault)
-{
-    if (status == MEMPLAN_DONE)
-        return;
-    fprintf(stderr, "solver: memplan answered %u: kind %u at %" PRIu64 "\n", status, fault->kind, fault->at);
-    exit(2);
 }
 
 /* ---- on several threads ----
@@ -124,7 +139,7 @@ static void drive(struct team *team, memplan_core *core, size_t count)
     free(waiting);
 }
 
-static void run_team(struct factorization *work, const memplan_node *nodes, const uint32_t *order, uint64_t bound, uint32_t workers)
+static void run_team(struct factorization *work, const uint32_t *order, uint64_t bound, uint32_t workers)
 {
     size_t count = (size_t)work->analysis->fronts;
     struct team team = {work, PTHREAD_MUTEX_INITIALIZER, PTHREAD_COND_INITIALIZER, PTHREAD_COND_INITIALIZER, NULL, NULL, 0, 0, 0, 0};
@@ -133,7 +148,7 @@ static void run_team(struct factorization *work, const memplan_node *nodes, cons
     memplan_core *core = table(1, memplan_core_size());
     memplan_fault fault;
     memplan_core_new(core);
-    check(memplan_core_begin(core, nodes, count, order, count, bound, workers, &fault), &fault);
+    check(memplan_core_begin(core, work->analysis->nodes, count, order, count, bound, workers, &fault), &fault);
     begin_factorization(work);
     pthread_t threads[64];
     for (uint32_t w = 0; w < workers; w++)
@@ -146,8 +161,8 @@ static void run_team(struct factorization *work, const memplan_node *nodes, cons
         pthread_join(threads[w], NULL);
     memplan_core_end(core);
     free(core);
-    char what[32];
-    snprintf(what, sizeof what, "%u workers", workers);
+    char what[40];
+    snprintf(what, sizeof what, "%u workers within", workers);
     tell(what, work, bound, most_bytes() <= 8 * bound);
     end_factorization(work);
     free(team.todo);
@@ -156,74 +171,135 @@ static void run_team(struct factorization *work, const memplan_node *nodes, cons
 
 /* ---- all of it ---- */
 
-static void run_shape(const struct matrix *matrix, const struct analysis *analysis, enum shape shape, int in_place)
+static const char *name_of_shape(uint32_t shape)
 {
-    size_t count = (size_t)analysis->fronts;
-    struct factorization work = {.matrix = matrix, .analysis = analysis, .shape = shape, .in_place = in_place};
-    memplan_node *nodes = table(count, sizeof *nodes);
-    uint32_t *order = table(count, sizeof *order);
+    return shape == MEMPLAN_SQUARE ? "square" : "triangle";
+}
+
+/* The front orders: that of their numbers, which is a postorder, the best postorder, and one of least peak, which stays in the array. */
+static uint64_t run_orders(struct factorization *work, uint32_t *order)
+{
+    const memplan_node *nodes = work->analysis->nodes;
+    size_t count = (size_t)work->analysis->fronts;
     uint64_t peak;
     memplan_fault fault;
-    fronts_as_nodes(analysis, shape, in_place, nodes);
-    printf("%s, %s\n  %-20s %14s %14s\n", shape == SQUARE ? "squares" : "triangles", in_place ? "in place" : "out of place", "",
-           "predicted", "measured");
     for (size_t k = 0; k < count; k++)
         order[k] = (uint32_t)k + 1;
     check(memplan_replay_tree(nodes, count, order, count, &peak, &fault), &fault);
-    run_order(&work, "postorder", order, peak);
+    if (telling != WORKER_ROWS)
+        run_order(work, "natural postorder", order, peak);
     check(memplan_best_postorder(nodes, count, order, count, &peak, &fault), &fault);
-    run_order(&work, "best postorder", order, peak);
+    if (telling != WORKER_ROWS)
+        run_order(work, "best postorder", order, peak);
     check(memplan_plan_tree(nodes, count, order, count, &peak, &fault), &fault);
-    run_order(&work, "least peak", order, peak);
-    for (uint32_t workers = 1; workers <= 4; workers *= 2)
-        for (uint64_t half = 2; half <= 4; half++)
-            run_team(&work, nodes, order, peak * half / 2, workers);
-    free(nodes);
-    free(order);
+    if (telling != WORKER_ROWS)
+        run_order(work, "least peak", order, peak);
+    return peak;
 }
 
-static void read_permutation(const char *name, int *vertex, int order)
+static void run_options(const struct matrix *matrix, const uint32_t *order, size_t places, memplan_front_options options, const char *what)
 {
-    FILE *file = fopen(name, "r");
-    char *seen = table((uint64_t)order, 1);
-    for (int k = 0, v; k < order; k++) {
-        if (!file || fscanf(file, "%d", &v) != 1 || v < 1 || v > order || seen[v - 1])
-            fail("no permutation");
-        seen[v - 1] = 1;
-        vertex[k] = v - 1;
+    struct analysis analysis;
+    analyse(&analysis, matrix, order, places, &options);
+    struct factorization work = {.matrix = matrix, .analysis = &analysis, .in_place = options.in_place != 0};
+    uint32_t *front_order = table((uint64_t)analysis.fronts, sizeof *front_order);
+    const char *place = options.in_place ? "in place" : "out of place";
+    worst = 0;
+    if (telling == TALK)
+        printf("%s, %s: %d fronts\n  %-32s %14s %14s\n", name_of_shape(options.shape), place, analysis.fronts, "bytes", "predicted",
+               "measured");
+    else
+        printf("| %s | %s | %s | %d |", what, name_of_shape(options.shape), place, analysis.fronts);
+    uint64_t peak = run_orders(&work, front_order);
+    if (telling == WORKER_ROWS)
+        printf(" %" PRIu64 " |", 8 * peak);
+    if (telling != ORDER_ROWS)
+        for (uint64_t half = 2; half <= 4; half++)
+            for (uint32_t workers = 1; workers <= 4; workers *= 2)
+                run_team(&work, front_order, peak * half / 2, workers);
+    if (telling != TALK)
+        printf(" %.0e |\n", worst);
+    free(front_order);
+    free_analysis(&analysis);
+}
+
+static int is_grid(const char *input, const char *kind, int most, int *side)
+{
+    size_t length = strlen(kind);
+    if (strncmp(input, kind, length) != 0 || input[length] != ':')
+        return 0;
+    *side = atoi(input + length + 1);
+    if (*side < 1 || *side > most)
+        fail("a side that is too small or too great");
+    return 1;
+}
+
+static void make_matrix(struct matrix *matrix, const char *input)
+{
+    int side;
+    if (is_grid(input, "square", 1000, &side))
+        make_square(matrix, side);
+    else if (is_grid(input, "nine", 1000, &side))
+        make_nine_point_square(matrix, side);
+    else if (is_grid(input, "cube", 100, &side))
+        make_cube(matrix, side);
+    else
+        read_matrix(matrix, input);
+}
+
+/* How many vertices the order has: all, or none where it is to be that of minimum degree. */
+static size_t make_order(uint32_t *order, size_t count, const char *name)
+{
+    if (strcmp(name, "degree") == 0)
+        return 0;
+    FILE *file = strcmp(name, "natural") == 0 ? NULL : fopen(name, "r");
+    for (size_t k = 0; k < count; k++) {
+        order[k] = (uint32_t)k;
+        if (strcmp(name, "natural") == 0)
+            continue;
+        if (!file || fscanf(file, "%" SCNu32, &order[k]) != 1)
+            fail("an order without all vertices");
+        order[k]--;
     }
-    free(seen);
-    fclose(file);
+    if (file)
+        fclose(file);
+    return count;
+}
+
+/* The name of an input without its folder and its ending. */
+static void name_input(char *name, size_t room, const char *input, const char *order)
+{
+    const char *slash = strrchr(input, '/'), *from = slash ? slash + 1 : input, *dot = strstr(from, ".mtx");
+    snprintf(name, room, "%.*s | %s", (int)(dot ? dot - from : (long)strlen(from)), from, order);
 }
 
 int main(int argc, char **argv)
 {
+    if (argc > 1 && strcmp(argv[1], "--orders") == 0)
+        telling = ORDER_ROWS;
+    if (argc > 1 && strcmp(argv[1], "--workers") == 0)
+        telling = WORKER_ROWS;
+    char **words = argv + (telling == TALK ? 1 : 2);
+    int count = argc - (int)(words - argv);
+    if (count != 2 && count != 3)
+        fail("usage: solver [--orders | --workers] MATRIX.mtx|square:SIDE|nine:SIDE|cube:SIDE natural|degree|FILE [ZEROS]");
     struct matrix matrix;
-    struct analysis analysis;
-    int *vertex;
-    if (argc == 3 && strcmp(argv[1], "--grid") == 0) {
-        int side = atoi(argv[2]);
-        if (side < 1 || side > 1000)
-            fail("the side is from 1 to 1000");
-        vertex = table((uint64_t)side * (uint64_t)side, sizeof *vertex);
-        make_grid(&matrix, side, vertex);
-    } else if (argc == 2 || argc == 3) {
-        read_matrix(&matrix, argv[1]);
-        vertex = table((uint64_t)matrix.order, sizeof *vertex);
-        for (int v = 0; v < matrix.order; v++)
-            vertex[v] = v;
-        if (argc == 3)
-            read_permutation(argv[2], vertex, matrix.order);
-    } else
-        fail("usage: solver --grid SIDE, or solver MATRIX.mtx [PERMUTATION]");
-    analyse(&analysis, &matrix, vertex);
-    printf("order %d, entries off the diagonal %" PRId64 ", fronts %d\n", matrix.order, matrix.start[matrix.order] / 2, analysis.fronts);
-    for (int shape = SQUARE; shape <= TRIANGLE; shape++)
-        for (int in_place = 0; in_place < 2; in_place++)
-            run_shape(&matrix, &analysis, (enum shape)shape, in_place);
-    free(vertex);
-    free_analysis(&analysis);
+    make_matrix(&matrix, words[0]);
+    uint32_t *order = table((uint64_t)matrix.order, sizeof *order);
+    size_t places = make_order(order, (size_t)matrix.order, words[1]);
+    memplan_front_options options = {.merge = count == 3, .zeros = count == 3 ? strtoull(words[2], NULL, 10) : 0};
+    char what[256];
+    name_input(what, sizeof what, words[0], words[1]);
+    if (telling == TALK)
+        printf("order %d, %" PRId64 " entries off the diagonal\n", matrix.order, matrix.start[matrix.order] / 2);
+    for (options.shape = MEMPLAN_TRIANGLE; options.shape <= MEMPLAN_SQUARE; options.shape++)
+        for (options.in_place = 0; options.in_place < 2; options.in_place++)
+            run_options(&matrix, order, places, options, what);
+    free(order);
     free_matrix(&matrix);
-    printf("%s\n", failures ? "FAILED" : "all as predicted");
+    if (telling == TALK)
+        printf("%s\n", failures ? "FAILED" : "all as predicted");
+    else if (failures)
+        fail("something is not as predicted");
     return failures ? 1 : 0;
 }

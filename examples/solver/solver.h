@@ -15,28 +15,25 @@ struct matrix {
     double *diagonal;
 };
 
-/* An order of elimination that is a postorder of its elimination tree, cut into fronts: front f has the columns first[f] to first[f + 1] - 1
- * and, beside their rows, rest[f] further rows, rows[f] in rising order. up[f] is the front that takes its block, or -1. */
+/* The fronts of a matrix, by their numbers less 1: front f has the columns first[f] to first[f + 1] - 1 and, beside their rows, rest[f]
+ * further rows, rows[f] in rising order; its parent takes its block. Columns are the vertices in the order in which they are eliminated. */
 struct analysis {
     int order;
     int *vertex; /* by column */
     int *column; /* by vertex */
+    uint32_t shape;
     int fronts;
+    memplan_node *nodes;
     int *first;
-    int *up;
     int *rest;
     int **rows;
     int *child, *sibling; /* the first child of a front, and the next child of the same front; -1 for none */
 };
 
-/* What of a dense matrix is kept: all of it, or its lower triangle, packed by columns. */
-enum shape { SQUARE, TRIANGLE };
-
 /* A factorization on its way. */
 struct factorization {
     const struct matrix *matrix;
     const struct analysis *analysis;
-    enum shape shape;
     int in_place;
     double **block;  /* by front: the contribution block that waits for the parent */
     double **factor; /* by front: the columns of the factor, packed */
@@ -45,15 +42,22 @@ struct factorization {
 _Noreturn void fail(const char *why);
 void *table(uint64_t length, uint64_t size);
 
+/* Ends the program where a call of memplan was refused. */
+void check(uint32_t status, const memplan_fault *fault);
+
 void read_matrix(struct matrix *matrix, const char *name);
-void make_grid(struct matrix *matrix, int side, int *vertex);
+void make_square(struct matrix *matrix, int side);
+void make_nine_point_square(struct matrix *matrix, int side);
+void make_cube(struct matrix *matrix, int side);
 void free_matrix(struct matrix *matrix);
 
-void analyse(struct analysis *analysis, const struct matrix *matrix, const int *vertex);
-void fronts_as_nodes(const struct analysis *analysis, enum shape shape, int in_place, memplan_node *nodes);
+/* The columns are eliminated in an order; where it has no places, in that of minimum degree. */
+void analyse(struct analysis *analysis, const struct matrix *matrix, const uint32_t *order, size_t places,
+             const memplan_front_options *options);
 void free_analysis(struct analysis *analysis);
 
-uint64_t kept_entries(enum shape shape, int order);
+/* The entries of a dense matrix that are kept. */
+uint64_t kept_entries(uint32_t shape, int order);
 void begin_factorization(struct factorization *work);
 void run_front(struct factorization *work, int front, int *local);
 double residual(const struct factorization *work);

@@ -15,7 +15,20 @@ try:
 except ImportError:
     numpy = None  # type: ignore[assignment]
 
-__all__ = ["Certificate", "Core", "Refused", "best_postorder", "certify", "check", "plan", "replay", "replay_system", "spill"]
+__all__ = [
+    "Certificate",
+    "Core",
+    "Fronts",
+    "Refused",
+    "best_postorder",
+    "certify",
+    "check",
+    "fronts",
+    "plan",
+    "replay",
+    "replay_system",
+    "spill",
+]
 
 
 class _Node(ctypes.Structure):
@@ -42,6 +55,15 @@ class _Claim(ctypes.Structure):
         ("backward", ctypes.c_uint32),
         ("bound", ctypes.c_int64),
         ("rest", ctypes.c_uint64),
+    ]
+
+
+class _FrontOptions(ctypes.Structure):
+    _fields_ = [
+        ("shape", ctypes.c_uint32),
+        ("in_place", ctypes.c_uint32),
+        ("merge", ctypes.c_uint32),
+        ("zeros", ctypes.c_uint64),
     ]
 
 
@@ -79,6 +101,19 @@ _KINDS = {
     50: "there are more than 4,000,001 items",
     51: "an item is produced or consumed by no task",
     52: "the size of an item is greater than 2^40",
+    60: "the base is neither 0 nor 1",
+    61: "there is no column",
+    62: "there are more than 1,000,000 columns",
+    63: "there are more than 10,000,000 entries",
+    64: "a column starts before the one before it, or the first one not at the base",
+    65: "the starts tell another number of entries than there are rows",
+    66: "the row of an entry is none",
+    67: "the order has not as many places as there are columns",
+    68: "the order names a column that is none",
+    69: "the order names a column twice",
+    70: "more than 50,000 columns are not ordered by minimum degree",
+    71: "no shape has this number",
+    72: "there is room for fewer nodes than there are fronts",
 }
 
 
@@ -106,6 +141,21 @@ class Certificate(NamedTuple):
     claims: list
 
 
+class Fronts(NamedTuple):
+    """The tree of the fronts of a matrix, as `plan` and the other calls take it, and the front of each column.
+
+    Nodes are numbered from 1: ``front_of[j]`` is the number of the node whose front has column j, which counts from 0. The columns sorted
+    by their fronts are an order of elimination with these fronts. ``columns`` says how many columns each front has.
+    """
+
+    parent: Any
+    out: Any
+    extra: Any
+    share: Any
+    columns: Any
+    front_of: Any
+
+
 def _library() -> ctypes.CDLL:
     path = os.environ.get("MEMPLAN_LIBRARY", "libmemplan.so.1")
     library = ctypes.CDLL(path)
@@ -115,6 +165,7 @@ def _library() -> ctypes.CDLL:
     claims = [ctypes.POINTER(_Claim), size]
     system = [ctypes.POINTER(_Task), size, ctypes.POINTER(_Item), size]
     number, fault = [ctypes.POINTER(u64)], [ctypes.POINTER(_Fault)]
+    options = [ctypes.POINTER(_FrontOptions)]
     core = [ctypes.c_void_p]
     calls = {
         "plan_tree": (u32, nodes + order + number + fault),
@@ -123,6 +174,7 @@ def _library() -> ctypes.CDLL:
         "certify_tree": (u32, nodes + order + number + claims + number + fault),
         "check_tree": (u32, nodes + order + [u64] + claims + fault),
         "spill_tree": (u32, nodes + order + [u64, ctypes.POINTER(u64), size] + number + fault),
+        "fronts": (u32, [u32] + order + order + order + options + nodes + number + order + fault),
         "replay_system": (u32, system + order + number + fault),
         "core_size": (size, []),
         "core_new": (None, core),
@@ -147,37 +199,59 @@ def _library() -> ctypes.CDLL:
 _lib = _library()
 
 
+_NODE_FIELDS = ("parent", "out", "extra", "share", "time")
+
+
+def _node_table(count: int) -> Any:
+    """So many nodes for numpy, laid out as C has them."""
+    formats, offsets = ["<u4", "<u8", "<u8", "<u8", "<u8"], [0, 8, 16, 24, 32]
+    layout = {"names": list(_NODE_FIELDS), "formats": formats, "offsets": offsets, "itemsize": 40}
+    return numpy.zeros(max(count, 1), numpy.dtype(layout))
+
+
+def _unsigned(values: Sequence[int], bits: int) -> Any:
+    """The values, which have to be integers that are not negative and fit so many bits."""
+    if numpy is None:
+        for value in values:
+            if not 0 <= int(value) < 1 << bits:
+                raise OverflowError(f"{value} does not fit {bits} bits without a sign")
+        return values
+    plain = numpy.asarray(values)
+    if plain.size == 0:
+        return plain.astype("<u8")
+    if plain.dtype.kind not in "iu":
+        raise TypeError("integers are wanted")
+    if int(plain.min()) < 0 or int(plain.max()) >= 1 << bits:
+        raise OverflowError(f"a number does not fit {bits} bits without a sign")
+    return plain
+
+
 def _nodes(parent: Sequence[int], out: Sequence[int], extra: Sequence[int], share: Optional[Sequence[int]]) -> Any:
     """The nodes as C has them; as many as there are parents."""
     count = len(parent)
     if len(out) != count or len(extra) != count or (share is not None and len(share) != count):
         raise ValueError("parent, out, extra and share have different lengths")
+    parent, out, extra = _unsigned(parent, 32), _unsigned(out, 64), _unsigned(extra, 64)
+    share = None if share is None else _unsigned(share, 64)
     if numpy is not None:
-        layout = numpy.dtype(
-            {
-                "names": ["parent", "out", "extra", "share", "time"],
-                "formats": ["<u4", "<u8", "<u8", "<u8", "<u8"],
-                "offsets": [0, 8, 16, 24, 32],
-                "itemsize": 40,
-            }
-        )
-        table = numpy.zeros(max(count, 1), layout)
+        table = _node_table(count)
         table["parent"][:count], table["out"][:count], table["extra"][:count] = parent, out, extra
         table["share"][:count] = 0 if share is None else share
         table["time"] = 1
-        array = (_Node * max(count, 1)).from_buffer(table)
-    else:
-        array = (_Node * max(count, 1))()
-        for i in range(count):
-            array[i] = _Node(int(parent[i]), int(out[i]), int(extra[i]), int(share[i]) if share is not None else 0, 1)
+        return (_Node * len(table)).from_buffer(table)
+    array = (_Node * max(count, 1))()
+    for i in range(count):
+        array[i] = _Node(int(parent[i]), int(out[i]), int(extra[i]), int(share[i]) if share is not None else 0, 1)
     return array
 
 
-def _numbers(values: Sequence[int], width: Any = ctypes.c_uint32) -> Any:
+def _numbers(values: Sequence[int]) -> Any:
+    plain = _unsigned(values, 32)
     if numpy is not None:
-        plain = numpy.ascontiguousarray(values, dtype="<u4" if width is ctypes.c_uint32 else "<u8")
-        return (width * max(len(plain), 1)).from_buffer_copy(plain.tobytes() or bytes(ctypes.sizeof(width)))
-    return (width * max(len(values), 1))(*[int(v) for v in values])
+        table = numpy.zeros(max(len(plain), 1), "<u4")
+        table[: len(plain)] = plain
+        return (ctypes.c_uint32 * len(table)).from_buffer(table)
+    return (ctypes.c_uint32 * max(len(plain), 1))(*[int(v) for v in plain])
 
 
 def _back(array: Any, count: int) -> Any:
@@ -290,6 +364,65 @@ def spill(
         fault,
     )
     return _back(amounts, count), volume.value
+
+
+_SHAPES = {"triangle": 0, "square": 1}
+
+
+def _columns(matrix: Any) -> Tuple[Any, Any]:
+    """Where the columns start, and the rows of their entries."""
+    if isinstance(matrix, tuple):
+        return matrix
+    if matrix.shape[0] != matrix.shape[1]:
+        raise ValueError("the matrix is not square")
+    columns = matrix.tocsc()
+    return columns.indptr, columns.indices
+
+
+def fronts(
+    matrix: Any,
+    order: Optional[Sequence[int]] = None,
+    shape: str = "triangle",
+    in_place: bool = False,
+    zeros: Optional[int] = None,
+) -> Fronts:
+    """The fronts of a sparse symmetric matrix that is eliminated in an order, as a multifrontal solver makes them.
+
+    ``matrix`` is a sparse matrix of scipy, or the pair of its ``indptr`` and ``indices`` by columns; its lower triangle, the upper one, or
+    both. ``order`` has its columns, from 0, in the order in which they are eliminated; with none it is that of minimum degree.
+    ``shape`` says what is kept of fronts and blocks, ``"triangle"`` or ``"square"``; ``in_place``, that a front is built over the greatest
+    block of its children; ``zeros``, how many explicit zeros a merge of two fronts may add, and with none no fronts are merged.
+    """
+    starts, rows = _columns(matrix)
+    count, places = max(len(starts) - 1, 0), 0 if order is None else len(order)
+    if order is not None and places == 0 and count > 0:
+        raise ValueError("an order without places")
+    options = _FrontOptions(_SHAPES[shape], in_place, zeros is not None, 0 if zeros is None else int(_unsigned([zeros], 64)[0]))
+    nodes, made, fault = (_Node * max(count, 1))(), ctypes.c_uint64(), _Fault()
+    front_of = (ctypes.c_uint32 * max(count, 1))()
+    status = _lib.memplan_fronts(
+        0,
+        _numbers(starts),
+        len(starts),
+        _numbers(rows),
+        len(rows),
+        _numbers(() if order is None else order),
+        places,
+        ctypes.byref(options),
+        nodes,
+        count,
+        ctypes.byref(made),
+        front_of,
+        count,
+        ctypes.byref(fault),
+    )
+    _answer(status, fault)
+    if numpy is not None:
+        table = numpy.frombuffer(nodes, _node_table(0).dtype)[: made.value]
+        fields = [table[name].copy() for name in _NODE_FIELDS]
+    else:
+        fields = [[getattr(node, name) for node in nodes[: made.value]] for name in _NODE_FIELDS]
+    return Fronts(*fields, _back(front_of, count))
 
 
 def _system(tasks: Sequence[int], items: Sequence[Tuple[int, int, int]]) -> Tuple[Any, Any]:

@@ -9,6 +9,12 @@ use Rattle.system_input.specs.declared.judged.ItemTest.TheVariants as item_tests
 use Rattle.system_input.specs.declared.judged.SystemRefusal.{SystemRefusal}
 use Rattle.system_input.specs.declared.judged.SystemRefusal.TheVariants as systems
 use Rattle.system_input.specs.declared.judged.TaskTest.TheVariants as task_tests
+use Rattle.matrix_input.specs.declared.columns.ColumnsRefusal.{ColumnsRefusal}
+use Rattle.matrix_input.specs.declared.columns.ColumnsRefusal.TheVariants as columns
+use Rattle.matrix_input.specs.declared.perm.PermRefusal.{PermRefusal}
+use Rattle.matrix_input.specs.declared.perm.PermRefusal.TheVariants as perms
+use Rattle.ordering.specs.declared.minimum_degree.MindegRefusal.{MindegRefusal}
+use Rattle.ordering.specs.declared.minimum_degree.MindegRefusal.TheVariants as degrees
 use Rattle.tree_input.specs.declared.judged.NodeTest.TheVariants as tests
 use Rattle.tree_input.specs.declared.judged.NodesRefusal.{NodesRefusal}
 use Rattle.tree_input.specs.declared.judged.NodesRefusal.TheVariants as nodes
@@ -97,15 +103,42 @@ of_objection (objections.Peak replayed printed) = answer 1 44 0 replayed
 of_objection (objections.Root last) = answer 1 45 last 0
 of_objection (objections.Claim position shape) = answer 1 46 position 0
 
+-- compressed columns: 2 where a number does not fit them, 3 where they are none, 4 where they pass a limit; the starts tell the entries
+abbrev pub of_columns : ColumnsRefusal → Answer
+of_columns columns.Base = answer 2 60 0 0
+of_columns columns.NoColumn = answer 3 61 0 0
+of_columns columns.ManyColumns = answer 4 62 0 0
+of_columns columns.ManyEntries = answer 4 63 0 0
+of_columns (columns.Start j) = answer 3 64 j 0
+of_columns (columns.Entries told) = answer 2 65 0 told
+of_columns (columns.Row k) = answer 3 66 k 0
+of_columns columns.NoMemory = no_memory
+
+-- an order of elimination
+abbrev pub of_perm : PermRefusal → Answer
+of_perm perms.Places = answer 2 67 0 0
+of_perm (perms.Unknown k) = answer 3 68 k 0
+of_perm (perms.Repeated k) = answer 3 69 k 0
+of_perm perms.NoMemory = no_memory
+
+abbrev pub of_degree : MindegRefusal → Answer
+of_degree degrees.Limit = answer 4 70 0 0
+of_degree degrees.NoMemory = no_memory
+
 abbrev pub answer_of : Refusal → Answer
 answer_of (refusals.Room needed) = answer 2 2 0 needed
 answer_of (refusals.ClaimRoom needed) = answer 2 3 0 needed
+answer_of (refusals.NodeRoom needed) = answer 2 72 0 needed
+answer_of refusals.Shape = answer 2 71 0 0
 answer_of refusals.Workers = answer 2 4 0 0
 answer_of (refusals.Nodes refusal) = of_nodes refusal
 answer_of (refusals.System refusal) = of_system refusal
 answer_of (refusals.Replay refusal) = of_replay refusal
 answer_of (refusals.Core refusal) = of_core refusal
 answer_of (refusals.Spill refusal) = of_spill refusal
+answer_of (refusals.Columns refusal) = of_columns refusal
+answer_of (refusals.Perm refusal) = of_perm refusal
+answer_of (refusals.Degree refusal) = of_degree refusal
 answer_of (refusals.Plan fault) = of_plan fault
 answer_of (refusals.Objection objection) = of_objection objection
 answer_of refusals.NoMemory = no_memory

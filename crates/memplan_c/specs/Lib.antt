@@ -2,3 +2,4 @@ pub mod Faults
 pub mod Answers
 pub mod Refusals
 pub mod Slots
+pub mod Fronts

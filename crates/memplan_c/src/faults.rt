@@ -3,13 +3,15 @@
 ghost use Rattle.std.specs.Prelude.{◌≡◌};
 ghost use Rattle.system_input.specs.declared.judged.SystemRefusal.TheVariants as systems;
 ghost use Rattle.tree_input.specs.declared.judged.NodesRefusal.TheVariants as nodes;
-ghost use Rattle.memplan_c.specs.Faults.{answer, answer_of, of_nodes, of_system, of_replay, of_order, of_core, of_spill, of_plan, of_objection};
+ghost use Rattle.memplan_c.specs.Faults.{answer, answer_of, of_nodes, of_system, of_replay, of_order, of_core, of_spill, of_plan, of_objection, of_columns, of_perm, of_degree};
 
 use crate::kinds;
 use crate::refusal::{PlanFault, Refusal};
 use activation::CoreRefusal;
 use claim_check::Objection;
+use matrix_input::{ColumnsRefusal, PermRefusal};
 use mp_system::{OrderFault, OrderKind, ReplayRefusal};
+use ordering::MindegRefusal;
 use spill_plan::SpillRefusal;
 use system_input::{ItemTest, SystemRefusal, TaskTest};
 use tree_input::{NodeTest, NodesRefusal};
@@ -175,18 +177,58 @@ fn of_objection(objection: Objection) -> Answer
     }
 }
 
+fn of_columns(refusal: ColumnsRefusal) -> Answer
+    ensures { result ≡ of_columns refusal }
+{
+    match refusal {
+        ColumnsRefusal::Base => say(2, kinds::BASE, 0, 0),
+        ColumnsRefusal::NoColumn => say(3, kinds::NO_COLUMN, 0, 0),
+        ColumnsRefusal::ManyColumns => say(4, kinds::MANY_COLUMNS, 0, 0),
+        ColumnsRefusal::ManyEntries => say(4, kinds::MANY_ENTRIES, 0, 0),
+        ColumnsRefusal::Start(start) => say(3, kinds::START, u64::from(start), 0),
+        ColumnsRefusal::Entries(told) => say(2, kinds::ENTRIES, 0, u64::from(told)),
+        ColumnsRefusal::Row(entry) => say(3, kinds::ROW, u64::from(entry), 0),
+        ColumnsRefusal::NoMemory => no_memory(),
+    }
+}
+
+fn of_perm(refusal: PermRefusal) -> Answer
+    ensures { result ≡ of_perm refusal }
+{
+    match refusal {
+        PermRefusal::Places => say(2, kinds::PLACES, 0, 0),
+        PermRefusal::Unknown(place) => say(3, kinds::NO_SUCH_COLUMN, u64::from(place), 0),
+        PermRefusal::Repeated(place) => say(3, kinds::COLUMN_REPEATED, u64::from(place), 0),
+        PermRefusal::NoMemory => no_memory(),
+    }
+}
+
+fn of_degree(refusal: MindegRefusal) -> Answer
+    ensures { result ≡ of_degree refusal }
+{
+    match refusal {
+        MindegRefusal::Limit => say(4, kinds::DEGREE, 0, 0),
+        MindegRefusal::NoMemory => no_memory(),
+    }
+}
+
 fn answer_of(refusal: Refusal) -> Answer
     ensures { result ≡ answer_of refusal }
 {
     match refusal {
         Refusal::Room { needed } => say(2, kinds::ROOM, 0, needed),
         Refusal::ClaimRoom { needed } => say(2, kinds::CLAIM_ROOM, 0, needed),
+        Refusal::NodeRoom { needed } => say(2, kinds::NODE_ROOM, 0, needed),
+        Refusal::Shape => say(2, kinds::SHAPE, 0, 0),
         Refusal::Workers => say(2, kinds::WORKERS, 0, 0),
         Refusal::Nodes(refusal) => of_nodes(refusal),
         Refusal::System(refusal) => of_system(refusal),
         Refusal::Replay(refusal) => of_replay(refusal),
         Refusal::Core(refusal) => of_core(refusal),
         Refusal::Spill(refusal) => of_spill(refusal),
+        Refusal::Columns(refusal) => of_columns(refusal),
+        Refusal::Perm(refusal) => of_perm(refusal),
+        Refusal::Degree(refusal) => of_degree(refusal),
         Refusal::Plan(fault) => of_plan(fault),
         Refusal::Objection(objection) => of_objection(objection),
         Refusal::NoMemory => no_memory(),

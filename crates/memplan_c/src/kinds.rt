@@ -57,3 +57,29 @@ pub const MANY_ITEMS: u32 = 50;
 pub const ENDS: u32 = 51;
 
 pub const ITEM_SIZE: u32 = 52;
+
+pub const BASE: u32 = 60;
+
+pub const NO_COLUMN: u32 = 61;
+
+pub const MANY_COLUMNS: u32 = 62;
+
+pub const MANY_ENTRIES: u32 = 63;
+
+pub const START: u32 = 64;
+
+pub const ENTRIES: u32 = 65;
+
+pub const ROW: u32 = 66;
+
+pub const PLACES: u32 = 67;
+
+pub const NO_SUCH_COLUMN: u32 = 68;
+
+pub const COLUMN_REPEATED: u32 = 69;
+
+pub const DEGREE: u32 = 70;
+
+pub const SHAPE: u32 = 71;
+
+pub const NODE_ROOM: u32 = 72;

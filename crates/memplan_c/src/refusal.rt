@@ -5,7 +5,9 @@ ghost use Rattle.memplan_c.specs.declared.refusal.Refusal.TheVariants as refusal
 
 use activation::CoreRefusal;
 use claim_check::Objection;
+use matrix_input::{ColumnsRefusal, PermRefusal};
 use mp_system::ReplayRefusal;
+use ordering::MindegRefusal;
 use spill_plan::SpillRefusal;
 use std::alloc::AllocError;
 use system_input::SystemRefusal;
@@ -31,6 +33,10 @@ pub enum Refusal {
     Room { needed: u64 },
     /// There is room for fewer claims than are needed.
     ClaimRoom { needed: u64 },
+    /// There is room for fewer nodes than there are fronts.
+    NodeRoom { needed: u64 },
+    /// The number of a shape is none.
+    Shape,
     /// There is no worker, or there are more than 4,096.
     Workers,
     /// The nodes are no tree.
@@ -43,6 +49,12 @@ pub enum Refusal {
     Core(CoreRefusal),
     /// Nothing that goes to disk makes the order fit.
     Spill(SpillRefusal),
+    /// The compressed columns are none of a matrix.
+    Columns(ColumnsRefusal),
+    /// The order of elimination is none.
+    Perm(PermRefusal),
+    /// There is no order of minimum degree.
+    Degree(MindegRefusal),
     /// The order, the peak and the claims are no plan.
     Plan(PlanFault),
     /// The plan is not accepted.
@@ -96,6 +108,30 @@ impl From<SpillRefusal> for Refusal {
 
     fn from(refusal: SpillRefusal) -> Refusal {
         Refusal::Spill(refusal)
+    }
+}
+
+impl From<ColumnsRefusal> for Refusal {
+    ghost from_gives = { λ r e. e ≡ refusals.Columns r };
+
+    fn from(refusal: ColumnsRefusal) -> Refusal {
+        Refusal::Columns(refusal)
+    }
+}
+
+impl From<PermRefusal> for Refusal {
+    ghost from_gives = { λ r e. e ≡ refusals.Perm r };
+
+    fn from(refusal: PermRefusal) -> Refusal {
+        Refusal::Perm(refusal)
+    }
+}
+
+impl From<MindegRefusal> for Refusal {
+    ghost from_gives = { λ r e. e ≡ refusals.Degree r };
+
+    fn from(refusal: MindegRefusal) -> Refusal {
+        Refusal::Degree(refusal)
     }
 }
 

@@ -1,5 +1,6 @@
 -- Parts as cuts: what the planner's data stands for.
 use Rattle.std.specs.Prelude.{◌≡◌, ℕ, ◌+◌, ◌-◌, ◌≤◌, max, min, if◌then◌else◌, nat_le, List, length, map}
+use Rattle.std.specs.Bool.{MatchBool}
 use Rattle.std.specs.List.{AllByRecursion}
 use Rattle.limits.specs.Limits.{most_total}
 use Rattle.mp_system.specs.declared.system.Task.{Task}
@@ -45,6 +46,21 @@ pub record CanJoin (a : Part) (v : Task) (b : Part) : Type 0 where
 abbrev pub moves_between : Part → Part → ℕ
 moves_between a b =
     if nat_le a.least b.least then min (length a.back) (length b.back + 1) else min (length b.front) (length a.front + 1)
+
+-- of a side of `whole` segments some are of one side, at least and at most so many, and the others of another one: those of the fewer are
+-- counted
+pub record CountsFewer (least most whole old new : ℕ) : Type 0 where
+  pub own : ℕ
+  pub at_least : least ≤ own
+  pub at_most : own ≤ most
+  pub within : own ≤ whole
+  pub counted : new ≡ old + min own (whole - own)
+
+-- the side of a series that goes over the hill has the segments of the near part's side, and one more where the hill is higher
+abbrev pub CountsMoves : Part → Part → Part → ℕ → ℕ → Type 0
+CountsMoves a b whole old new =
+    MatchBool (nat_le a.least b.least) (CountsFewer (length b.back) (length b.back + 1) (length whole.back) old new)
+    (CountsFewer (length a.front) (length a.front + 1) (length whole.front) old new)
 
 -- ---- several parts
 

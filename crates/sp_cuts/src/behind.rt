@@ -1,11 +1,12 @@
 //! A side put behind another.
 
-ghost use Rattle.std.specs.Prelude.{◌≡◌, ◌+◌, ◌≤◌, max, length, IfOk};
+ghost use Rattle.std.specs.Prelude.{◌≡◌, ◌+◌, ◌≤◌, max, min, length, IfOk, OnOk};
 ghost use Rattle.limits.specs.Limits.{most_total};
 ghost use Rattle.side_laws.specs.Segments.{net_sum, StartsAbove, last_up};
 ghost use Rattle.hill_valley.specs.Ropes.{Extends};
 ghost use Rattle.hill_valley.specs.Side.{profile, HaveRopes, runs_of};
 ghost use Rattle.segment_merge.specs.Crossing.{append_runs};
+ghost use Rattle.sp_cuts.specs.Parts.{CountsFewer};
 
 use crate::NoMemory;
 use hill_valley::{Ropes, Side};
@@ -29,6 +30,7 @@ pub(crate) fn append_side<L: Ledger>(
     ensures kept { Extends ropes.old ropes.new }
     ensures far_steps { steps.new ≤ steps.old + length far }
     ensures near_steps { steps.new ≤ steps.old + max 1 (length near) }
+    ensures counted { IfOk result (λ side. CountsFewer (length near) (max 1 (length near)) (length side) steps.old steps.new) }
 {
     laws::all();
     while let Some(seg) = far.take_first_within(near.last_up()) {
@@ -53,6 +55,8 @@ fn join_sides<L: Ledger>(
     ensures kept { Extends ropes.old ropes.new }
     ensures far_steps { steps.new ≤ steps.old + length far }
     ensures near_steps { steps.new ≤ steps.old + length near }
+    ensures counted { OnOk result (steps.new ≡ steps.old + min (length near) (length far)) }
+    ensures length { IfOk result (λ side. length side ≡ length near + length far) }
 {
     laws::all();
     near.keeps();

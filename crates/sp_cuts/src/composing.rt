@@ -9,7 +9,7 @@ ghost use Rattle.hill_valley.specs.Ropes.{Extends};
 ghost use Rattle.cut_laws.specs.Cuts.{series_cut, par_cut, top_of, starts, sides};
 ghost use Rattle.cut_laws.specs.Standing.{StandsFor, AllStandFor};
 ghost use Rattle.cut_laws.specs.Tops.{LiesInFirst, LiesInSecond, SomeReaches};
-ghost use Rattle.sp_cuts.specs.Parts.{cut_of, cuts_of, IsPart, AreParts, hill_between, CanJoin, moves_between, moves_in};
+ghost use Rattle.sp_cuts.specs.Parts.{cut_of, cuts_of, IsPart, AreParts, hill_between, CanJoin, moves_between, CountsMoves, moves_in};
 ghost use Rattle.sp_cuts.specs.Splits.{IsRough, AreRough, AreSplit};
 
 use crate::NoMemory;
@@ -51,6 +51,8 @@ pub fn series<L: Ledger>(
     ensures part { IfOk result (λ p. IsPart ropes.new p) }
     ensures kept { Extends ropes.old ropes.new }
     ensures steps { steps.new ≤ steps.old + moves_between a b }
+    // and exactly the moved segments are counted
+    ensures counted { IfOk result (λ p. CountsMoves a b p steps.old steps.new) }
 {
     cut_laws::laws::composition_law();
     laws::all();
@@ -82,6 +84,7 @@ pub fn series_part<L: Ledger>(
     ensures rough { IfOk result (λ p. IsRough ropes.new p) }
     ensures kept { Extends ropes.old ropes.new }
     ensures steps { steps.new ≤ steps.old + moves_between a b }
+    ensures counted { IfOk result (λ p. CountsMoves a b p steps.old steps.new) }
 {
     cut_laws::laws::series_law();
     laws::all();

@@ -7,6 +7,7 @@ ghost use Rattle.hill_valley.specs.Ropes.{list_of, IsRope, Extends};
 ghost use Rattle.hill_valley.specs.Side.{profile, HaveRopes, Run, runs_of, append_run};
 ghost use Rattle.segment_merge.specs.Crossing.{append_runs, hill_run, cross_hill_runs};
 ghost use Rattle.cut_laws.specs.Cuts.{over_task};
+ghost use Rattle.sp_cuts.specs.Parts.{CountsFewer};
 
 use crate::NoMemory;
 use crate::behind::append_side;
@@ -61,6 +62,7 @@ pub(crate) fn lead_over<L: Ledger>(
     ensures ropes { IfOk result (λ side. HaveRopes ropes.new side) }
     ensures kept { Extends ropes.old ropes.new }
     ensures steps { steps.new ≤ steps.old + min (length far) (length near + 1) }
+    ensures counted { IfOk result (λ side. CountsFewer (length near) (length near + 1) (length side) steps.old steps.new) }
 {
     laws::all();
     let over = go_above(&mut far, ropes, end, over)?;

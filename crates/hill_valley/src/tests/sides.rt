@@ -1,7 +1,8 @@
 //! Sides, by hand and against plain ones.
 
+use crate::NoMemory;
 use crate::tests::plain::{self, PlainSeg, PlainSide};
-use crate::tests::roped::RopedSide;
+use crate::tests::roped::{One, RopedSide};
 use rand_core::utils::NextWord;
 use rand_pcg::Pcg32;
 use std::alloc::Global;
@@ -70,6 +71,21 @@ fn a_side_of_three_segments(rt: HostRuntime) -> Result<(), Fail> {
 }
 
 #[test]
+fn the_first_segments_are_those_above_a_level(rt: HostRuntime) -> Result<(), Fail> {
+    let alloc = rt.alloc();
+    let side = three_segments(alloc)?;
+    // they start at 10, 7 and 6
+    assert_eq!(rt;
+        side.numbers(alloc, 2, 0)?.as_slice(),
+        [(5, 3), (7, 1), (9, 4)].as_slice()
+    );
+    for (stop, many) in [(6, 3), (7, 2), (8, 1), (10, 1), (11, 0)] {
+        assert_eq!(rt; side.numbers(alloc, 2, stop)?.len(), many);
+    }
+    Ok(())
+}
+
+#[test]
 fn segments_are_put_in_at_their_places(rt: HostRuntime) -> Result<(), Fail> {
     let alloc = rt.alloc();
     let mut side = three_segments(alloc)?;
@@ -80,55 +96,82 @@ fn segments_are_put_in_at_their_places(rt: HostRuntime) -> Result<(), Fail> {
     Ok(())
 }
 
+// Puts a segment of one task in both sides.
+fn put(
+    alloc: Global,
+    (up, net, task): One,
+    before: bool,
+    side: &mut RopedSide,
+    plain: &mut PlainSide,
+) -> Result<(), NoMemory> {
+    side.insert(up, net, task, before)?;
+    plain::insert(plain, plain::one(alloc, up, net, task)?, before)
+}
+
 // A segment at each even `up` to 1,200, of the task of the same number, and then three inside and one at each end.
-fn long_side(alloc: Global) -> Result<RopedSide, Fail> {
+fn long_sides(alloc: Global) -> Result<(RopedSide, PlainSide), NoMemory> {
     let mut side = RopedSide::new(alloc);
+    let mut plain = PlainSide::new(alloc);
     for half in 1..601u32 {
         side.append(u64::from(half) * 2, 1, half * 2)?;
+        plain::append(
+            &mut plain,
+            plain::one(alloc, u64::from(half) * 2, 1, half * 2)?,
+        )?;
     }
-    side.insert(601, 1, 601, true)?;
-    side.insert(600, 2, 7, true)?;
-    side.insert(602, 2, 8, false)?;
-    side.insert(1, 1, 1, true)?;
-    side.append(1201, 1, 1201)?;
-    Ok(side)
+    put(alloc, (601, 1, 601), true, &mut side, &mut plain)?;
+    put(alloc, (600, 2, 7), true, &mut side, &mut plain)?;
+    put(alloc, (602, 2, 8), false, &mut side, &mut plain)?;
+    put(alloc, (1, 1, 1), true, &mut side, &mut plain)?;
+    put(alloc, (1201, 1, 1201), false, &mut side, &mut plain)?;
+    Ok((side, plain))
 }
 
 #[test]
 fn a_long_side_takes_in_segments_anywhere(rt: HostRuntime) -> Result<(), Fail> {
     let alloc = rt.alloc();
-    let mut side = long_side(alloc)?;
+    let (mut side, plain) = long_sides(alloc)?;
     // 600 segments, one between two of them, and one at each end
     assert_eq!(rt; side.len(), 603);
     // from level 607, of which the last segment starts one above the end
     assert_eq!(rt; side.top(0), 1202);
     assert_eq!(rt; side.lowest(0, 608), 605);
     assert_eq!(rt; side.tasks(alloc)?.len(), 605);
-    let mut taken = 0u64;
-    while taken < 603 {
-        let seg = side.take_first(alloc)?;
-        let (up, net, tasks) = nth_segment(taken);
-        assert_eq!(rt;
-            seg.as_ref().map(|s| (s.up, s.net, s.tasks.len())),
-            Some((up, net, tasks))
-        );
-        taken += 1;
+    for seg in plain {
+        assert_eq!(rt; side.take_first(alloc)?, Some(seg));
     }
     assert!(rt; side.take_first(alloc)?.is_none());
     Ok(())
 }
 
-// The `up`, the `net` and how many tasks the segment at this place of the long side has.
-fn nth_segment(place: u64) -> (u64, u64, usize) {
-    match place {
-        0 => (1, 1, 1),
-        300 => (600, 3, 2),
-        301 => (601, 1, 1),
-        302 => (602, 3, 2),
-        1..=299 => (place.saturating_mul(2), 1, 1),
-        602 => (1201, 1, 1),
-        _ => (place.saturating_sub(1).saturating_mul(2), 1, 1),
+// A segment for each `up` from `first` on, two apart, of the task 2000 more.
+fn ones_from(alloc: Global, first: u32, count: u32) -> Result<Vec<One>, NoMemory> {
+    let mut ones = Vec::new(alloc);
+    for i in 0..count {
+        let up = first.saturating_add(i.saturating_mul(2));
+        ones.push((u64::from(up), 1, up.saturating_add(2000)))?;
     }
+    Ok(ones)
+}
+
+#[test]
+fn a_long_side_is_merged_with_few_segments_and_with_many(rt: HostRuntime) -> Result<(), Fail> {
+    let alloc = rt.alloc();
+    // each of ten segments of the long side is joined with one
+    let few = ones_from(alloc, 2, 10)?;
+    let (side, _plain) = long_sides(alloc)?;
+    let side = side.merge(alloc, &few, true)?;
+    assert_eq!(rt; side.len(), 603);
+    // of 300, the last is joined with the segment at 601
+    let many = ones_from(alloc, 3, 300)?;
+    let mut side = side.merge(alloc, &many, false)?;
+    assert_eq!(rt; side.len(), 902);
+    assert_eq!(rt; side.tasks(alloc)?.len(), 915);
+    assert_eq!(rt;
+        segments_of(alloc, side)?.as_str(),
+        "1 1 [1] 2 2 [2002, 2] 3 1 [2003] 4 2 [2004, 4] 5 1 [2005] 6 2 [2006, 6] "
+    );
+    Ok(())
 }
 
 // A number below `below`.
@@ -205,6 +248,81 @@ fn random_sides_are_as_the_plain_ones(rt: HostRuntime) -> Result<(), Fail> {
     let mut dice = Pcg32::new(1, 11);
     for _ in 0..30 {
         compare_one(&rt, alloc, &mut dice)?;
+    }
+    Ok(())
+}
+
+// Less than `below` segments, whose `up` values never fall.
+fn random_ones(alloc: Global, dice: &mut Pcg32, below: u64) -> Result<Vec<One>, NoMemory> {
+    let mut ones = Vec::new(alloc);
+    let mut up = 0u64;
+    let mut task = 0u32;
+    for _ in 0..next(dice, below) {
+        up = up.saturating_add(next(dice, 4));
+        ones.push((up, next(dice, 4), task))?;
+        task = task.saturating_add(1);
+    }
+    Ok(ones)
+}
+
+// Appends the segments to both sides.
+fn append_all(
+    alloc: Global,
+    ones: &[One],
+    side: &mut RopedSide,
+    plain: &mut PlainSide,
+) -> Result<(), NoMemory> {
+    for &(up, net, task) in ones {
+        side.append(up, net, task)?;
+        plain::append(plain, plain::one(alloc, up, net, task)?)?;
+    }
+    Ok(())
+}
+
+// Puts the segments that are appended to one plain side into another, one after another.
+fn merge_plainly(
+    alloc: Global,
+    ones: &[One],
+    plain: &mut PlainSide,
+    before: bool,
+) -> Result<(), NoMemory> {
+    let mut other = PlainSide::new(alloc);
+    for &(up, net, task) in ones {
+        plain::append(&mut other, plain::one(alloc, up, net, task)?)?;
+    }
+    for seg in other {
+        plain::insert(plain, seg, before)?;
+    }
+    Ok(())
+}
+
+// Sides of few segments merged into sides of more.
+fn compare_merged(
+    rt: &impl Abort,
+    alloc: Global,
+    dice: &mut Pcg32,
+    before: bool,
+) -> Result<(), Fail> {
+    let mut side = RopedSide::new(alloc);
+    let mut plain = PlainSide::new(alloc);
+    let own = random_ones(alloc, dice, 30)?;
+    append_all(alloc, &own, &mut side, &mut plain)?;
+    let ones = random_ones(alloc, dice, 10)?;
+    let mut side = side.merge(alloc, &ones, before)?;
+    merge_plainly(alloc, &ones, &mut plain, before)?;
+    compare(rt, alloc, next(dice, 5), &side, &plain)?;
+    for seg in plain {
+        assert_eq!(rt; side.take_first(alloc)?, Some(seg));
+    }
+    Ok(())
+}
+
+#[test]
+fn random_sides_are_merged_as_the_plain_ones(rt: HostRuntime) -> Result<(), Fail> {
+    let alloc = rt.alloc();
+    let mut dice = Pcg32::new(1, 11);
+    for i in 0..100u32 {
+        compare_merged(&rt, alloc, &mut dice, i % 2 == 0)?;
     }
     Ok(())
 }

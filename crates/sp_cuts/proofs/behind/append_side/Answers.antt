@@ -1,5 +1,5 @@
-use Rattle.std.proofs.Common.{arith}
-use Rattle.sp_cuts.proofs.Appended.{appending_starts, appending_first, appending_on}
+use Rattle.std.proofs.Common.{◌≡◌, ◌+◌, max, min, length, arith}
+use Rattle.sp_cuts.proofs.Appended.{appending_starts, appending_first, appending_on, both_ok, counted_joined}
 use Rattle.sp_cuts.proofs.behind.append_side.Goals as goal
 
 pub loop-seg-init : goal.loop-seg-init
@@ -16,3 +16,9 @@ loop-seg-preserved g c = record {
   appending = appending_on c.all.ensures _ _ _ _ _ _ _ _ c.loop-seg.invariant.appending c.in-Some.ensures.first.0 _ _ (let u = c.in-Some.ensures.first.1 in let l = c.last_up.ensures.value in omega arith) c.in_ok-append.ensures.kept c.in_ok-append.ensures.ropes
       c.in_ok-append.ensures.segments c.in_ok-append.ensures.net;
 }
+
+pub returns-clause-counted : goal.returns-clause-counted
+returns-clause-counted g c =
+    both_ok c.join_sides.result _ _ _
+    (λ side long steps. counted_joined (length c.args.near) (length c.loop-seg.near) (length c.take_first_within.new.self) (length side) _ _ c.loop-seg.invariant.appending.long c.loop-seg.invariant.appending.short long steps)
+    c.join_sides.ensures.length c.join_sides.ensures.counted

@@ -2,6 +2,7 @@ use Rattle.std.proofs.Common.{arith, inl, inr, sym, subst}
 use Rattle.cut_laws.specs.Cuts.{series_cut}
 use Rattle.cut_laws.specs.Tops.{LiesInFirst, LiesInSecond}
 use Rattle.sp_cuts.specs.Parts.{cut_of}
+use Rattle.sp_cuts.proofs.Appended.{if_first, if_second}
 use Rattle.sp_cuts.proofs.Kept.{sides_of}
 use Rattle.sp_cuts.proofs.Made.{first_cut, second_cut, first_leads, second_leads, series_rough}
 use Rattle.sp_cuts.proofs.composing.series_part.Goals as goal
@@ -39,6 +40,9 @@ returns-in_ok-back-clause-rough g c = series_rough _ _ _ _ _ c.args.hill c.requi
     (c.series_law.ensures.rising (cut_of c.args.ropes.now c.args.a) (cut_of c.args.ropes.now c.args.b) c.args.name c.args.hill c.requires.a.both.rising c.requires.b.both.rising))
     (returns-in_ok-back-clause-kinds g c) (omega (arith, c.max-peak.ensures, c.max.ensures))
 
+pub returns-in_ok-back-clause-counted : goal.returns-in_ok-back-clause-counted
+returns-in_ok-back-clause-counted g c = if_first c.args.a.least c.args.b.least _ _ c.if-a-b.true c.in_ok-back.ensures.counted
+
 -- ---- cut in the second part
 
 pub lead_over-requires-else-a-b : goal.lead_over-requires-else-a-b
@@ -71,3 +75,6 @@ returns-in_ok-front-clause-rough g c = series_rough _ _ _ _ _ c.args.hill c.requ
     (c.series_law.ensures.meets (cut_of c.args.ropes.now c.args.a) (cut_of c.args.ropes.now c.args.b) c.args.name c.args.hill c.requires.a.both.meets c.requires.b.both.meets)
     (c.series_law.ensures.rising (cut_of c.args.ropes.now c.args.a) (cut_of c.args.ropes.now c.args.b) c.args.name c.args.hill c.requires.a.both.rising c.requires.b.both.rising))
     (returns-in_ok-front-clause-kinds g c) (omega (arith, c.max-peak.ensures, c.max.ensures))
+
+pub returns-in_ok-front-clause-counted : goal.returns-in_ok-front-clause-counted
+returns-in_ok-front-clause-counted g c = if_second c.args.a.least c.args.b.least _ _ (let t = c.if-a-b.false in omega arith) c.in_ok-front.ensures.counted

@@ -1,6 +1,7 @@
 use Rattle.std.proofs.Common.{◌≡◌, ◌+◌, ◌≤◌, length, subst, List, IfOk, arith}
 use Rattle.hill_valley.specs.Side.{Run, runs_of}
-use Rattle.sp_cuts.proofs.Appended.{length_runs}
+use Rattle.std.proofs.lemmas.Result.{IfOk-weaker}
+use Rattle.sp_cuts.proofs.Appended.{length_runs, longer, counted_over}
 use Rattle.sp_cuts.proofs.Crossed.{over_told}
 use Rattle.sp_cuts.proofs.Counts.{one_longer}
 use Rattle.sp_cuts.proofs.hills.lead_over.Goals as goal
@@ -27,3 +28,14 @@ returns-clause-steps g c =
     let w = c.in_ok-over.ensures.fewer in
     let one : length (runs_of c.append.new.ropes c.append.new.self) ≤ length (runs_of c.go_above.new.ropes c.args.near) + 1 = one_longer _ _ _ c.in_ok-append.ensures.segments in
     omega (arith, length_runs c.append.new.ropes c.append.new.self, length_runs c.go_above.new.ropes c.args.near)
+
+pub returns-clause-counted : goal.returns-clause-counted
+returns-clause-counted g c =
+    let one : length (runs_of c.append.new.ropes c.append.new.self) ≤ length (runs_of c.go_above.new.ropes c.args.near) + 1 = one_longer _ _ _ c.in_ok-append.ensures.segments in
+    let more : (length (runs_of c.go_above.new.ropes c.args.near) ≤ length (runs_of c.append.new.ropes c.append.new.self)) × (1 ≤ length (runs_of c.append.new.ropes c.append.new.self)) = longer _ _ _ c.in_ok-append.ensures.segments in
+    let own = length_runs c.append.new.ropes c.append.new.self in
+    let near = length_runs c.go_above.new.ropes c.args.near in
+    let short : length c.args.near ≤ length c.append.new.self = omega (arith, more.0) in
+    let long : length c.append.new.self ≤ length c.args.near + 1 = omega arith in
+    let some : 1 ≤ length c.append.new.self = omega (arith, more.1) in
+    IfOk-weaker c.append_side.result _ _ (λ side x. counted_over (length c.args.near) (length c.append.new.self) (length side) _ _ short long some x) c.append_side.ensures.counted

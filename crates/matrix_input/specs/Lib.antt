@@ -1,0 +1,4 @@
+pub mod Numbers
+pub mod Columns
+pub mod Order
+pub mod PlaceTables
