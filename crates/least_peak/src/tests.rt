@@ -17,19 +17,24 @@ const FIVE: &[u8] = b"tree 1\nnodes 5\n2 1 9 1\n5 5 0 1\n4 1 9 1\n5 5 0 1\n0 0 0
 const BRANCHES: &[u8] =
     b"workflow 1\ntasks 4\ndata 4\ndata 1\ntask 0 1\ndata 3\ntask 6 1\ndata 4\ndata 1\ntask 0 1\ndata 3\ntask 6 1\npar 2\nend\n";
 
-// The plan has this peak, `check` accepts it, also without a thread, and its order replays to it.
+// There are so many tasks. The plan has this peak, `check` accepts it, also without a thread, and its order replays to it; so has the
+// plan for which the problem is given up.
 fn check_plan<R: Abort + Threads + Sync>(
     rt: &R,
     alloc: Global,
-    problem: &Problem,
+    problem: Problem,
+    tasks: u32,
     peak: u64,
 ) -> Result<(), Fail> {
+    assert_eq!(rt; problem.task_count(), tasks);
+    assert_eq!(rt; problem.system(alloc)?.tasks().len(), tasks as usize);
     let plan = problem.plan(alloc)?;
     assert_eq!(rt; plan.peak(), peak);
     let verdict = problem.check(rt, alloc, &plan, 2, &NoGate)?;
     assert_eq!(rt; verdict, Verdict::Yes(peak));
     assert_eq!(rt; problem.check_alone(alloc, &plan)?, Verdict::Yes(peak));
     assert_eq!(rt; problem.replay(alloc, plan.order())?, peak);
+    assert_eq!(rt; problem.into_plan(alloc)?.peak(), peak);
     Ok(())
 }
 
@@ -37,7 +42,7 @@ fn check_plan<R: Abort + Threads + Sync>(
 fn plans(rt: HostRuntime) -> Result<(), Fail> {
     let alloc = rt.alloc();
     let tree = read_tree(alloc, FIVE)?;
-    check_plan(&rt, alloc, &Problem::of_tree(tree), 11)?;
+    check_plan(&rt, alloc, Problem::of_tree(tree), 5, 11)?;
     let terms = read_workflow(alloc, BRANCHES)?;
-    check_plan(&rt, alloc, &Problem::of_workflow(terms), 13)
+    check_plan(&rt, alloc, Problem::of_workflow(terms), 4, 13)
 }
