@@ -28,7 +28,7 @@ use Rattle.sp_reduce.proofs.Ends.{split, into-known, into-task, hits-same}
 use Rattle.sp_reduce.proofs.Whole.{makes-fits, weigh-arcs, exact, exact-self, same_size}
 use Rattle.sp_reduce.proofs.Works.{hits-end}
 use Rattle.sp_reduce.proofs.Weights.{weighed}
-use Rattle.sp_reduce.proofs.Links.{items-made}
+use Rattle.sp_reduce.proofs.RenamedTerms.{items-made}
 use Rattle.sp_reduce.proofs.Shaped.{tasks-are, items-are, size_if, size_in, size_out, ShareFits, allowed}
 use Rattle.sp_reduce.proofs.Bounds.{weigh-data, weigh-holds, size-holds, bad, small, AreBound, bounds}
 
