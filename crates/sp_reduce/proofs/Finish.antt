@@ -7,7 +7,7 @@ use Rattle.std.proofs.lemmas.List.Sums.{sum_by-cons, sum_by-append, get_or-le-su
 use Rattle.std.proofs.lemmas.List.Elements.{All-head, All-tail}
 use Rattle.std.proofs.lemmas.List.FromFn.{length-range_with_len, get_or-range_with_len}
 use Rattle.std.proofs.lemmas.Bool.{ne_eqb, le-leb, eqb-true, cases_Bool}
-use Rattle.limits.specs.Limits.{most_size}
+use Rattle.limits.specs.Limits.{most_size, most_positions}
 use Rattle.mp_system.specs.declared.system.Task.{Task}
 use Rattle.mp_system.specs.declared.system.Item.{Item}
 use Rattle.mp_system.specs.System.{TaskSystem, IsSystem, IsTask, IsTaskWithin, IsItemWithin, is_named, is_input, is_output, size_where, extra_size, item_size}
@@ -257,7 +257,7 @@ module _ (graph : TaskGraph) (is : IsGraph graph) (system : IsSystem (completed_
       sym (weigh-holds None None t) ∙ m.arcs (λ p n q. 1) ∙ ones-length (completed_system graph).items
       ∙ length-map (completed_arcs (length graph.tasks) graph.arcs) item_of
 
-  pub size-small : size_of t < 2 ^ 32
+  pub size-small : size_of t ≤ most_positions
   size-small = omega (arith, size-holds t, holds-are, is.few_arcs)
 
   extras-are : sum_by (λ v. (task_at graph.tasks v).extra) (names t) ≡ sum_by extra_size graph.tasks

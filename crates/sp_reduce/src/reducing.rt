@@ -1,4 +1,4 @@
-ghost use Rattle.std.specs.Prelude.{◌≡◌, ◌≤◌, ◌<◌, ◌^◌, [], ◌∷◌, ℕ, All, length, map, IfOk, IfErr, MatchOption};
+ghost use Rattle.std.specs.Prelude.{◌≡◌, ◌≤◌, [], ◌∷◌, ℕ, All, length, map, IfOk, IfErr, MatchOption};
 ghost use Rattle.limits.specs.Limits.{most_tasks, most_arcs};
 ghost use Rattle.mp_system.specs.System.{IsSystem};
 ghost use Rattle.sp_terms.specs.Values.{term_of};
@@ -63,7 +63,7 @@ fn left_ends(alloc: Global, links: &[Link]) -> Result<Vec<(u32, u32)>, NoMemory>
 
 // The one link that is left, if one alone is, and leads from none to none.
 fn only_link(links: &[Link], ends: &[(u32, u32)]) -> Option<u32>
-    requires few { length links.now < 2 ^ 32 }
+    requires few { length links.now ≤ most_arcs }
     requires ends { ends.now ≡ pairs_of links.now }
     ensures { MatchOption result (pairs_of links.now ≡ (0, 0) ∷ [] → ⊥) (λ x. IsLink links.now x 0 0 × (pairs_of links.now ≡ (0, 0) ∷ [])) }
 {
