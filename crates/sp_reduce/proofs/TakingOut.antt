@@ -1,10 +1,10 @@
 -- A task is taken out: what holds of the links that are left.
-use Rattle.std.proofs.Common.{◌≡◌, ◌≢◌, ℕ, ◌+◌, ◌^◌, ◌<◌, ◌≤◌, refl, sym, subst, ap, arith, ◌∙◌, List, length, Option, Some, None, get_or, set}
+use Rattle.std.proofs.Common.{◌≡◌, ◌≢◌, ℕ, ◌+◌, ◌≤◌, refl, sym, arith, ◌∙◌, List, length, Option, Some, None, set}
 use Rattle.std.proofs.lemmas.List.Sorted.{IsPermutation-refl}
 use Rattle.sp_reduce.specs.declared.link.Link.{Link}
 use Rattle.sp_reduce.specs.declared.link.Taken.{Taken}
 use Rattle.sp_reduce.specs.Reductions.{LeadsTo, in_order, by_parallel, by_series}
-use Rattle.sp_reduce.specs.Work.{no_link, link, link_at, hit, links_into, links_out_of, link_count, link_weight, sum_links, pairs_of, fewer_by, IsLink, IsTaken, IsWork}
+use Rattle.sp_reduce.specs.Work.{no_link, link, hit, links_into, links_out_of, link_count, link_weight, sum_links, pairs_of, fewer_by, IsLink, IsTaken, IsWork}
 use Rattle.sp_reduce.proofs.Works.{Meets, changed-len, hit-self, hit-no, two_sums, joined_fewer, merged_fewer}
 use Rattle.sp_reduce.proofs.Rows.{leads-series, leads-parallel}
 

@@ -1,4 +1,4 @@
-use Rattle.std.proofs.Common.{◌∷◌, ◌++◌, List, sym, subst}
+use Rattle.std.proofs.Common.{◌∷◌, ◌++◌, sym, subst}
 use Rattle.sp_reduce.specs.Reductions.{LeadsTo, ends_of}
 use Rattle.sp_reduce.specs.Work.{AreRanked, LinksValue, pairs_of}
 use Rattle.sp_reduce.proofs.Adding.{ranked-more}

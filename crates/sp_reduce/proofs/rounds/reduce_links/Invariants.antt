@@ -1,4 +1,4 @@
-use Rattle.std.proofs.Common.{◌≡◌, ℕ, ◌+◌, ◌*◌, ◌≤◌, List, [], length, vec_len}
+use Rattle.std.proofs.Common.{◌≡◌, ◌+◌, ◌*◌, ◌≤◌, List, [], length, vec_len}
 use Rattle.mp_system.specs.declared.system.Item.{Item}
 use Rattle.sp_reduce.specs.Reductions.{LeadsTo}
 use Rattle.sp_reduce.specs.Pieces.{IsCarried}

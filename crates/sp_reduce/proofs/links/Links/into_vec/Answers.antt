@@ -1,7 +1,6 @@
-use Rattle.std.proofs.Common.{◌≡◌, arith, sym, ap, ◌∙◌}
+use Rattle.std.proofs.Common.{sym, ◌∙◌}
 use Rattle.std.specs.Prelude.{nat_eq}
 use Rattle.std.specs.HashMap as hash
-use Rattle.sp_reduce.specs.Work.{IsIdle}
 use Rattle.sp_reduce.proofs.Works.{idle-irreducible}
 use Rattle.sp_reduce.proofs.links.Links.into_vec.Goals as goal
 

@@ -1,4 +1,4 @@
-use Rattle.std.proofs.Common.{◌≡◌, ◌≢◌, ◌≤◌, ◌+◌, ◌-◌, ℕ, List, length, arith, get_or, set, refl, sym, ap, subst, ◌∙◌, Option, Some, true}
+use Rattle.std.proofs.Common.{◌≡◌, ◌≢◌, ◌≤◌, ◌-◌, ℕ, arith, get_or, set, refl, sym, ap, subst, ◌∙◌, Option, Some, true}
 use Rattle.std.specs.Prelude.{nat_eq}
 use Rattle.std.specs.HashMap as hash
 use Rattle.std.proofs.lemmas.Bool.{ne_eqb}
