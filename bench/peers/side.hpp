@@ -1,0 +1,154 @@
+// Segments as a planner keeps them for each end of a part of a term.
+#pragma once
+
+#include <map>
+
+#include "tree.hpp"
+
+enum class Direction : std::uint8_t { Forwards, Backwards };
+
+inline Direction turned(Direction direction) {
+    return direction == Direction::Forwards ? Direction::Backwards : Direction::Forwards;
+}
+
+// Tasks in the order in which they run: the number of one task, or a number above all of these,
+// which two lists one after the other have.
+using List = std::uint32_t;
+
+// A run of tasks that ends lower by `net` than it starts.
+struct Run {
+    std::uint64_t net;
+    List tasks;
+};
+
+// A run that needs `up` above the level at which it starts.
+struct Segment {
+    std::uint64_t up;
+    Run run;
+};
+
+// All lists of tasks. A list is in one other at most, so there are fewer joins than tasks.
+class Lists {
+public:
+    explicit Lists(std::size_t tasks) : tasks(static_cast<List>(tasks)) { joins.reserve(tasks); }
+
+    // One list, and then in a direction another.
+    List join(Direction direction, List one, List then) {
+        if (direction == Direction::Backwards) std::swap(one, then);
+        joins.push_back({one, then});
+        return tasks + static_cast<List>(joins.size());
+    }
+
+    Run join(Direction direction, const Run &one, const Run &then) {
+        return {one.net + then.net, join(direction, one.tasks, then.tasks)};
+    }
+
+    void write(List list, Order &order);
+
+private:
+    struct Join {
+        List one, then;
+    };
+
+    List tasks;
+    std::vector<Join> joins;
+    std::vector<List> left;
+};
+
+// Segments by rising `up`, as they are run in a direction: from one end of a part down to its least
+// memory. Most sides have one segment or a few, some have thousands. So one stands in place; more
+// stand in a row with room at both ends; and a long row becomes a tree where one goes inside it.
+class Side {
+public:
+    Side() : place{} {}
+    Side(Side &&other) noexcept : Side() { swap(other); }
+    ~Side() { clear(); }
+
+    Side &operator=(Side &&other) noexcept {
+        swap(other);
+        return *this;
+    }
+
+    bool empty() const { return count == 0; }
+    std::uint32_t size() const { return count; }
+
+    std::uint64_t first_up() const {
+        return kind == InTree ? place.tree->begin()->first : begin()->up;
+    }
+
+    // That of the last segment, or 0 where there is none.
+    std::uint64_t last_up() const {
+        if (count == 0) return 0;
+        return kind == InTree ? place.tree->rbegin()->first : begin()[count - 1].up;
+    }
+
+    Segment take_first();
+
+    // Puts a segment behind all others, or into the last one if that goes up as high.
+    void append(Direction direction, const Segment &segment, Lists &lists);
+
+    // Puts a run into the last segment.
+    void join_last(Direction direction, const Run &run, Lists &lists);
+
+    // Puts the segments of another side among these: the fewer go to the more. Where two go up
+    // equally high they become one, and those of the other side come after these.
+    void merge(Direction direction, Side &&other, Lists &lists);
+
+    template <class Each> void for_each(Each each) const {
+        if (kind == InTree) {
+            for (const auto &[up, run] : *place.tree) each(up, run.net);
+        } else {
+            for (const Segment *it = begin(); it != begin() + count; it++) each(it->up, it->run.net);
+        }
+    }
+
+private:
+    using Tree = std::map<std::uint64_t, Run>;
+
+    struct Row {
+        Segment *segments;
+        std::uint32_t head, capacity;
+    };
+
+    // How segments of one `up` become one.
+    struct Joining {
+        Direction direction;
+        bool are_before;
+        Lists &lists;
+
+        void put(const Run &run, Run &into) const {
+            into = are_before ? lists.join(direction, run, into) : lists.join(direction, into, run);
+        }
+    };
+
+    Segment *begin() { return kind == InRow ? place.row.segments + place.row.head : &place.one; }
+    const Segment *begin() const { return const_cast<Side *>(this)->begin(); }
+
+    void swap(Side &other) noexcept {
+        std::swap(count, other.count);
+        std::swap(kind, other.kind);
+        std::swap(place, other.place);
+    }
+
+    void clear();
+    void put_one(const Segment &segment);
+    void push_front(const Segment &segment);
+    void push_back(const Segment &segment);
+    void insert(const Segment &segment, const Joining &joining);
+    void insert_in_tree(const Segment &segment, const Joining &joining);
+    void insert_in_row(const Segment &segment, const Joining &joining);
+    void open(std::uint32_t at);
+    void take_all(Side &fewer, const Joining &joining);
+    void take_row(Side &fewer, const Joining &joining);
+    void make_room(std::uint32_t capacity, std::uint32_t head);
+    void make_tree();
+    void make_row();
+
+    std::uint32_t count = 0;
+    enum : std::uint32_t { InPlace, InRow, InTree } kind = InPlace;
+    union {
+        Segment one;
+        Row row;
+        Tree *tree;
+    } place;
+};

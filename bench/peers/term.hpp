@@ -1,0 +1,16 @@
+// The term of a tree or a workflow, which the model of memplan's planner plans.
+#pragma once
+
+#include "workflow.hpp"
+
+// Tasks are numbered by their positions. Those of a tree have other names, the numbers of its nodes.
+struct Term {
+    Workflow positions;
+    Order names;
+
+    std::size_t tasks() const;
+};
+
+// Nodes in postorder, children in rising number: of each the parts below it side by side, its block,
+// and its task. The roots stand side by side.
+Term term_of(const Tree &tree);
