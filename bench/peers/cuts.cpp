@@ -14,12 +14,12 @@ struct Part {
 
 class Planner {
 public:
-    Planner(const Term &term, Notes *notes) : term(term), lists(term.tasks()), notes(notes) {
+    Planner(const Term &term, Notes *notes) : term(term), lists(term.tasks), notes(notes) {
         if (!notes) return;
         // room for the most, of which only what is written is taken
-        notes->series.reserve(term.tasks());
+        notes->series.reserve(term.tasks);
         notes->parts.reserve(term.positions.size());
-        notes->gone.reserve(4 * term.tasks());
+        notes->gone.reserve(4 * term.tasks);
     }
 
     Planned plan() {

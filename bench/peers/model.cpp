@@ -24,7 +24,7 @@ void read(const char *kind, const char *name) {
 }
 
 Term read_term(const char *kind, const char *name) {
-    return is_tree(kind) ? term_of(read_tree(name)) : Term{read_workflow(name), {}};
+    return is_tree(kind) ? term_of(read_tree(name)) : term_of(read_workflow(name));
 }
 
 void print_claim(Page &page, const Claim &claim) {

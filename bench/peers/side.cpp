@@ -29,42 +29,22 @@ void Lists::write(List list, Order &order) {
     }
 }
 
-void Side::clear() {
+void Side::free_place() {
     if (kind == InTree) delete place.tree;
     if (kind == InRow) delete[] place.row.segments;
-    kind = InPlace;
-    count = 0;
 }
 
-Segment Side::take_first() {
-    Segment first;
-    if (kind == InTree) {
-        const auto least = place.tree->begin();
-        first = {least->first, least->second};
-        place.tree->erase(least);
-    } else {
-        first = *begin();
-        if (kind == InRow) place.row.head++;
-    }
-    if (--count == 0) clear();
+Segment Side::take_from_tree() {
+    const auto least = place.tree->begin();
+    const Segment first{least->first, least->second};
+    place.tree->erase(least);
     return first;
 }
 
-void Side::append(Direction direction, const Segment &segment, Lists &lists) {
-    if (count > 0 && segment.up <= last_up()) join_last(direction, segment.run, lists);
-    else push_back(segment);
-}
-
-void Side::join_last(Direction direction, const Run &run, Lists &lists) {
-    Run &last = kind == InTree ? place.tree->rbegin()->second : begin()[count - 1].run;
-    last = lists.join(direction, last, run);
-}
-
-void Side::merge(Direction direction, Side &&other, Lists &lists) {
+void Side::merge_both(Direction direction, Side &other, Lists &lists) {
     const bool is_fewer = count < other.count;
-    if (is_fewer) swap(other);
+    if (is_fewer) std::swap(*this, other);
     const Joining joining{direction, is_fewer, lists};
-    if (other.count == 0) return;
     if (other.count == 1 || FAR_MORE * other.count <= count) take_all(other, joining);
     else take_row(other, joining);
 }
@@ -103,7 +83,7 @@ void Side::take_row(Side &fewer, const Joining &joining) {
 }
 
 void Side::insert(const Segment &segment, const Joining &joining) {
-    if (count == 0 || segment.up > last_up()) push_back(segment);
+    if (segment.up > last_up()) push_behind(segment);
     else if (segment.up < first_up()) push_front(segment);
     else if (kind == InTree || count > LONG_ROW) insert_in_tree(segment, joining);
     else insert_in_row(segment, joining);
@@ -141,14 +121,7 @@ void Side::open(std::uint32_t at) {
     count++;
 }
 
-void Side::put_one(const Segment &segment) {
-    clear();
-    place.one = segment;
-    count = 1;
-}
-
-void Side::push_back(const Segment &segment) {
-    if (count == 0) return put_one(segment);
+void Side::push_behind(const Segment &segment) {
     if (kind == InTree) {
         place.tree->emplace_hint(place.tree->end(), segment.up, segment.run);
     } else {

@@ -2,6 +2,7 @@
 #pragma once
 
 #include <map>
+#include <utility>
 
 #include "tree.hpp"
 
@@ -60,12 +61,17 @@ private:
 // stand in a row with room at both ends; and a long row becomes a tree where one goes inside it.
 class Side {
 public:
-    Side() : place{} {}
-    Side(Side &&other) noexcept : Side() { swap(other); }
+    Side() {}
+    Side(Side &&other) noexcept
+        : count(std::exchange(other.count, 0)), kind(std::exchange(other.kind, InPlace)),
+          place(other.place) {}
     ~Side() { clear(); }
 
     Side &operator=(Side &&other) noexcept {
-        swap(other);
+        clear();
+        count = std::exchange(other.count, 0);
+        kind = std::exchange(other.kind, InPlace);
+        place = other.place;
         return *this;
     }
 
@@ -82,17 +88,32 @@ public:
         return kind == InTree ? place.tree->rbegin()->first : begin()[count - 1].up;
     }
 
-    Segment take_first();
+    Segment take_first() {
+        const Segment first = kind == InTree ? take_from_tree() : *begin();
+        if (kind == InRow) place.row.head++;
+        if (--count == 0) clear();
+        return first;
+    }
 
     // Puts a segment behind all others, or into the last one if that goes up as high.
-    void append(Direction direction, const Segment &segment, Lists &lists);
+    void append(Direction direction, const Segment &segment, Lists &lists) {
+        if (count > 0 && segment.up <= last_up()) join_last(direction, segment.run, lists);
+        else push_back(segment);
+    }
 
     // Puts a run into the last segment.
-    void join_last(Direction direction, const Run &run, Lists &lists);
+    void join_last(Direction direction, const Run &run, Lists &lists) {
+        Run &last = kind == InTree ? place.tree->rbegin()->second : begin()[count - 1].run;
+        last = lists.join(direction, last, run);
+    }
 
     // Puts the segments of another side among these: the fewer go to the more. Where two go up
     // equally high they become one, and those of the other side come after these.
-    void merge(Direction direction, Side &&other, Lists &lists);
+    void merge(Direction direction, Side &&other, Lists &lists) {
+        if (other.empty()) return;
+        if (empty()) *this = std::move(other);
+        else merge_both(direction, other, lists);
+    }
 
     template <class Each> void for_each(Each each) const {
         if (kind == InTree) {
@@ -124,16 +145,24 @@ private:
     Segment *begin() { return kind == InRow ? place.row.segments + place.row.head : &place.one; }
     const Segment *begin() const { return const_cast<Side *>(this)->begin(); }
 
-    void swap(Side &other) noexcept {
-        std::swap(count, other.count);
-        std::swap(kind, other.kind);
-        std::swap(place, other.place);
+    void clear() {
+        if (kind != InPlace) free_place();
+        kind = InPlace;
+        count = 0;
     }
 
-    void clear();
-    void put_one(const Segment &segment);
+    void push_back(const Segment &segment) {
+        if (count > 0) return push_behind(segment);
+        clear();
+        place.one = segment;
+        count = 1;
+    }
+
+    void free_place();
+    Segment take_from_tree();
+    void push_behind(const Segment &segment);
     void push_front(const Segment &segment);
-    void push_back(const Segment &segment);
+    void merge_both(Direction direction, Side &other, Lists &lists);
     void insert(const Segment &segment, const Joining &joining);
     void insert_in_tree(const Segment &segment, const Joining &joining);
     void insert_in_row(const Segment &segment, const Joining &joining);

@@ -3,11 +3,6 @@
 #include <algorithm>
 #include <utility>
 
-std::size_t Term::tasks() const {
-    const auto is_task = [](const Position &position) { return position.kind == Position::Task; };
-    return static_cast<std::size_t>(std::count_if(positions.begin(), positions.end(), is_task));
-}
-
 namespace {
 
 // The nodes in postorder, children in rising number.
@@ -41,12 +36,18 @@ void gather(Workflow &positions, std::uint32_t children) {
 
 }
 
+Term term_of(Workflow workflow) {
+    const auto is_task = [](const Position &position) { return position.kind == Position::Task; };
+    const auto tasks = std::count_if(workflow.begin(), workflow.end(), is_task);
+    return {std::move(workflow), static_cast<std::size_t>(tasks), {}};
+}
+
 Term term_of(const Tree &tree) {
     Order children(tree.size(), 0);
     for (std::size_t v = 1; v < tree.size(); v++) children[tree[v].parent]++;
     std::size_t count = 2 * (tree.size() - 1);
     for (const std::uint32_t it : children) count += gathering(it);
-    Term term{{}, postorder_of(tree)};
+    Term term{{}, tree.size() - 1, postorder_of(tree)};
     term.positions.reserve(count);
     for (const std::uint32_t v : term.names) {
         gather(term.positions, children[v]);

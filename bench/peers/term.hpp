@@ -6,10 +6,11 @@
 // Tasks are numbered by their positions. Those of a tree have other names, the numbers of its nodes.
 struct Term {
     Workflow positions;
+    std::size_t tasks;
     Order names;
-
-    std::size_t tasks() const;
 };
+
+Term term_of(Workflow workflow);
 
 // Nodes in postorder, children in rising number: of each the parts below it side by side, its block,
 // and its task. The roots stand side by side.
