@@ -29,6 +29,8 @@ public:
         at = bytes.data();
     }
 
+    std::size_t size() const { return bytes.size() - 1; }
+
     // The next token, past blanks, line feeds and comments; empty at the end.
     std::string_view token() {
         skip();
