@@ -5,14 +5,13 @@ usage: bench/run.py [--quick] [--program FILE] [--out FOLDER] [--turns N] [--lim
                     [--only TABLE,TABLE,..] [--growth TASKS,TASKS,..] [--anew]
 
 It wants an idle machine, g++ and make, and Debian's package libsuitesparse-dev (CXSparse, CHOLMOD,
-AMD) for the tables `analysis` and `mindeg`; it builds the peers in bench/peers, makes the inputs, and
-runs memplan and the peers in turn. A whole run takes WHOLE_RUN. It can be stopped at any time: what is
-measured stands in FOLDER (bench/out), and the next run of the same programs goes on from there;
---anew forgets it.
---quick tries every line on small inputs, in some seconds; its figures mean nothing. --only makes
-some tables alone: reading, replay, analysis, mindeg, post, plan, hard, check,
-simulate, spill, fronts, segments, reduce, growth.
---growth names the numbers of tasks of the last one.
+AMD) for the tables `analysis` and `mindeg`. It builds the peers in bench/peers, makes the inputs, and
+runs memplan and the peers in turn. A whole run takes WHOLE_RUN. It can be stopped
+at any time: what is measured stands in FOLDER (bench/out), and the next run of the same programs
+goes on from there; --anew forgets it. --quick tries every line on small inputs, in some seconds; its
+figures mean nothing. --only makes some tables alone, of reading, replay, analysis, mindeg, post,
+plan, hard, check, simulate, spill, fronts, segments, reduce, growth; --growth names the numbers of
+tasks of the last one.
 
 Of each program the least of N turns (5) counts; a row that has taken 20 seconds has no further turn
 after its second one. Each run has SECONDS (100) of processor time. Where memplan has no such command
@@ -43,14 +42,16 @@ OF_SUITESPARSE = ("analysis", "mindeg")
 
 PLAN_NOTE = """\
 The model is C++ of the same algorithm, without any proof. With claims it prints the same bytes as
-memplan. Without them it keeps no notes, makes none and prints none: that is a planner without
-certificate, and the ratio to the model is a ratio to it. In memory that ratio is of the two whole
-runs. In time it counts the same reading on both sides: memplan's whole time, divided by the model's
-whole time without claims, less the model's reading, plus memplan's reading. memplan's reading is its
-time on the same file without its last line, which it reads to its end and refuses; the model's is
-its time when it reads the file and does nothing else. All seven took their turns in one run. C++ is
-another planner without certificate, with a special algorithm for trees; the ratio to it is of the
-two whole runs.
+memplan, which was compared. Without claims it keeps no notes for them, does not look for any and
+prints none: a planner without certificate. The ratio to the model is to that one. In memory it is
+of the two whole runs. In time it counts the same reading on both sides:
+
+    memplan / (model without claims - the model's reading + memplan's reading)
+
+memplan's reading is its time on the same file without its last line, which it reads to its end and
+then refuses; the model's is its time where it reads the file and does nothing else. C++ is another
+planner without certificate, with a special algorithm for trees; the ratio to it is of the two whole
+runs, in time too.
 """
 GROWTH_NOTE = """\
 At the head the number of tasks. The exponent is that with which time grows from the first size to
@@ -316,9 +317,9 @@ class Tables:
         return self.alone_table("check", "`check`", choices, ["1 worker", "4 workers"])
 
     def replay(self) -> str:
-        found = [
-            (label, [["replay", *words, "--plan", plan]]) for label, words, plan, _ in self.planned()
-        ]
+        found = []
+        for label, words, plan, _ in self.planned():
+            found.append((label, [["replay", *words, "--plan", plan]]))
         return self.alone_table("replay", "`replay` of a plan", found, [""])
 
     def simulate(self) -> str:

@@ -102,7 +102,8 @@ Walk::Both Walk::wanted_in_series(const Position &position, const SeriesNote &no
 
 // A part is stuck as the whole is, as far above its own level, if its side ever goes up so far.
 void Walk::go_into_parts(std::size_t count, const std::optional<Wanted> &wanted) {
-    const PartNote *const last = notes.parts.data() + notes.parts.size(), *const first = last - count;
+    const PartNote *const last = notes.parts.data() + notes.parts.size();
+    const PartNote *const first = last - count;
     if (wanted) set_levels(first, last, *wanted);
     for (std::size_t at = 0; at < count; at++) {
         left.push_back({});

@@ -5,8 +5,8 @@
 
 namespace {
 
-// Memory at the start and at the end of a part, the least between, where it is cut, and the segments
-// that lead there from both ends.
+// Memory at the start and at the end of a part, the least between, where it is cut, and the
+// segments that lead there from both ends.
 struct Part {
     std::uint64_t initial, fin, least;
     Side front, back;
@@ -41,8 +41,8 @@ private:
     void put_series(const Position &position);
     void put_beside(std::size_t count);
 
-    // The way that a side goes on: up along the near part's other side, over the hill of a task, and
-    // down along the far part's side.
+    // The way that a side goes on: up along the near part's other side, over the hill of a task,
+    // and down along the far part's side.
     struct Way {
         Direction direction;
         std::uint64_t near_least, climbed_from, hill, far_start;

@@ -31,7 +31,7 @@ struct Segment {
 // All lists of tasks. A list is in one other at most, so there are fewer joins than tasks.
 class Lists {
 public:
-    explicit Lists(std::size_t tasks) : tasks(static_cast<List>(tasks)) { joins.reserve(tasks); }
+    explicit Lists(std::size_t count) : tasks(static_cast<List>(count)) { joins.reserve(count); }
 
     // One list, and then in a direction another.
     List join(Direction direction, List one, List then) {
@@ -119,7 +119,8 @@ public:
         if (kind == InTree) {
             for (const auto &[up, run] : *place.tree) each(up, run.net);
         } else {
-            for (const Segment *it = begin(); it != begin() + count; it++) each(it->up, it->run.net);
+            const Segment *const end = begin() + count;
+            for (const Segment *it = begin(); it != end; it++) each(it->up, it->run.net);
         }
     }
 

@@ -3,7 +3,8 @@
 
 #include "workflow.hpp"
 
-// Tasks are numbered by their positions. Those of a tree have other names, the numbers of its nodes.
+// Tasks are numbered in the order of their positions. Those of a tree have names beside, the numbers
+// of its nodes.
 struct Term {
     Workflow positions;
     std::size_t tasks;
@@ -12,6 +13,6 @@ struct Term {
 
 Term term_of(Workflow workflow);
 
-// Nodes in postorder, children in rising number: of each the parts below it side by side, its block,
-// and its task. The roots stand side by side.
+// Nodes in postorder, children in rising number: of each the parts below it side by side, its
+// block, and its task. The roots stand side by side.
 Term term_of(const Tree &tree);
