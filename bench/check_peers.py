@@ -5,9 +5,9 @@ usage: bench/check_peers.py FOLDER [CASES]
 
 `peer` and `model` are in FOLDER, where `make -C bench/peers` builds them: bench/out. Each order
 that they find has to be a traversal, with the peak that they tell; of at most ten tasks, no order
-has a lower peak than a plan, and of at most seven no postorder than the best one. Both planners have
-to tell the same peak, the model finds the same order with claims and without, and its claims have
-to show that no order has a lower peak. Inputs, orders and claims are judged by the models of
+has a lower peak than a plan, and of at most seven no postorder than the best one. Both planners
+have to tell the same peak, the model finds the same order with claims and without, and its claims
+have to show that no order has a lower peak. Inputs, orders and claims are judged by the models of
 tools/fuzz. CASES is 1,000 if nothing else is said, which take a minute or two. The last line is
 'N passed, M failed'.
 """

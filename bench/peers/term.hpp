@@ -3,8 +3,8 @@
 
 #include "workflow.hpp"
 
-// Tasks are numbered in the order of their positions. Those of a tree have names beside, the numbers
-// of its nodes.
+// Tasks are numbered in the order of their positions. Those of a tree have names beside, the
+// numbers of its nodes.
 struct Term {
     Workflow positions;
     std::size_t tasks;
