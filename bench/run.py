@@ -331,15 +331,16 @@ class Tables:
         return self.alone_table("simulate", "`simulate`, in twice the peak", found, names)
 
     def spill(self) -> str:
-        """The bound is halfway from the greatest working set to the peak."""
+        """Where one task alone needs the whole peak, nothing has to go to disk."""
         found = []
         for label, words, plan, peak in self.planned():
             bound = (peak + working_set(words[0].lstrip("-"), words[1])) // 2
             found.append((label, [["spill", *words, "--plan", plan, "--bound", str(bound)]]))
-        return self.alone_table("spill", "`spill`", found, [""])
+        head = "`spill`, halfway from the greatest need of a task to the peak"
+        return self.alone_table("spill", head, found, [""])
 
     def fronts(self) -> str:
-        """The bound is the peak of the rows, which a refusal tells."""
+        """The bound is twice the peak of the rows, which a refusal tells."""
         found = []
         for label, matrix, perm in self.matrices():
             words = ["fronts", "--matrix", matrix, *(["--perm", perm] if perm else [])]
@@ -347,9 +348,10 @@ class Tables:
             done = subprocess.run(
                 asked, stdout=subprocess.PIPE, stderr=subprocess.DEVNULL, text=True
             )
-            bound = done.stdout.split()[-1] if done.returncode == 5 else "0"
+            bound = str(2 * int(done.stdout.split()[-1]) if done.returncode == 5 else 0)
             found.append((label, [[*words, "--bound", bound, "--workers", it] for it in "14"]))
-        return self.alone_table("fronts", "`fronts`", found, ["1 worker", "4 workers"])
+        head = "`fronts`, in twice the peak"
+        return self.alone_table("fronts", head, found, ["1 worker", "4 workers"])
 
     def segments(self) -> str:
         found = [
