@@ -4,9 +4,10 @@ from __future__ import annotations
 
 import gc
 import time
-from typing import Iterable, List, Tuple
+from typing import Any, Iterable, List, Tuple
 
 import numpy
+from dask.core import flatten
 from dask.sizeof import sizeof
 
 Record = Tuple[int, int]
@@ -56,6 +57,26 @@ def work(number: int, size: int, extra: int, seconds: float, *inputs: Block) -> 
     time.sleep(seconds)
     del room
     return result
+
+
+CHUNK, PART = 4_000_000, 100_000
+"""The bytes of a chunk of an array, and of a part of a sum."""
+
+
+def read(number: int, seconds: float) -> Block:
+    return work(number, CHUNK, 0, seconds)
+
+
+def add(left: Block, right: Block, seconds: float) -> Block:
+    return work(1, CHUNK, 0, seconds, left, right)
+
+
+def squeeze(block: Block, axis: Any = None, keepdims: Any = None) -> Block:
+    return work(2, PART, 0, 0, block)
+
+
+def gather(parts: Any, axis: Any = None, keepdims: Any = None) -> Block:
+    return work(3, PART, 0, 0, *flatten(parts, list))
 
 
 def digest(block: Block) -> Tuple[int, int]:

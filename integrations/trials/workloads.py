@@ -3,12 +3,12 @@
 from __future__ import annotations
 
 import random
-from typing import Any, Hashable, List, NamedTuple, Sequence, Tuple
+from typing import Hashable, List, NamedTuple, Sequence, Tuple
 
 import dask.array
 import memplan
 import numpy
-from blocks import Block, work
+from blocks import CHUNK, PART, add, gather, read, squeeze, work
 from memplan_dask import Task
 
 MB = 1_000_000
@@ -109,25 +109,6 @@ def fronts(side: int = 40, zeros: int = 24, entry: int = 4800, slowness: int = 1
     return load_of_tree([int(parent) for parent in made.parent], sizes, extras, times)
 
 
-CHUNK, PART = 4 * MB, MB // 10
-
-
-def read(number: int, seconds: float) -> Block:
-    return work(number, CHUNK, 0, seconds)
-
-
-def add(left: Block, right: Block, seconds: float) -> Block:
-    return work(1, CHUNK, 0, seconds, left, right)
-
-
-def squeeze(block: Block, axis: Any = None, keepdims: Any = None) -> Block:
-    return work(2, PART, 0, 0, block)
-
-
-def gather(parts: Any, axis: Any = None, keepdims: Any = None) -> Block:
-    return work(3, PART, 0, 0, *dask.core.flatten(parts, list))
-
-
 def symmetric_sum(side: int = 8, milliseconds: int = 20) -> dask.array.Array:
     """``(x + x.T).sum()`` of dask.array over chunks whose bytes are recorded: each chunk off the diagonal has two consumers."""
     chunks, no_data = ((1,) * side, (1,) * side), numpy.empty((0, 0))
@@ -140,8 +121,10 @@ def symmetric_sum(side: int = 8, milliseconds: int = 20) -> dask.array.Array:
 
 
 def sizes_of_symmetric_sum(key: Hashable) -> Tuple[int, int]:
-    """The size and the extra of a task: reading stands alone, but for a chunk of the diagonal; adding is fused with what follows."""
+    """The size and the extra of a task. Dask fuses adding with what follows, and reading a chunk of the diagonal, twice, with that."""
     name = key[0] if isinstance(key, tuple) else str(key)
     if name == "read":
         return CHUNK, 0
-    return PART, 2 * CHUNK if "squeeze" in name else 4 * PART
+    if name.startswith("read-"):
+        return PART, 3 * CHUNK
+    return PART, CHUNK if name.startswith("squeeze") else 4 * PART

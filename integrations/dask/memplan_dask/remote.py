@@ -38,7 +38,8 @@ def watch(run: str) -> WorkerPlugin:
             if not key.startswith(run):
                 return
             if finish == "memory":
-                size = self.worker.state.tasks[key].nbytes or 0
+                state = self.worker.state.tasks[key]
+                size = 0 if state.type is type(None) else state.nbytes or 0
                 self.worker.log_event(run, ("entered", key, self.worker.address, size))
             elif start == "memory":
                 self.worker.log_event(run, ("left", key, self.worker.address))

@@ -9,7 +9,7 @@ from heapq import heappop, heappush
 from queue import Empty, SimpleQueue
 from typing import Any, Dict, List, Optional, Sequence, Set, Tuple
 
-from distributed import CancelledError, Client, Future
+from distributed import Client, Future
 from memplan.admission import Admission
 
 from . import remote
@@ -76,7 +76,8 @@ class _Run:
             while self.admission.left:
                 self._handle(self._next_event())
                 self._start_ready()
-            kept, self.futures = self.futures, {}
+            kept = dict(sorted(self.futures.items()))
+            self.futures.clear()
             return kept
         except BaseException:
             self._abandon()
@@ -171,9 +172,10 @@ class _Run:
     def _failed(self, task: int) -> None:
         if task not in self.running:
             return  # its result was there, and was given back, before its future had word of it
-        error = self.futures[task].exception()
-        if isinstance(error, CancelledError):
-            raise EngineStopped(f"task {task} was cancelled")
+        future = self.futures[task]
+        if future.status != "error":
+            raise EngineStopped(f"task {task} was {future.status}")
+        error = future.exception()
         raise TaskFailed(task, error) from error
 
     def _lost(self, worker: str) -> None:
@@ -198,5 +200,6 @@ class _Run:
         if self.client.status != "running":
             return
         self.client.unregister_worker_plugin(self.name)
-        self.client.unsubscribe_topic(self.name)
         self.client.run_on_scheduler(remote.eraser(self.name))
+        # Dask has no call for this: unsubscribe_topic leaves the handler, and with it the run, where it is.
+        self.client._event_handlers.pop(self.name, None)

@@ -62,7 +62,7 @@ def of_collection(
     """The tasks of a Dask collection, and a function that makes a collection of their results, as `dask.persist` does.
 
     The collection is optimized first, so that small tasks are fused. ``sizes`` tells for each key of the graph that comes of it
-    (`keys_of`) the size and the extra of its task.
+    the size and the extra of its task.
     """
     (collection,) = dask.optimize(collection)
     graph = dict(collection.__dask_graph__())
@@ -72,7 +72,7 @@ def of_collection(
     for key, value in graph.items():
         if isinstance(value, Future):
             raise TypeError(f"{key} is on the cluster already, in memory that no run books")
-        inputs = list(get_dependencies(graph, key))
+        inputs = sorted(get_dependencies(graph, key), key=index.__getitem__)
         size, extra = sizes(key)
         function = SubgraphCallable({key: value}, key, inputs)
         tasks.append(Task(function, (), tuple(index[it] for it in inputs), size, extra, key in wanted))
