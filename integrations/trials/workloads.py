@@ -9,7 +9,7 @@ import dask.array
 import memplan
 import numpy
 from blocks import CHUNK, PART, add, gather, read, squeeze, work
-from memplan_dask import Task
+from memplan_dask import Task, of_collection
 
 MB = 1_000_000
 
@@ -120,11 +120,33 @@ def symmetric_sum(side: int = 8, milliseconds: int = 20) -> dask.array.Array:
     )
 
 
-def sizes_of_symmetric_sum(key: Hashable) -> Tuple[int, int]:
-    """The size and the extra of a task. Dask fuses adding with what follows, and reading a chunk of the diagonal, twice, with that."""
+def kind_of(key: Hashable) -> str:
+    """What the task of a key of that graph does: Dask fuses adding with what follows, and reading a chunk of the diagonal, twice, with
+    that, of which an alias is left."""
     name = key[0] if isinstance(key, tuple) else str(key)
-    if name == "read":
-        return CHUNK, 0
+    if name == "read" or name.startswith("gather"):
+        return name.split("-")[0]
     if name.startswith("read-"):
-        return PART, 3 * CHUNK
-    return PART, CHUNK if name.startswith("squeeze") else 4 * PART
+        return "diagonal"
+    return "alias" if key[1] == key[2] else "add"
+
+
+def sizes_of_symmetric_sum(key: Hashable) -> Tuple[int, int]:
+    """The size and the extra of a task."""
+    extras = {"diagonal": 3 * CHUNK, "add": CHUNK, "alias": 0, "gather": 4 * PART}
+    kind = kind_of(key)
+    return (CHUNK, 0) if kind == "read" else (PART, extras[kind])
+
+
+def array_load(side: int, milliseconds: int) -> Tuple[dask.array.Array, Load]:
+    """That sum, and its tasks."""
+    collection = symmetric_sum(side, milliseconds)
+    keys: List[Hashable] = []
+
+    def sizes(key: Hashable) -> Tuple[int, int]:
+        keys.append(key)
+        return sizes_of_symmetric_sum(key)
+
+    tasks, _ = of_collection(collection, sizes)
+    times = {"read": 1, "diagonal": 3, "add": 1, "alias": 0, "gather": 0}
+    return collection, Load(tasks, [milliseconds * times[kind_of(key)] for key in keys])
