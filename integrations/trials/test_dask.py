@@ -103,7 +103,7 @@ def computes_what_dask_computes(client: Client) -> None:
     for collection in ((x - x.mean()).std(), (x.T + x).sum(axis=0), (x @ x)[3:7, :2]):
         tasks, rebuild = of_collection(collection, lambda key: (100_000, 1_000_000))
         result = rebuild(run(tasks, least_bound(tasks, client), client))
-        assert numpy.array_equal(result.compute(), collection.compute(scheduler="sync"))
+        assert numpy.array_equal(result.compute(), client.compute(collection).result())
         del result
     leaves_nothing(client)
 
@@ -156,7 +156,7 @@ def top_of_late_release(run_class: Any) -> Tuple[int, int]:
         tasks = late_release(folder)
         bound = least_bound(tasks, client, range(6))
         records(client)
-        futures = run_class(tasks, bound, client, range(6), 0).results()
+        futures = run_class(tasks, bound, client, range(6), 0, None).results()
         assert futures[5].result().data.nbytes == MB
         futures.clear()
         return blocks.top_and_rest(settled_records(client))[0], bound
@@ -269,6 +269,28 @@ def two_runs_and_a_subscription_do_not_clash(client: Client) -> None:
     leaves_nothing(client)
 
 
+def workers_have_bounds_of_their_own(client: Client) -> None:
+    workers = sorted(client.nthreads())[:2]
+    tasks = [workloads.random_tree(60, seed).tasks for seed in (1, 2)]
+    bounds = [least_bound(some, client, workers=[worker]) for some, worker in zip(tasks, workers)]
+    settled_records(client)
+    ends: List[Any] = []
+
+    def run_part(part: int) -> None:
+        ends.append(digests(client, run(tasks[part], bounds[part], client, workers=[workers[part]])))
+
+    parts = [threading.Thread(target=run_part, args=(part,)) for part in range(2)]
+    for part in parts:
+        part.start()
+    for part in parts:
+        part.join()
+    assert len(ends) == 2
+    told = client.run(blocks.taken_records)
+    assert [blocks.top_and_rest([told[worker]])[0] for worker in workers] == bounds
+    assert "not there" in str(raised(EngineStopped, partial(run, workers=["tcp://127.0.0.1:1"]), tasks[0], bounds[0], client))
+    leaves_nothing(client)
+
+
 def a_lost_worker_ends_the_run() -> None:
     with bare_workers(3) as (client, programs):
         tasks = workloads.random_tree(60, slowness=4).tasks
@@ -341,9 +363,18 @@ CHECKS_ON_ANY_CLUSTER: List[Tuple[str, Callable[[Client], None]]] = [
     ("nothing listens but on the loopback address", listens_on_the_loopback_address_alone),
 ]
 
+def on_processes(check: Callable[[Client], None]) -> Callable[[], None]:
+    def on_cluster() -> None:
+        with cluster(processes=True) as client:
+            check(client)
+
+    return on_cluster
+
+
 CHECKS_OF_THEIR_OWN: List[Tuple[str, Callable[[], None]]] = [
     ("processes: a late release keeps the bound", keeps_its_bound_where_memory_is_released_late),
     ("processes: it would pass it if tasks finished when futures are done", would_pass_its_bound_if_tasks_finished_when_futures_are_done),
+    ("processes: workers have bounds of their own", on_processes(workers_have_bounds_of_their_own)),
     ("processes: a lost worker ends the run", a_lost_worker_ends_the_run),
     ("threads: a closed client ends the run", a_closed_client_ends_the_run),
 ]

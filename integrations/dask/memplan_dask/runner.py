@@ -21,23 +21,40 @@ _SECONDS_OF_SILENCE = 1.0
 
 
 def run(
-    tasks: Sequence[Task], bound: int, client: Client, order: Optional[Sequence[int]] = None, retries: int = 0
+    tasks: Sequence[Task],
+    bound: int,
+    client: Client,
+    order: Optional[Sequence[int]] = None,
+    retries: int = 0,
+    workers: Optional[Sequence[str]] = None,
 ) -> Dict[int, Future]:
     """Runs the tasks with at most ``bound`` bytes of results and extras on all workers together; the futures of the results that stay.
 
-    Where each result has one consumer the tasks run along an order of least peak; elsewhere along ``order`` (tasks, from 0) or, without
-    one, along Dask's. ``retries`` says how often a task that raises is tried again.
+    The tasks run along ``order`` (tasks, from 0). Without one they run along an order of least peak where each result has one consumer,
+    and else along Dask's. ``retries`` says how often a task that raises is tried again, and ``workers``, by their addresses, on which
+    workers the tasks run; without it on all that there are now.
 
     Raises `memplan.admission.BoundTooLow` where the bound is below the peak of the order, `memplan.Refused` where the order is none or a
     limit of the library is passed, and one of `errors` where the run fails. By then what ran has come to its end, and nothing is left.
     """
-    return _Run(tasks, bound, client, order, retries).results()
+    return _Run(tasks, bound, client, order, retries, workers).results()
 
 
-def least_bound(tasks: Sequence[Task], client: Client, order: Optional[Sequence[int]] = None) -> int:
-    """The least bound that `run` takes for these tasks on the workers that there are now."""
-    graph = graph_of(tasks, _others(client.nthreads()))
+def least_bound(
+    tasks: Sequence[Task], client: Client, order: Optional[Sequence[int]] = None, workers: Optional[Sequence[str]] = None
+) -> int:
+    """The least bound that `run` takes for these tasks on these workers."""
+    graph = graph_of(tasks, _others(_threads(client, workers)))
     return graph.least_bound(order_of(graph) if order is None else order)
+
+
+def _threads(client: Client, workers: Optional[Sequence[str]]) -> Dict[str, int]:
+    """How many threads each worker has."""
+    there = client.nthreads()
+    threads = {worker: count for worker, count in there.items() if workers is None or worker in workers}
+    if not threads or len(threads) < len(workers or ()):
+        raise EngineStopped("the cluster has no worker" if not there else f"of the workers {workers} some are not there")
+    return threads
 
 
 def _others(threads: Dict[str, int]) -> int:
@@ -49,13 +66,17 @@ class _Run:
     """One run. All that happens comes by one queue, in the order in which the scheduler tells it."""
 
     def __init__(
-        self, tasks: Sequence[Task], bound: int, client: Client, order: Optional[Sequence[int]], retries: int
+        self,
+        tasks: Sequence[Task],
+        bound: int,
+        client: Client,
+        order: Optional[Sequence[int]],
+        retries: int,
+        workers: Optional[Sequence[str]],
     ) -> None:
         self.name = "memplan-" + uuid.uuid4().hex
         self.tasks, self.client, self.retries = tasks, client, retries
-        self.free: Dict[str, int] = dict(client.nthreads())  # threads of each worker
-        if not self.free:
-            raise EngineStopped("the cluster has no worker")
+        self.free = _threads(client, workers)
         self.others = _others(self.free)
         graph = graph_of(tasks, self.others)
         order = order_of(graph) if order is None else order
@@ -111,24 +132,20 @@ class _Run:
         return max(able, key=self.free.__getitem__, default=None)
 
     def _submit(self, task: int, worker: str) -> None:
-        function, arguments, inputs = self.tasks[task][:3]
-        future = self.client.submit(
-            self.call,
-            partial(function, *arguments),
-            [self.futures[result] for result in inputs],
-            key=f"{self.name}-{task}",
-            workers=[worker],
-            allow_other_workers=False,
-            retries=self.retries,
-            pure=False,
-        )
+        future = self._future_of(task, worker)
+        future.add_done_callback(lambda future: future.status == "finished" or self.events.put(("failed", task)))
         self.free[worker] -= 1
         self.running[task] = worker
         self.futures[task] = future
-        future.add_done_callback(lambda future: future.status == "finished" or self.events.put(("failed", task)))
         # The scheduler keeps what a task needs, and drops it as soon as that is done: no need to wait for word of it here.
         for result in self.admission.spent(task):
             self.futures.pop(result).release()
+
+    def _future_of(self, task: int, worker: str) -> Future:
+        function, arguments, inputs = self.tasks[task][:3]
+        words = self.call, partial(function, *arguments), [self.futures[result] for result in inputs]
+        at = {"workers": [worker], "allow_other_workers": False}
+        return self.client.submit(*words, key=f"{self.name}-{task}", retries=self.retries, pure=False, **at)
 
     # What happens
 
