@@ -16,7 +16,7 @@ import blocks
 import dask.array
 import numpy
 import workloads
-from clusters import bare_workers, cluster, digests, plain_digests, records, settled_records
+from clusters import bare_workers, cluster, digests, plain_digests, records, separate_scheduler, settled_records
 from distributed import Client, Future, LocalCluster
 from harness import eventually, raised, run_all
 from memplan import Refused
@@ -319,6 +319,14 @@ def a_closed_client_ends_the_run() -> None:
         closer.join()
 
 
+def a_dead_scheduler_ends_the_run() -> None:
+    with separate_scheduler() as (client, program):
+        killer = threading.Timer(1, program.kill)
+        killer.start()
+        raised(EngineStopped, run, [workloads.task_of(0, MB, 0, 8000)], MB, client)
+        killer.join()
+
+
 # The loopback address alone
 
 
@@ -377,6 +385,7 @@ CHECKS_OF_THEIR_OWN: List[Tuple[str, Callable[[], None]]] = [
     ("processes: workers have bounds of their own", on_processes(workers_have_bounds_of_their_own)),
     ("processes: a lost worker ends the run", a_lost_worker_ends_the_run),
     ("threads: a closed client ends the run", a_closed_client_ends_the_run),
+    ("processes: a dead scheduler ends the run", a_dead_scheduler_ends_the_run),
 ]
 
 
