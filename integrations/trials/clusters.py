@@ -20,7 +20,7 @@ HERE = Path(__file__).resolve().parent
 LOOPBACK = "127.0.0.1"
 
 # What Dask says of lost workers and the like, which are lost on purpose.
-logging.getLogger("distributed").setLevel(logging.CRITICAL)
+logging.disable()
 
 # A block is in memory or it is not: nothing goes to disk.
 dask.config.set({f"distributed.worker.memory.{what}": False for what in ("target", "spill", "pause", "terminate")})
