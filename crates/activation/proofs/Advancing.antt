@@ -1,5 +1,5 @@
 -- The trees and tables of a run after each event.
-use Rattle.std.proofs.Common.{◌≡◌, ◌≢◌, ℕ, ◌+◌, ◌-◌, ◌*◌, ◌<◌, ◌≤◌, Bool, cond, ◌&&◌, List, length, take, get_or, set, get_or-set_same, get_or-set_other, refl, sym, ◌∙◌, ap, arith, ⊎_elim, Some}
+use Rattle.std.proofs.Common.{◌≡◌, ◌≢◌, ℕ, ◌+◌, ◌-◌, ◌*◌, ◌<◌, ◌≤◌, Bool, false, cond, ◌&&◌, List, length, take, get_or, set, get_or-set_same, get_or-set_other, refl, sym, ◌∙◌, ap, arith, ⊎_elim, Some}
 use Rattle.std.specs.Prelude.{slice_index, count_by, ◌==◌, ◌||◌}
 use Rattle.std.proofs.lemmas.List.{length-set, take_more}
 use Rattle.std.proofs.lemmas.Bool.{cases_eq, cases_lt, eq-eqb, ne_eqb, and_parts, cases_Bool, true≢false, false_from_ne_true}
@@ -16,7 +16,7 @@ use Rattle.activation.specs.Runs.{NoneRuns, CanBegin}
 use Rattle.activation.specs.Safe.{IsSafe}
 use Rattle.activation.specs.Schedule.{task_entry}
 use Rattle.activation.specs.Tables.{awaited, is_edge, is_startable}
-use Rattle.activation.specs.Run.{event_count, mark, RunTables, IsRun, IsFirstStartable}
+use Rattle.activation.specs.Run.{event_count, RunTables, IsRun, IsFirstStartable}
 use Rattle.activation.proofs.Numbers.{number_set_same, number_set_other}
 use Rattle.activation.proofs.Phases.{with_phase_other, idle_from, running_from, busy}
 use Rattle.activation.proofs.Orders.{each, task_in_order, in_front, stands_once}
@@ -37,14 +37,14 @@ module _ {c : Setting} {st : State} {time : ℕ} {x : RunTables} (set' : IsSetti
   small_more n su h e = omega (arith, h, e)
 
   -- the mark of one task is written anew
-  marks_anew : (su : State) (task : ℕ) (new : List ℕ) → ((t : ℕ) → t ≢ task → is_startable c su t ≡ is_startable c st t) →
-      ((t : ℕ) → IsTask c.system t → slice_index new (task_entry x.ranks t) ≡ cond (is_named (Some task) t) (mark (is_startable c su t)) (slice_index x.ready (task_entry x.ranks t))) →
-      (t : ℕ) → IsTask c.system t → slice_index new (task_entry x.ranks t) ≡ mark (is_startable c su t)
+  marks_anew : (su : State) (task : ℕ) (new : List Bool) → ((t : ℕ) → t ≢ task → is_startable c su t ≡ is_startable c st t) →
+      ((t : ℕ) → IsTask c.system t → get_or new (task_entry x.ranks t) false ≡ cond (is_named (Some task) t) (is_startable c su t) (get_or x.ready (task_entry x.ranks t) false)) →
+      (t : ℕ) → IsTask c.system t → get_or new (task_entry x.ranks t) false ≡ is_startable c su t
   marks_anew su task new same marks t is =
       ⊎_elim
-      (λ (e : task ≡ t). marks t is ∙ ap (λ b. cond b (mark (is_startable c su t)) (slice_index x.ready (task_entry x.ranks t))) (eq-eqb task t e))
-      (λ n. marks t is ∙ ap (λ b. cond b (mark (is_startable c su t)) (slice_index x.ready (task_entry x.ranks t))) (ne_eqb task t n)
-      ∙ r.ready_is t is ∙ ap mark (sym (same t (λ z. n (sym z)))))
+      (λ (e : task ≡ t). marks t is ∙ ap (λ b. cond b (is_startable c su t) (get_or x.ready (task_entry x.ranks t) false)) (eq-eqb task t e))
+      (λ n. marks t is ∙ ap (λ b. cond b (is_startable c su t) (get_or x.ready (task_entry x.ranks t) false)) (ne_eqb task t n)
+      ∙ r.ready_is t is ∙ sym (same t (λ z. n (sym z))))
       (cases_eq task t)
 
   -- after an activation
@@ -57,8 +57,8 @@ module _ {c : Setting} {st : State} {time : ℕ} {x : RunTables} (set' : IsSetti
         ∙ ap (λ b. stands_in (take st.activated c.order) t || b) (ap (λ y. y == t) h.next ∙ ne_eqb task t (λ z. n (sym z))) ∙ or-false (stands_in (take st.activated c.order) t) in
         ap (λ b. b && (is_idle_phase (phase_in st.phases t) && is_ready c.system (is_done st) t)) same
 
-    pub activated_run : (new : List ℕ) → length new ≡ length x.ready →
-        ((t : ℕ) → IsTask c.system t → slice_index new (task_entry x.ranks t) ≡ cond (is_named (Some task) t) (mark (is_startable c (state_after st Activate task) t)) (slice_index x.ready (task_entry x.ranks t))) →
+    pub activated_run : (new : List Bool) → length new ≡ length x.ready →
+        ((t : ℕ) → IsTask c.system t → get_or new (task_entry x.ranks t) false ≡ cond (is_named (Some task) t) (is_startable c (state_after st Activate task) t) (get_or x.ready (task_entry x.ranks t) false)) →
         IsRun c (state_after st Activate task) time (record x { ready = new })
     activated_run new len marks =
         let su = state_after st Activate task in
@@ -105,8 +105,8 @@ module _ {c : Setting} {st : State} {time : ℕ} {x : RunTables} (set' : IsSetti
         ap (λ b. stands_in (activated_tasks c st) t && (is_idle_phase (phase_in (with_phase st.phases task Running) t) && b)) alike
         ∙ ap (λ q. stands_in (activated_tasks c st) t && (is_idle_phase q && is_ready c.system (is_done st) t)) phase
 
-    pub started_run : (low : time ≤ due) → (high : due ≤ time + most_time) → (new : List ℕ) → length new ≡ length x.ready →
-        ((t : ℕ) → IsTask c.system t → slice_index new (task_entry x.ranks t) ≡ cond (is_named (Some task) t) (mark (is_startable c (state_after st Start task) t)) (slice_index x.ready (task_entry x.ranks t))) →
+    pub started_run : (low : time ≤ due) → (high : due ≤ time + most_time) → (new : List Bool) → length new ≡ length x.ready →
+        ((t : ℕ) → IsTask c.system t → get_or new (task_entry x.ranks t) false ≡ cond (is_named (Some task) t) (is_startable c (state_after st Start task) t) (get_or x.ready (task_entry x.ranks t) false)) →
         IsRun c (state_after st Start task) time (record x { dues = set x.dues (task - 1) due; clock = set x.clock place due; ready = new })
     started_run low high new len marks =
         let in' = task_is in
@@ -152,9 +152,9 @@ module _ {c : Setting} {st : State} {time : ℕ} {x : RunTables} (set' : IsSetti
         ap (λ b. stands_in (activated_tasks c st) t && (is_idle_phase (phase_in (with_phase st.phases task Done) t) && b)) alike
         ∙ ap (λ b. stands_in (activated_tasks c st) t && (b && is_ready c.system (is_done st) t)) idle
 
-    pub finished_run : (due : ℕ) → task_entry x.dues task ≡ due → ((u : ℕ) → phase_in st.phases u ≡ Running → due ≤ task_entry x.dues u) → (new : List ℕ) → length new ≡ length x.ready →
-        ((t : ℕ) → IsTask c.system t → 0 < count_by (is_edge task t) c.system.items → slice_index new (task_entry x.ranks t) ≡ mark (is_startable c (state_after st Finish task) t)) →
-        ((t : ℕ) → IsTask c.system t → count_by (is_edge task t) c.system.items ≡ 0 → slice_index new (task_entry x.ranks t) ≡ slice_index x.ready (task_entry x.ranks t)) →
+    pub finished_run : (due : ℕ) → task_entry x.dues task ≡ due → ((u : ℕ) → phase_in st.phases u ≡ Running → due ≤ task_entry x.dues u) → (new : List Bool) → length new ≡ length x.ready →
+        ((t : ℕ) → IsTask c.system t → 0 < count_by (is_edge task t) c.system.items → get_or new (task_entry x.ranks t) false ≡ is_startable c (state_after st Finish task) t) →
+        ((t : ℕ) → IsTask c.system t → count_by (is_edge task t) c.system.items ≡ 0 → get_or new (task_entry x.ranks t) false ≡ get_or x.ready (task_entry x.ranks t) false) →
         IsRun c (state_after st Finish task) due (record x { clock = set x.clock place greatest; ready = new })
     finished_run due due_is least new len consumers others =
         let su = state_after st Finish task in
@@ -174,7 +174,7 @@ module _ {c : Setting} {st : State} {time : ℕ} {x : RunTables} (set' : IsSetti
               (λ (some : 0 < count_by (is_edge task t) c.system.items). consumers t it some)
               (λ (le : count_by (is_edge task t) c.system.items ≤ 0).
               let none : count_by (is_edge task t) c.system.items ≡ 0 = omega arith in
-              others t it none ∙ r.ready_is t it ∙ ap mark (sym (keeps_mark t none)))
+              others t it none ∙ r.ready_is t it ∙ sym (keeps_mark t none))
               (cases_lt 0 (count_by (is_edge task t) c.system.items));
           not_past = λ u e. least u (old u e);
           dues_small = λ u e. small_more (task_entry x.dues u) su (r.dues_small u (old u e)) count;

@@ -2,7 +2,7 @@
 use Rattle.std.proofs.Common.{◌≡◌, ◌≢◌, ℕ, ◌*◌, ◌<◌, ◌≤◌, Bool, true, false, cond, List, length, get_or, refl, sym, ◌∙◌, ap, arith, ⊎_elim}
 use Rattle.std.specs.Prelude.{slice_index}
 use Rattle.std.proofs.lemmas.List.{get_or-replicate, length-replicate}
-use Rattle.std.proofs.lemmas.Bool.{cases_lt, cases_Bool}
+use Rattle.std.proofs.lemmas.Bool.{cases_lt, cases_Bool, true≢false}
 use Rattle.std.proofs.lemmas.List.Elements.{All-get_or}
 use Rattle.limits.specs.Limits.{most_tasks}
 use Rattle.mp_system.specs.System.{TaskSystem, IsTask}
@@ -11,9 +11,10 @@ use Rattle.activation.specs.declared.events.Phase.{Phase}
 use Rattle.activation.specs.declared.events.Phase.TheVariants.{Idle, Running}
 use Rattle.activation.specs.Machine.{Setting, State, IsSetting, phase_in, is_running, is_running_phase, start_state}
 use Rattle.activation.specs.Safe.{IsSafe}
+use Rattle.activation.specs.Bits.{IsFirstRank}
 use Rattle.activation.specs.Schedule.{task_entry, HoldsEach}
 use Rattle.activation.specs.Tables.{AreTaskPlaces, is_startable}
-use Rattle.activation.specs.Run.{event_count, mark, AreRanks, RunTables, IsNextDue, IsFirstStartable, IsRun, IsRoom}
+use Rattle.activation.specs.Run.{event_count, AreRanks, RunTables, IsNextDue, IsFirstStartable, IsRun, IsRoom}
 use Rattle.activation.proofs.Totals.{place_in}
 use Rattle.activation.proofs.Orders.{each, in_front, task_has_place}
 use Rattle.activation.proofs.Premises.{Long}
@@ -21,11 +22,6 @@ use Rattle.activation.proofs.Phases.{busy, running_from}
 use Rattle.activation.proofs.Counting.{count_le}
 use Rattle.activation.proofs.Lengths.{each_long}
 use Rattle.activation.proofs.Safety.{phase_replicate}
-
--- a task whose mark is 0 is startable
-mark_zero : (b : Bool) → mark b ≡ 0 → b ≡ true
-mark_zero true h = refl
-mark_zero false h = absurd (omega arith)
 
 -- where a task stands in a priority
 priority_place : (system : TaskSystem) (priority ranks : List ℕ) → HoldsEach system priority → AreTaskPlaces priority ranks → (u : ℕ) → IsTask system u →
@@ -90,24 +86,31 @@ module _ {c : Setting} {st : State} {time : ℕ} {x : RunTables} (long' : Long) 
               record { place = place; later = p.0; within = p.1; before = later; here = refl; there = p.2 };
         }
 
-  pub first_is_startable : (rank : ℕ) → IsFirstLeast x.ready rank → slice_index x.ready rank ≡ 0 → IsFirstStartable c x.priority st (get_or x.priority rank 0)
-  first_is_startable rank least none =
-      let within : rank < length x.priority = omega (arith, least.within, r.ready_long, r.ranked.long) in
+  pub first_is_startable : (rank : ℕ) → IsFirstRank x.ready rank → IsFirstStartable c x.priority st (get_or x.priority rank 0)
+  first_is_startable rank first =
+      let within : rank < length x.priority = omega (arith, first.within, r.ready_long, r.ranked.long) in
       let task = get_or x.priority rank 0 in
       let is : IsTask c.system task = All-get_or (IsTask c.system) x.priority rank 0 within r.ranked.each.within in
-      let here : slice_index x.ready rank ≡ mark (is_startable c st task) = ap (slice_index x.ready) (sym (r.ranked.places rank within)) ∙ r.ready_is task is in
+      let here : get_or x.ready rank false ≡ is_startable c st task = ap (λ k. get_or x.ready k false) (sym (r.ranked.places rank within)) ∙ r.ready_is task is in
       record {
         task = is;
-        startable = mark_zero (is_startable c st task) (sym here ∙ none);
+        startable = sym here ∙ first.here;
         first = λ u iu su m.
             let p = priority_place c.system x.priority x.ranks r.ranked.each r.ranked.places u iu in
-            let zero' : slice_index x.ready p.0 ≡ 0 = ap (slice_index x.ready) (sym p.3) ∙ r.ready_is u iu ∙ ap mark su in
+            let there : get_or x.ready p.0 false ≡ true = ap (λ k. get_or x.ready k false) (sym p.3) ∙ r.ready_is u iu ∙ su in
             let later : rank < p.0 = ⊎_elim
-            (λ lt. absurd (omega (arith, least.first p.0 lt, zero')))
+            (λ lt. absurd (true≢false (sym there ∙ first.first p.0 lt)))
             (λ ge. ⊎_elim (λ h. h) (λ h. let same : p.0 ≡ rank = omega arith in absurd (m (sym p.2 ∙ ap (λ k. get_or x.priority k 0) same))) (cases_lt rank p.0))
             (cases_lt p.0 rank) in
             record { place = rank; later = p.0; within = p.1; before = later; here = refl; there = p.2 };
       }
+
+  pub none_startable : ((k : ℕ) → k < length x.ready → get_or x.ready k false ≡ false) → (u : ℕ) → IsTask c.system u → is_startable c st u ≡ false
+  none_startable none u is = sym (r.ready_is u is) ∙ none (task_entry x.ranks u) (omega (arith, r.ready_long, r.ranked.ranks_are.within u is))
+
+-- at the start no task is startable
+start_unstartable : (c : Setting) (t : ℕ) → is_startable c (start_state c) t ≡ false
+start_unstartable c t = refl
 
 -- the run at its start
 pub start_run : (c : Setting) (x : RunTables) → IsRoom (length c.system.tasks) x → length c.order ≡ length c.system.tasks → (priority ranks : List ℕ) → HoldsEach c.system priority →
@@ -124,8 +127,8 @@ start_run c x room long priority ranks each ranks_long places =
       clock_is = λ k w.
           ap (λ xs. slice_index xs k) room.clock_are ∙ get_or-replicate n k greatest 0 (omega (arith, long))
           ∙ sym (ap (λ (p : Phase). cond (is_running_phase p) (task_entry x.dues (slice_index c.order k)) greatest) (idle (slice_index c.order k)));
-      ready_long = ap length room.ready_are ∙ length-replicate n greatest;
-      ready_is = λ t is. ap (λ xs. slice_index xs (task_entry ranks t)) room.ready_are ∙ get_or-replicate n (task_entry ranks t) greatest 0 (rs.within t is);
+      ready_long = ap length room.ready_are ∙ length-replicate n false;
+      ready_is = λ t is. ap (λ (xs : List Bool). get_or xs (task_entry ranks t) false) room.ready_are ∙ get_or-replicate n (task_entry ranks t) false false (rs.within t is) ∙ sym (start_unstartable c t);
       not_past = λ t e. absurd (none t e);
       dues_small = λ t e. absurd (none t e);
       time_small = omega arith;

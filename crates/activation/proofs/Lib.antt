@@ -10,6 +10,7 @@ pub mod Orders
 pub mod Lengths
 pub mod Changes
 pub mod Safety
+pub mod Bits
 pub mod Ranking
 pub mod Keeping
 pub mod Beginning

@@ -4,6 +4,7 @@ pub mod Changes
 pub mod Runs
 pub mod Schedule
 pub mod Running
+pub mod Bits
 pub mod Tables
 pub mod Run
 pub mod Refusal

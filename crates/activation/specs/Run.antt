@@ -1,6 +1,6 @@
 -- No public clause names this.
 -- A simulated run between two events: its trees and tables, and what they stand for.
-use Rattle.std.specs.Prelude.{◌≡◌, ◌≢◌, ℕ, ◌+◌, ◌*◌, ◌<◌, ◌≤◌, Bool, true, if◌then◌else◌, List, length, slice_index, replicate}
+use Rattle.std.specs.Prelude.{◌≡◌, ◌≢◌, ℕ, ◌+◌, ◌*◌, ◌<◌, ◌≤◌, Bool, true, false, if◌then◌else◌, List, length, slice_index, slice_index_or, replicate}
 use Rattle.std.specs.List.{sum_by}
 use Rattle.limits.specs.Limits.{most_time}
 use Rattle.mp_system.specs.System.{IsTask}
@@ -35,10 +35,6 @@ pub record AreRanks (count : ℕ) (ranks : List ℕ) : Type 0 where
   pub within : (t : ℕ) → IsNumber t count → task_entry ranks t < count
   pub once : (t u : ℕ) → IsNumber t count → IsNumber u count → task_entry ranks t ≡ task_entry ranks u → t ≡ u
 
--- the mark of a task in the tree of the startable ones
-abbrev pub mark : Bool → ℕ
-mark startable = if startable then 0 else greatest
-
 -- the running task that is due first, and stands first in the order of those that are due with it
 pub record IsNextDue (c : Setting) (m : Moment) (t : ℕ) : Type 0 where
   pub running : phase_in m.state.phases t ≡ Running
@@ -55,7 +51,7 @@ pub record IsFirstStartable (c : Setting) (priority : List ℕ) (st : State) (t 
 pub record RunTables : Type 0 where
   pub dues : List ℕ
   pub clock : List ℕ
-  pub ready : List ℕ
+  pub ready : List Bool
   pub ranks : List ℕ
   pub priority : List ℕ
 
@@ -75,8 +71,8 @@ pub record AreRanked (c : Setting) (priority ranks : List ℕ) : Type 0 where
   pub ranks_are : AreRanks (length c.system.tasks) ranks
   pub places : AreTaskPlaces priority ranks
 
--- at the place of each running task the clock has its due moment, at the rank of each startable task the tree has 0, and elsewhere both
--- have the greatest number
+-- at the place of each running task the clock has its due moment, and elsewhere the greatest number; the set of the startable ones has
+-- the ranks of the startable tasks
 pub record IsRun (c : Setting) (st : State) (time : ℕ) (x : RunTables) : Type 0 where
   pub ranked : AreRanked c x.priority x.ranks
   pub dues_long : length x.dues ≡ length c.system.tasks
@@ -84,7 +80,7 @@ pub record IsRun (c : Setting) (st : State) (time : ℕ) (x : RunTables) : Type 
   pub clock_is : (k : ℕ) → k < length c.order →
       slice_index x.clock k ≡ (if is_running st (slice_index c.order k) then task_entry x.dues (slice_index c.order k) else greatest)
   pub ready_long : length x.ready ≡ length c.system.tasks
-  pub ready_is : (t : ℕ) → IsTask c.system t → slice_index x.ready (task_entry x.ranks t) ≡ mark (is_startable c st t)
+  pub ready_is : (t : ℕ) → IsTask c.system t → slice_index_or x.ready (task_entry x.ranks t) false ≡ is_startable c st t
   pub not_past : (t : ℕ) → phase_in st.phases t ≡ Running → time ≤ task_entry x.dues t
   pub dues_small : (t : ℕ) → phase_in st.phases t ≡ Running → task_entry x.dues t ≤ most_time * event_count c st
   pub time_small : time ≤ most_time * event_count c st
@@ -93,6 +89,6 @@ pub record IsRun (c : Setting) (st : State) (time : ℕ) (x : RunTables) : Type 
 pub record IsRoom (count : ℕ) (x : RunTables) : Type 0 where
   pub dues_are : x.dues ≡ replicate count 0
   pub clock_are : x.clock ≡ replicate count greatest
-  pub ready_are : x.ready ≡ replicate count greatest
+  pub ready_are : x.ready ≡ replicate count false
   pub ranks_long : length x.ranks ≡ count
   pub priority_long : length x.priority ≡ count

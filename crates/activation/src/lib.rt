@@ -12,6 +12,7 @@ pub mod laws;
 mod outputs;
 mod places;
 mod priority;
+mod rank_set;
 mod refusal;
 mod room;
 mod run;

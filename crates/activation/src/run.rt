@@ -113,13 +113,7 @@ impl Run {
     {
         self.core.keeps();
         traversal_law();
-        if self.room.ready.len() == 0 {
-            return None;
-        }
-        let rank = self.room.ready.first_least();
-        if self.room.ready.at(rank) > 0 {
-            return None;
-        }
+        let rank = self.room.ready.first()?;
         Some(self.room.priority[rank])
     }
 
