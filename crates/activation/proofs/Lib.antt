@@ -17,6 +17,7 @@ pub mod Beginning
 pub mod Progress
 pub mod Counting
 pub mod OneSchedule
+pub mod Dues
 pub mod Clocks
 pub mod Advancing
 pub mod Looping

@@ -5,6 +5,7 @@ pub mod Runs
 pub mod Schedule
 pub mod Running
 pub mod Bits
+pub mod Clock
 pub mod Tables
 pub mod Run
 pub mod Refusal

@@ -286,6 +286,13 @@ impl Core {
         self.system.tasks().len()
     }
 
+    /// How many workers there are.
+    pub(crate) fn workers(&self) -> usize
+        ensures { result ≡ self.now.setting.workers }
+    {
+        self.workers as usize
+    }
+
     /// The task that stands at this place of the order, counted from 0.
     pub(crate) fn task_at(&self, place: usize) -> u32
         requires { place < length self.now.setting.order }

@@ -6,6 +6,7 @@
 //! [`holds_each`]. The definitions stand in specs/: `Machine`, `Runs`, `Safe`, `Schedule`; the laws over every list of events in [`laws`].
 #![tactic(auto)]
 
+mod clock;
 mod cores;
 mod events;
 pub mod laws;
