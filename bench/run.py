@@ -13,10 +13,10 @@ in some seconds; its figures mean nothing. --only makes some tables alone, of re
 analysis, mindeg, post, plan, hard, check, simulate, spill, fronts, segments, reduce, growth;
 --growth names the numbers of tasks of the last one.
 
-Of each program the least of N turns (5) counts; a row that has taken 20 seconds of processor
-time has no further turn after its second one. Each run has SECONDS (100) of processor time. Where memplan has no such
-command yet, the table says so. The program stops where two sides differ in what they found. Tables
-go to standard output, how far it is to standard error.
+Of each program the least of N turns (5) counts; a row that has taken 20 seconds of processor time
+has no further turn after its second one. Each run has SECONDS (100) of processor time. Where
+memplan has no such command yet, the table says so. The program stops where two sides differ in what
+they found. Tables go to standard output, how far it is to standard error.
 """
 import argparse
 import datetime
