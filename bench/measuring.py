@@ -8,8 +8,9 @@ from typing import NamedTuple, Optional
 # How much of a first line is kept as what a program said.
 MOST_SAID = 80
 
-# A row has no further turn, after the second, once it has taken so many seconds of processor time.
-LONG_ROW = 20
+# A row has two turns; and further ones, while it has taken no more seconds of processor time than
+# these for each turn that is asked for.
+LONG_TURN = 4
 
 # The status that the meter tells for a program that was killed, as after the limit; and that of
 # memplan for words that it does not know.
@@ -101,7 +102,7 @@ class Bench:
         tries: dict[str, list[Figure]] = {side.name: [] for side in sides}
         for turn in range(turns):
             spent = sum(it.cpu for figures in tries.values() for it in figures)
-            if turn > 1 and spent > 1000 * LONG_ROW:
+            if turn > 1 and spent > 1000 * LONG_TURN * turns:
                 break
             for side in sides:
                 if all(it.status != KILLED for it in tries[side.name]):
