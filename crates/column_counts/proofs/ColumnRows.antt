@@ -14,8 +14,8 @@ use Rattle.column_counts.proofs.SpanRows.{below_row}
 
 -- ---- no column was taken
 
-pub none_taken : (joined : ℕ → ℕ → Bool) (firsts parents : List ℕ) (t : Leaves) → AreEmpty parents t → AreLeavesBefore joined firsts 1 t
-none_taken joined firsts parents t empty = (
+pub none_taken : (joined : ℕ → ℕ → Bool) (firsts order parents : List ℕ) (t : Leaves) → AreEmpty parents t → AreLeavesBefore joined firsts order 1 t
+none_taken joined firsts order parents t empty = (
   λ i y. false,
   record {
     balance = λ x lt.
@@ -25,7 +25,7 @@ none_taken joined firsts parents t empty = (
         omega arith;
     until = λ i y h. absurd cc;
     none = λ i e y h. absurd cc;
-    leaf = λ i some. absurd (let z = (empty.clear i).0 in omega arith);
+    leaf = λ i some. absurd (let z = (empty.clear (vertex_at order i)).0 in omega arith);
     covers = λ i y x h. absurd cc;
   },
   record {
@@ -60,7 +60,7 @@ short_row rows pattern v =
 
 module _ (rows : List (List ℕ)) (order : List ℕ) (are : AreRows rows order) (parents : List ℕ) (factor : IsFactor (renumbered (is_joined rows) order) (length order) parents)
     (firsts : List ℕ) (len : length firsts ≡ length order + 1) (is : IsFirsts parents firsts) (j : ℕ) (list : List ℕ) (e : list ≡ neighbours_of rows (vertex_at order j)) where
-  pub can_take : (t : Leaves) → AreLeavesBefore (renumbered (is_joined rows) order) firsts j t → CanTakeColumn (renumbered (is_joined rows) order) firsts list order j t
+  pub can_take : (t : Leaves) → AreLeavesBefore (renumbered (is_joined rows) order) firsts order j t → CanTakeColumn (renumbered (is_joined rows) order) firsts list order j t
   can_take t before = record {
     below = below_row (renumbered (is_joined rows) order) (length order) parents factor firsts len is;
     sound = λ k lt far. factor.pattern.symmetric j (column_in list order k) (joined_in_list rows order are j list e k lt);

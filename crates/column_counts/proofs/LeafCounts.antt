@@ -9,7 +9,7 @@ use Rattle.limits.specs.Limits.{most_order}
 use Rattle.ordering.specs.Fill.{structure_of, count_of}
 use Rattle.column_counts.specs.declared.leaves.Leaves.{Leaves}
 use Rattle.column_counts.specs.Marks.{bit}
-use Rattle.column_counts.specs.Leaves.{any_in, sum_in, passing, IsFirsts, AreLeaves, AreTaken, AreLeavesBefore, AreBalanced, AreSums, HasCount}
+use Rattle.column_counts.specs.Leaves.{any_in, sum_in, passing, IsFirsts, AreLeaves, AreTaken, AreLeavesBefore, AreBalanced, AreSums, HasCount, last_of}
 use Rattle.column_counts.proofs.FactorRows.{IsFactor, long_parents}
 use Rattle.column_counts.proofs.SumLemmas.{any_from, any_to, passing_next, passing_none, sum_in_split}
 use Rattle.column_counts.proofs.SpanRows.{spans, first_some, row_from, row_to, beyond}
@@ -71,8 +71,8 @@ module _ (joined : ℕ → ℕ → Bool) (n : ℕ) (parents : List ℕ) (factor 
       let b = t.balance x (omega arith) in
       omega arith
 
-  pub are_balanced : (t : Leaves) (j : ℕ) → n < j → AreLeavesBefore joined firsts j t → AreBalanced joined n firsts t
-  are_balanced t j all before = balanced before.0 (slice_index t.last.items) (slice_index t.leaves.items) (slice_index t.meetings.items) j all before.1 before.2
+  pub are_balanced : (order : List ℕ) (t : Leaves) (j : ℕ) → n < j → AreLeavesBefore joined firsts order j t → AreBalanced joined n firsts t
+  are_balanced order t j all before = balanced before.0 (last_of order t) (slice_index t.leaves.items) (slice_index t.meetings.items) j all before.1 before.2
 
 -- ---- counts of sums
 

@@ -3,6 +3,7 @@ pub mod RowLemmas
 pub mod FactorRows
 pub mod SumLemmas
 pub mod RowLeaves
+mod VertexRows
 pub mod AncestorLemmas
 pub mod SpanRows
 pub mod LeafCounts

@@ -7,6 +7,7 @@ use Rattle.std.specs.Prelude.{count_by, sum_by}
 use Rattle.std.specs.List.{list_any, range_with_len}
 use Rattle.ordering.specs.Fill.{count_of}
 use Rattle.limits.specs.Limits.{most_order}
+use Rattle.ordering.specs.Perm.{vertex_at}
 use Rattle.elim_tree.specs.Forests.{column_in}
 use Rattle.elim_tree.specs.Trees.{parent_at, IsAbove}
 use Rattle.column_counts.specs.declared.leaves.Leaves.{Leaves}
@@ -105,27 +106,31 @@ AreAtMost bound t = (x : ℕ) → (slice_index t.leaves.items x ≤ bound) × (s
 abbrev pub growth : ℕ → ℕ
 growth j = (most_order + 1) * j
 
+-- the last leaf of each row, of a table by the vertices of the rows
+abbrev pub last_of : List ℕ → Leaves → ℕ → ℕ
+last_of order t = λ i. slice_index t.last.items (vertex_at order i)
+
 -- these columns were taken, and none after j
-abbrev pub HoldLeaves : List ℕ → ℕ → (ℕ → ℕ → Bool) → Leaves → Type 0
-HoldLeaves firsts j taken t =
+abbrev pub HoldLeaves : List ℕ → List ℕ → ℕ → (ℕ → ℕ → Bool) → Leaves → Type 0
+HoldLeaves firsts order j taken t =
     AreLeaves (slice_index firsts) (length firsts) j taken
-    (slice_index t.last.items) (slice_index t.leaves.items) (slice_index t.meetings.items)
+    (last_of order t) (slice_index t.leaves.items) (slice_index t.meetings.items)
 
 -- the columns before j were taken into all of their rows
-abbrev pub AreLeavesBefore : (ℕ → ℕ → Bool) → List ℕ → ℕ → Leaves → Type 0
-AreLeavesBefore joined firsts j t = (taken : ℕ → ℕ → Bool) × HoldLeaves firsts j taken t × AreTaken joined (length firsts) j taken
+abbrev pub AreLeavesBefore : (ℕ → ℕ → Bool) → List ℕ → List ℕ → ℕ → Leaves → Type 0
+AreLeavesBefore joined firsts order j t = (taken : ℕ → ℕ → Bool) × HoldLeaves firsts order j taken t × AreTaken joined (length firsts) j taken
 
 -- column j, with this list of neighbours, may be taken into its rows
 pub record CanTakeColumn (joined : ℕ → ℕ → Bool) (firsts list order : List ℕ) (j : ℕ) (t : Leaves) : Type 0 where
   pub below : (i y : ℕ) → i < length firsts → IsInRow joined i y → slice_index firsts i ≤ y
   pub sound : (k : ℕ) → k < length list → j < column_in list order k → IsTrue (joined (column_in list order k) j)
   pub whole : (i : ℕ) → j < i → IsTrue (joined i j) → (k : ℕ) × (k < length list) × (column_in list order k ≡ i)
-  pub before : AreLeavesBefore joined firsts j t
+  pub before : AreLeavesBefore joined firsts order j t
 
 -- it was taken into its own row and those of the first k of the list
 abbrev pub AreLeavesWith : (ℕ → ℕ → Bool) → List ℕ → List ℕ → List ℕ → ℕ → ℕ → Leaves → Type 0
 AreLeavesWith joined firsts list order j k t =
-    (taken : ℕ → ℕ → Bool) × HoldLeaves firsts j taken t × AreTaken joined (length firsts) j taken
+    (taken : ℕ → ℕ → Bool) × HoldLeaves firsts order j taken t × AreTaken joined (length firsts) j taken
     × (taken j j ≡ true) × ((e : ℕ) → e < k → j < column_in list order e → taken (column_in list order e) j ≡ true)
 
 -- ---- the counts

@@ -5,6 +5,7 @@ ghost use Rattle.std.specs.List.{range_with_len};
 ghost use Rattle.limits.specs.Limits.{most_order};
 ghost use Rattle.matrix_market.specs.Pattern.{is_joined};
 ghost use Rattle.ordering.specs.Fill.{renumbered, count_of, parents_of};
+ghost use Rattle.ordering.specs.Perm.{place_of};
 ghost use Rattle.column_counts.specs.Leaves.{IsFirsts, AreSpans, with_entry, AreEmpty, AreReady, HoldLeaves, CanTakeColumn, AreLeavesBefore, AreAtMost, growth, AreBalanced, AreSums, HasCount};
 
 use crate::NoMemory;
@@ -20,7 +21,8 @@ use std::alloc::Global;
 #[derive(Drop)]
 pub(crate) struct Leaves {
     pub(crate) ancestors: Ancestors,
-    // the last leaf of each row, or 0
+    // the last leaf of each row, or 0, by the vertex of the row's own column: so a neighbour is looked up here, and its place only where
+    // there may be a leaf
     pub(crate) last: Vec<u32>,
     // of how many rows each column is a leaf
     pub(crate) leaves: Vec<u64>,
@@ -46,25 +48,35 @@ impl Leaves {
         })
     }
 
-    // Takes column `j` into row `i`. Where it is a further leaf of the row subtree, its way up is new as far as it meets that of the
-    // last leaf.
-    fn take_leaf(&mut self, firsts: &[u32], i: u32, j: u32)
-        requires places { (0 < slice_index firsts.now j) × (j ≤ i) × (i < length firsts.now) }
+    // Takes column `j` into the row of a vertex, where that is not an earlier one. Where it is a further leaf of the row subtree, its way up
+    // is new as far as it meets that of the last leaf.
+    fn take_leaf(&mut self, firsts: &[u32], perm: &Perm, vertex: u32, j: u32)
+        requires len { length firsts.now ≡ length perm.now + 1 }
+        requires places { (0 < slice_index firsts.now j) × (j < length firsts.now) × (vertex ≤ length perm.now) }
         requires small { AreAtMost (2 ^ 63) self.old }
         requires spans { AreSpans (slice_index firsts.now) }
         requires ready { AreReady firsts.now j self.old }
-        requires before { 0 < slice_index self.old.last.items i → slice_index firsts.now i ≤ slice_index self.old.last.items i }
-        ensures taken { (taken : ℕ → ℕ → Bool) → HoldLeaves firsts.now j taken self.old →
-            HoldLeaves firsts.now j (with_entry taken i j) self.new }
+        requires before { 0 < slice_index self.old.last.items vertex →
+            slice_index firsts.now (place_of perm.now vertex) ≤ slice_index self.old.last.items vertex }
+        ensures taken { j ≤ place_of perm.now vertex → (taken : ℕ → ℕ → Bool) → HoldLeaves firsts.now perm.now j taken self.old →
+            HoldLeaves firsts.now perm.now j (with_entry taken (place_of perm.now vertex) j) self.new }
+        ensures left_out { place_of perm.now vertex < j → (taken : ℕ → ℕ → Bool) → HoldLeaves firsts.now perm.now j taken self.old →
+            HoldLeaves firsts.now perm.now j taken self.new }
         ensures ready { AreReady firsts.now j self.new }
         ensures growth { (bound : ℕ) → AreAtMost bound self.old → AreAtMost (bound + 1) self.new }
     {
-        let leaf = self.last[i as usize];
+        places_are_inverse();
+        perm.keeps();
+        let leaf = self.last[vertex as usize];
         if firsts[j as usize] <= leaf {
             return;
         }
+        let i = perm.place(vertex);
+        if i < j {
+            return;
+        }
         self.leaves[j as usize] += 1;
-        self.last[i as usize] = j;
+        self.last[vertex as usize] = j;
         if leaf == 0 {
             return;
         }
@@ -82,16 +94,15 @@ impl Leaves {
         requires ready { AreReady firsts.now j self.old }
         requires row { (joined : ℕ → ℕ → Bool) × CanTakeColumn joined firsts.now row.now perm.now j self.old }
         ensures taken { (joined : ℕ → ℕ → Bool) → CanTakeColumn joined firsts.now row.now perm.now j self.old →
-            AreLeavesBefore joined firsts.now (j + 1) self.new }
+            AreLeavesBefore joined firsts.now perm.now (j + 1) self.new }
         ensures ready { AreReady firsts.now (j + 1) self.new }
         ensures small { AreAtMost (growth j) self.new }
     {
-        self.take_leaf(firsts, j, j);
+        places_are_inverse();
+        perm.keeps();
+        self.take_leaf(firsts, perm, perm.at(j), j);
         for vertex in row {
-            let i = perm.place(*vertex);
-            if j < i {
-                self.take_leaf(firsts, i, j);
-            }
+            self.take_leaf(firsts, perm, *vertex, j);
         }
     }
 

@@ -61,7 +61,7 @@ loop-j-init c =
         ancestors = first_ancestors c.args.parents.now forest c.args.firsts.now len c.requires.firsts (slice_index t.ancestors.table.items) empty.ancestors past 1;
       };
       small = λ x. let z = empty.clear x in let l = z.1 in let m = z.2 in (omega arith, omega arith);
-      leaves = none_taken (renumbered (is_joined c.args.pattern.now) c.args.perm.now) c.args.firsts.now c.args.parents.now t empty;
+      leaves = none_taken (renumbered (is_joined c.args.pattern.now) c.args.perm.now) c.args.firsts.now c.args.perm.now c.args.parents.now t empty;
     }
 
 pub take_column-requires-clause-len : goal.take_column-requires-clause-len
@@ -115,4 +115,4 @@ pub returns-clause-balanced : goal.returns-clause-balanced
 returns-clause-balanced c =
     let before = (goal.at.returns-clause-balanced c).After-order-j-end in
     are_balanced (renumbered (is_joined c.args.pattern.now) c.args.perm.now) (length c.args.perm.now) c.args.parents.now (factor_is before) c.args.firsts.now (long_firsts before) c.requires.firsts
-    c.loop-j.self c.loop-j.j (let same = c.requires.len in omega arith) c.loop-j.invariant.leaves
+    c.args.perm.now c.loop-j.self c.loop-j.j (let same = c.requires.len in omega arith) c.loop-j.invariant.leaves

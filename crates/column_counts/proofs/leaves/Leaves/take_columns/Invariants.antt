@@ -8,5 +8,5 @@ abbrev pub invariant-loop-j : goal.invariant-loop-j
 invariant-loop-j l = record {
   ready : AreReady l.firsts l.j l.self;
   small : AreAtMost (growth (l.j - 1)) l.self;
-  leaves : AreLeavesBefore (renumbered (is_joined l.pattern) l.perm) l.firsts l.j l.self;
+  leaves : AreLeavesBefore (renumbered (is_joined l.pattern) l.perm) l.firsts l.perm l.j l.self;
 }
