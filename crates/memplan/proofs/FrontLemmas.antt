@@ -1,6 +1,5 @@
 -- What `fronts` prints: the rows of all fronts, after the rounds in which they were made.
-use Rattle.std.proofs.Common.{◌≡◌, ◌∙◌, ◌+◌, ◌-◌, ◌<◌, ◌≤◌, ℕ, Bool, List, [], ◌∷◌, ◌++◌, length, map, take, drop, get_or, refl, sym, ap, ap₂, inl, inr, arith, append_assoc}
-use Rattle.std.specs.List.{range_with_len}
+use Rattle.std.proofs.Common.{◌≡◌, ◌∙◌, ◌+◌, ◌-◌, ◌<◌, ◌≤◌, ℕ, Bool, List, [], ◌∷◌, ◌++◌, length, map, take, drop, get_or, sym, ap, ap₂, inl, inr, arith, append_assoc}
 use Rattle.std.proofs.lemmas.List.{same_lists, get_or_default, take_more, map-append}
 use Rattle.std.proofs.lemmas.List.FromFn.{get_or-map-range_with_len, length-map-range_with_len}
 use Rattle.mp_text.specs.Report.{line_text, text_of_lines}

@@ -1,5 +1,5 @@
 -- What is judged of the files of an input, and of an order of its tasks.
-use Rattle.std.proofs.Common.{◌≡◌, ℕ, ◌≤◌, List, [], ◌∷◌, ◌++◌, Option, Some, None, refl, sym, subst, ap, inl, inr, arith, length, length-append}
+use Rattle.std.proofs.Common.{◌≡◌, ℕ, ◌≤◌, List, [], ◌∷◌, ◌++◌, Option, Some, refl, sym, subst, ap, inl, inr, arith, length, length-append}
 use Rattle.least_peak.specs.Problem.{system_of, IsTermOf}
 use Rattle.least_peak.specs.declared.problem.Origin.{Origin}
 use Rattle.least_peak.specs.declared.problem.Origin.TheVariants as origins

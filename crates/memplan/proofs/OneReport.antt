@@ -27,7 +27,7 @@ use Rattle.memplan.specs.Demo.{IsDemoOf}
 use Rattle.memplan.specs.Fronts.{IsFrontsOf}
 use Rattle.memplan.specs.Post.{IsPost, post_answer}
 use Rattle.memplan.specs.Replay.{IsReplayAnswer, IsReplayOf}
-use Rattle.memplan.specs.Request.{Request, replay, tree, post, check, planning, simulate, demo, upgrade, spill, segments, reduce, Upgrade, IsInRange, IsMakeable, TreeInput, matrix_named, Input, OrderSource, order_named, plan_named, PlanFormat, Simulation, FileRole, NamedFile, tree_input_files, input_files, source_file, priority_file, priority_files, files_of, fronts, OrderedMatrix}
+use Rattle.memplan.specs.Request.{Request, replay, tree, post, check, planning, simulate, demo, upgrade, spill, segments, reduce, Upgrade, IsInRange, IsMakeable, TreeInput, matrix_named, Input, OrderSource, order_named, plan_named, Simulation, FileRole, NamedFile, tree_input_files, input_files, source_file, priority_file, priority_files, files_of, fronts, OrderedMatrix}
 use Rattle.memplan.specs.Simulate.{IsOwnPriority, IsPriorityFrom, IsSimulation, IsSimulationOf, priority_or, setting_of, simulation_answer}
 use Rattle.memplan.specs.Tree.{tree_answer}
 use Rattle.memplan.specs.Judged.{AreWithin}

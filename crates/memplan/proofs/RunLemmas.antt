@@ -21,7 +21,7 @@ use Rattle.sp_terms.specs.Kinds.{word_of as workflow_word}
 use Rattle.ordering.specs.Kinds.{perm_word}
 use Rattle.ordering.specs.Kinds.{order_file_word}
 use Rattle.plan_text.specs.Kinds.{word_of as plan_word}
-use Rattle.memplan.specs.Request.{Ordering, natural, min_degree, perm_named, Request, replay, tree, post, check, planning, simulate, FileRole, NamedFile, tree_file, workflow_file, graph_file, matrix_file, perm_file, order_file, plan_file, priority_file, plan_priority_file, files_of}
+use Rattle.memplan.specs.Request.{Ordering, natural, min_degree, perm_named, Request, FileRole, NamedFile, tree_file, workflow_file, graph_file, matrix_file, perm_file, order_file, plan_file, priority_file, plan_priority_file, files_of}
 use Rattle.memplan.specs.declared.status.Status.{Status}
 use Rattle.memplan.specs.declared.status.Status.TheVariants as status
 

@@ -1,5 +1,5 @@
 -- The lines that `segments` prints, token by token and row by row.
-use Rattle.std.proofs.Common.{◌≡◌, ◌∙◌, ℕ, zero, suc, ◌+◌, ◌-◌, ◌<◌, ◌≤◌, Bool, true, ◌&&◌, List, [], ◌∷◌, ◌++◌, length, map, take, get_or, decimal, refl, sym, ap, ap₂, subst, arith, append_assoc}
+use Rattle.std.proofs.Common.{◌≡◌, ◌∙◌, ℕ, ◌+◌, ◌-◌, ◌<◌, true, List, [], ◌∷◌, ◌++◌, length, map, take, get_or, decimal, refl, sym, ap, ap₂, arith, append_assoc}
 use Rattle.std.specs.List.{enumerate_from, flat_map, list_all}
 use Rattle.std.proofs.lemmas.Grind.{flat_map-append}
 use Rattle.std.proofs.lemmas.List.{append-nil, take_more, take_all, map-append, get_or-map, length-map}
@@ -9,12 +9,10 @@ use Rattle.hill_valley.specs.declared.steps.Step.{Step}
 use Rattle.mp_text.specs.Report.{is_token, with_token, with_tokens, line_text, text_of_lines}
 use Rattle.sp_terms.specs.declared.position.Position.{Position}
 use Rattle.sp_terms.specs.declared.position.Values.{Values}
-use Rattle.sp_terms.specs.Places.{term_of_position}
-use Rattle.sp_terms.specs.Term.{initial_of, final_of}
 use Rattle.sp_terms.specs.Values.{values_of, term_at}
 use Rattle.sp_cuts.specs.Stairs.{BothSteps, both_of, all_of}
 use Rattle.sp_cuts.specs.declared.reaching.Stairs.{Stairs}
-use Rattle.memplan.specs.Segments.{Row, no_steps, row_at, rows_of, row_lines, both_lines, side_line, step_tokens}
+use Rattle.memplan.specs.Segments.{no_steps, row_at, rows_of, row_lines, both_lines, side_line, step_tokens}
 
 -- ---- the tokens of a line
 

@@ -1,6 +1,6 @@
 -- The commands: the words that ask for each, and what is answered over the contents of its files, a status and a text. There is one
 -- answer for a first refusal, in the order of the files, and else the report.
-use Rattle.std.specs.Prelude.{◌≡◌, ℕ, List, [], ◌∷◌, Option, None, option_and_then, codes, if◌then◌else◌, ◌⊎◌}
+use Rattle.std.specs.Prelude.{◌≡◌, ℕ, List, [], Option, None, option_and_then, codes, if◌then◌else◌, ◌⊎◌}
 use Rattle.std.specs.Str.{bytes_eq}
 use Rattle.tree_input.specs.declared.node.Node.{Node}
 use Rattle.memplan.specs.Request.{Request, replay, tree, post, check, planning, simulate, demo, upgrade, spill, fronts, segments, reduce, files_of}

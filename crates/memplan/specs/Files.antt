@@ -1,6 +1,6 @@
 -- What the files of a request say: what each is read as, or the answer that refuses it; the inputs that they make; and the first
 -- refusal, where they are judged in turn.
-use Rattle.std.specs.Prelude.{◌≡◌, ℕ, ◌<◌, ◌≤◌, List, [], ◌∷◌, ◌++◌, length, Option, Some, None, codes, decimal, ◌⊎◌}
+use Rattle.std.specs.Prelude.{◌≡◌, ℕ, ◌<◌, ◌≤◌, List, [], ◌∷◌, ◌++◌, length, codes, decimal, ◌⊎◌}
 use Rattle.std.specs.List.{range_with_len}
 use Rattle.mp_text.specs.declared.refusals.Refusal.{Refusal}
 use Rattle.mp_text.specs.Report.{line_text}

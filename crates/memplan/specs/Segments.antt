@@ -17,7 +17,7 @@ use Rattle.hill_valley.specs.declared.steps.Step.{Step}
 use Rattle.cut_laws.specs.Standing.{IsLowestReached}
 use Rattle.sp_cuts.specs.Stairs.{BothSteps, AreStairsOf, AreStairs, step_total, PassesLimit}
 use Rattle.command_line.specs.Words.{Given}
-use Rattle.memplan.specs.Request.{Request, segments, Input, tree_input, workflow_named, TreeInput, tree_named, matrix_named, input_of}
+use Rattle.memplan.specs.Request.{Request, segments, Input, tree_input, workflow_named, tree_named, matrix_named, input_of}
 use Rattle.memplan.specs.declared.status.Status.TheVariants as status
 use Rattle.memplan.specs.Files.{IsTreeOf, IsWorkflowFile, limit_refused, Answer}
 

@@ -1,5 +1,5 @@
 -- The table of the commands: which options each takes.
-use Rattle.std.specs.Prelude.{ℕ, List, [], ◌∷◌, ◌++◌, codes}
+use Rattle.std.specs.Prelude.{ℕ, List, [], ◌∷◌, codes}
 use Rattle.command_line.specs.Words.{Shape}
 
 -- what a matrix takes besides its name

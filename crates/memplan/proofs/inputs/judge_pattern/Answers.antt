@@ -1,4 +1,4 @@
-use Rattle.std.proofs.Common.{ℕ, List, [], ◌∷◌, ◌++◌, inl, length}
+use Rattle.std.proofs.Common.{ℕ, List, [], ◌∷◌, ◌++◌, inl}
 use Rattle.std.specs.Prelude.{codes}
 use Rattle.matrix_market.specs.Kinds.{word_of}
 use Rattle.matrix_market.specs.MatrixFile.{RefusesPattern}

@@ -1,4 +1,4 @@
-use Rattle.std.proofs.Common.{◌≡◌, ◌∙◌, ℕ, List, ap, sym, subst, length}
+use Rattle.std.proofs.Common.{◌∙◌, ℕ, List, ap, sym, subst, length}
 use Rattle.tree_input.specs.Forest.{all_numbers}
 use Rattle.memplan.specs.Judged.{AreNames, AreWithin}
 use Rattle.memplan.specs.Segments.{task_positions}

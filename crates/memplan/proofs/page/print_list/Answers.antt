@@ -1,6 +1,3 @@
-use Rattle.std.proofs.Common.{◌≡◌, ◌∙◌, ◌++◌, ◌∷◌, [], ap, map, length, decimal}
-use Rattle.std.proofs.lemmas.List.{take_all}
-use Rattle.mp_text.specs.Report.{with_tokens}
 use Rattle.memplan.proofs.PageLemmas.{token_more, tokens_more}
 use Rattle.memplan.proofs.page.print_list.Goals as goal
 

@@ -1,4 +1,4 @@
-use Rattle.std.proofs.Common.{◌≡◌, ◌∙◌, ℕ, List, [], ◌∷◌, ◌++◌, ap, map, length, codes}
+use Rattle.std.proofs.Common.{◌∙◌, ℕ, List, [], ◌∷◌, ◌++◌, ap, map, length, codes}
 use Rattle.mp_text.specs.Report.{line_text}
 use Rattle.memplan.specs.Fronts.{counted, number_line}
 use Rattle.memplan.specs.declared.status.Status.TheVariants as status

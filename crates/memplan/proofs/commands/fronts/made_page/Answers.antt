@@ -1,8 +1,7 @@
-use Rattle.std.proofs.Common.{length, inr, ap₂, ap, ◌∙◌}
+use Rattle.std.proofs.Common.{length, inr, ap, ◌∙◌}
 use Rattle.std.proofs.lemmas.Result.{IfOk-weaker}
 use Rattle.symbolic.specs.FrontTree.{columns}
-use Rattle.memplan.specs.Fronts.{front_lists, fronts_answer}
-use Rattle.memplan.specs.Pages.{answer_of}
+use Rattle.memplan.specs.Fronts.{fronts_answer}
 use Rattle.memplan.proofs.FrontLemmas.{are_front_lists}
 use Rattle.memplan.proofs.commands.fronts.made_page.Goals as goal
 

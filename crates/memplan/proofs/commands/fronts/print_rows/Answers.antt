@@ -1,4 +1,4 @@
-use Rattle.std.proofs.Common.{◌∙◌, ◌++◌, ◌<◌, ◌≤◌, ap, map, take, length, arith}
+use Rattle.std.proofs.Common.{◌∙◌, ◌++◌, ◌<◌, ◌≤◌, ap, map, length, arith}
 use Rattle.std.proofs.lemmas.List.{take_all}
 use Rattle.mp_text.specs.Report.{text_of_lines}
 use Rattle.memplan.specs.Fronts.{number_line}

@@ -1,4 +1,4 @@
-use Rattle.std.proofs.Common.{◌≡◌, ◌∙◌, ◌-◌, ◌<◌, ◌++◌, List, ℕ, ap, sym, subst, length, get_or, arith}
+use Rattle.std.proofs.Common.{◌≡◌, ◌∙◌, ◌-◌, ◌<◌, ◌++◌, List, ℕ, ap, length, get_or, arith}
 use Rattle.mp_text.specs.Report.{text_of_lines}
 use Rattle.sp_terms.specs.declared.position.Values.{Values}
 use Rattle.sp_terms.specs.Values.{values_of, term_at}

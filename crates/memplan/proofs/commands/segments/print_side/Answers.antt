@@ -1,10 +1,10 @@
-use Rattle.std.proofs.Common.{◌≡◌, ◌∙◌, ◌<◌, ◌++◌, ◌∷◌, [], List, ℕ, true, ap, sym, subst, take, length}
+use Rattle.std.proofs.Common.{◌≡◌, ◌∙◌, ◌<◌, ◌++◌, ◌∷◌, [], List, ℕ, ap, sym, subst, take, length}
 use Rattle.std.specs.Bool.{IsTrue}
 use Rattle.std.specs.List.{list_all}
 use Rattle.std.proofs.lemmas.List.{take_all}
 use Rattle.std.proofs.lemmas.Result.{on_ok_weaker}
 use Rattle.hill_valley.specs.declared.steps.Step.{Step}
-use Rattle.mp_text.specs.Report.{is_line_start, is_token, line_text, with_tokens}
+use Rattle.mp_text.specs.Report.{is_line_start, is_token, with_tokens}
 use Rattle.memplan.specs.Segments.{side_line}
 use Rattle.memplan.proofs.StairPages.{step_printed, step_tokens_are}
 use Rattle.memplan.proofs.commands.segments.print_side.Goals as goal

@@ -1,4 +1,4 @@
-use Rattle.std.proofs.Common.{◌≡◌, ◌∙◌, ◌++◌, ◌≤◌, List, ℕ, ap, sym, subst, length, arith}
+use Rattle.std.proofs.Common.{◌≡◌, ◌∙◌, ◌++◌, List, ℕ, ap, sym, subst, length, arith}
 use Rattle.std.specs.Bool.{IsTrue}
 use Rattle.mp_text.specs.Report.{is_line_start, text_of_lines}
 use Rattle.memplan.proofs.SpillLemmas.{lines_before, lines_of_all, printed, skipped}
