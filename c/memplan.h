@@ -1,7 +1,8 @@
 /* memplan for C: orders of least memory for the fronts of a sparse factorization, or for any tree of tasks, with proof.
  *
- * What is said of each call here is in the contract of its function (crates/memplan_c), which is proved for all arrays. That rests on
- * duties of the caller, which no call can check:
+ * What each status says here, and what is written then, is in the contract of the function (crates/memplan_c), which is proved for all
+ * arrays; what is said of time, and what is marked as tested alone, is in none. The contracts rest on duties of the caller, which no call
+ * can check:
  *
  *   - each pointer points to as many elements as the length beside it says, and none is null, also where the length is 0;
  *   - what a call writes overlaps nothing else that it is given;
@@ -237,7 +238,7 @@ uint32_t memplan_spill_tree(const memplan_node *nodes, size_t count, const uint3
  *                 columns
  *
  * MEMPLAN_DONE    the first *count nodes are the tree of the fronts, what lies past them is left as it was, and front_of has the front of
- *                 each column. The columns sorted by their fronts are an order of elimination with these fronts.
+ *                 each column. (Tested alone: the columns sorted by their fronts are an order of elimination with these fronts.)
  * MEMPLAN_USAGE   a length, the base or the shape does not fit; or there is room for fewer nodes than there are fronts.
  * MEMPLAN_FORMAT  the first place at which the columns are none of a matrix, or the order is none of its columns.
  * else            MEMPLAN_LIMIT, MEMPLAN_NO_MEMORY.
