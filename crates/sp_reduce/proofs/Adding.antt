@@ -4,7 +4,7 @@ use Rattle.std.proofs.lemmas.Bool.{cases_eq}
 use Rattle.std.proofs.lemmas.List.{get_or-set_other, get_or-set_same, length-set}
 use Rattle.std.proofs.lemmas.List.Sums.{sum_by_push}
 use Rattle.sp_reduce.specs.declared.link.Link.{Link}
-use Rattle.sp_reduce.specs.Work.{no_link, link_at, hit, link_weight, sum_links, key_of, IsWork, HasNone}
+use Rattle.sp_reduce.specs.Work.{no_link, link, link_at, hit, link_weight, sum_links, key_of, AreRanked, IsWork, HasNone}
 use Rattle.sp_reduce.proofs.Works.{hit-self, hit-no, key-same}
 
 at-left : (xs : List Link) (y : Link) (i : ℕ) → i < length xs → get_or (xs ++ y ∷ []) i no_link ≡ get_or xs i no_link
@@ -79,3 +79,40 @@ module _ (n : ℕ) (rank : ℕ → ℕ) (links : List Link) (ins outs in_at out_
             (λ e. let k = key-same (link_at links x).from (link_at links x).to p s (omega (arith, (w.inside x h a).1)) (omega (arith, small_s)) e in none x h a k.0 k.1)
             ∙ w.keyed x h a);
       }
+
+-- ---- ranks, with one link more
+
+module _ (rank : ℕ → ℕ) (links : List Link) (p s : ℕ) where
+  pub ranked-before : AreRanked rank (links ++ link p s ∷ []) → AreRanked rank links
+  ranked-before h x lt alive low high =
+      let e = at-left links (link p s) x lt in
+      let now = h x (omega (arith, lt, length-append links (link p s ∷ []))) (ap (λ (l : Link). l.alive) e ∙ alive) (omega (arith, low, ap (λ (l : Link). l.from) e)) (omega (arith, high, ap (λ (l : Link). l.to) e)) in
+      subst (λ (l : Link). rank l.from < rank l.to) e now
+
+  pub ranked-new : AreRanked rank (links ++ link p s ∷ []) → 1 ≤ p → 1 ≤ s → rank p < rank s
+  ranked-new h low high =
+      let e = at-last links (link p s) in
+      let now = h (length links) (omega (arith, length-append links (link p s ∷ []))) (ap (λ (l : Link). l.alive) e) (omega (arith, low, ap (λ (l : Link). l.from) e)) (omega (arith, high, ap (λ (l : Link). l.to) e)) in
+      subst (λ (l : Link). rank l.from < rank l.to) e now
+
+  pub ranked-more : AreRanked rank links → (1 ≤ p → 1 ≤ s → rank p < rank s) → AreRanked rank (links ++ link p s ∷ [])
+  ranked-more h lower x lt alive low high = elim (cases_eq x (length links)) [
+    | inl same ↦ (let e = ap (λ y. link_at (links ++ link p s ∷ []) y) same ∙ at-last links (link p s) in
+        subst (λ (l : Link). rank l.from < rank l.to) (sym e) (lower (omega (arith, low, ap (λ (l : Link). l.from) e)) (omega (arith, high, ap (λ (l : Link). l.to) e))))
+    | inr other ↦ (let l : x < length links = omega (arith, lt, other, length-append links (link p s ∷ [])) in
+        let e = at-left links (link p s) x l in
+        subst (λ (l : Link). rank l.from < rank l.to) (sym e) (h x l (sym (ap (λ (l : Link). l.alive) e) ∙ alive) (omega (arith, low, ap (λ (l : Link). l.from) e)) (omega (arith, high, ap (λ (l : Link). l.to) e))))
+  ]
+
+pub reranked : (n : ℕ) (rank rank' : ℕ → ℕ) (links : List Link) (ins outs in_at out_at : List ℕ) (table : ℕ → Option ℕ) → IsWork n rank links ins outs in_at out_at table → AreRanked rank' links
+    → IsWork n rank' links ins outs in_at out_at table
+reranked n rank rank' links ins outs in_at out_at table w h = record {
+  lens = w.lens;
+  inside = w.inside;
+  rising = h;
+  ins_are = w.ins_are;
+  outs_are = w.outs_are;
+  in_at_is = w.in_at_is;
+  out_at_is = w.out_at_is;
+  keyed = w.keyed;
+}

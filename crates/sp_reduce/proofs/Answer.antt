@@ -1,9 +1,10 @@
 -- What `reduce` answers, from what is left of the arcs of a graph.
-use Rattle.std.proofs.Common.{◌≡◌, ℕ, ◌<◌, ◌≤◌, ◌^◌, sym, ap, subst, arith, ◌∙◌, List, [], ◌∷◌, length, map, get_or}
+use Rattle.std.proofs.Common.{◌≡◌, ℕ, ◌<◌, ◌≤◌, sym, ap, subst, arith, ◌∙◌, List, [], ◌∷◌, length, map, get_or}
 use Rattle.std.specs.Prelude.{IsPermutation}
 use Rattle.std.specs.List.{All, count_by}
 use Rattle.std.specs.List.Sorted.{IsSorted}
 use Rattle.std.proofs.lemmas.List.{get_or_default}
+use Rattle.limits.specs.Limits.{most_positions}
 use Rattle.mp_system.specs.System.{IsSystem}
 use Rattle.mp_system.specs.declared.system.Task.{Task}
 use Rattle.sp_terms.specs.Term.{Term}
@@ -43,7 +44,7 @@ module _ (graph : TaskGraph) (links : List Link) (nodes : List ℕ) (pieces : Li
     pub answer-names : All (IsAmong (length graph.tasks)) (names (net_of x))
     answer-names = names-among graph is system within led (net_of x) makes
 
-    pub answer-small : size_of (net_of x) < 2 ^ 32
+    pub answer-small : size_of (net_of x) ≤ most_positions
     answer-small = size-small graph is system within led (net_of x) makes
 
     module _ (form : (u : Term) → Denotes (postfix u) u) where
@@ -75,7 +76,7 @@ module _ (graph : TaskGraph) (links : List Link) (nodes : List ℕ) (pieces : Li
 -- what is known of the piece from which it is written
 pub record IsFound (graph : TaskGraph) (tasks : List Task) (pieces : List Piece) (root : ℕ) : Type 0 where
   pub among : All (IsAmong (length tasks)) (names (net_at (nets_of pieces) root))
-  pub small : size_of (net_at (nets_of pieces) root) < 2 ^ 32
+  pub small : size_of (net_at (nets_of pieces) root) ≤ most_positions
   pub terms : (positions : List Position) → positions ≡ postfix (term_of_net (task_at tasks) (net_at (nets_of pieces) root)) → IsTerms positions
   pub system : (positions : List Position) (named : List ℕ) → positions ≡ postfix (term_of_net (task_at tasks) (net_at (nets_of pieces) root))
       → named ≡ names (net_at (nets_of pieces) root) → HasSystem named (term_of positions) (completed_system graph)

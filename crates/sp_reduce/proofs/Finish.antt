@@ -1,5 +1,5 @@
 -- The net that makes the completed graph is a term with its system; and where no net does, no term has it.
-use Rattle.std.proofs.Common.{◌≡◌, ◌≢◌, ℕ, zero, suc, ◌+◌, ◌-◌, ◌<◌, ◌≤◌, ◌^◌, Bool, true, false, cond, eqb, eq-eqb, refl, sym, ap, subst, arith, ◌∙◌, List, [], ◌∷◌, ◌++◌, length, map, get_or, take, Option, Some, None, inl, inr}
+use Rattle.std.proofs.Common.{◌≡◌, ◌≢◌, ℕ, zero, suc, ◌+◌, ◌-◌, ◌<◌, ◌≤◌, Bool, true, false, cond, eqb, eq-eqb, refl, sym, ap, subst, arith, ◌∙◌, List, [], ◌∷◌, ◌++◌, length, map, get_or, take, Option, Some, None, inl, inr}
 use Rattle.std.specs.Prelude.{IsPermutation}
 use Rattle.std.specs.List.{sum_by, count_by, All, range_with_len, position_or_len}
 use Rattle.std.proofs.lemmas.List.{length-map, length-append, get_or-take, length-take-le}
@@ -7,7 +7,7 @@ use Rattle.std.proofs.lemmas.List.Sums.{sum_by-cons, sum_by-append, get_or-le-su
 use Rattle.std.proofs.lemmas.List.Elements.{All-head, All-tail}
 use Rattle.std.proofs.lemmas.List.FromFn.{length-range_with_len, get_or-range_with_len}
 use Rattle.std.proofs.lemmas.Bool.{ne_eqb, le-leb, eqb-true, cases_Bool}
-use Rattle.limits.specs.Limits.{most_size}
+use Rattle.limits.specs.Limits.{most_size, most_positions}
 use Rattle.mp_system.specs.declared.system.Task.{Task}
 use Rattle.mp_system.specs.declared.system.Item.{Item}
 use Rattle.mp_system.specs.System.{TaskSystem, IsSystem, IsTask, IsTaskWithin, IsItemWithin, is_named, is_input, is_output, size_where, extra_size, item_size}
@@ -28,7 +28,7 @@ use Rattle.sp_reduce.proofs.Ends.{split, into-known, into-task, hits-same}
 use Rattle.sp_reduce.proofs.Whole.{makes-fits, weigh-arcs, exact, exact-self, same_size}
 use Rattle.sp_reduce.proofs.Works.{hits-end}
 use Rattle.sp_reduce.proofs.Weights.{weighed}
-use Rattle.sp_reduce.proofs.Links.{items-made}
+use Rattle.sp_reduce.proofs.RenamedTerms.{items-made}
 use Rattle.sp_reduce.proofs.Shaped.{tasks-are, items-are, size_if, size_in, size_out, ShareFits, allowed}
 use Rattle.sp_reduce.proofs.Bounds.{weigh-data, weigh-holds, size-holds, bad, small, AreBound, bounds}
 
@@ -257,7 +257,7 @@ module _ (graph : TaskGraph) (is : IsGraph graph) (system : IsSystem (completed_
       sym (weigh-holds None None t) ∙ m.arcs (λ p n q. 1) ∙ ones-length (completed_system graph).items
       ∙ length-map (completed_arcs (length graph.tasks) graph.arcs) item_of
 
-  pub size-small : size_of t < 2 ^ 32
+  pub size-small : size_of t ≤ most_positions
   size-small = omega (arith, size-holds t, holds-are, is.few_arcs)
 
   extras-are : sum_by (λ v. (task_at graph.tasks v).extra) (names t) ≡ sum_by extra_size graph.tasks

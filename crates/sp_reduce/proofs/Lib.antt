@@ -6,9 +6,10 @@ pub mod Works
 pub mod Adding
 pub mod Weights
 pub mod Rows
+pub mod TakingOut
 pub mod Carried
 pub mod Planted
-pub mod Links
+pub mod RenamedTerms
 pub mod Shaped
 pub mod Writings
 pub mod Bounds

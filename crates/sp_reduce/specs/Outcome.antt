@@ -1,6 +1,7 @@
 -- No public clause names this.
 -- What is left of the arcs of a graph: links that reductions lead to, to which none applies, with the terms that they carry.
-use Rattle.std.specs.Prelude.{ℕ, ◌<◌, ◌^◌, List, [], length, map}
+use Rattle.std.specs.Prelude.{ℕ, ◌≤◌, List, [], length, map}
+use Rattle.limits.specs.Limits.{most_arcs}
 use Rattle.task_graph.specs.declared.arc.Arc.{Arc}
 use Rattle.task_graph.specs.Graph.{item_of}
 use Rattle.sp_reduce.specs.declared.link.Link.{Link}
@@ -14,4 +15,4 @@ pub record IsOutcome (arcs : List Arc) (links : List Link) (nodes : List ℕ) (p
   pub row : LeadsTo (map ends_of arcs) (pairs_of links)
   pub irreducible : IsIrreducible (graph_of links)
   pub carried : IsCarried (map item_of arcs) [] pieces links nodes
-  pub few : length links < 2 ^ 32
+  pub few : length links ≤ most_arcs

@@ -1,6 +1,7 @@
 -- No public clause names this.
 -- Terms in a list of pieces, each made of earlier ones, and the links that carry them.
-use Rattle.std.specs.Prelude.{◌≡◌, ℕ, ◌<◌, cond, true, List, [], ◌∷◌, ◌++◌, length, slice_index, slice_index_or}
+use Rattle.std.specs.Prelude.{◌≡◌, ℕ, ◌*◌, ◌<◌, cond, true, List, [], ◌∷◌, ◌++◌, length, slice_index, slice_index_or}
+use Rattle.limits.specs.Limits.{most_arcs}
 use Rattle.mp_system.specs.declared.system.Item.{Item}
 use Rattle.task_graph.specs.Graph.{end_of}
 use Rattle.sp_reduce.specs.declared.link.Link.{Link}
@@ -9,6 +10,10 @@ use Rattle.sp_reduce.specs.declared.piece.Piece.TheVariants.{Hold, Series, Both}
 use Rattle.sp_reduce.specs.Nets.{Net, hold, series, both}
 use Rattle.sp_reduce.specs.Forests.{Edge, dead, IsForest, planted}
 use Rattle.sp_reduce.specs.Work.{link_at}
+
+-- pieces: one for each arc, and one for each arc that is joined with another
+abbrev pub most_pieces : ℕ
+most_pieces = 2 * most_arcs
 
 abbrev pub net_at : List Net → ℕ → Net
 net_at nets i = slice_index_or nets i (hold 0)

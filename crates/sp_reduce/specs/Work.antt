@@ -3,6 +3,7 @@ use Rattle.std.specs.Prelude.{◌≡◌, ◌≢◌, ℕ, suc, ◌+◌, ◌*◌, 
 use Rattle.std.specs.List.{sum_by, list_any}
 use Rattle.sp_reduce.specs.declared.link.Link.{Link}
 use Rattle.sp_reduce.specs.declared.link.Taken.{Taken}
+use Rattle.limits.specs.Limits.{most_tasks, most_arcs}
 use Rattle.mp_system.specs.declared.system.Item.{Item}
 use Rattle.task_graph.specs.Graph.{end_of}
 use Rattle.sp_reduce.specs.NetGraphs.{arc}
@@ -22,6 +23,21 @@ link_weight g l = cond l.alive (g l.from l.to) 0
 abbrev pub sum_links : (ℕ → ℕ → ℕ) → List Link → ℕ
 sum_links g links = sum_by (link_weight g) links
 
+-- how many links are alive
+abbrev pub link_count : List Link → ℕ
+link_count links = sum_links (λ p q. 1) links
+
+-- how many links lead into a task, and how many out of it
+abbrev pub links_into : ℕ → List Link → ℕ
+links_into v links = sum_links (λ p q. hit q v) links
+
+abbrev pub links_out_of : ℕ → List Link → ℕ
+links_out_of v links = sum_links (λ p q. hit p v) links
+
+-- each link leads from a task to one of a higher rank, so that the links have no cycle
+abbrev pub AreRanked : (ℕ → ℕ) → List Link → Type 0
+AreRanked rank links = (x : ℕ) → x < length links → (link_at links x).alive ≡ true → 1 ≤ (link_at links x).from → 1 ≤ (link_at links x).to → rank (link_at links x).from < rank (link_at links x).to
+
 -- the links' graph
 abbrev pub graph_of : List Link → List Item
 graph_of [] = []
@@ -33,12 +49,24 @@ key_of p q = p * 2 ^ 32 + q
 pub record IsWork (n : ℕ) (rank : ℕ → ℕ) (links : List Link) (ins outs in_at out_at : List ℕ) (table : ℕ → Option ℕ) : Type 0 where
   pub lens : (length ins ≡ suc n) × (length outs ≡ suc n) × (length in_at ≡ suc n) × (length out_at ≡ suc n)
   pub inside : (x : ℕ) → x < length links → (link_at links x).alive ≡ true → ((link_at links x).from ≤ n) × ((link_at links x).to ≤ n)
-  pub rising : (x : ℕ) → x < length links → (link_at links x).alive ≡ true → 1 ≤ (link_at links x).from → 1 ≤ (link_at links x).to → rank (link_at links x).from < rank (link_at links x).to
-  pub ins_are : (v : ℕ) → v ≤ n → slice_index ins v ≡ sum_links (λ p q. hit q v) links
-  pub outs_are : (v : ℕ) → v ≤ n → slice_index outs v ≡ sum_links (λ p q. hit p v) links
+  pub rising : AreRanked rank links
+  pub ins_are : (v : ℕ) → v ≤ n → slice_index ins v ≡ links_into v links
+  pub outs_are : (v : ℕ) → v ≤ n → slice_index outs v ≡ links_out_of v links
   pub in_at_is : (v : ℕ) → v ≤ n → 1 ≤ slice_index ins v → (slice_index in_at v < length links) × ((link_at links (slice_index in_at v)).alive ≡ true) × ((link_at links (slice_index in_at v)).to ≡ v)
   pub out_at_is : (v : ℕ) → v ≤ n → 1 ≤ slice_index outs v → (slice_index out_at v < length links) × ((link_at links (slice_index out_at v)).alive ≡ true) × ((link_at links (slice_index out_at v)).from ≡ v)
   pub keyed : (x : ℕ) → x < length links → (link_at links x).alive ≡ true → table (key_of (link_at links x).from (link_at links x).to) ≡ Some x
+
+-- what contracts see of the links: how many tasks there are, and the links, those that are dead among them
+pub record LinksValue : Type 0 where
+  pub tasks : ℕ
+  pub list : List Link
+
+-- what the representation of the links keeps
+pub record AreIndexed (n : ℕ) (links : List Link) (ins outs in_at out_at : List ℕ) (table : ℕ → Option ℕ) : Type 0 where
+  pub few_tasks : n ≤ most_tasks
+  pub few_links : length links ≤ most_arcs
+  pub rank : ℕ → ℕ
+  pub work : IsWork n rank links ins outs in_at out_at table
 
 -- no link has these ends
 abbrev pub HasNone : List Link → ℕ → ℕ → Type 0
@@ -57,8 +85,12 @@ abbrev pub AreTasks : ℕ → List ℕ → Type 0
 AreTasks n ts = (x : ℕ) → x < length ts → (1 ≤ slice_index ts x) × (slice_index ts x ≤ n)
 
 -- each task that can be taken out stands in the list
-abbrev pub AreNoted : ℕ → List ℕ → List ℕ → List ℕ → Type 0
-AreNoted n ins outs ts = (u : ℕ) → 1 ≤ u → u ≤ n → slice_index ins u ≡ 1 → slice_index outs u ≡ 1 → stands u ts ≡ true
+abbrev pub AreNoted : ℕ → List Link → List ℕ → Type 0
+AreNoted n links ts = (u : ℕ) → 1 ≤ u → u ≤ n → links_into u links ≡ 1 → links_out_of u links ≡ 1 → stands u ts ≡ true
+
+-- no task can be taken out
+abbrev pub IsIdle : ℕ → List Link → Type 0
+IsIdle n links = (u : ℕ) → 1 ≤ u → u ≤ n → links_into u links ≡ 1 → links_out_of u links ≡ 1 → ⊥
 
 -- the ends of the links that are alive
 abbrev pub pairs_of : List Link → List (ℕ × ℕ)
@@ -81,8 +113,8 @@ pub record IsTaken (old new : List Link) (v : ℕ) (taken : Taken) : Type 0 wher
   pub apart : taken.first ≢ taken.second
   pub other_from : taken.from ≢ v
   pub other_to : taken.to ≢ v
-  pub one_in : sum_links (λ p q. hit q v) old ≡ 1
-  pub one_out : sum_links (λ p q. hit p v) old ≡ 1
+  pub one_in : links_into v old ≡ 1
+  pub one_out : links_out_of v old ≡ 1
   pub left : AreLeft old new taken.first taken.second taken.from taken.to taken.twin
 
 -- how many links fewer there are

@@ -4,9 +4,10 @@
 #![tactic(auto)]
 
 mod building;
-mod carrying;
+mod forest;
 pub mod laws;
 mod link;
+mod links;
 mod piece;
 mod postfix;
 mod printing;
@@ -15,7 +16,6 @@ mod reducing;
 mod rounds;
 #[cfg(test)]
 mod tests;
-mod work;
 
 pub use printing::print_reduced;
 pub use reduced::{ReduceRefusal, Reduced};

@@ -1,6 +1,7 @@
 //! The term of a piece, written as positions in postfix order: from its last position back, so that no call goes into a term's depth.
 
 ghost use Rattle.std.specs.Prelude.{◌≡◌, ◌≤◌, ◌<◌, ◌+◌, ◌-◌, ◌^◌, ◌++◌, [], ◌∷◌, ℕ, All, length, min, slice_index, IfOk};
+ghost use Rattle.limits.specs.Limits.{most_positions};
 ghost use Rattle.sp_terms.specs.Postfix.{postfix};
 ghost use Rattle.task_graph.specs.Graph.{IsAmong, task_at};
 ghost use Rattle.sp_reduce.specs.Nets.{names};
@@ -55,31 +56,34 @@ fn write_next(
     counts: &[u32],
     next: Pending,
     pending: &mut Vec<Pending>,
-    positions: &mut Vec<Position>,
-    names: &mut Vec<u32>,
+    written: &mut Written,
 ) -> Result<(), NoMemory>
     requires place { (next.piece < length pieces.now) × (next.piece < length counts.now) }
     requires known { IsKnown (length tasks.now) (piece_at pieces.now next.piece) }
     ensures pending { IfOk result (λ _. pending.new.items ≡ pending.old.items ++ children next.among (piece_at pieces.now next.piece)) }
-    ensures positions { IfOk result (λ _. positions.new.items ≡ positions.old.items
+    ensures positions { IfOk result (λ _. written.new.positions.items ≡ written.old.positions.items
         ++ own_positions (task_at tasks.now) next.among (slice_index counts.now next.piece) (piece_at pieces.now next.piece)) }
-    ensures names { IfOk result (λ _. names.new.items ≡ names.old.items ++ own_names (piece_at pieces.now next.piece)) }
+    ensures names { IfOk result (λ _. written.new.names.items ≡ written.old.names.items ++ own_names (piece_at pieces.now next.piece)) }
 {
     match pieces[next.piece as usize] {
-        Piece::Hold(size) => positions.push(Position::Hold(size))?,
+        Piece::Hold(size) => written.positions.push(Position::Hold(size))?,
         Piece::Series {
             first,
             task,
             second,
         } => {
             let Task { extra, share, time } = tasks[task as usize - 1];
-            positions.push(Position::Task { extra, share, time })?;
-            names.push(task)?;
+            written
+                .positions
+                .push(Position::Task { extra, share, time })?;
+            written.names.push(task)?;
             push_two(pending, first, second, false)?;
         }
         Piece::Both { first, second } => {
             if !next.among {
-                positions.push(Position::Par(counts[next.piece as usize]))?;
+                written
+                    .positions
+                    .push(Position::Par(counts[next.piece as usize]))?;
             }
             push_two(pending, first, second, true)?;
         }
@@ -118,30 +122,24 @@ pub fn write_term(
     requires made { AreMade pieces.now }
     requires root { root < length pieces.now }
     requires names { All (IsAmong (length tasks.now)) (names (net_at (nets_of pieces.now) root)) }
-    requires small { size_of (net_at (nets_of pieces.now) root) < 2 ^ 32 }
+    requires small { size_of (net_at (nets_of pieces.now) root) ≤ most_positions }
     ensures positions { IfOk result (λ w. w.positions.items ≡ postfix (term_of_net (task_at tasks.now) (net_at (nets_of pieces.now) root))) }
     ensures names { IfOk result (λ w. w.names.items ≡ names (net_at (nets_of pieces.now) root)) }
 {
     let counts = part_counts(alloc, pieces)?;
-    let mut positions: Vec<Position> = Vec::new(alloc);
-    let mut names: Vec<u32> = Vec::new(alloc);
+    let mut written = Written {
+        positions: Vec::new(alloc),
+        names: Vec::new(alloc),
+    };
     let mut pending: Vec<Pending> = Vec::new(alloc);
     pending.push(Pending {
         piece: root,
         among: false,
     })?;
     while let Some(next) = pending.pop() {
-        write_next(
-            tasks,
-            pieces,
-            &counts,
-            next,
-            &mut pending,
-            &mut positions,
-            &mut names,
-        )?;
+        write_next(tasks, pieces, &counts, next, &mut pending, &mut written)?;
     }
-    positions.reverse();
-    names.reverse();
-    Ok(Written { positions, names })
+    written.positions.reverse();
+    written.names.reverse();
+    Ok(written)
 }

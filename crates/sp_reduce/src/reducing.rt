@@ -1,4 +1,4 @@
-ghost use Rattle.std.specs.Prelude.{◌≡◌, ◌≤◌, ◌<◌, ◌^◌, [], ◌∷◌, ℕ, All, length, map, IfOk, IfErr, MatchOption};
+ghost use Rattle.std.specs.Prelude.{◌≡◌, ◌≤◌, [], ◌∷◌, ℕ, All, length, map, IfOk, IfErr, MatchOption};
 ghost use Rattle.limits.specs.Limits.{most_tasks, most_arcs};
 ghost use Rattle.mp_system.specs.System.{IsSystem};
 ghost use Rattle.sp_terms.specs.Values.{term_of};
@@ -10,24 +10,23 @@ ghost use Rattle.sp_reduce.specs.Work.{IsLink, pairs_of};
 
 use crate::NoMemory;
 use crate::building::add_arcs;
+use crate::forest::Forest;
 use crate::link::Link;
-use crate::piece::Piece;
+use crate::links::Links;
 use crate::postfix::{Written, write_term};
 use crate::reduced::{ReduceRefusal, Reduced};
 use crate::rounds::{all_tasks, reduce_links};
 use sp_terms::Terms;
 use sp_terms::laws::terms_law;
 use std::alloc::Global;
-use std::collections::HashMap;
 use task_graph::laws::{completed_law, system_law};
 use task_graph::{Arc, Graph};
 
-// What is left of the arcs of a graph: links, the piece that each carries, and the pieces.
+// What is left of the arcs of a graph: links, and the terms that they carry.
 #[derive(Drop)]
 struct Outcome {
     links: Vec<Link>,
-    nodes: Vec<u32>,
-    pieces: Vec<Piece>,
+    forest: Forest,
 }
 
 // Reduces the arcs of a graph of so many tasks until no reduction applies.
@@ -36,46 +35,16 @@ fn reduce_arcs(alloc: Global, tasks: u32, arcs: &[Arc]) -> Result<Outcome, NoMem
     requires within { All (IsArcWithin tasks) arcs.now }
     requires few { length arcs.now ≤ most_arcs }
     requires ranked { (rank : ℕ → ℕ) × All (Rises rank) arcs.now }
-    ensures { IfOk result (λ o. IsOutcome arcs.now o.links.items o.nodes.items o.pieces.items) }
+    ensures { IfOk result (λ o. IsOutcome arcs.now o.links.items o.forest.nodes.items o.forest.pieces.items) }
 {
-    let count = tasks as usize + 1;
-    let mut links: Vec<Link> = Vec::new(alloc);
-    let mut nodes: Vec<u32> = Vec::new(alloc);
-    let mut pieces: Vec<Piece> = Vec::new(alloc);
-    let mut ins: Vec<u32> = vec![in alloc; 0; count]?;
-    let mut outs: Vec<u32> = vec![in alloc; 0; count]?;
-    let mut in_at: Vec<u32> = vec![in alloc; 0; count]?;
-    let mut out_at: Vec<u32> = vec![in alloc; 0; count]?;
-    let mut table: HashMap<u64, u32> = HashMap::new(alloc);
-    add_arcs(
-        tasks,
-        arcs,
-        &mut links,
-        &mut nodes,
-        &mut ins,
-        &mut outs,
-        &mut in_at,
-        &mut out_at,
-        &mut table,
-        &mut pieces,
-    )?;
+    let mut links = Links::new(alloc, tasks)?;
+    let mut forest = Forest::new(alloc);
+    add_arcs(arcs, &mut links, &mut forest)?;
     let mut todo = all_tasks(alloc, tasks)?;
-    reduce_links(
-        tasks,
-        &mut links,
-        &mut nodes,
-        &mut ins,
-        &mut outs,
-        &mut in_at,
-        &mut out_at,
-        &mut table,
-        &mut pieces,
-        &mut todo,
-    )?;
+    reduce_links(&mut links, &mut forest, &mut todo)?;
     Ok(Outcome {
-        links,
-        nodes,
-        pieces,
+        links: links.into_vec(),
+        forest,
     })
 }
 
@@ -94,7 +63,7 @@ fn left_ends(alloc: Global, links: &[Link]) -> Result<Vec<(u32, u32)>, NoMemory>
 
 // The one link that is left, if one alone is, and leads from none to none.
 fn only_link(links: &[Link], ends: &[(u32, u32)]) -> Option<u32>
-    requires few { length links.now < 2 ^ 32 }
+    requires few { length links.now ≤ most_arcs }
     requires ends { ends.now ≡ pairs_of links.now }
     ensures { MatchOption result (pairs_of links.now ≡ (0, 0) ∷ [] → ⊥) (λ x. IsLink links.now x 0 0 × (pairs_of links.now ≡ (0, 0) ∷ [])) }
 {
@@ -123,8 +92,13 @@ pub fn reduce(alloc: Global, graph: &Graph) -> Result<Reduced, ReduceRefusal>
     let mut ends = left_ends(alloc, &outcome.links)?;
     match only_link(&outcome.links, &ends) {
         Some(link) => {
-            let root = outcome.nodes[link as usize];
-            let Written { positions, names } = write_term(alloc, tasks, &outcome.pieces, root)?;
+            let root = outcome.forest.nodes[link as usize];
+            let Written { positions, names } = write_term(
+                alloc,
+                tasks,
+                &outcome.forest.pieces,
+                root,
+            )?;
             Ok(Reduced {
                 terms: Terms::new(positions),
                 names,

@@ -12,7 +12,7 @@ abbrev pub invariant-loop-next : goal.invariant-loop-next
 invariant-loop-next l =
     let t = net_at (nets_of l.pieces) l.root in
     IsWriting (task_at l.tasks) (length l.tasks) l.pieces (postfix (term_of_net (task_at l.tasks) t)) (names t) (size_of t)
-    l.pending.items l.positions.items l.names.items
+    l.pending.items l.written.positions.items l.written.names.items
 
 abbrev pub decreases-loop-next : goal.decreases-loop-next
 decreases-loop-next l = all_sizes (nets_of l.pieces) l.pending.items

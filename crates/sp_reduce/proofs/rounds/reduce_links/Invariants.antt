@@ -1,22 +1,19 @@
-use Rattle.std.proofs.Common.{◌≡◌, ℕ, ◌+◌, ◌*◌, ◌≤◌, List, [], length, vec_len}
-use Rattle.std.specs.Prelude.{nat_eq}
-use Rattle.std.specs.HashMap as hash
+use Rattle.std.proofs.Common.{◌≡◌, ◌+◌, ◌*◌, ◌≤◌, List, [], length, vec_len}
 use Rattle.mp_system.specs.declared.system.Item.{Item}
 use Rattle.sp_reduce.specs.Reductions.{LeadsTo}
 use Rattle.sp_reduce.specs.Pieces.{IsCarried}
-use Rattle.sp_reduce.specs.Work.{IsWork, sum_links, pairs_of, AreTasks, AreNoted}
+use Rattle.sp_reduce.specs.Work.{AreTasks, AreNoted, link_count, pairs_of}
 use Rattle.sp_reduce.proofs.rounds.reduce_links.Given as goal
 
 abbrev pub invariant-loop-task : goal.invariant-loop-task
 invariant-loop-task l = record {
-  work : (rank : ℕ → ℕ) × IsWork l.tasks rank l.links l.ins l.outs l.in_at l.out_at (hash.get nat_eq l.table);
-  row : LeadsTo (pairs_of l.fn.links) (pairs_of l.links);
-  carried : (graph : List Item) → IsCarried graph [] l.fn.pieces.items l.fn.links l.fn.nodes → IsCarried graph [] l.pieces.items l.links l.nodes;
-  lens : length l.nodes ≡ length l.links;
-  room : vec_len l.pieces + sum_links (λ x y. 1) l.links ≤ vec_len l.fn.pieces + sum_links (λ x y. 1) l.fn.links;
-  listed : AreTasks l.tasks l.todo.items;
-  noted : AreNoted l.tasks l.ins l.outs l.todo.items;
+  row : LeadsTo (pairs_of l.fn.links.list) (pairs_of l.links.list);
+  carried : (graph : List Item) → IsCarried graph [] l.fn.forest.pieces.items l.fn.links.list l.fn.forest.nodes.items → IsCarried graph [] l.forest.pieces.items l.links.list l.forest.nodes.items;
+  lens : vec_len l.forest.nodes ≡ length l.links.list;
+  room : vec_len l.forest.pieces + link_count l.links.list ≤ vec_len l.fn.forest.pieces + link_count l.fn.links.list;
+  listed : AreTasks l.links.tasks l.todo.items;
+  noted : AreNoted l.links.tasks l.links.list l.todo.items;
 }
 
 abbrev pub decreases-loop-task : goal.decreases-loop-task
-decreases-loop-task l = 3 * sum_links (λ x y. 1) l.links + vec_len l.todo
+decreases-loop-task l = 3 * link_count l.links.list + vec_len l.todo
