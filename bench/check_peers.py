@@ -1,13 +1,15 @@
 #!/usr/bin/env python3
 """Tries the peers on random small trees and workflows: a peer that is wrong is no measure.
 
-usage: bench/check_peers.py PEER [CASES]
+usage: bench/check_peers.py FOLDER [CASES]
 
-PEER is what `make -C bench/peers` builds, bench/out/peer. Each order that it finds has
-to be a traversal, with the peak that it tells; of at most ten tasks, no order has a lower peak than
-its plan, and of at most seven no postorder than its best one. Inputs and models are those of
-tools/fuzz. CASES is 1,000 if nothing else is said, which take a minute. The last line is 'N passed,
-M failed'.
+`peer` and `model` are in FOLDER, where `make -C bench/peers` builds them: bench/out. Each order
+that they find has to be a traversal, with the peak that they tell; of at most ten tasks, no order
+has a lower peak than a plan, and of at most seven no postorder than the best one. Both planners
+have to tell the same peak, the model finds the same order with claims and without, and its claims
+have to show that no order has a lower peak. Inputs, orders and claims are judged by the models of
+tools/fuzz. CASES is 1,000 if nothing else is said, which take a minute or two. The last line is
+'N passed, M failed'.
 """
 import random
 import subprocess
@@ -20,7 +22,18 @@ from typing import Optional
 
 sys.path.insert(0, str(Path(__file__).resolve().parent.parent / "tools" / "fuzz"))
 
-from models import System, numbers, plan_of, system_of_tree, system_of_workflow, tree_parents
+from models import (
+    Plan,
+    System,
+    numbers,
+    objection,
+    plan_of,
+    system_of_tree,
+    system_of_workflow,
+    term_of_tree,
+    term_of_workflow,
+    tree_parents,
+)
 from random_files import random_tree, random_workflow
 
 MOST_TASKS, MOST_POSTORDERS = 10, 7
@@ -41,8 +54,7 @@ def postorders(parents: list[int]) -> Iterator[list[int]]:
     return of(0)
 
 
-def plan_fault(system: System, printed: bytes) -> Optional[str]:
-    plan = plan_of(printed)
+def plan_fault(system: System, plan: Plan) -> Optional[str]:
     if fault := system.fault(plan.order):
         return fault
     if system.peak(plan.order) != plan.peak:
@@ -65,32 +77,48 @@ def post_fault(system: System, parents: list[int], printed: bytes) -> Optional[s
     return None
 
 
-def case_fault(peer: str, name: str, draw: random.Random) -> Optional[str]:
-    """Runs the peer on a random input, and says what is wrong with its answers."""
-    is_tree = draw.random() < 0.5
-    text = random_tree(draw) if is_tree else random_workflow(draw)
+def model_fault(system: System, term: list, peak: int, plan: Plan, proof: Plan) -> Optional[str]:
+    """What is wrong with the model's plan, or with that which has claims."""
+    if fault := plan_fault(system, plan):
+        return fault
+    if plan.peak != peak:
+        return f"its peak is {plan.peak}, and that of the other planner {peak}"
+    if plan.claims or (plan.order, plan.peak) != (proof.order, proof.peak):
+        return "it finds another order where it makes claims, or makes some where it should not"
+    said = objection(system, term, proof)
+    return f"an objection to its claims: {said}" if said else None
+
+
+def case_faults(folder: Path, name: str, draw: random.Random) -> Iterator[str]:
+    """Runs the peers on a random input, and says what is wrong with their answers."""
+    kind = "tree" if draw.random() < 0.5 else "workflow"
+    text = random_tree(draw) if kind == "tree" else random_workflow(draw)
     Path(name).write_bytes(text)
-    printed = lambda *words: subprocess.run(
-        [peer, *words], stdout=subprocess.PIPE, check=True
-    ).stdout
-    if not is_tree:
-        return plan_fault(system_of_workflow(text), printed("plan", "workflow", name))
-    system = system_of_tree(text)
-    fault = plan_fault(system, printed("plan", "tree", name))
-    return fault or post_fault(system, tree_parents(text), printed("post", name))
+
+    def printed(peer: str, *words: str) -> bytes:
+        return subprocess.run([folder / peer, *words], stdout=subprocess.PIPE, check=True).stdout
+
+    system = system_of_tree(text) if kind == "tree" else system_of_workflow(text)
+    term = term_of_tree(text) if kind == "tree" else term_of_workflow(text)
+    plan = plan_of(printed("peer", "plan", kind, name))
+    made, proof = (plan_of(printed("model", it, kind, name)) for it in ("plan", "certify"))
+    faults = [plan_fault(system, plan), model_fault(system, term, plan.peak, made, proof)]
+    if kind == "tree":
+        faults.append(post_fault(system, tree_parents(text), printed("peer", "post", name)))
+    yield from (fault.strip() for fault in faults if fault)
 
 
 def main() -> int:
     if len(sys.argv) not in (2, 3):
         sys.exit(__doc__)
-    peer, cases = sys.argv[1], int(sys.argv[2]) if len(sys.argv) > 2 else 1000
+    built, cases = Path(sys.argv[1]).resolve(), int(sys.argv[2]) if len(sys.argv) > 2 else 1000
     failed = 0
     with tempfile.TemporaryDirectory() as folder:
         for number in range(cases):
-            fault = case_fault(peer, f"{folder}/input", random.Random(number))
-            if fault:
-                failed += 1
-                print(f"case {number}: {fault.strip()}")
+            faults = list(case_faults(built, f"{folder}/input", random.Random(number)))
+            failed += bool(faults)
+            for fault in faults:
+                print(f"case {number}: {fault}")
     print(f"{cases - failed} passed, {failed} failed")
     return 1 if failed else 0
 

@@ -1,8 +1,16 @@
 """Runs of programs, what they took, and a store of it, so that a run that was stopped goes on."""
 import json
 import subprocess
+from collections.abc import Collection
 from pathlib import Path
+from time import monotonic
 from typing import NamedTuple, Optional
+
+# How much of a first line is kept as what a program said.
+MOST_SAID = 80
+
+# A row has no further turn, after the second, once it has taken so many seconds.
+LONG_ROW = 20
 
 # The status that the meter tells for a program that was killed, as after the limit; and that of
 # memplan for words that it does not know.
@@ -38,9 +46,9 @@ class Side(NamedTuple):
 
 
 def told(output: Path) -> str:
-    """The result in an output: its line `peak ..`, or `yes ..` or the like, if it is short."""
+    """The result in an output: its line `peak ..`, or the beginning of its first one."""
     with open(output, encoding="ascii", errors="replace") as text:
-        first = text.readline().strip()
+        first = text.readline(MOST_SAID).strip()
         if first.startswith("plan"):
             return next((line.strip() for line in text if line.startswith("peak")), "")
     return first
@@ -69,17 +77,21 @@ class Bench:
         return Figure(status, cpu / 1000, clock / 1000, memory / 1024, said)
 
     def measure(
-        self, row: str, sides: list[Side], turns: Optional[int] = None, same: bool = False
+        self,
+        row: str,
+        sides: list[Side],
+        turns: Optional[int] = None,
+        same: Collection[str] = (),
     ) -> list[Figure]:
         """The figures of all sides: of each the least of some turns, which they take in turn.
-        Where it is said that they print the same, they have to."""
+        Sides of which it is said that they print the same have to, where they come to an end."""
         keys = [f"{row}: {side.name}" for side in sides]
         if not all(key in self.figures for key in keys):
-            print(f"  {', '.join(keys)}", flush=True)
+            print(f"  {row}: {'; '.join(side.name for side in sides)}", flush=True)
             tries = self.in_turn(sides, turns or self.turns)
-            if same and len({self.output(side.name).read_bytes() for side in sides}) > 1:
-                names = ", ".join(side.name for side in sides)
-                raise SystemExit(f"{row}: {names} print different texts")
+            alike = [it.name for it in sides if it.name in same and tries[it.name][-1].is_done]
+            if len({self.output(name).read_bytes() for name in alike}) > 1:
+                raise SystemExit(f"{row}: {', '.join(alike)} print different texts")
             for key, side in zip(keys, sides):
                 self.figures[key] = self.least(row, side, tries[side.name])
             self.keep()
@@ -88,7 +100,10 @@ class Bench:
     def in_turn(self, sides: list[Side], turns: int) -> dict[str, list[Figure]]:
         """The figures of each turn of each side; what took too long is not run again."""
         tries: dict[str, list[Figure]] = {side.name: [] for side in sides}
-        for _ in range(turns):
+        start = monotonic()
+        for turn in range(turns):
+            if turn > 1 and monotonic() - start > LONG_ROW:
+                break
             for side in sides:
                 if all(it.status != KILLED for it in tries[side.name]):
                     tries[side.name].append(self.run(side))

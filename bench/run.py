@@ -2,22 +2,25 @@
 """Measures memplan beside other programs, and prints the tables of docs/BENCHMARKS.md.
 
 usage: bench/run.py [--quick] [--program FILE] [--out FOLDER] [--turns N] [--limit SECONDS]
-                    [--only TABLE] [--growth TASKS,TASKS,..] [--anew]
+                    [--only TABLE,TABLE,..] [--growth TASKS,TASKS,..] [--anew]
 
 It wants an idle machine, g++ and make, and Debian's package libsuitesparse-dev (CXSparse, CHOLMOD,
-AMD); it builds the peers in bench/peers, makes the inputs, and runs memplan and the peers in turn.
-A whole run takes an hour or two and some 3 GB of disk. It can be stopped at any time: what is
-measured stands in FOLDER (bench/out), and the next run goes on from there; --anew forgets it.
---quick tries every line on small inputs, in some seconds; its figures mean nothing. --only makes
-one table alone (reading, analysis, mindeg, post, plan, check, simulate, spill, fronts, growth);
+AMD) for the tables `analysis` and `mindeg`. It builds the peers in bench/peers, makes the inputs,
+and runs memplan and the peers in turn. A whole run takes WHOLE_RUN.
+It can be stopped at any time: what is measured stands in FOLDER (bench/out), and the next run of
+the same programs goes on from there; --anew forgets it. --quick tries every line on small inputs,
+in some seconds; its figures mean nothing. --only makes some tables alone, of reading, replay,
+analysis, mindeg, post, plan, hard, check, simulate, spill, fronts, segments, reduce, growth;
 --growth names the numbers of tasks of the last one.
 
-Of each program the least of N turns (5) counts. Each run has SECONDS (100) of processor time.
-Where memplan has no such command yet, the table says so. The program stops where two sides differ
-in what they found. Tables go to standard output, how far it is to standard error.
+Of each program the least of N turns (5) counts; a row that has taken 20 seconds has no further
+turn after its second one. Each run has SECONDS (100) of processor time. Where memplan has no such
+command yet, the table says so. The program stops where two sides differ in what they found. Tables
+go to standard output, how far it is to standard error.
 """
 import argparse
 import datetime
+import hashlib
 import os
 import platform
 import subprocess
@@ -26,118 +29,34 @@ from collections.abc import Callable
 from contextlib import redirect_stdout
 from math import log
 from pathlib import Path
-from typing import NamedTuple, Optional
+from time import monotonic
 
-import shapes
+from inputs import HARD, QUICK, TREES, WHOLE, WORKFLOWS, Inputs, working_set
 from measuring import KILLED, USAGE, Bench, Figure, Side, memory_of, ratio, ratios, table, time_of
 
 HERE = Path(__file__).resolve().parent
-TOOLS = HERE.parent / "tools"
 SUITESPARSE = Path("/usr/include/suitesparse/cholmod.h")
-
-
-class Sizes(NamedTuple):
-    """How large inputs are, of a whole run and of a quick one."""
-
-    tasks: int
-    grid: int
-    rows: int
-    entries: int
-    band: int
-    many_rows: int
-    many_entries: int
-    small_grid: int
-    cube: int
-    growth: tuple[int, ...]
-
-
-WHOLE = Sizes(
-    tasks=1_000_000,
-    grid=1000,
-    rows=100_000,
-    entries=1_000_000,
-    band=100,
-    many_rows=1_000_000,
-    many_entries=10_000_000,
-    small_grid=223,
-    cube=36,
-    growth=(10_000, 30_000, 100_000, 300_000, 1_000_000),
-)
-QUICK = Sizes(
-    tasks=2_000,
-    grid=20,
-    rows=300,
-    entries=1_000,
-    band=5,
-    many_rows=200,
-    many_entries=2_000,
-    small_grid=12,
-    cube=5,
-    growth=(500, 1_000, 2_000),
-)
-
-TREES = ("near", "random", "chain", "star", "binary", "caterpillar")
 PACKAGES = ("cxsparse", "cholmod")
+# The tables that want SuiteSparse.
+OF_SUITESPARSE = ("analysis", "mindeg")
 
+PLAN_NOTE = """\
+The model is C++ of the same algorithm, without any proof. With claims it prints the same bytes as
+memplan, which was compared. Without claims it keeps no notes for them, does not look for any and
+prints none: a planner without certificate. The ratio to the model is to that one. In memory it is
+of the two whole runs. In time it counts the same reading on both sides:
 
-class Inputs:
-    """The files to measure with. Each is made where it is first asked for."""
+    memplan / (model without claims - the model's reading + memplan's reading)
 
-    def __init__(self, folder: Path, sizes: Sizes) -> None:
-        self.folder, self.sizes = folder, sizes
-
-    def made(self, name: str, make: Callable[[Path], object]) -> str:
-        """The file of a name, made whole under another name first: a run may be stopped."""
-        at = self.folder / name
-        if not at.exists():
-            new = self.folder / "new.input"
-            make(new)
-            new.replace(at)
-        return str(at)
-
-    def script(self, name: str, *words: object) -> None:
-        subprocess.run([sys.executable, str(TOOLS / name), *map(str, words)], check=True)
-
-    def tree(self, shape: str, tasks: Optional[int] = None) -> str:
-        count, unused = tasks or self.sizes.tasks, self.folder / "unused.order"
-
-        def make(to: Path) -> None:
-            if shape in shapes.TREES:
-                to.write_text(shapes.text_of(shape, count))
-            else:
-                self.script("make_tree.py", count, to, unused, shape)
-
-        return self.made(f"{shape}_{count}.tree", make)
-
-    def workflow(self, shape: str, tasks: Optional[int] = None) -> str:
-        count, unused = tasks or self.sizes.tasks, self.folder / "unused.order"
-
-        def make(to: Path) -> None:
-            if shape in shapes.WORKFLOWS:
-                to.write_text(shapes.text_of(shape, count))
-            else:
-                self.script("make_workflow.py", count, to, unused)
-
-        return self.made(f"{shape}_{count}.workflow", make)
-
-    def matrix(self, kind: str, first: int, second: int) -> str:
-        def make(to: Path) -> None:
-            if kind in shapes.MATRICES:
-                to.write_text(shapes.text_of(kind, first))
-            else:
-                self.script("make_matrices.py", kind, first, second, to)
-
-        return self.made(f"{kind}_{first}_{second}.mtx", make)
-
-    def claims(self) -> tuple[str, str]:
-        """A workflow, and a plan of it with a claim at each position."""
-        count = self.sizes.tasks
-        workflow = self.folder / f"claims_{count}.workflow"
-        make = lambda to: self.script("make_claims.py", count, workflow, to)
-        return str(workflow), self.made(f"claims_{count}.plan", make)
-
-    def forget(self, name: str) -> None:
-        Path(name).unlink(missing_ok=True)
+memplan's reading is its time on the same file without its last line, which it reads to its end and
+then refuses; the model's is its time where it reads the file and does nothing else. C++ is another
+planner without certificate, with a special algorithm for trees; the ratio to it is of the two whole
+runs, in time too.
+"""
+GROWTH_NOTE = """\
+At the head the number of tasks. The exponent is that with which time grows from the first size to
+the last: 1 is linear, 2 quadratic; beside it that of the last two sizes.
+"""
 
 
 class Tables:
@@ -145,9 +64,9 @@ class Tables:
 
     def __init__(self, bench: Bench, inputs: Inputs, program: str) -> None:
         self.bench, self.inputs, self.program = bench, inputs, program
-        self.peer, self.analysis = str(bench.folder / "peer"), str(bench.folder / "analysis")
-        self.sizes = inputs.sizes
-        self.wrong = inputs.made("wrong.numbers", lambda to: to.write_text("none\n"))
+        self.peer, self.model = str(bench.folder / "peer"), str(bench.folder / "model")
+        self.analysis = str(bench.folder / "analysis")
+        self.sizes, self.wrong = inputs.sizes, inputs.wrong()
 
     def memplan(self, *words: str, status: int = 0, name: str = "memplan") -> Side:
         return Side(name, [self.program, *words], status)
@@ -224,8 +143,7 @@ class Tables:
         return table(self.pair_head("reading of a", "C++"), rows)
 
     def without_end(self, kind: str, name: str) -> list[Side]:
-        make = lambda to: to.write_text(Path(name).read_text().removesuffix("end\n"))
-        cut = self.inputs.made(f"{Path(name).name}.cut", make)
+        cut = self.inputs.without_end(name)
         ours = self.memplan("replay", f"--{kind}", cut, "--order", self.wrong, status=3)
         return [ours, Side("C++", [self.peer, "read", kind, cut], status=1)]
 
@@ -243,8 +161,11 @@ class Tables:
     def analysis_table(self) -> str:
         """The whole of `tree`, and what is left of it without reading."""
         whole, rest = [], []
-        for label, matrix, perm in self.matrices():
-            figures = self.bench.measure(f"tree: {label}", self.tree_sides(matrix, perm), same=True)
+        large = [(label, matrix, "") for label, matrix in self.large_matrices()]
+        for label, matrix, perm in [*self.matrices(), *large]:
+            sides = self.tree_sides(matrix, perm)
+            same = tuple(side.name for side in sides)
+            figures = self.bench.measure(f"tree: {label}", sides, same=same)
             in_time, in_memory = ratios(figures[0], figures[1])
             times, memory = map(time_of, figures), map(memory_of, figures)
             whole.append([label, *times, in_time, *memory, in_memory])
@@ -293,24 +214,58 @@ class Tables:
             rows.append(self.pair("post", label, sides))
         return table(self.pair_head("`post`", "C++"), rows)
 
-    def plan(self) -> str:
-        """Beside a planner without certificate."""
-        rows = []
-        for label, kind, name in self.planned_inputs():
-            sides = [
-                self.memplan("plan", f"--{kind}", name),
-                self.beside("C++", self.peer, "plan", kind, name),
-            ]
-            rows.append(self.pair("plan", label, sides))
-        return table(self.pair_head("`plan`", "C++"), rows)
+    # plans
 
     def planned_inputs(self) -> list[tuple[str, str, str]]:
         """Inputs, each with its kind."""
         workflows = [
             (f"workflow: {it}, {self.sizes.tasks:,} tasks", "workflow", self.inputs.workflow(it))
-            for it in ("random", "deep", "bushy")
+            for it in WORKFLOWS
         ]
-        return [*((label, "tree", name) for label, name in self.trees()), *workflows]
+        trees = [(f"tree: {label}", "tree", name) for label, name in self.trees()]
+        return [*trees, *workflows]
+
+    def plan_sides(self, kind: str, name: str) -> list[Side]:
+        """Planners, and two that only read."""
+        words, cut = ["plan", f"--{kind}"], self.inputs.without_end(name)
+        return [
+            self.memplan(*words, name),
+            self.memplan(*words, name, "--print", "json", name="memplan, JSON"),
+            self.memplan(*words, cut, status=3, name="memplan, reading"),
+            self.beside("model", self.model, "certify", kind, name),
+            self.beside("model without claims", self.model, "plan", kind, name),
+            self.beside("model, reading", self.model, "read", kind, name),
+            self.beside("C++", self.peer, "plan", kind, name),
+        ]
+
+    def plan(self) -> str:
+        """Beside the model, which prints the same, and beside planners without certificate."""
+        times, memory = [], []
+        for label, kind, name in self.planned_inputs():
+            row, sides = f"plan: {label}", self.plan_sides(kind, name)
+            figures = self.bench.measure(row, sides, same=("memplan", "model"))
+            ours, json, reading, model, bare, model_reading, other = figures
+            self.agree(row, [ours, bare, other], [sides[0], sides[4], sides[6]])
+            in_time, in_memory = ratios(ours, bare)
+            planned = max(0.0, bare.cpu - model_reading.cpu)
+            if in_time:
+                in_time = ratio(ours.cpu, planned + reading.cpu)
+            cells = [*map(time_of, (ours, reading, model, bare, model_reading)), in_time]
+            times.append([label, *cells, time_of(other), ratios(ours, other)[0], time_of(json)])
+            cells = [*map(memory_of, (ours, model, bare)), in_memory]
+            memory.append([label, *cells, memory_of(other), ratios(ours, other)[1]])
+        models = ["model", "model without claims"]
+        head = ["memplan", "its reading", *models, "its reading", "ratio to the model"]
+        in_time = table(["`plan`, ms", *head, "C++", "ratio to C++", "memplan, JSON"], times)
+        head = ["memplan", *models, "ratio to the model", "C++", "ratio to C++"]
+        return f"{PLAN_NOTE}\n{in_time}\n{table(['`plan`, MB', *head], memory)}"
+
+    def agree(self, row: str, figures: list[Figure], sides: list[Side]) -> None:
+        """All that were done found the same."""
+        done = [(side.name, it.said) for side, it in zip(sides, figures) if it.is_done]
+        for name, said in done:
+            if said != done[0][1]:
+                raise SystemExit(f"{row}: {done[0][0]} found {done[0][1]!r}, and {name} {said!r}")
 
     # memplan alone
 
@@ -337,9 +292,8 @@ class Tables:
         none where the program has no such command."""
         rows = []
         for label, choices in found:
-            sides = [
-                self.memplan(*words, name=f"memplan, {name}") for name, words in zip(names, choices)
-            ]
+            titles = [f"memplan, {name}" if name else "memplan" for name in names]
+            sides = [self.memplan(*it, name=title) for title, it in zip(titles, choices)]
             figures = self.bench.measure(f"{row}: {label}", sides)
             if figures[0].status == USAGE:
                 return []
@@ -347,77 +301,89 @@ class Tables:
             rows.append([label, *cells, memory_of(figures[-1])])
         return rows
 
+    def alone_table(
+        self, command: str, what: str, found: list[tuple[str, list[list[str]]]], names: list[str]
+    ) -> str:
+        titles = [f"{name}, ms" if name else "ms" for name in names]
+        cells = [it for title in titles for it in (title, "by the clock")]
+        return table([what, *cells, "MB"], self.alone(command, found, names))
+
     def check(self) -> str:
         found = [(label, [*words, "--plan", plan]) for label, words, plan, _ in self.planned()]
         workflow, plan = self.inputs.claims()
         claims = f"{4 * self.sizes.tasks + 1:,} positions, each with a claim"
         found.append((claims, ["--workflow", workflow, "--plan", plan]))
-        names = ["1", "4"]
-        rows = self.alone(
-            "check",
-            [(label, [["check", *it, "--workers", w] for w in names]) for label, it in found],
-            names,
-        )
-        head = ["`check`", "1 worker, ms", "by the clock", "4 workers, ms", "by the clock", "MB"]
-        return table(head, rows)
+        choices = [(label, [["check", *it, "--workers", w] for w in "14"]) for label, it in found]
+        return self.alone_table("check", "`check`", choices, ["1 worker", "4 workers"])
+
+    def replay(self) -> str:
+        found = []
+        for label, words, plan, _ in self.planned():
+            found.append((label, [["replay", *words, "--plan", plan]]))
+        return self.alone_table("replay", "`replay` of a plan", found, [""])
 
     def simulate(self) -> str:
-        names = ["1", "4", "64"]
-        found = []
+        workers, found = ("1", "16", "4096"), []
         for label, words, plan, peak in self.planned():
             base = ["simulate", *words, "--plan", plan, "--bound", str(2 * peak)]
-            found.append((label, [[*base, "--workers", it] for it in names]))
-        head = ["`simulate`, in twice the peak"]
-        head += [
-            cell
-            for it in ("1 worker", "4 workers", "64 workers")
-            for cell in (f"{it}, ms", "by the clock")
-        ]
-        return table([*head, "MB"], self.alone("simulate", found, names))
+            found.append((label, [[*base, "--workers", it] for it in workers]))
+        names = ["1 worker", "16 workers", "4,096 workers"]
+        return self.alone_table("simulate", "`simulate`, in twice the peak", found, names)
 
     def spill(self) -> str:
-        """The bound is halfway from the greatest working set to the peak."""
+        """Where one task alone needs the whole peak, nothing has to go to disk."""
         found = []
         for label, words, plan, peak in self.planned():
-            if words[0] == "--tree":
-                bound = (peak + working_set(words[1])) // 2
-                found.append((label, [["spill", *words, "--plan", plan, "--bound", str(bound)]]))
-        return table(["`spill`", "ms", "by the clock", "MB"], self.alone("spill", found, ["spill"]))
+            bound = (peak + working_set(words[0].lstrip("-"), words[1])) // 2
+            found.append((label, [["spill", *words, "--plan", plan, "--bound", str(bound)]]))
+        head = "`spill`, halfway from the greatest need of a task to the peak"
+        return self.alone_table("spill", head, found, [""])
 
     def fronts(self) -> str:
-        """The bound is the peak of the rows, which a refusal tells."""
-        names, found = ["1", "4"], []
+        """The bound is twice the peak of the rows, which a refusal tells."""
+        found = []
         for label, matrix, perm in self.matrices():
             words = ["fronts", "--matrix", matrix, *(["--perm", perm] if perm else [])]
             asked = [self.program, *words, "--bound", "0", "--workers", "1"]
             done = subprocess.run(
                 asked, stdout=subprocess.PIPE, stderr=subprocess.DEVNULL, text=True
             )
-            bound = done.stdout.split()[-1] if done.returncode == 5 else "0"
-            found.append((label, [[*words, "--bound", bound, "--workers", it] for it in names]))
-        head = ["`fronts`", "1 worker, ms", "by the clock", "4 workers, ms", "by the clock", "MB"]
-        return table(head, self.alone("fronts", found, names))
+            bound = str(2 * int(done.stdout.split()[-1]) if done.returncode == 5 else 0)
+            found.append((label, [[*words, "--bound", bound, "--workers", it] for it in "14"]))
+        head = "`fronts`, in twice the peak"
+        return self.alone_table("fronts", head, found, ["1 worker", "4 workers"])
+
+    def segments(self) -> str:
+        found = [
+            (label, [["segments", f"--{kind}", name]])
+            for label, kind, name in self.planned_inputs()
+        ]
+        return self.alone_table("segments", "`segments`", found, [""])
+
+    def reduce(self) -> str:
+        label = f"random, {self.sizes.tasks:,} tasks, which has a term"
+        found = [(label, [["reduce", "--graph", self.inputs.graph()]])]
+        return self.alone_table("reduce", "`reduce` of a graph", found, [""])
 
     # growth
 
     def growth(self) -> str:
+        """Of all shapes, up to the tasks of the other tables."""
         shown = [("tree", self.inputs.tree, shape) for shape in TREES]
-        shown += [("workflow", self.inputs.workflow, it) for it in ("random", *shapes.WORKFLOWS)]
+        shown += [("workflow", self.inputs.workflow, it) for it in (*WORKFLOWS, *HARD)]
         plans, checks = [], []
         for kind, make, shape in shown:
             planned, beside, checked = self.grown(kind, shape, make)
             last = [time_of(beside[-1]), ratios(planned[-1], beside[-1])[0]]
-            plans.append(self.growth_row(f"{kind}: {shape}", planned, last))
-            checks.append(self.growth_row(f"{kind}: {shape}", checked, []))
-        head = [*(f"{it:,}" for it in self.sizes.growth), "exponent", "MB of the last"]
+            sizes = self.sizes.growth
+            plans.append([*growth_row(f"{kind}: {shape}", sizes, planned), *last])
+            checks.append(growth_row(f"{kind}: {shape}", sizes, checked))
+        head = growth_head(self.sizes.growth)
         both = [
             table(["`plan`, ms", *head, "C++ of the last, ms", "ratio"], plans),
             table(["`check`, ms", *head], checks),
         ]
-        note = (
-            "\nTasks at the head. Exponents are of the last two sizes: 1 is linear, 2 quadratic.\n"
-        )
-        return "\n".join(both) + note
+        return GROWTH_NOTE + "\n" + "\n".join(both)
 
     def grown(
         self, kind: str, shape: str, make: Callable[[str, int], str]
@@ -433,18 +399,19 @@ class Tables:
             if not is_known:
                 self.bench.forget(row)
             name = "" if is_known else make(shape, tasks)
-            ours = self.memplan("plan", f"--{kind}", name, name="plan")
-            other = self.beside("C++", self.peer, "plan", kind, name)
-            plan, peer = self.bench.measure(row, [ours, other], turns=2)
+            sides = [
+                self.memplan("plan", f"--{kind}", name, name="plan"),
+                self.beside("C++", self.peer, "plan", kind, name),
+            ]
+            plan, peer = self.bench.measure(row, sides, turns=2)
+            self.agree(row, [plan, peer], sides)
             planned.append(plan)
             beside.append(peer)
             if plan.is_done:
-                if plan.said != peer.said:
-                    raise SystemExit(f"{row}: memplan found {plan.said!r}, and C++ {peer.said!r}")
                 made = str(self.bench.output("plan"))
                 side = self.memplan("check", f"--{kind}", name, "--plan", made, name="check")
                 checked += self.bench.measure(row, [side], turns=2)
-            if name and (tasks != self.sizes.tasks or shape in shapes.WORKFLOWS):
+            if name and (tasks != self.sizes.tasks or shape in HARD):
                 self.inputs.forget(name)
             if plan.status == KILLED:
                 break
@@ -455,39 +422,66 @@ class Tables:
         plan = self.bench.figures.get(f"{row}: plan")
         return plan is not None and (not plan.is_done or f"{row}: check" in self.bench.figures)
 
-    def growth_row(self, label: str, figures: list[Figure], last: list[str]) -> list[str]:
-        sizes = self.sizes.growth
-        cells = [time_of(it) for it in figures] + [""] * (len(sizes) - len(figures))
-        done = [it for it in figures if it.is_done]
-        exponent = ""
-        if len(done) > 1:
-            grown = log(sizes[len(done) - 1] / sizes[len(done) - 2])
-            exponent = f"{log(done[-1].cpu / done[-2].cpu) / grown:.1f}"
-        return [label, *cells, exponent, memory_of(done[-1]) if done else "", *last]
+    def hard(self) -> str:
+        """Of the shapes that are hard for a planner, in small steps."""
+        sizes, rows = self.sizes.hard_growth, []
+        for shape in HARD:
+            planned, beside = [], []
+            for tasks in sizes:
+                name = self.inputs.workflow(shape, tasks)
+                sides = [
+                    self.memplan("plan", "--workflow", name),
+                    self.beside("model", self.model, "certify", "workflow", name),
+                    self.beside("model without claims", self.model, "plan", "workflow", name),
+                ]
+                row = f"hard: {shape}: {tasks}"
+                ours, _, bare = self.bench.measure(row, sides, same=("memplan", "model"))
+                self.agree(row, [ours, bare], [sides[0], sides[2]])
+                planned.append(ours)
+                beside.append(bare)
+            last = [time_of(beside[-1]), memory_of(beside[-1])]
+            rows.append([*growth_row(shape, sizes, planned), *last])
+        model = ["model without claims, ms of the last", "MB of the last"]
+        text = table(["`plan`, ms", *growth_head(sizes), *model], rows)
+        return GROWTH_NOTE + "\n" + text
 
     def all(self) -> dict[str, tuple[str, Callable[[], str]]]:
         return {
             "reading": ("Reading", self.reading),
+            "replay": ("Replays", self.replay),
             "analysis": ("From a matrix to its tree of fronts", self.analysis_table),
             "mindeg": ("Minimum degree", self.mindeg),
             "post": ("Best postorder", self.post),
             "plan": ("Plans", self.plan),
+            "hard": ("Growth on shapes that are hard for a planner", self.hard),
             "check": ("Checks", self.check),
             "simulate": ("Simulated runs", self.simulate),
             "spill": ("Spill plans", self.spill),
             "fronts": ("Fronts in rounds", self.fronts),
+            "segments": ("Segments", self.segments),
+            "reduce": ("Workflows of task graphs", self.reduce),
             "growth": ("Growth", self.growth),
         }
 
 
-def working_set(tree: str) -> int:
-    """The most that one task needs: its blocks, and what it adds."""
-    with open(tree, encoding="ascii") as text:
-        nodes = [list(map(int, line.split())) for line in text if line[0].isdigit()]
-    inputs = [0] * (len(nodes) + 1)
-    for parent, out, *_ in nodes:
-        inputs[parent] += out
-    return max(inputs[at] + out + extra for at, (_, out, extra, *_) in enumerate(nodes, 1))
+def growth_head(sizes: tuple[int, ...]) -> list[str]:
+    return [*(f"{it:,}" for it in sizes), "exponent", "of the last two", "MB of the last"]
+
+
+def growth_row(label: str, sizes: tuple[int, ...], figures: list[Figure]) -> list[str]:
+    """Milliseconds of each size, the exponents, and the memory of the last."""
+    cells = [time_of(it) for it in figures] + [""] * (len(sizes) - len(figures))
+    done = [it.cpu for it in figures if it.is_done]
+    exponents = ["", ""]
+    if len(done) > 1:
+        exponents = [exponent(sizes, done, since) for since in (0, len(done) - 2)]
+    return [label, *cells, *exponents, memory_of(figures[len(done) - 1]) if done else ""]
+
+
+def exponent(sizes: tuple[int, ...], times: list[float], since: int) -> str:
+    """That with which time grows from one size to the last one that was done."""
+    last = len(times) - 1
+    return f"{log(times[last] / times[since]) / log(sizes[last] / sizes[since]):.2f}"
 
 
 def first_line(words: list[str]) -> str:
@@ -497,7 +491,7 @@ def first_line(words: list[str]) -> str:
         return f"no {words[0]}"
 
 
-def machine() -> str:
+def machine(program: Path) -> str:
     """The machine, the day, and what it all was built with."""
     cpu = next(
         (it.split(":")[1].strip() for it in open("/proc/cpuinfo") if it.startswith("model name")),
@@ -506,10 +500,12 @@ def machine() -> str:
     kilobytes = int(open("/proc/meminfo").readline().split()[1])
     package = first_line(["dpkg-query", "-W", "-f=${Version}", "libsuitesparse-dev"])
     commit = first_line(["git", "-C", str(HERE), "describe", "--always", "--dirty"])
+    built = datetime.date.fromtimestamp(program.stat().st_mtime)
     lines = [
         f"{datetime.date.today():%d %B %Y}, commit {commit}.",
-        f"{cpu}, {os.cpu_count()} processors, {kilobytes / 2**20:.0f} GB; {platform.release()}.",
-        f"memplan: {first_line(['rt', 'version'])}.",
+        f"{cpu}, {os.cpu_count()} processors, {kilobytes / 2**20:.0f} GB; Linux"
+        f" {platform.release()}; its load was {os.getloadavg()[0]:.1f} when this began.",
+        f"memplan: built on {built:%d %B %Y} by {first_line(['rt', 'version'])}.",
         f"Peers: {first_line(['g++', '--version'])}, -O2; SuiteSparse {package}.",
     ]
     return "\n".join(lines)
@@ -526,7 +522,8 @@ def parsed() -> argparse.Namespace:
     parser.add_argument("--out", type=Path, default=HERE / "out", help=argparse.SUPPRESS)
     parser.add_argument("--turns", type=int, default=5, help=argparse.SUPPRESS)
     parser.add_argument("--limit", type=int, default=100, help=argparse.SUPPRESS)
-    parser.add_argument("--only", help=argparse.SUPPRESS)
+    names = lambda text: set(text.split(","))
+    parser.add_argument("--only", type=names, default=set(), help=argparse.SUPPRESS)
     parser.add_argument("--growth", help=argparse.SUPPRESS)
     parser.add_argument("--anew", action="store_true", help=argparse.SUPPRESS)
     return parser.parse_args()
@@ -536,17 +533,37 @@ def prepared(words: argparse.Namespace) -> Path:
     """The folder of the run, with the peers built in it."""
     if not words.program.is_file():
         raise SystemExit(f"there is no program {words.program}: ./memplan builds it")
-    if not SUITESPARSE.exists():
+    wants_suitesparse = not words.only or not words.only.isdisjoint(OF_SUITESPARSE)
+    if wants_suitesparse and not SUITESPARSE.exists():
         raise SystemExit("SuiteSparse is not there: apt-get install libsuitesparse-dev")
     folder = words.out / "quick" if words.quick else words.out
     folder.mkdir(parents=True, exist_ok=True)
-    if words.anew or words.quick:
-        (folder / "figures.json").unlink(missing_ok=True)
-    subprocess.run(["make", "-s", "-C", str(HERE / "peers"), f"OUT={folder.resolve()}"], check=True)
+    target = "all" if wants_suitesparse else "plain"
+    make = ["make", "-s", "-C", str(HERE / "peers"), f"OUT={folder.resolve()}", target]
+    subprocess.run(make, check=True)
+    if words.anew or words.quick or not is_same(words.program, folder):
+        forget(folder)
     load = os.getloadavg()[0]
     if load > 0.5 and not words.quick:
         print(f"the machine is not idle: its load is {load:.1f}", file=sys.stderr)
     return folder.resolve()
+
+
+def is_same(program: Path, folder: Path) -> bool:
+    """Whether the folder's figures are of these very programs. From now on they are."""
+    known, digest = folder / "programs", hashlib.sha256()
+    for it in (program, *(folder / name for name in ("peer", "model", "analysis"))):
+        digest.update(it.read_bytes() if it.exists() else b"none")
+    was = known.read_text() if known.exists() else ""
+    known.write_text(digest.hexdigest())
+    return was == digest.hexdigest()
+
+
+def forget(folder: Path) -> None:
+    """Forgets figures, and the plans that a program made."""
+    made = [*folder.glob("*.tree.plan"), *folder.glob("*.workflow.plan")]
+    for it in (folder / "figures.json", *made):
+        it.unlink(missing_ok=True)
 
 
 def main() -> None:
@@ -558,14 +575,21 @@ def main() -> None:
         sizes = sizes._replace(growth=tuple(map(int, words.growth.split(","))))
     inputs = Inputs(folder, sizes)
     tables = Tables(bench, inputs, str(words.program.resolve())).all()
-    print(f"# Benchmarks\n\nMade by `bench/run.py`. {machine()}\n")
+    if unknown := words.only.difference(tables):
+        raise SystemExit(f"there is no table {', '.join(sorted(unknown))}: {', '.join(tables)}")
+    print(f"# Benchmarks\n\nMade by `bench/run.py`. {machine(words.program)}\n")
     print("Times are of the processor, user and system together, unless by the clock.")
+    begin = monotonic()
     for name, (title, make) in tables.items():
-        if words.only in (None, name):
-            with redirect_stdout(sys.stderr):
-                print(f"{title}:", flush=True)
-                text = make() or f"The program has no `{name}`.\n"
-            print(f"\n## {title}\n\n{text}", end="", flush=True)
+        if words.only and name not in words.only:
+            continue
+        start = monotonic()
+        with redirect_stdout(sys.stderr):
+            print(f"{title}:", flush=True)
+            text = make() or f"The program has no `{name}`.\n"
+            print(f"  {monotonic() - start:.0f} seconds", flush=True)
+        print(f"\n## {title}\n\n{text}", end="", flush=True)
+    print(f"{(monotonic() - begin) / 60:.0f} minutes in all", file=sys.stderr)
 
 
 if __name__ == "__main__":

@@ -4,6 +4,7 @@
 #include <cstdint>
 #include <cstdio>
 #include <cstdlib>
+#include <string>
 #include <string_view>
 #include <vector>
 
@@ -27,6 +28,8 @@ public:
         bytes.back() = 0;
         at = bytes.data();
     }
+
+    std::size_t size() const { return bytes.size() - 1; }
 
     // The next token, past blanks, line feeds and comments; empty at the end.
     std::string_view token() {
@@ -76,26 +79,25 @@ private:
 // Numbers and words for standard output, in one buffer.
 class Page {
 public:
-    void word(std::string_view text) { bytes.insert(bytes.end(), text.begin(), text.end()); }
+    void word(std::string_view word) { text.append(word); }
 
     void number(std::uint64_t value) {
-        char digits[20];
-        int count = 0;
-        do digits[count++] = static_cast<char>('0' + value % 10);
+        char digits[20], *const end = digits + sizeof digits, *first = end;
+        do *--first = static_cast<char>('0' + value % 10);
         while (value /= 10);
-        while (count) bytes.push_back(digits[--count]);
+        text.append(first, static_cast<std::size_t>(end - first));
     }
 
-    void line(std::string_view text, std::uint64_t value) {
-        word(text);
+    void line(std::string_view before, std::uint64_t value) {
+        word(before);
         number(value);
-        word("\n");
+        text.push_back('\n');
     }
 
     void write() const {
-        if (std::fwrite(bytes.data(), 1, bytes.size(), stdout) != bytes.size()) fail("no output");
+        if (std::fwrite(text.data(), 1, text.size(), stdout) != text.size()) fail("no output");
     }
 
 private:
-    std::vector<char> bytes;
+    std::string text;
 };

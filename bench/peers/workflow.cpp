@@ -11,6 +11,8 @@ Workflow read_workflow(const char *name) {
     text.expect("tasks");
     text.number();
     Workflow workflow;
+    // a line has at least six bytes; what is not written takes no memory
+    workflow.reserve(text.size() / 6);
     for (;;) {
         const std::string_view word = text.token();
         if (word == "end") return workflow;
