@@ -99,6 +99,9 @@ def unfit():
         (memplan.plan, ([2, 0], [1, -1], [1, 1])),
         (memplan.replay, (PARENT, OUT, EXTRA, [2 ** 32 + 1, 2, 3, 4, 5])),
         (memplan.fronts, (([0, 1, 1], [-1]),)),
+        (memplan.spill, (PARENT, OUT, EXTRA, IN_TURN, -1)),
+        (memplan.Core.of_tree, (PARENT, OUT, EXTRA, IN_TURN, -1, 2)),
+        (memplan.Core.of_system, ([0], [], [1], -1, 2)),
     ):
         try:
             call(*arguments)

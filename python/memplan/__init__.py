@@ -245,6 +245,11 @@ def _nodes(parent: Sequence[int], out: Sequence[int], extra: Sequence[int], shar
     return array
 
 
+def _amount(value: int) -> int:
+    """A number for C, which would take one that is negative or too great for another."""
+    return int(_unsigned([value], 64)[0])
+
+
 def _numbers(values: Sequence[int]) -> Any:
     plain = _unsigned(values, 32)
     if numpy is not None:
@@ -359,7 +364,7 @@ def spill(
     amounts, volume, fault = (ctypes.c_uint64 * max(count, 1))(), ctypes.c_uint64(), _Fault()
     _answer(
         _lib.memplan_spill_tree(
-            nodes, count, numbers, len(order), bound, amounts, count, ctypes.byref(volume), ctypes.byref(fault)
+            nodes, count, numbers, len(order), _amount(bound), amounts, count, ctypes.byref(volume), ctypes.byref(fault)
         ),
         fault,
     )
@@ -397,7 +402,7 @@ def fronts(
     count, places = max(len(starts) - 1, 0), 0 if order is None else len(order)
     if order is not None and places == 0 and count > 0:
         raise ValueError("an order without places")
-    options = _FrontOptions(_SHAPES[shape], in_place, zeros is not None, 0 if zeros is None else int(_unsigned([zeros], 64)[0]))
+    options = _FrontOptions(_SHAPES[shape], in_place, zeros is not None, 0 if zeros is None else _amount(zeros))
     nodes, made, fault = (_Node * max(count, 1))(), ctypes.c_uint64(), _Fault()
     front_of = (ctypes.c_uint32 * max(count, 1))()
     status = _lib.memplan_fronts(
@@ -471,7 +476,7 @@ class Core:
         nodes, numbers = _nodes(parent, out, extra, share), _numbers(order)
         _answer(
             _lib.memplan_core_begin(
-                core._at, nodes, len(parent), numbers, len(order), bound, workers, ctypes.byref(fault)
+                core._at, nodes, len(parent), numbers, len(order), _amount(bound), workers, ctypes.byref(fault)
             ),
             fault,
         )
@@ -499,7 +504,7 @@ class Core:
                 len(items),
                 numbers,
                 len(order),
-                bound,
+                _amount(bound),
                 workers,
                 ctypes.byref(fault),
             ),

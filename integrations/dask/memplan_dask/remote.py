@@ -1,0 +1,76 @@
+"""What runs on workers and on the scheduler.
+
+Classes and functions stand inside functions here, since Dask sends such ones whole: the machines of a cluster need nothing of memplan.
+"""
+
+from __future__ import annotations
+
+import traceback
+from typing import Any, Callable, List
+
+from distributed import SchedulerPlugin, WorkerPlugin
+
+
+def caller() -> Callable[[Callable[..., Any], List[Any]], Any]:
+    """Calls a task's function so that nothing but the worker's table of results holds the inputs once it has returned or raised: no list
+    of arguments in a thread that has not come to drop it, and no frame of a traceback."""
+
+    def call(function: Callable[..., Any], inputs: List[Any]) -> Any:
+        try:
+            return function(*inputs)
+        except BaseException as error:
+            traceback.clear_frames(error.__traceback__)
+            raise
+        finally:
+            inputs.clear()
+
+    return call
+
+
+def watch(run: str) -> WorkerPlugin:
+    """Tells over the topic of a run which of its results enter a worker's memory, and which have left it."""
+
+    class Watch(WorkerPlugin):
+        def setup(self, worker: Any) -> None:
+            self.worker = worker
+
+        def transition(self, key: str, start: str, finish: str, **_: Any) -> None:
+            if not key.startswith(run):
+                return
+            if finish == "memory":
+                state = self.worker.state.tasks[key]
+                size = 0 if state.type is type(None) else state.nbytes or 0
+                self.worker.log_event(run, ("entered", key, self.worker.address, size))
+            elif start == "memory":
+                self.worker.log_event(run, ("left", key, self.worker.address))
+
+    return Watch()
+
+
+def losses(run: str) -> SchedulerPlugin:
+    """Tells over the topic of a run which workers leave the cluster."""
+
+    class Losses(SchedulerPlugin):
+        def remove_worker(self, scheduler: Any, worker: str) -> None:
+            scheduler.log_event(run, ("lost", worker))
+
+    return Losses()
+
+
+def holder(run: str) -> Callable[..., bool]:
+    """Whether a worker still has anything of a run: a result, or a task that runs."""
+
+    def holds(dask_worker: Any) -> bool:
+        return any(key.startswith(run) for key in dask_worker.state.tasks)
+
+    return holds
+
+
+def eraser(run: str) -> Callable[..., None]:
+    """Takes what a run registered from the scheduler, and the log of its topic."""
+
+    def erase(dask_scheduler: Any) -> None:
+        for table in (dask_scheduler.plugins, dask_scheduler.events, dask_scheduler.event_counts, dask_scheduler.event_subscriber):
+            table.pop(run, None)
+
+    return erase

@@ -1,0 +1,222 @@
+"""Tasks on a Dask cluster within a bound on memory that memplan's core keeps."""
+
+from __future__ import annotations
+
+import time
+import uuid
+from functools import partial
+from heapq import heappop, heappush
+from queue import Empty, SimpleQueue
+from typing import Any, Dict, List, Optional, Sequence, Set, Tuple
+
+from distributed import Client, Future
+from memplan.admission import Admission
+
+from . import remote
+from .errors import EngineStopped, ResultTooLarge, TaskFailed, WorkerLost
+from .tasks import Task, graph_of, home_of, order_of
+
+_SECONDS_BETWEEN_LOOKS = 0.02
+_SECONDS_OF_SILENCE = 1.0
+
+
+def run(
+    tasks: Sequence[Task],
+    bound: int,
+    client: Client,
+    order: Optional[Sequence[int]] = None,
+    retries: int = 0,
+    workers: Optional[Sequence[str]] = None,
+) -> Dict[int, Future]:
+    """Runs the tasks with at most ``bound`` bytes of results and extras on all workers together; the futures of the results that stay.
+
+    The tasks run along ``order`` (tasks, from 0). Without one they run along an order of least peak where each result has one consumer,
+    and else along Dask's. ``retries`` says how often a task that raises is tried again, and ``workers``, by their addresses, on which
+    workers the tasks run; without it on all that there are now.
+
+    Raises `memplan.admission.BoundTooLow` where the bound is below the peak of the order, `memplan.Refused` where the order is none or a
+    limit of the library is passed, and one of `errors` where the run fails. By then what ran has come to its end, and nothing is left.
+    """
+    return _Run(tasks, bound, client, order, retries, workers).results()
+
+
+def least_bound(
+    tasks: Sequence[Task], client: Client, order: Optional[Sequence[int]] = None, workers: Optional[Sequence[str]] = None
+) -> int:
+    """The least bound that `run` takes for these tasks on these workers."""
+    graph = graph_of(tasks, _others(_threads(client, workers)))
+    return graph.least_bound(order_of(graph) if order is None else order)
+
+
+def _threads(client: Client, workers: Optional[Sequence[str]]) -> Dict[str, int]:
+    """How many threads each worker has."""
+    there = client.nthreads()
+    threads = {worker: count for worker, count in there.items() if workers is None or worker in workers}
+    if not threads or len(threads) < len(workers or ()):
+        raise EngineStopped("the cluster has no worker" if not there else f"of the workers {workers} some are not there")
+    return threads
+
+
+def _others(threads: Dict[str, int]) -> int:
+    """To how many workers a result may be copied. The workers of one process (``inproc``) hand results over without a copy."""
+    return 0 if all(worker.startswith("inproc") for worker in threads) else len(threads) - 1
+
+
+class _Run:
+    """One run. All that happens comes by one queue, in the order in which the scheduler tells it."""
+
+    def __init__(
+        self,
+        tasks: Sequence[Task],
+        bound: int,
+        client: Client,
+        order: Optional[Sequence[int]],
+        retries: int,
+        workers: Optional[Sequence[str]],
+    ) -> None:
+        self.name = "memplan-" + uuid.uuid4().hex
+        self.tasks, self.client, self.retries = tasks, client, retries
+        self.free = _threads(client, workers)
+        self.others = _others(self.free)
+        graph = graph_of(tasks, self.others)
+        order = order_of(graph) if order is None else order
+        self.admission = Admission(graph, bound, order)
+        self.ranks = {task: rank for rank, task in enumerate(order)}
+        self.call = remote.caller()
+        self.events: SimpleQueue[Tuple[Any, ...]] = SimpleQueue()
+        self.futures: Dict[int, Future] = {}
+        self.running: Dict[int, str] = {}  # the worker of each task that runs
+        self.holders: List[Set[str]] = [set() for _ in tasks]  # the workers that have each result
+        # What may start, by rank: at a certain worker, or (None) at any.
+        self.waiting: Dict[Optional[str], List[Tuple[int, int]]] = {None: [], **{worker: [] for worker in self.free}}
+
+    def results(self) -> Dict[int, Future]:
+        try:
+            self._listen()
+            self._start_ready()
+            while self.admission.left:
+                self._handle(self._next_event())
+                self._start_ready()
+            kept = dict(sorted(self.futures.items()))
+            self.futures.clear()
+            return kept
+        except BaseException:
+            self._abandon()
+            raise
+        finally:
+            self._fall_silent()
+
+    # What starts
+
+    def _start_ready(self) -> None:
+        for task in self.admission.ready():
+            heappush(self.waiting[self._place_of(task)], (self.ranks[task], task))
+        while (worker := self._idlest()) is not None:
+            queue = min(queue for queue in (self.waiting[worker], self.waiting[None]) if queue)
+            _, task = queue[0]
+            if not self.admission.start(task):
+                return
+            heappop(queue)
+            self._submit(task, worker)
+
+    def _place_of(self, task: int) -> Optional[str]:
+        """The worker where a task has to run: where its greatest input is, if the others are copied there, as that is booked."""
+        home = home_of(self.tasks, self.tasks[task])
+        if home is None or not self.others:
+            return None
+        return min(self.holders[home], key=lambda worker: len(self.waiting[worker]) - self.free[worker])
+
+    def _idlest(self) -> Optional[str]:
+        """Of the workers with a free thread, and a task to start on it, the one with most free threads."""
+        able = (worker for worker, threads in self.free.items() if threads and (self.waiting[worker] or self.waiting[None]))
+        return max(able, key=self.free.__getitem__, default=None)
+
+    def _submit(self, task: int, worker: str) -> None:
+        future = self._future_of(task, worker)
+        future.add_done_callback(lambda future: future.status == "finished" or self.events.put(("failed", task)))
+        self.free[worker] -= 1
+        self.running[task] = worker
+        self.futures[task] = future
+        # The scheduler keeps what a task needs, and drops it as soon as that is done: no need to wait for word of it here.
+        for result in self.admission.spent(task):
+            self.futures.pop(result).release()
+
+    def _future_of(self, task: int, worker: str) -> Future:
+        function, arguments, inputs = self.tasks[task][:3]
+        words = self.call, partial(function, *arguments), [self.futures[result] for result in inputs]
+        at = {"workers": [worker], "allow_other_workers": False}
+        return self.client.submit(*words, key=f"{self.name}-{task}", retries=self.retries, pure=False, **at)
+
+    # What happens
+
+    def _listen(self) -> None:
+        self.client.subscribe_topic(self.name, lambda event: self.events.put(tuple(event[1])))
+        self.client.register_scheduler_plugin(remote.losses(self.name), name=self.name)
+        self.client.register_worker_plugin(remote.watch(self.name), name=self.name)
+
+    def _next_event(self) -> Tuple[Any, ...]:
+        while True:
+            try:
+                return self.events.get(timeout=_SECONDS_OF_SILENCE)
+            except Empty:
+                if self.client.status != "running":
+                    raise EngineStopped(f"the client is {self.client.status}") from None
+
+    def _handle(self, event: Tuple[Any, ...]) -> None:
+        what, *told = event
+        {"entered": self._entered, "left": self._left, "failed": self._failed, "lost": self._lost}[what](*told)
+
+    def _entered(self, key: str, worker: str, size: int) -> None:
+        """A result is in a worker's memory: its task has run there, or it was copied."""
+        task = self._task_of(key)
+        if size > self.tasks[task].size:
+            raise ResultTooLarge(task, size, self.tasks[task].size)
+        self.holders[task].add(worker)
+        if task in self.running:
+            self.free[self.running.pop(task)] += 1
+            self.admission.done(task)
+
+    def _left(self, key: str, worker: str) -> None:
+        """A result has left a worker's memory. Where no other worker has it, its memory is free again, and not before."""
+        task = self._task_of(key)
+        self.holders[task].discard(worker)
+        if self.holders[task]:
+            return
+        if task in self.futures:
+            raise EngineStopped(f"the result of task {task} was taken from the cluster")
+        self.admission.gone(task)
+
+    def _failed(self, task: int) -> None:
+        if task not in self.running:
+            return  # its result was there, and was given back, before its future had word of it
+        future = self.futures[task]
+        if future.status != "error":
+            raise EngineStopped(f"task {task} was {future.status}")
+        error = future.exception()
+        raise TaskFailed(task, error) from error
+
+    def _lost(self, worker: str) -> None:
+        if worker in self.free:
+            raise WorkerLost(worker)
+
+    def _task_of(self, key: str) -> int:
+        return int(key.rsplit("-", 1)[1])
+
+    # The end
+
+    def _abandon(self) -> None:
+        """Starts nothing more, and waits until no worker has anything of the run: a task that runs comes to its end."""
+        for future in self.futures.values():
+            future.release()
+        self.futures.clear()
+        holds = remote.holder(self.name)
+        while self.client.status == "running" and True in self.client.run(holds, on_error="return").values():
+            time.sleep(_SECONDS_BETWEEN_LOOKS)
+
+    def _fall_silent(self) -> None:
+        if self.client.status != "running":
+            return
+        self.client.unregister_worker_plugin(self.name)
+        self.client.run_on_scheduler(remote.eraser(self.name))
+        # Dask has no call for this: unsubscribe_topic leaves the handler, and with it the run, where it is.
+        self.client._event_handlers.pop(self.name, None)

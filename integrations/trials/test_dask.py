@@ -1,0 +1,393 @@
+"""The runner on Dask, with workers that are threads of this process, and with workers that are processes."""
+
+from __future__ import annotations
+
+import ctypes
+import os
+import sys
+import tempfile
+import threading
+import time
+from functools import partial
+from pathlib import Path
+from typing import Any, Callable, Dict, List, Tuple
+
+import blocks
+import dask.array
+import numpy
+import workloads
+from clusters import bare_workers, cluster, digests, plain_digests, records, settled_records
+from distributed import Client, Future, LocalCluster
+from harness import eventually, raised, run_all
+from memplan import Refused
+from memplan_dask import (
+    BoundTooLow,
+    EngineStopped,
+    ResultTooLarge,
+    Task,
+    TaskFailed,
+    WorkerLost,
+    least_bound,
+    of_collection,
+    run,
+    runner,
+)
+from memplan_dask.tasks import graph_of
+from workloads import MB
+
+# Nothing is left
+
+
+def is_clean(client: Client) -> bool:
+    """Whether neither client, scheduler nor workers have anything of a run."""
+
+    def names(dask_scheduler: Any) -> List[str]:
+        tables = (dask_scheduler.tasks, dask_scheduler.plugins, dask_scheduler.events, dask_scheduler.event_subscriber)
+        return [str(name) for table in tables for name in table]
+
+    def busy(dask_worker: Any) -> List[str]:
+        return [*dask_worker.state.tasks, *dask_worker.data, *dask_worker.active_threads.values(), *dask_worker.plugins]
+
+    told = [*client.run_on_scheduler(names), *client.futures, *client._event_handlers]
+    for worker in client.run(busy).values():
+        told += worker
+    return not any(str(name).startswith("memplan") for name in told)
+
+
+def leaves_nothing(client: Client) -> None:
+    """No worker is busy, no future is left, and the cluster is usable."""
+    assert not any(client.run(lambda dask_worker: list(dask_worker.active_threads)).values()), "a worker is busy"
+    assert eventually(lambda: is_clean(client)), "something of the run is left"
+    assert client.submit(sum, [1, 2], pure=False).result() == 3
+
+
+# Bounds are kept
+
+LOADS: Dict[str, Callable[[], workloads.Load]] = {
+    "fork-join": lambda: workloads.fork_join(24),
+    "random tree": lambda: workloads.random_tree(80),
+    "random graph": lambda: workloads.random_graph(80),
+    "fronts": lambda: workloads.fronts(12),
+}
+
+
+def keeps_its_bound(make: Callable[[], workloads.Load], factor: float, client: Client) -> None:
+    tasks = make().tasks
+    bound = int(factor * least_bound(tasks, client))
+    wanted = plain_digests(client, tasks, sorted(graph_of(tasks, 0).kept))
+    settled_records(client)
+    futures = run(tasks, bound, client)
+    assert digests(client, futures) == wanted
+    del futures
+    top, rest = blocks.top_and_rest(settled_records(client))
+    assert rest == 0 and 0 < top <= bound, (top, rest, bound)
+    leaves_nothing(client)
+
+
+def keeps_the_bound_of_an_array(client: Client) -> None:
+    tasks, rebuild = of_collection(workloads.symmetric_sum(5, 5), workloads.sizes_of_symmetric_sum)
+    bound = least_bound(tasks, client)
+    wanted = blocks.digest(workloads.symmetric_sum(5, 0).compute())
+    settled_records(client)
+    result = rebuild(run(tasks, bound, client))
+    digest = digests(client, {0: client.compute(result)})[0]
+    del result
+    top, rest = blocks.top_and_rest(settled_records(client))
+    assert rest == 0 and 0 < top <= bound, (top, rest, bound)
+    assert digest == wanted
+    leaves_nothing(client)
+
+
+def computes_what_dask_computes(client: Client) -> None:
+    x = dask.array.arange(400, chunks=50).reshape(20, 20).rechunk(5)
+    for collection in ((x - x.mean()).std(), (x.T + x).sum(axis=0), (x @ x)[3:7, :2]):
+        tasks, rebuild = of_collection(collection, lambda key: (100_000, 1_000_000))
+        result = rebuild(run(tasks, least_bound(tasks, client), client))
+        assert numpy.array_equal(result.compute(), client.compute(collection).result())
+        del result
+    leaves_nothing(client)
+
+
+# A late release: what a task consumed lies with a worker that holds the interpreter's lock, and hears of no release meanwhile.
+
+
+def announced(path: str, *words: Any) -> blocks.Block:
+    Path(path).touch()
+    return blocks.work(*words)
+
+
+def hold_the_lock(path: str, seconds: float, *words: Any) -> blocks.Block:
+    while not Path(path).exists():
+        time.sleep(0.01)
+    ctypes.PyDLL(None).usleep(int(seconds * 1e6))
+    return blocks.work(*words)
+
+
+def late_release(folder: str) -> List[Task]:
+    """Tasks for two workers, whose order has its peak where 3 runs: it fetches a result from the worker that then holds the lock."""
+    path = str(Path(folder) / "announced")
+    return [
+        workloads.task_of(0, 20 * MB, 0, 400),
+        workloads.task_of(1, 19 * MB, 0, 0),
+        Task(hold_the_lock, (path, 2, 2, MB, 0, 0), (), MB),
+        Task(announced, (path, 3, MB, 0, 0.5), (0, 1), MB),
+        workloads.task_of(4, 55 * MB, 0, 50),
+        workloads.task_of(5, MB, 0, 0, (2, 3, 4)),
+    ]
+
+
+class HastyRun(runner._Run):
+    """The runner with another rule: a task is finished when its future is done."""
+
+    def _entered(self, key: str, worker: str, size: int) -> None:
+        task = self._task_of(key)
+        is_done = task in self.running
+        super()._entered(key, worker, size)
+        for result in self.tasks[task].inputs if is_done else ():
+            self.admission.gone(result)
+
+    def _left(self, key: str, worker: str) -> None:
+        pass
+
+
+def top_of_late_release(run_class: Any) -> Tuple[int, int]:
+    with cluster(processes=True, workers=2) as client, tempfile.TemporaryDirectory() as folder:
+        client.submit(blocks.taken_records, pure=False).result()
+        tasks = late_release(folder)
+        bound = least_bound(tasks, client, range(6))
+        records(client)
+        futures = run_class(tasks, bound, client, range(6), 0, None).results()
+        assert futures[5].result().data.nbytes == MB
+        futures.clear()
+        return blocks.top_and_rest(settled_records(client))[0], bound
+
+
+def keeps_its_bound_where_memory_is_released_late() -> None:
+    top, bound = top_of_late_release(runner._Run)
+    assert top <= bound, (top, bound)
+
+
+def would_pass_its_bound_if_tasks_finished_when_futures_are_done() -> None:
+    top, bound = top_of_late_release(HastyRun)
+    assert top > bound, "the case is no case of a late release"
+
+
+# What ends a run
+
+
+def fails(*inputs: blocks.Block) -> None:
+    raise ArithmeticError("on purpose")
+
+
+def fails_at_first(path: str, times: int, *words: Any) -> blocks.Block:
+    """Fails so many times, each time with all its memory taken."""
+    made = blocks.work(*words)
+    with open(path, "a+") as file:
+        file.write(".")
+        file.seek(0)
+        if len(file.read()) <= times:
+            raise ArithmeticError("at first")
+    return made
+
+
+def what_a_task_raises_ends_the_run(client: Client) -> None:
+    tasks = workloads.random_tree(40).tasks
+    tasks[20] = tasks[20]._replace(function=fails, arguments=())
+    settled_records(client)
+    error = raised(TaskFailed, run, tasks, 2 * least_bound(tasks, client), client)
+    assert error.task == 20 and isinstance(error.__cause__, ArithmeticError)
+    leaves_nothing(client)
+    assert blocks.top_and_rest(settled_records(client))[1] == 0
+
+
+def a_task_is_tried_again_within_the_bound(client: Client) -> None:
+    with tempfile.TemporaryDirectory() as folder:
+        words = (str(Path(folder) / "tries"), 2, 1, 4 * MB, 5 * MB, 0.01)
+        tasks = [workloads.task_of(0, MB, 0, 1), Task(fails_at_first, words, (0,), 4 * MB, 5 * MB)]
+        bound = least_bound(tasks, client)
+        assert bound == 10 * MB
+        settled_records(client)
+        futures = run(tasks, bound, client, retries=2)
+        assert futures[1].result().data.nbytes == 4 * MB
+        del futures
+        assert blocks.top_and_rest(settled_records(client)) == (bound, 0)
+        Path(words[0]).unlink()
+        assert raised(TaskFailed, partial(run, retries=1), tasks, bound, client).task == 1
+        leaves_nothing(client)
+
+
+def a_result_greater_than_stated_ends_the_run(client: Client) -> None:
+    tasks = workloads.random_tree(40).tasks
+    tasks[20] = tasks[20]._replace(size=tasks[20].size - 1)
+    error = raised(ResultTooLarge, run, tasks, 2 * least_bound(tasks, client), client)
+    assert (error.task, error.size, error.stated) == (20, tasks[20].size + 1, tasks[20].size)
+    leaves_nothing(client)
+
+
+def a_bound_below_the_peak_is_refused(client: Client) -> None:
+    tasks = workloads.random_tree(40).tasks
+    least = least_bound(tasks, client)
+    settled_records(client)
+    assert raised(BoundTooLow, run, tasks, least - 1, client).least == least
+    assert not any(settled_records(client)), "a task has run"
+    leaves_nothing(client)
+
+
+def an_order_that_is_none_is_refused(client: Client) -> None:
+    tasks = [workloads.task_of(0, MB, 0, 0), workloads.task_of(1, MB, 0, 0, (0,))]
+    assert raised(Refused, run, tasks, 9 * MB, client, [1, 0]).at == 1
+    leaves_nothing(client)
+
+
+def a_cancelled_task_ends_the_run(client: Client) -> None:
+    tasks = [workloads.task_of(0, MB, 0, 0), workloads.task_of(1, MB, 0, 2000, (0,))]
+
+    def cancel() -> None:
+        client.cancel([Future(key, client) for key in list(client.futures)])
+
+    killer = threading.Timer(1, cancel)
+    killer.start()
+    assert raised(EngineStopped, run, tasks, 9 * MB, client)
+    killer.join()
+    leaves_nothing(client)
+
+
+def two_runs_and_a_subscription_do_not_clash(client: Client) -> None:
+    heard: List[Any] = []
+    client.subscribe_topic("all", heard.append)
+    tasks = workloads.random_graph(40).tasks
+    bound = least_bound(tasks, client)
+    wanted = plain_digests(client, tasks, sorted(graph_of(tasks, 0).kept))
+    ends: List[Any] = []
+    runs = [threading.Thread(target=lambda: ends.append(digests(client, run(tasks, bound, client)))) for _ in range(2)]
+    for it in runs:
+        it.start()
+    for it in runs:
+        it.join()
+    assert ends == [wanted, wanted] and "all" in client._event_handlers
+    client.unsubscribe_topic("all")
+    leaves_nothing(client)
+
+
+def workers_have_bounds_of_their_own(client: Client) -> None:
+    workers = sorted(client.nthreads())[:2]
+    tasks = [workloads.random_tree(60, seed).tasks for seed in (1, 2)]
+    bounds = [least_bound(some, client, workers=[worker]) for some, worker in zip(tasks, workers)]
+    settled_records(client)
+    ends: List[Any] = []
+
+    def run_part(part: int) -> None:
+        ends.append(digests(client, run(tasks[part], bounds[part], client, workers=[workers[part]])))
+
+    parts = [threading.Thread(target=run_part, args=(part,)) for part in range(2)]
+    for part in parts:
+        part.start()
+    for part in parts:
+        part.join()
+    assert len(ends) == 2
+    told = client.run(blocks.taken_records)
+    assert [blocks.top_and_rest([told[worker]])[0] for worker in workers] == bounds
+    assert "not there" in str(raised(EngineStopped, partial(run, workers=["tcp://127.0.0.1:1"]), tasks[0], bounds[0], client))
+    leaves_nothing(client)
+
+
+def a_lost_worker_ends_the_run() -> None:
+    with bare_workers(3) as (client, programs):
+        tasks = workloads.random_tree(60, slowness=4).tasks
+        bound = 2 * least_bound(tasks, client)
+        killer = threading.Timer(0.7, programs[0].kill)
+        killer.start()
+        error = raised(WorkerLost, run, tasks, bound, client)
+        assert error.worker.startswith("tcp://127.0.0.1")
+        killer.join()
+        leaves_nothing(client)
+        settled_records(client)
+        futures = run(tasks, bound, client)
+        assert len(futures) == 1
+        del futures
+        top, rest = blocks.top_and_rest(settled_records(client))
+        assert rest == 0 and top <= bound
+        assert not any(client.run(lambda: "memplan" in sys.modules or "memplan_dask" in sys.modules).values())
+
+
+def a_closed_client_ends_the_run() -> None:
+    with LocalCluster(n_workers=1, processes=False, dashboard_address="127.0.0.1:0", silence_logs=50) as made:
+        client = Client(made)
+        closer = threading.Timer(0.5, client.close)
+        closer.start()
+        raised(EngineStopped, run, [workloads.task_of(0, MB, 0, 3000)], MB, client)
+        closer.join()
+
+
+# The loopback address alone
+
+
+def addresses_of(process: int) -> List[str]:
+    """The addresses on which a process listens."""
+    sockets = set()
+    for link in Path(f"/proc/{process}/fd").iterdir():
+        try:
+            sockets.add(os.readlink(link))
+        except OSError:
+            pass
+    found = []
+    for table in ("tcp", "tcp6"):
+        for line in Path(f"/proc/{process}/net/{table}").read_text().splitlines()[1:]:
+            words = line.split()
+            if words[3] == "0A" and f"socket:[{words[9]}]" in sockets:
+                found.append(words[1].split(":")[0])
+    return found
+
+
+def listens_on_the_loopback_address_alone(client: Client) -> None:
+    processes = {os.getpid(), *client.run(os.getpid).values()}
+    found = [address for process in processes for address in addresses_of(process)]
+    assert found and set(found) == {"0100007F"}, found
+
+
+CHECKS_ON_ANY_CLUSTER: List[Tuple[str, Callable[[Client], None]]] = [
+    *(
+        (f"{name} within {factor} times the least peak", partial(keeps_its_bound, make, factor))
+        for name, make in LOADS.items()
+        for factor in (1, 1.2, 2)
+    ),
+    ("an array's graph within its least bound", keeps_the_bound_of_an_array),
+    ("arrays are what Dask computes", computes_what_dask_computes),
+    ("what a task raises ends the run", what_a_task_raises_ends_the_run),
+    ("a task is tried again within the bound", a_task_is_tried_again_within_the_bound),
+    ("a result greater than stated ends the run", a_result_greater_than_stated_ends_the_run),
+    ("a bound below the peak is refused", a_bound_below_the_peak_is_refused),
+    ("an order that is none is refused", an_order_that_is_none_is_refused),
+    ("a cancelled task ends the run", a_cancelled_task_ends_the_run),
+    ("two runs and a subscription do not clash", two_runs_and_a_subscription_do_not_clash),
+    ("nothing listens but on the loopback address", listens_on_the_loopback_address_alone),
+]
+
+def on_processes(check: Callable[[Client], None]) -> Callable[[], None]:
+    def on_cluster() -> None:
+        with cluster(processes=True) as client:
+            check(client)
+
+    return on_cluster
+
+
+CHECKS_OF_THEIR_OWN: List[Tuple[str, Callable[[], None]]] = [
+    ("processes: a late release keeps the bound", keeps_its_bound_where_memory_is_released_late),
+    ("processes: it would pass it if tasks finished when futures are done", would_pass_its_bound_if_tasks_finished_when_futures_are_done),
+    ("processes: workers have bounds of their own", on_processes(workers_have_bounds_of_their_own)),
+    ("processes: a lost worker ends the run", a_lost_worker_ends_the_run),
+    ("threads: a closed client ends the run", a_closed_client_ends_the_run),
+]
+
+
+def main() -> int:
+    status = 0
+    for processes in (False, True):
+        kind = "processes" if processes else "threads"
+        with cluster(processes) as client:
+            status |= run_all([(f"{kind}: {name}", partial(check, client)) for name, check in CHECKS_ON_ANY_CLUSTER])
+    return status | run_all(CHECKS_OF_THEIR_OWN)
+
+
+if __name__ == "__main__":
+    sys.exit(main())
