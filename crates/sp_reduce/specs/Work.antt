@@ -43,9 +43,12 @@ abbrev pub graph_of : List Link → List Item
 graph_of [] = []
 graph_of (l ∷ ls) = cond l.alive (arc (end_of l.from) 0 (end_of l.to) ∷ graph_of ls) (graph_of ls)
 
+-- both ends in one number
 abbrev pub key_of : ℕ → ℕ → ℕ
 key_of p q = p * 2 ^ 32 + q
 
+-- each link leads between tasks, or from none or to none; the counts are those of the links; at each end that has links the place of
+-- one is at hand; and the table has the place of each link that is alive, by its ends
 pub record IsWork (n : ℕ) (rank : ℕ → ℕ) (links : List Link) (ins outs in_at out_at : List ℕ) (table : ℕ → Option ℕ) : Type 0 where
   pub lens : (length ins ≡ suc n) × (length outs ≡ suc n) × (length in_at ≡ suc n) × (length out_at ≡ suc n)
   pub inside : (x : ℕ) → x < length links → (link_at links x).alive ≡ true → ((link_at links x).from ≤ n) × ((link_at links x).to ≤ n)

@@ -38,6 +38,7 @@ impl Model for Links {
     ghost invariant = { λ l. AreIndexed l.tasks l.list.items l.ins.items l.outs.items l.in_at.items l.out_at.items (hash.get nat_eq l.by_ends) };
 }
 
+// Both ends in one number, as the table has them.
 fn key(from: u32, to: u32) -> u64
     ensures { result ≡ key_of from to }
 {
@@ -110,6 +111,7 @@ impl Links {
         requires ranked { (rank : ℕ → ℕ) × AreRanked rank (self.old.list ++ link from to ∷ []) }
         ensures { IfOk result (λ _. self.new ≡ record { tasks = self.old.tasks; list = self.old.list ++ link from to ∷ [] }) }
     {
+        // What may be refused comes first: the table may have a place with no link, but the counts are those of the list.
         let place = self.list.len() as u32;
         self.by_ends.insert(key(from, to), place)?;
         self.list.push(Link {

@@ -1,6 +1,5 @@
-ghost use Rattle.std.specs.Prelude.{◌≡◌, ◌≤◌, [], ◌∷◌, ℕ, All, length, map, IfOk, IfErr, MatchOption};
+ghost use Rattle.std.specs.Prelude.{◌≡◌, ◌≤◌, [], ◌∷◌, ℕ, All, length, IfOk, IfErr, MatchOption};
 ghost use Rattle.limits.specs.Limits.{most_tasks, most_arcs};
-ghost use Rattle.mp_system.specs.System.{IsSystem};
 ghost use Rattle.sp_terms.specs.Values.{term_of};
 ghost use Rattle.task_graph.specs.Graph.{IsArcWithin, Rises, completed_system};
 ghost use Rattle.sp_reduce.specs.Outcome.{IsOutcome};

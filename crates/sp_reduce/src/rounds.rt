@@ -1,6 +1,6 @@
 //! Tasks are taken out until none can be.
 
-ghost use Rattle.std.specs.Prelude.{◌≡◌, ◌≢◌, ◌≤◌, ◌<◌, ◌+◌, ◌*◌, [], ℕ, List, length, IfOk, true, vec_len};
+ghost use Rattle.std.specs.Prelude.{◌≡◌, ◌≢◌, ◌≤◌, ◌+◌, ◌*◌, [], ℕ, List, length, IfOk, true, vec_len};
 ghost use Rattle.limits.specs.Limits.{most_tasks};
 ghost use Rattle.mp_system.specs.declared.system.Item.{Item};
 ghost use Rattle.sp_reduce.specs.Pieces.{IsCarried, most_pieces};
