@@ -2,12 +2,14 @@
 
 from __future__ import annotations
 
+import logging
+import socket
 import subprocess
 import sys
 import time
 from contextlib import contextmanager
 from pathlib import Path
-from typing import Any, Dict, Iterator, List, Sequence
+from typing import Any, Dict, Iterator, List, Sequence, Tuple
 
 import blocks
 import dask
@@ -16,6 +18,9 @@ from memplan_dask import Task
 
 HERE = Path(__file__).resolve().parent
 LOOPBACK = "127.0.0.1"
+
+# What Dask says of lost workers and the like, which are lost on purpose.
+logging.disable()
 
 # A block is in memory or it is not: nothing goes to disk.
 dask.config.set({f"distributed.worker.memory.{what}": False for what in ("target", "spill", "pause", "terminate")})
@@ -41,24 +46,48 @@ def cluster(processes: bool, workers: int = 4, saturation: float = 1.1) -> Itera
 
 
 @contextmanager
-def bare_workers(count: int) -> Iterator[tuple]:
-    """A client of workers that are programs of their own, which find blocks.py and nothing of memplan; and these programs."""
+def programs(*lines: str) -> Iterator[List[subprocess.Popen]]:
+    """Programs of Dask, which find blocks.py and nothing of memplan; they are killed at the end."""
+    environment = {"PYTHONPATH": str(HERE), "PATH": "/usr/bin:/bin"}
+    begun: List[subprocess.Popen] = []
+    try:
+        for line in lines:
+            words = [sys.executable, "-m", *line.split()]
+            begun.append(subprocess.Popen(words, env=environment, stdout=subprocess.DEVNULL, stderr=subprocess.DEVNULL))
+        yield begun
+    finally:
+        for program in begun:
+            program.kill()
+            program.wait()
+
+
+def worker_line(scheduler: str) -> str:
+    return f"distributed.cli.dask_worker --host {LOOPBACK} --nthreads 1 --no-nanny --no-dashboard --memory-limit 0 {scheduler}"
+
+
+@contextmanager
+def bare_workers(count: int) -> Iterator[Tuple[Client, List[subprocess.Popen]]]:
+    """A client of workers that are programs of their own, and these programs."""
     with LocalCluster(
         n_workers=0, processes=True, host=LOOPBACK, dashboard_address=f"{LOOPBACK}:0", silence_logs=50
-    ) as made, Client(made) as client:
-        words = "-m distributed.cli.dask_worker --host 127.0.0.1 --nthreads 1 --no-nanny --no-dashboard --memory-limit 0".split()
-        environment = {"PYTHONPATH": str(HERE), "PATH": "/usr/bin:/bin"}
-        programs = [
-            subprocess.Popen([sys.executable, *words, made.scheduler_address], env=environment, stderr=subprocess.DEVNULL)
-            for _ in range(count)
-        ]
-        try:
-            client.wait_for_workers(count, timeout=60)
-            yield client, programs
-        finally:
-            for program in programs:
-                program.kill()
-                program.wait()
+    ) as made, Client(made) as client, programs(*[worker_line(made.scheduler_address)] * count) as begun:
+        client.wait_for_workers(count, timeout=60)
+        yield client, begun
+
+
+@contextmanager
+def separate_scheduler() -> Iterator[Tuple[Client, subprocess.Popen]]:
+    """A client of a scheduler that is a program of its own, with one worker; and that program."""
+    with socket.socket() as free:
+        free.bind((LOOPBACK, 0))
+        port = free.getsockname()[1]
+    scheduler = f"tcp://{LOOPBACK}:{port}"
+    line = f"distributed.cli.dask_scheduler --host {LOOPBACK} --port {port} --no-dashboard --dashboard-address {LOOPBACK}:0"
+    with programs(line, worker_line(scheduler)) as begun:
+        client = Client(scheduler, timeout=60)
+        client.wait_for_workers(1, timeout=60)
+        yield client, begun[0]
+        client.close(timeout=5)
 
 
 def records(client: Client) -> List[List[blocks.Record]]:

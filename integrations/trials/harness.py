@@ -9,7 +9,7 @@ import traceback
 from types import FrameType
 from typing import Any, Callable, Optional, Sequence, Type
 
-SECONDS = 120
+SECONDS = 300
 
 
 class TooLong(BaseException):

@@ -16,7 +16,7 @@ import blocks
 import dask.array
 import numpy
 import workloads
-from clusters import bare_workers, cluster, digests, plain_digests, records, settled_records
+from clusters import bare_workers, cluster, digests, plain_digests, records, separate_scheduler, settled_records
 from distributed import Client, Future, LocalCluster
 from harness import eventually, raised, run_all
 from memplan import Refused
@@ -105,6 +105,7 @@ def computes_what_dask_computes(client: Client) -> None:
         result = rebuild(run(tasks, least_bound(tasks, client), client))
         assert numpy.array_equal(result.compute(), client.compute(collection).result())
         del result
+    assert raised(TypeError, of_collection, client.persist(x), lambda key: (0, 0)), "what is on the cluster already is not booked"
     leaves_nothing(client)
 
 
@@ -173,6 +174,19 @@ def would_pass_its_bound_if_tasks_finished_when_futures_are_done() -> None:
 
 
 # What ends a run
+
+
+def once_it_runs(client: Client, act: Callable[[], Any]) -> threading.Thread:
+    """Does something soon after a run has begun."""
+
+    def wait_and_act() -> None:
+        if eventually(lambda: any(key.startswith("memplan") for key in list(client.futures)), 60):
+            time.sleep(0.3)
+            act()
+
+    thread = threading.Thread(target=wait_and_act)
+    thread.start()
+    return thread
 
 
 def fails(*inputs: blocks.Block) -> None:
@@ -245,10 +259,9 @@ def a_cancelled_task_ends_the_run(client: Client) -> None:
     def cancel() -> None:
         client.cancel([Future(key, client) for key in list(client.futures)])
 
-    killer = threading.Timer(1, cancel)
-    killer.start()
+    canceller = once_it_runs(client, cancel)
     assert raised(EngineStopped, run, tasks, 9 * MB, client)
-    killer.join()
+    canceller.join()
     leaves_nothing(client)
 
 
@@ -293,10 +306,9 @@ def workers_have_bounds_of_their_own(client: Client) -> None:
 
 def a_lost_worker_ends_the_run() -> None:
     with bare_workers(3) as (client, programs):
-        tasks = workloads.random_tree(60, slowness=4).tasks
+        tasks = workloads.random_tree(60, slowness=8).tasks
         bound = 2 * least_bound(tasks, client)
-        killer = threading.Timer(0.7, programs[0].kill)
-        killer.start()
+        killer = once_it_runs(client, programs[0].kill)
         error = raised(WorkerLost, run, tasks, bound, client)
         assert error.worker.startswith("tcp://127.0.0.1")
         killer.join()
@@ -313,10 +325,16 @@ def a_lost_worker_ends_the_run() -> None:
 def a_closed_client_ends_the_run() -> None:
     with LocalCluster(n_workers=1, processes=False, dashboard_address="127.0.0.1:0", silence_logs=50) as made:
         client = Client(made)
-        closer = threading.Timer(0.5, client.close)
-        closer.start()
+        closer = once_it_runs(client, client.close)
         raised(EngineStopped, run, [workloads.task_of(0, MB, 0, 3000)], MB, client)
         closer.join()
+
+
+def a_dead_scheduler_ends_the_run() -> None:
+    with separate_scheduler() as (client, program):
+        killer = once_it_runs(client, program.kill)
+        raised(EngineStopped, run, [workloads.task_of(0, MB, 0, 8000)], MB, client)
+        killer.join()
 
 
 # The loopback address alone
@@ -377,6 +395,7 @@ CHECKS_OF_THEIR_OWN: List[Tuple[str, Callable[[], None]]] = [
     ("processes: workers have bounds of their own", on_processes(workers_have_bounds_of_their_own)),
     ("processes: a lost worker ends the run", a_lost_worker_ends_the_run),
     ("threads: a closed client ends the run", a_closed_client_ends_the_run),
+    ("processes: a dead scheduler ends the run", a_dead_scheduler_ends_the_run),
 ]
 
 

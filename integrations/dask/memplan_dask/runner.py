@@ -143,9 +143,9 @@ class _Run:
 
     def _future_of(self, task: int, worker: str) -> Future:
         function, arguments, inputs = self.tasks[task][:3]
-        words = self.call, partial(function, *arguments), [self.futures[result] for result in inputs]
-        at = {"workers": [worker], "allow_other_workers": False}
-        return self.client.submit(*words, key=f"{self.name}-{task}", retries=self.retries, pure=False, **at)
+        words = partial(function, *arguments), [self.futures[result] for result in inputs]
+        place = {"workers": [worker], "allow_other_workers": False}
+        return self.client.submit(self.call, *words, key=f"{self.name}-{task}", retries=self.retries, pure=False, **place)
 
     # What happens
 
