@@ -7,3 +7,5 @@ pub mod Graphs
 pub mod Plans
 pub mod Matrices
 pub mod Fronts
+pub mod Requests
+pub mod Answers

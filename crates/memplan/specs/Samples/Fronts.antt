@@ -7,7 +7,7 @@ use Rattle.mp_system.specs.declared.system.Task.{Task}
 use Rattle.mp_system.specs.declared.system.Item.{Item}
 use Rattle.matrix_market.specs.Pattern.{are_named}
 use Rattle.ordering.specs.Fill.{eliminate, graph_at}
-use Rattle.assembly_tree.specs.Assembly.{AssemblyTree}
+use Rattle.assembly_tree.specs.Assembly.{super_of, super_at, front_of}
 use Rattle.assembly_tree.specs.Amalgamation.{amalgamated}
 use Rattle.assembly_tree.specs.Samples.{turned_arrow}
 use Rattle.symbolic.specs.FrontTree.{columns, relaxed}
@@ -35,6 +35,13 @@ table joined = map (λ a. map (joined a) (range_with_len 0 6)) (range_with_len 0
 -- the middle of the arrow is column 3
 pub joined_columns : table (columns rows order) ≡ table (are_named ((1, 3) ∷ (2, 3) ∷ (3, 4) ∷ []))
 joined_columns = refl
+
+-- columns 3 and 4 are in the third supernode, and 0 and 5 in none; each front has two rows
+pub supernodes_of_columns : map (super_of turned_arrow.nodes) (range_with_len 0 6) ≡ 0 ∷ 1 ∷ 2 ∷ 3 ∷ 3 ∷ 0 ∷ []
+supernodes_of_columns = refl
+
+pub orders_of_fronts : map (λ s. front_of (super_at turned_arrow.supers s)) (1 ∷ 2 ∷ 3 ∷ []) ≡ 2 ∷ 2 ∷ 2 ∷ []
+orders_of_fronts = refl
 
 -- nothing is merged where that is not asked; of one zero, the first supernode
 pub merged_on_demand : relaxed None turned_arrow ∷ relaxed (Some 1) turned_arrow ∷ [] ≡ turned_arrow ∷ amalgamated 1 turned_arrow ∷ []
@@ -81,8 +88,8 @@ events =
     event 0 Activate 1 ∷ event 0 Activate 2 ∷ event 0 Start 1 ∷ event 0 Start 2 ∷ event 1 Finish 1 ∷ event 1 Finish 2 ∷ event 1 Activate 3
     ∷ event 1 Start 3 ∷ event 2 Finish 3 ∷ []
 
-pub rounds : round_count events ≡ 2
-rounds = refl
+pub round_count_is : round_count events ≡ 2
+round_count_is = refl
 
 pub starts : map (λ k. started_at k events) (0 ∷ 1 ∷ 2 ∷ []) ≡ (1 ∷ 2 ∷ []) ∷ (3 ∷ []) ∷ [] ∷ []
 starts = refl

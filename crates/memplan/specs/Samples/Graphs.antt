@@ -14,8 +14,12 @@ use Rattle.sp_terms.specs.declared.position.Position.TheVariants as at
 use Rattle.sp_terms.specs.Term.{Term, hold, series, forward, backward}
 use Rattle.sp_term_laws.specs.Moves.{other}
 use Rattle.sp_term_laws.specs.Along.{memory_after}
+use Rattle.tree_input.specs.Samples.{five, five_forest, five_stands}
+use Rattle.tree_input.specs.TreeTerm.{forest_positions}
+use Rattle.least_peak.specs.Problem.{system_of, IsTermOf}
+use Rattle.least_peak.specs.declared.problem.Origin.TheVariants as origins
 use Rattle.task_graph.specs.declared.arc.Arc.{Arc}
-use Rattle.task_graph.specs.Graph.{TaskGraph, completed_arcs, completed_system, ShareFits}
+use Rattle.task_graph.specs.Graph.{TaskGraph, completed_arcs, completed_system}
 use Rattle.sp_reduce.specs.NamedText.{named_text}
 use Rattle.sp_reduce.specs.Reduced.{HasSystem, HasParts}
 use Rattle.sp_reduce.specs.Reductions.{IsParallel, IsSeries, LeadsTo, in_order, by_parallel, by_series, count_into, count_out_of}
@@ -29,6 +33,16 @@ other_directions = refl
 pub leaves_first_memory : map (memory_after five_tasks) ([] ∷ (1 ∷ []) ∷ (1 ∷ 3 ∷ []) ∷ (1 ∷ 3 ∷ 2 ∷ []) ∷ []) ≡ 0 ∷ 1 ∷ 2 ∷ 6 ∷ []
 leaves_first_memory = refl
 
+abbrev pub item : ℕ → Option ℕ → Option ℕ → Item
+item size from to = record { size = size; from = from; to = to }
+
+-- the smallest workflow, one item of data; and the term of README's tree
+pub data_alone : system_of (origins.Workflow (Hold 3 ∷ [])) ≡ record { tasks = []; items = item 3 None None ∷ [] }
+data_alone = refl
+
+pub term_of_five : IsTermOf (origins.Tree five) (forest_positions five five_forest)
+term_of_five = (five_forest, five_stands, refl)
+
 -- ---- the completed graph
 
 abbrev pub task : ℕ → ℕ → Task
@@ -36,9 +50,6 @@ task extra share = record { extra = extra; share = share; time = 1 }
 
 abbrev pub arc : ℕ → ℕ → ℕ → Arc
 arc from to size = record { from = from; to = to; size = size }
-
-abbrev pub item : ℕ → Option ℕ → Option ℕ → Item
-item size from to = record { size = size; from = from; to = to }
 
 -- two tasks in a chain: 1 hands 5 to 2
 abbrev pub chain : TaskGraph
@@ -49,10 +60,6 @@ chain_completed = refl
 
 pub chain_items : (completed_system chain).items ≡ item 5 (Some 1) (Some 2) ∷ item 0 None (Some 1) ∷ item 0 (Some 2) None ∷ []
 chain_items = refl
-
--- task 2 takes over 4 of the 5 that it takes up, but it would have only 3 to put there
-pub share_of_the_chain : ShareFits (task 0 0 ∷ task 4 4 ∷ []) chain.arcs 2
-share_of_the_chain = (lit≤ tt, lit≤ tt)
 
 -- ---- reductions
 

@@ -52,14 +52,14 @@ claims = record { position = 1; dir = F; bound = pos 2; rest = 3 } ∷ []
 abbrev pub plan : List Claim → List ℕ → ℕ → PlanText
 plan claims order peak = record { order = order; peak = peak; claims = claims; priority = [] }
 
--- a list that is empty is no list with a task in it
-abbrev pub IsEmpty : List ℕ → Type 0
+-- no list that is cut before an element is empty
+abbrev pub IsEmpty : {A : Type 0} → List A → Type 0
 IsEmpty [] = Unit {0}
-IsEmpty (v ∷ vs) = ⊥
+IsEmpty (x ∷ xs) = ⊥
 
-pub is_not_cut : (before rest : List ℕ) (v : ℕ) → [] ≡ before ++ v ∷ rest → ⊥
-is_not_cut [] rest v same = subst IsEmpty same tt
-is_not_cut (u ∷ before) rest v same = subst IsEmpty same tt
+pub is_not_cut : {A : Type 0} (before rest : List A) (x : A) → [] ≡ before ++ x ∷ rest → ⊥
+is_not_cut [] rest x same = subst IsEmpty same tt
+is_not_cut (y ∷ before) rest x same = subst IsEmpty same tt
 
 -- the order of no task is a traversal of no task
 pub nothing_is_a_traversal : IsTraversal system []
@@ -95,7 +95,7 @@ accepted = record {
   claims = claims_pass;
 }
 
--- ---- the four objections
+-- ---- objections
 
 -- task 1 is none
 pub no_such_task : IsObjection system positions (plan claims (1 ∷ []) 3) (objections.Order (record { place = 1; kind = Unknown }))
@@ -108,22 +108,6 @@ another_peak = (nothing_is_a_traversal, refl, refl, λ same. subst (λ n. T (n =
 -- no claim stands at the last position, which is 1
 pub no_claim : IsObjection system positions (plan [] [] 3) (objections.Root 1)
 no_claim = (nothing_is_a_traversal, refl, refl, λ root. subst (λ o. T (is_none o)) (root.1) tt)
-
--- a rest of 4 is more than the data
-abbrev pub too_high_claim : Claim
-too_high_claim = record { position = 1; dir = F; bound = pos 2; rest = 4 }
-
-abbrev pub too_high : List Claim
-too_high = too_high_claim ∷ []
-
-none_below : (k : ℕ) → k < 1 → PassesAt positions (claim_at too_high) k
-none_below zero within c stands = absurd (subst (λ o. T (is_none o)) stands tt)
-none_below (suc k) within c stands = absurd (not-suc-le-zero (le_of_suc-le-suc within))
-
-pub claim_fails : IsObjection system positions (plan too_high [] 3) (objections.Claim 1 shapes.Hold)
-claim_fails =
-    (nothing_is_a_traversal, refl, (claim_of too_high_claim, refl, record { le = tt }), none_below,
-    λ passes. le→leb 4 3 (((passes (claim_of too_high_claim) refl).2).1), refl)
 
 -- ---- verdicts
 
