@@ -40,6 +40,7 @@ use Rattle.memplan.specs.Demo.{demo_lines}
 use Rattle.memplan.specs.Upgrade.{upgrade_answer, tree_value}
 use Rattle.memplan.specs.Commands.{IsAnswer}
 use Rattle.memplan.specs.Clauses.{IsAnswered}
+use Rattle.memplan.specs.Samples.Graphs.{bridge}
 use Rattle.memplan.specs.Samples.Plans.{system, positions, plan, claims, is_not_cut, nothing_is_a_traversal, yes_to_the_plan, another_peak}
 
 abbrev pub done : List ℕ → Answer
@@ -75,7 +76,9 @@ unfolding digits
 json_line = refl
 
 -- both leaves at once, on two workers
-pub run_lines : simulation_answer (setting 22 2) wide ≡ done (codes "makespan 3\nused 20\nbooked 20\nevents 15\n0 activate 1\n0 activate 3\n0 start 1\n0 start 3\n1 finish 1\n1 finish 3\n1 activate 2\n1 activate 4\n1 activate 5\n1 start 2\n1 start 4\n2 finish 2\n2 finish 4\n2 start 5\n3 finish 5\nend\n")
+pub run_lines : simulation_answer (setting 22 2) wide
+    ≡ done (codes "makespan 3\nused 20\nbooked 20\nevents 15\n0 activate 1\n0 activate 3\n0 start 1\n0 start 3\n1 finish 1\n1 finish 3\n"
+    ++ codes "1 activate 2\n1 activate 4\n1 activate 5\n1 start 2\n1 start 4\n2 finish 2\n2 finish 4\n2 start 5\n3 finish 5\nend\n")
 unfolding digits phase_in with_phase
 run_lines = refl
 
@@ -124,13 +127,13 @@ objection_lines = refl
 
 pub refused_lines :
     format_refused (codes "tree") (codes "cycle") 3 ∷ limit_refused (codes "tree") (codes "steps") ∷ order_refused 3 Missing
-    ∷ bound_refused 10 11 ∷ working_set_refused 1 10 9 ∷ rest_answer ((0, 1) ∷ (1, 0) ∷ []) ∷ []
+    ∷ bound_refused 10 11 ∷ working_set_refused 1 10 9 ∷ rest_answer bridge ∷ []
     ≡ record { status = status.Format; text = codes "refused format tree cycle 3\n" }
     ∷ record { status = status.Limit; text = codes "refused limit tree steps\n" }
     ∷ record { status = status.No; text = codes "no order 3 missing\n" }
     ∷ record { status = status.Bound; text = codes "refused bound 10 11\n" }
     ∷ record { status = status.WorkingSet; text = codes "refused working-set 1 10 9\n" }
-    ∷ record { status = status.NotSeriesParallel; text = codes "refused graph rest 2\n0 1\n1 0\nend\n" } ∷ []
+    ∷ record { status = status.NotSeriesParallel; text = codes "refused graph rest 7\n0 1\n1 2\n1 3\n2 3\n2 4\n3 4\n4 0\nend\n" } ∷ []
 unfolding digits
 refused_lines = refl
 

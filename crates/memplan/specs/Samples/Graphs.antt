@@ -1,13 +1,12 @@
 -- No public clause names this.
 -- Task graphs: the completed graph, reductions, and the term of a graph; and some words on systems.
-use Rattle.std.specs.Prelude.{◌≡◌, ℕ, ◌≤◌, Some, None, Option, List, [], ◌∷◌, map, count_by, ◌==◌, codes, refl}
+use Rattle.std.specs.Prelude.{◌≡◌, ℕ, Some, None, Option, List, [], ◌∷◌, ◌++◌, map, count_by, ◌==◌, codes, refl}
 use Rattle.std.specs.Fmt.{digits}
-use Rattle.std.specs.List.Sorted.{IsPermutation}
-use Rattle.std.proofs.Common.{lit<, lit≤, subst, le_antisymm, inl, inr}
+use Rattle.std.proofs.Common.{lit<, lit≤, subst, le_antisymm}
 use Rattle.std.proofs.lemmas.List.Elements.{All-nil, All-cons}
 use Rattle.mp_system.specs.declared.system.Task.{Task}
 use Rattle.mp_system.specs.declared.system.Item.{Item}
-use Rattle.mp_system.specs.System.{TaskSystem, IsTask}
+use Rattle.mp_system.specs.System.{IsTask}
 use Rattle.mp_system.specs.Samples.{tree as five_tasks}
 use Rattle.sp_terms.specs.declared.position.Position.TheVariants.{Hold, Par}
 use Rattle.sp_terms.specs.declared.position.Position.TheVariants as at
@@ -147,6 +146,7 @@ pub four_text :
     named_text
     (Hold 0 ∷ Hold 6 ∷ Hold 2 ∷ at.Task 3 0 1 ∷ Hold 5 ∷ Hold 1 ∷ at.Task 2 0 1 ∷ Par 2 ∷ Hold 0 ∷ at.Task 0 0 1 ∷ at.Task 0 0 1 ∷ [])
     (3 ∷ 2 ∷ 4 ∷ 1 ∷ [])
-    ≡ codes "workflow 1\ntasks 4\ndata 0\ndata 6\ndata 2\ntask 3 1\ndata 5\ndata 1\ntask 2 1\npar 2\ndata 0\ntask 0 1\ntask 0 1\nend\n# 1 3\n# 2 2\n# 3 4\n# 4 1\n"
+    ≡ codes "workflow 1\ntasks 4\ndata 0\ndata 6\ndata 2\ntask 3 1\ndata 5\ndata 1\ntask 2 1\npar 2\ndata 0\ntask 0 1\ntask 0 1\nend\n"
+    ++ codes "# 1 3\n# 2 2\n# 3 4\n# 4 1\n"
 unfolding digits
 four_text = refl

@@ -1,7 +1,7 @@
 -- No public clause names this.
 -- Plans of the smallest workflow, one item of data of size 3 and no task: one that is accepted, and objections to others.
-use Rattle.std.specs.Prelude.{◌≡◌, ◌==◌, ℕ, zero, suc, ◌<◌, ◌≤◌, pos, Bool, true, false, T, if◌then◌else◌, Some, None, is_none, unwrap_or, List, [], ◌∷◌, ◌++◌, map, codes, refl}
-use Rattle.std.proofs.Common.{lit≤, subst, sym, ap, eqb→eq, le→leb, le_trans, le_of_suc-le-suc, not-suc-le-zero}
+use Rattle.std.specs.Prelude.{◌≡◌, ◌==◌, ℕ, ◌≤◌, pos, Bool, true, false, T, if◌then◌else◌, Some, None, is_none, unwrap_or, List, [], ◌∷◌, ◌++◌, map, codes, refl}
+use Rattle.std.proofs.Common.{lit≤, subst, sym, ap, eqb→eq, le_trans, not-suc-le-zero}
 use Rattle.std.proofs.lemmas.List.Elements.{All-nil}
 use Rattle.mp_system.specs.declared.system.OrderKind.TheVariants.{Unknown}
 use Rattle.mp_system.specs.System.{TaskSystem, IsTask}
@@ -15,7 +15,7 @@ use Rattle.claim_rules.specs.Claims.{Claim as RuleClaim}
 use Rattle.claim_rules.specs.Placed.{MeetsAt}
 use Rattle.plan_text.specs.declared.claim.Claim.{Claim}
 use Rattle.plan_text.specs.declared.claim.Dir.TheVariants.{F}
-use Rattle.plan_text.specs.Plan.{PlanText, claim_at, claim_of}
+use Rattle.plan_text.specs.Plan.{PlanText, claim_at}
 use Rattle.claim_check.specs.declared.shape.Shape.TheVariants as shapes
 use Rattle.claim_check.specs.declared.objection.Objection.TheVariants as objections
 use Rattle.claim_check.specs.declared.verdict.Verdict.TheVariants.{Yes, No}
@@ -45,7 +45,7 @@ positions = Hold 3 ∷ []
 abbrev pub system : TaskSystem
 system = system_of_term (hold 3)
 
--- no order of its tasks, of which there are none, stays within 2
+-- no order stays within 2, and there is but the one without a task
 abbrev pub claims : List Claim
 claims = record { position = 1; dir = F; bound = pos 2; rest = 3 } ∷ []
 

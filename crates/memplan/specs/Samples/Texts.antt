@@ -22,7 +22,6 @@ use Rattle.sp_terms.specs.WorkflowFile.{workflow_format, positions_stated}
 use Rattle.sp_terms.specs.WorkflowText.{text_of, text2_of}
 use Rattle.sp_terms.specs.declared.kind.WorkflowKind.TheVariants as workflows
 use Rattle.task_graph.specs.declared.arc.Arc.{Arc}
-use Rattle.task_graph.specs.Graph.{TaskGraph}
 use Rattle.task_graph.specs.GraphFile.{graph_format, graph_stated, line_stating}
 use Rattle.task_graph.specs.declared.kind.GraphKind.TheVariants as graphs
 use Rattle.matrix_market.specs.MatrixFile.{matrix_format, order_stated, pairs_stated, is_word, size_stated, entry_stated}
