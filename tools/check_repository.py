@@ -394,16 +394,22 @@ def check_quotes(page: list[str]) -> Iterator[Finding]:
             yield Finding(f"{DEFINITIONS}:{fence.number}: {fence.lines[0]}", fault)
 
 
+def samples_of(crate: str) -> str:
+    """The worked examples of a crate: `specs/Samples.antt`, and the files below `specs/Samples/`."""
+    specs = ROOT / "crates" / crate / "specs"
+    files = [specs / "Samples.antt", *sorted(specs.glob("Samples/*.antt"))]
+    return "\n".join(file.read_text(encoding="utf-8") for file in files if file.is_file())
+
+
 def check_examples(number: int, crate: str, cell: str) -> Iterator[Finding]:
-    """Names of lines of the crate's `specs/Samples.antt`, or of that of a crate before them."""
+    """Names of worked examples of the crate, or of the crate that stands before them."""
     for group in cell.split(";"):
         owner, names = crate, SPAN.findall(group)
         if re.match(r"\s*`\w+`: ", group):
             owner, names = names[0], names[1:]
-        samples = ROOT / "crates" / owner / "specs/Samples.antt"
-        text = samples.read_text(encoding="utf-8") if samples.is_file() else ""
+        text = samples_of(owner)
         for name in names:
-            is_there = re.search(rf"^{name} =", text, re.M)
+            is_there = re.search(rf"^{name}\b[^:=]* =", text, re.M)
             fault = None if is_there else f"{owner} computes no such line"
             yield Finding(f"{DEFINITIONS}:{number}: {name}", fault)
 

@@ -19,3 +19,4 @@ pub mod Commands
 pub mod Clauses
 pub mod Pages
 pub mod Judged
+pub mod Samples
