@@ -1,5 +1,5 @@
 -- The trees and tables of a run after each event.
-use Rattle.std.proofs.Common.{◌≡◌, ◌≢◌, ℕ, ◌+◌, ◌-◌, ◌*◌, ◌<◌, ◌≤◌, Bool, cond, ◌&&◌, List, length, take, get_or, set, get_or-set_same, get_or-set_other, refl, sym, ◌∙◌, ap, arith, ⊎_elim, Some}
+use Rattle.std.proofs.Common.{◌≡◌, ◌≢◌, ℕ, ◌+◌, ◌-◌, ◌*◌, ◌<◌, ◌≤◌, Bool, false, cond, ◌&&◌, List, ◌∷◌, length, take, get_or, set, get_or-set_same, get_or-set_other, refl, sym, ◌∙◌, ap, arith, ⊎_elim, Some, IsPermutation}
 use Rattle.std.specs.Prelude.{slice_index, count_by, ◌==◌, ◌||◌}
 use Rattle.std.proofs.lemmas.List.{length-set, take_more}
 use Rattle.std.proofs.lemmas.Bool.{cases_eq, cases_lt, eq-eqb, ne_eqb, and_parts, cases_Bool, true≢false, false_from_ne_true}
@@ -7,16 +7,22 @@ use Rattle.std.proofs.Math.Bool.{or-false}
 use Rattle.limits.specs.Limits.{most_time}
 use Rattle.mp_system.specs.System.{TaskSystem, IsTask, is_named}
 use Rattle.mp_system.specs.Memory.{stands_in, is_ready}
-use Rattle.min_tree.specs.Least.{greatest}
 use Rattle.activation.specs.declared.events.Phase.{Phase}
 use Rattle.activation.specs.declared.events.Phase.TheVariants.{Running, Done}
 use Rattle.activation.specs.declared.events.EventKind.TheVariants.{Activate, Start, Finish}
-use Rattle.activation.specs.Machine.{Setting, IsSetting, State, phase_in, with_phase, is_idle_phase, is_running, is_running_phase, is_done, is_done_phase, activated_tasks, MayActivate, MayStart, MayFinish, state_after, AllDone}
+use Rattle.activation.specs.Machine.{Setting, IsSetting, State, phase_in, with_phase, is_idle_phase, is_running, is_running_phase, is_done, is_done_phase, activated_tasks, running_count, MayActivate, MayStart, MayFinish, state_after, AllDone}
 use Rattle.activation.specs.Runs.{NoneRuns, CanBegin}
 use Rattle.activation.specs.Safe.{IsSafe}
 use Rattle.activation.specs.Schedule.{task_entry}
 use Rattle.activation.specs.Tables.{awaited, is_edge, is_startable}
-use Rattle.activation.specs.Run.{event_count, mark, RunTables, IsRun, IsFirstStartable}
+use Rattle.activation.specs.Run.{event_count, RunTables, IsRun, IsFirstStartable}
+use Rattle.std.specs.List.{sum_by}
+use Rattle.std.proofs.lemmas.List.Sorted.{length_permutation, All-permutation, sum_by_pushed, sum_by_popped}
+use Rattle.std.proofs.lemmas.List.Elements.{All-cons, All-tail}
+use Rattle.activation.specs.declared.clock.Due.{Due}
+use Rattle.activation.specs.Clock.{ClockValue, IsDueOf, has_place}
+use Rattle.activation.proofs.Dues.{bit, place_one, place_none}
+use Rattle.activation.proofs.Clocks.{clock_runs}
 use Rattle.activation.proofs.Numbers.{number_set_same, number_set_other}
 use Rattle.activation.proofs.Phases.{with_phase_other, idle_from, running_from, busy}
 use Rattle.activation.proofs.Orders.{each, task_in_order, in_front, stands_once}
@@ -37,14 +43,14 @@ module _ {c : Setting} {st : State} {time : ℕ} {x : RunTables} (set' : IsSetti
   small_more n su h e = omega (arith, h, e)
 
   -- the mark of one task is written anew
-  marks_anew : (su : State) (task : ℕ) (new : List ℕ) → ((t : ℕ) → t ≢ task → is_startable c su t ≡ is_startable c st t) →
-      ((t : ℕ) → IsTask c.system t → slice_index new (task_entry x.ranks t) ≡ cond (is_named (Some task) t) (mark (is_startable c su t)) (slice_index x.ready (task_entry x.ranks t))) →
-      (t : ℕ) → IsTask c.system t → slice_index new (task_entry x.ranks t) ≡ mark (is_startable c su t)
+  marks_anew : (su : State) (task : ℕ) (new : List Bool) → ((t : ℕ) → t ≢ task → is_startable c su t ≡ is_startable c st t) →
+      ((t : ℕ) → IsTask c.system t → get_or new (task_entry x.ranks t) false ≡ cond (is_named (Some task) t) (is_startable c su t) (get_or x.ready (task_entry x.ranks t) false)) →
+      (t : ℕ) → IsTask c.system t → get_or new (task_entry x.ranks t) false ≡ is_startable c su t
   marks_anew su task new same marks t is =
       ⊎_elim
-      (λ (e : task ≡ t). marks t is ∙ ap (λ b. cond b (mark (is_startable c su t)) (slice_index x.ready (task_entry x.ranks t))) (eq-eqb task t e))
-      (λ n. marks t is ∙ ap (λ b. cond b (mark (is_startable c su t)) (slice_index x.ready (task_entry x.ranks t))) (ne_eqb task t n)
-      ∙ r.ready_is t is ∙ ap mark (sym (same t (λ z. n (sym z)))))
+      (λ (e : task ≡ t). marks t is ∙ ap (λ b. cond b (is_startable c su t) (get_or x.ready (task_entry x.ranks t) false)) (eq-eqb task t e))
+      (λ n. marks t is ∙ ap (λ b. cond b (is_startable c su t) (get_or x.ready (task_entry x.ranks t) false)) (ne_eqb task t n)
+      ∙ r.ready_is t is ∙ sym (same t (λ z. n (sym z))))
       (cases_eq task t)
 
   -- after an activation
@@ -57,8 +63,8 @@ module _ {c : Setting} {st : State} {time : ℕ} {x : RunTables} (set' : IsSetti
         ∙ ap (λ b. stands_in (take st.activated c.order) t || b) (ap (λ y. y == t) h.next ∙ ne_eqb task t (λ z. n (sym z))) ∙ or-false (stands_in (take st.activated c.order) t) in
         ap (λ b. b && (is_idle_phase (phase_in st.phases t) && is_ready c.system (is_done st) t)) same
 
-    pub activated_run : (new : List ℕ) → length new ≡ length x.ready →
-        ((t : ℕ) → IsTask c.system t → slice_index new (task_entry x.ranks t) ≡ cond (is_named (Some task) t) (mark (is_startable c (state_after st Activate task) t)) (slice_index x.ready (task_entry x.ranks t))) →
+    pub activated_run : (new : List Bool) → length new ≡ length x.ready →
+        ((t : ℕ) → IsTask c.system t → get_or new (task_entry x.ranks t) false ≡ cond (is_named (Some task) t) (is_startable c (state_after st Activate task) t) (get_or x.ready (task_entry x.ranks t) false)) →
         IsRun c (state_after st Activate task) time (record x { ready = new })
     activated_run new len marks =
         let su = state_after st Activate task in
@@ -66,7 +72,9 @@ module _ {c : Setting} {st : State} {time : ℕ} {x : RunTables} (set' : IsSetti
         record {
           ranked = r.ranked;
           dues_long = r.dues_long;
+          clock_room = r.clock_room;
           clock_long = r.clock_long;
+          clock_has = r.clock_has;
           clock_is = r.clock_is;
           ready_long = len ∙ r.ready_long;
           ready_is = marks_anew su task new still marks;
@@ -75,26 +83,21 @@ module _ {c : Setting} {st : State} {time : ℕ} {x : RunTables} (set' : IsSetti
           time_small = small_more time su r.time_small count;
         }
 
-  -- the clock, when one task's phase changes
-  module _ (task place n : ℕ) (phase : Phase) (newdues : List ℕ) (is : phase_in (with_phase st.phases task phase) task ≡ phase) (within : place < length c.order) (there : slice_index c.order place ≡ task)
-      (value : n ≡ cond (is_running_phase phase) (task_entry newdues task) greatest) (same_dues : (u : ℕ) → u ≢ task → task_entry newdues u ≡ task_entry x.dues u) (long : length c.order ≡ length c.system.tasks) where
-    clock_changed : (k : ℕ) → k < length c.order →
-        slice_index (set x.clock place n) k ≡ cond (is_running_phase (phase_in (with_phase st.phases task phase) (slice_index c.order k))) (task_entry newdues (slice_index c.order k)) greatest
-    clock_changed k w =
+  -- how often each place stands in the clock, when one task's phase changes
+  module _ (task place : ℕ) (phase : Phase) (is : phase_in (with_phase st.phases task phase) task ≡ phase) (within : place < length c.order) (there : slice_index c.order place ≡ task) where
+    has_changed : (n : ℕ → ℕ) → n place ≡ bit (is_running_phase phase) → ((k : ℕ) → k ≢ place → n k ≡ sum_by (has_place k) x.clock.dues) →
+        (k : ℕ) → k < length c.order → n k ≡ bit (is_running_phase (phase_in (with_phase st.phases task phase) (slice_index c.order k)))
+    has_changed n here others k w =
         ⊎_elim
-        (λ e.
-        let here : slice_index c.order k ≡ task = ap (slice_index c.order) e ∙ there in
-        let written : slice_index (set x.clock place n) k ≡ n = ap (slice_index (set x.clock place n)) e ∙ get_or-set_same x.clock place n 0 (omega (arith, within, r.clock_long, long)) in
-        written ∙ value ∙ sym (ap (λ t. cond (is_running_phase (phase_in (with_phase st.phases task phase) t)) (task_entry newdues t) greatest) here ∙ ap (λ q. cond (is_running_phase q) (task_entry newdues task) greatest) is))
+        (λ e. ap n e ∙ here
+        ∙ sym (ap (λ t. bit (is_running_phase (phase_in (with_phase st.phases task phase) t))) (ap (slice_index c.order) e ∙ there) ∙ ap (λ q. bit (is_running_phase q)) is))
         (λ d.
         let other : slice_index c.order k ≢ task = λ z. d (stands_once c.system c.order (each set') task k place w within z there) in
-        get_or-set_other x.clock place k n 0 d ∙ r.clock_is k w
-        ∙ sym (ap (λ q. cond (is_running_phase q) (task_entry newdues (slice_index c.order k)) greatest) (with_phase_other st.phases task (slice_index c.order k) phase other)
-        ∙ ap (λ y. cond (is_running st (slice_index c.order k)) y greatest) (same_dues (slice_index c.order k) other)))
+        others k d ∙ r.clock_has k w ∙ sym (ap (λ q. bit (is_running_phase q)) (with_phase_other st.phases task (slice_index c.order k) phase other)))
         (cases_eq k place)
 
   -- after a start
-  module _ (task place due : ℕ) (h : MayStart c st task) (within : place < length c.order) (there : slice_index c.order place ≡ task) (long : length c.order ≡ length c.system.tasks) where
+  module _ (task : ℕ) (d : Due) (h : MayStart c st task) (within : d.place < length c.order) (there : slice_index c.order d.place ≡ task) where
     task_is : IsTask c.system task
     task_is = task_in_order c.system c.order (each set') task (in_front c.system c.order (each set') st.activated task h.activated)
 
@@ -105,10 +108,12 @@ module _ {c : Setting} {st : State} {time : ℕ} {x : RunTables} (set' : IsSetti
         ap (λ b. stands_in (activated_tasks c st) t && (is_idle_phase (phase_in (with_phase st.phases task Running) t) && b)) alike
         ∙ ap (λ q. stands_in (activated_tasks c st) t && (is_idle_phase q && is_ready c.system (is_done st) t)) phase
 
-    pub started_run : (low : time ≤ due) → (high : due ≤ time + most_time) → (new : List ℕ) → length new ≡ length x.ready →
-        ((t : ℕ) → IsTask c.system t → slice_index new (task_entry x.ranks t) ≡ cond (is_named (Some task) t) (mark (is_startable c (state_after st Start task) t)) (slice_index x.ready (task_entry x.ranks t))) →
-        IsRun c (state_after st Start task) time (record x { dues = set x.dues (task - 1) due; clock = set x.clock place due; ready = new })
-    started_run low high new len marks =
+    pub started_run : (low : time ≤ d.time) → (high : d.time ≤ time + most_time) → (clock : ClockValue) → clock.room ≡ x.clock.room → IsPermutation (d ∷ x.clock.dues) clock.dues →
+        running_count c (state_after st Start task) ≡ running_count c st + 1 → (new : List Bool) → length new ≡ length x.ready →
+        ((t : ℕ) → IsTask c.system t → get_or new (task_entry x.ranks t) false ≡ cond (is_named (Some task) t) (is_startable c (state_after st Start task) t) (get_or x.ready (task_entry x.ranks t) false)) →
+        IsRun c (state_after st Start task) time (record x { dues = set x.dues (task - 1) d.time; clock = clock; ready = new })
+    started_run low high clock room moved more new len marks =
+        let due = d.time in
         let in' = task_is in
         let su = state_after st Start task in
         let newdues : List ℕ = set x.dues (task - 1) due in
@@ -120,8 +125,24 @@ module _ {c : Setting} {st : State} {time : ℕ} {x : RunTables} (set' : IsSetti
         record {
           ranked = r.ranked;
           dues_long = length-set x.dues (task - 1) due ∙ r.dues_long;
-          clock_long = length-set x.clock place due ∙ r.clock_long;
-          clock_is = clock_changed task place due Running newdues is within there (sym mine) others long;
+          clock_room = room ∙ r.clock_room;
+          clock_long = omega (arith, length_permutation (d ∷ x.clock.dues) clock.dues moved, r.clock_long, more);
+          clock_has = has_changed task d.place Running is within there (λ k. sum_by (has_place k) clock.dues)
+              (let pushed = sum_by_pushed (has_place d.place) d x.clock.dues clock.dues moved in
+              let one = place_one d.place d refl in
+              let none : sum_by (has_place d.place) x.clock.dues ≡ 0 = r.clock_has d.place within ∙ ap (λ t. bit (is_running st t)) there ∙ ap (λ q. bit (is_running_phase q)) h.idle in
+              omega (arith, pushed, one, none))
+              (λ k n.
+              let pushed = sum_by_pushed (has_place k) d x.clock.dues clock.dues moved in
+              let none = place_none k d (λ e. n (sym e)) in
+              omega (arith, pushed, none));
+          clock_is = All-permutation (IsDueOf c.order newdues) (d ∷ x.clock.dues) clock.dues moved
+              (All-cons (IsDueOf c.order newdues) d x.clock.dues (record { within = within; time = sym (ap (task_entry newdues) there ∙ mine) })
+              (λ i e w.
+              let other = r.clock_is i e w in
+              let u = slice_index c.order (get_or x.clock.dues i e).place in
+              let apart : u ≢ task = λ z. true≢false (sym (clock_runs r i e w) ∙ ap (is_running st) z ∙ ap is_running_phase h.idle) in
+              record { within = other.within; time = other.time ∙ sym (others u apart) }));
           ready_long = len ∙ r.ready_long;
           ready_is = marks_anew su task new stays marks;
           not_past = λ u e.
@@ -138,7 +159,7 @@ module _ {c : Setting} {st : State} {time : ℕ} {x : RunTables} (set' : IsSetti
         }
 
   -- after a finish
-  module _ (task place : ℕ) (h : MayFinish c st task) (within : place < length c.order) (there : slice_index c.order place ≡ task) (long : length c.order ≡ length c.system.tasks) where
+  module _ (task : ℕ) (d : Due) (h : MayFinish c st task) (within : d.place < length c.order) (there : slice_index c.order d.place ≡ task) where
     keeps_mark : (t : ℕ) → count_by (is_edge task t) c.system.items ≡ 0 → is_startable c (state_after st Finish task) t ≡ is_startable c st t
     keeps_mark t none =
         let fewer = awaited_later c.system (is_done st) (is_done (state_after st Finish task)) task (ap is_done_phase h.running) (finish_adds c set' st safe task h) t in
@@ -152,11 +173,13 @@ module _ {c : Setting} {st : State} {time : ℕ} {x : RunTables} (set' : IsSetti
         ap (λ b. stands_in (activated_tasks c st) t && (is_idle_phase (phase_in (with_phase st.phases task Done) t) && b)) alike
         ∙ ap (λ b. stands_in (activated_tasks c st) t && (b && is_ready c.system (is_done st) t)) idle
 
-    pub finished_run : (due : ℕ) → task_entry x.dues task ≡ due → ((u : ℕ) → phase_in st.phases u ≡ Running → due ≤ task_entry x.dues u) → (new : List ℕ) → length new ≡ length x.ready →
-        ((t : ℕ) → IsTask c.system t → 0 < count_by (is_edge task t) c.system.items → slice_index new (task_entry x.ranks t) ≡ mark (is_startable c (state_after st Finish task) t)) →
-        ((t : ℕ) → IsTask c.system t → count_by (is_edge task t) c.system.items ≡ 0 → slice_index new (task_entry x.ranks t) ≡ slice_index x.ready (task_entry x.ranks t)) →
-        IsRun c (state_after st Finish task) due (record x { clock = set x.clock place greatest; ready = new })
-    finished_run due due_is least new len consumers others =
+    pub finished_run : d.time ≡ task_entry x.dues task → ((u : ℕ) → phase_in st.phases u ≡ Running → d.time ≤ task_entry x.dues u) →
+        (clock : ClockValue) → clock.room ≡ x.clock.room → IsPermutation x.clock.dues (d ∷ clock.dues) → running_count c (state_after st Finish task) + 1 ≡ running_count c st →
+        (new : List Bool) → length new ≡ length x.ready →
+        ((t : ℕ) → IsTask c.system t → 0 < count_by (is_edge task t) c.system.items → get_or new (task_entry x.ranks t) false ≡ is_startable c (state_after st Finish task) t) →
+        ((t : ℕ) → IsTask c.system t → count_by (is_edge task t) c.system.items ≡ 0 → get_or new (task_entry x.ranks t) false ≡ get_or x.ready (task_entry x.ranks t) false) →
+        IsRun c (state_after st Finish task) d.time (record x { clock = clock; ready = new })
+    finished_run due_is least clock room moved fewer new len consumers others =
         let su = state_after st Finish task in
         let is = is_changed c set' st safe task (finishes_front c set' st safe task h) Done in
         let count = count_step c set' st safe Finish task h in
@@ -166,15 +189,25 @@ module _ {c : Setting} {st : State} {time : ℕ} {x : RunTables} (set' : IsSetti
         record {
           ranked = r.ranked;
           dues_long = r.dues_long;
-          clock_long = length-set x.clock place greatest ∙ r.clock_long;
-          clock_is = clock_changed task place greatest Done x.dues is within there refl (λ u n. refl) long;
+          clock_room = room ∙ r.clock_room;
+          clock_long = omega (arith, length_permutation x.clock.dues (d ∷ clock.dues) moved, r.clock_long, fewer);
+          clock_has = has_changed task d.place Done is within there (λ k. sum_by (has_place k) clock.dues)
+              (let popped = sum_by_popped (has_place d.place) d x.clock.dues clock.dues moved in
+              let one = place_one d.place d refl in
+              let old : sum_by (has_place d.place) x.clock.dues ≡ 1 = r.clock_has d.place within ∙ ap (λ t. bit (is_running st t)) there ∙ ap (λ q. bit (is_running_phase q)) h.running in
+              omega (arith, popped, one, old))
+              (λ k n.
+              let popped = sum_by_popped (has_place k) d x.clock.dues clock.dues moved in
+              let none = place_none k d (λ e. n (sym e)) in
+              omega (arith, popped, none));
+          clock_is = All-tail (IsDueOf c.order x.dues) d clock.dues (All-permutation (IsDueOf c.order x.dues) x.clock.dues (d ∷ clock.dues) moved r.clock_is);
           ready_long = len ∙ r.ready_long;
           ready_is = λ t it.
               ⊎_elim
               (λ (some : 0 < count_by (is_edge task t) c.system.items). consumers t it some)
               (λ (le : count_by (is_edge task t) c.system.items ≤ 0).
               let none : count_by (is_edge task t) c.system.items ≡ 0 = omega arith in
-              others t it none ∙ r.ready_is t it ∙ ap mark (sym (keeps_mark t none)))
+              others t it none ∙ r.ready_is t it ∙ sym (keeps_mark t none))
               (cases_lt 0 (count_by (is_edge task t) c.system.items));
           not_past = λ u e. least u (old u e);
           dues_small = λ u e. small_more (task_entry x.dues u) su (r.dues_small u (old u e)) count;

@@ -10,12 +10,14 @@ pub mod Orders
 pub mod Lengths
 pub mod Changes
 pub mod Safety
+pub mod Bits
 pub mod Ranking
 pub mod Keeping
 pub mod Beginning
 pub mod Progress
 pub mod Counting
 pub mod OneSchedule
+pub mod Dues
 pub mod Clocks
 pub mod Advancing
 pub mod Looping

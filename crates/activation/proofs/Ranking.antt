@@ -1,4 +1,4 @@
--- The tree of the startable tasks, when the marks of some are written anew.
+-- The set of the startable tasks, when the marks of some are written anew.
 use Rattle.std.proofs.Common.{◌≡◌, ◌≢◌, ℕ, ◌+◌, ◌-◌, ◌<◌, Bool, true, false, cond, List, length, take, get_or, set, get_or-set_same, get_or-set_other, refl, sym, ◌∙◌, ap, arith, ⊎_elim, Option, Some}
 use Rattle.std.proofs.lemmas.Bool.{cases_eq, cases_Bool, eq-eqb, ne_eqb}
 use Rattle.mp_system.specs.declared.system.Item.{Item}
@@ -10,48 +10,48 @@ use Rattle.activation.specs.Tables.{consumed_by, no_item}
 use Rattle.activation.proofs.Numbers.{number_at}
 use Rattle.activation.proofs.Producing.{consumed_more}
 
-module _ {n : ℕ} {ranks : List ℕ} (r : AreRanks n ranks) {task : Option ℕ} {named : ℕ} (is : task ≡ Some named) (in' : IsNumber named n) (old : List ℕ) (long : length old ≡ n) where
+module _ {n : ℕ} {ranks : List ℕ} (r : AreRanks n ranks) {task : Option ℕ} {named : ℕ} (is : task ≡ Some named) (in' : IsNumber named n) (old : List Bool) (long : length old ≡ n) where
   rank_is : get_or ranks (named - 1) 0 ≡ task_entry ranks named
   rank_is = number_at ranks named in'.0
 
   pub rank_within : get_or ranks (named - 1) 0 < length old
   rank_within = omega (arith, rank_is, r.within named in', long)
 
-  pub marked : (f : ℕ → ℕ) (m : ℕ) → m ≡ f named → (t : ℕ) → IsNumber t n →
-      get_or (set old (get_or ranks (named - 1) 0) m) (task_entry ranks t) 0 ≡ cond (is_named task t) (f t) (get_or old (task_entry ranks t) 0)
+  pub marked : (f : ℕ → Bool) (m : Bool) → m ≡ f named → (t : ℕ) → IsNumber t n →
+      get_or (set old (get_or ranks (named - 1) 0) m) (task_entry ranks t) false ≡ cond (is_named task t) (f t) (get_or old (task_entry ranks t) false)
   marked f m e t int =
       ⊎_elim
       (λ (q : named ≡ t).
       let yes : is_named task t ≡ true = ap (λ (o : Option ℕ). is_named o t) is ∙ eq-eqb named t q in
       let at : task_entry ranks t ≡ get_or ranks (named - 1) 0 = ap (task_entry ranks) (sym q) ∙ sym rank_is in
-      rw yes (ap (λ k. get_or (set old (get_or ranks (named - 1) 0) m) k 0) at ∙ get_or-set_same old (get_or ranks (named - 1) 0) m 0 rank_within ∙ e ∙ ap f q))
+      rw yes (ap (λ k. get_or (set old (get_or ranks (named - 1) 0) m) k false) at ∙ get_or-set_same old (get_or ranks (named - 1) 0) m false rank_within ∙ e ∙ ap f q))
       (λ q.
       let no : is_named task t ≡ false = ap (λ (o : Option ℕ). is_named o t) is ∙ ne_eqb named t q in
       let apart : task_entry ranks t ≢ get_or ranks (named - 1) 0 = λ z. q (sym (r.once t named int in' (z ∙ rank_is))) in
-      rw no (get_or-set_other old (get_or ranks (named - 1) 0) (task_entry ranks t) m 0 apart))
+      rw no (get_or-set_other old (get_or ranks (named - 1) 0) (task_entry ranks t) m false apart))
       (cases_eq named t)
 
 -- the marks of those are written anew that consume one of these items, told by their places
-pub record AreRefreshed (n : ℕ) (items : List Item) (places ranks old : List ℕ) (f : ℕ → ℕ) (ready : List ℕ) : Type 0 where
+pub record AreRefreshed (n : ℕ) (items : List Item) (places ranks : List ℕ) (old : List Bool) (f : ℕ → Bool) (ready : List Bool) : Type 0 where
   pub long : length ready ≡ length old
-  pub consumers : (t : ℕ) → IsNumber t n → 0 < consumed_by t items places → get_or ready (task_entry ranks t) 0 ≡ f t
-  pub others : (t : ℕ) → IsNumber t n → consumed_by t items places ≡ 0 → get_or ready (task_entry ranks t) 0 ≡ get_or old (task_entry ranks t) 0
+  pub consumers : (t : ℕ) → IsNumber t n → 0 < consumed_by t items places → get_or ready (task_entry ranks t) false ≡ f t
+  pub others : (t : ℕ) → IsNumber t n → consumed_by t items places ≡ 0 → get_or ready (task_entry ranks t) false ≡ get_or old (task_entry ranks t) false
 
-pub refreshed_none : (n : ℕ) (items : List Item) (places ranks old : List ℕ) (f : ℕ → ℕ) → AreRefreshed n items (take 0 places) ranks old f old
+pub refreshed_none : (n : ℕ) (items : List Item) (places ranks : List ℕ) (old : List Bool) (f : ℕ → Bool) → AreRefreshed n items (take 0 places) ranks old f old
 refreshed_none n items places ranks old f = record {
   long = refl;
   consumers = λ t in' some. absurd (omega (arith, some));
   others = λ t in' none. refl;
 }
 
-pub refreshed_more : {n : ℕ} {items : List Item} {ranks old : List ℕ} {f : ℕ → ℕ} {ready : List ℕ} (places : List ℕ) (i : ℕ) → AreRefreshed n items (take i places) ranks old f ready → i < length places →
-    (new : List ℕ) → length new ≡ length ready →
-    ((t : ℕ) → IsNumber t n → get_or new (task_entry ranks t) 0 ≡ cond (is_input t (get_or items (get_or places i 0) no_item)) (f t) (get_or ready (task_entry ranks t) 0)) →
+pub refreshed_more : {n : ℕ} {items : List Item} {ranks : List ℕ} {old : List Bool} {f : ℕ → Bool} {ready : List Bool} (places : List ℕ) (i : ℕ) → AreRefreshed n items (take i places) ranks old f ready → i < length places →
+    (new : List Bool) → length new ≡ length ready →
+    ((t : ℕ) → IsNumber t n → get_or new (task_entry ranks t) false ≡ cond (is_input t (get_or items (get_or places i 0) no_item)) (f t) (get_or ready (task_entry ranks t) false)) →
     AreRefreshed n items (take (i + 1) places) ranks old f new
 refreshed_more {n} {items} {ranks} {old} {f} {ready} places i r w new len marks =
     let test : ℕ → Bool = λ t. is_input t (get_or items (get_or places i 0) no_item) in
-    let mark : (t : ℕ) (b : Bool) → IsNumber t n → test t ≡ b → get_or new (task_entry ranks t) 0 ≡ cond b (f t) (get_or ready (task_entry ranks t) 0) =
-    λ t b in' e. marks t in' ∙ ap (λ (q : Bool). cond q (f t) (get_or ready (task_entry ranks t) 0)) e in
+    let mark : (t : ℕ) (b : Bool) → IsNumber t n → test t ≡ b → get_or new (task_entry ranks t) false ≡ cond b (f t) (get_or ready (task_entry ranks t) false) =
+    λ t b in' e. marks t in' ∙ ap (λ (q : Bool). cond q (f t) (get_or ready (task_entry ranks t) false)) e in
     let more : (t : ℕ) (b : Bool) → test t ≡ b → consumed_by t items (take (i + 1) places) ≡ consumed_by t items (take i places) + cond b 1 0 =
     λ t b e. consumed_more t items places i w ∙ ap (λ (q : Bool). consumed_by t items (take i places) + cond q 1 0) e in
     record {

@@ -4,6 +4,8 @@ pub mod Changes
 pub mod Runs
 pub mod Schedule
 pub mod Running
+pub mod Bits
+pub mod Clock
 pub mod Tables
 pub mod Run
 pub mod Refusal

@@ -1,15 +1,15 @@
 -- No public clause names this.
 -- A simulated run between two events: its trees and tables, and what they stand for.
-use Rattle.std.specs.Prelude.{◌≡◌, ◌≢◌, ℕ, ◌+◌, ◌*◌, ◌<◌, ◌≤◌, Bool, true, if◌then◌else◌, List, length, slice_index, replicate}
+use Rattle.std.specs.Prelude.{◌≡◌, ◌≢◌, ℕ, ◌+◌, ◌*◌, ◌<◌, ◌≤◌, Bool, true, false, if◌then◌else◌, All, List, [], length, slice_index, slice_index_or, replicate}
 use Rattle.std.specs.List.{sum_by}
 use Rattle.limits.specs.Limits.{most_time}
 use Rattle.mp_system.specs.System.{IsTask}
-use Rattle.min_tree.specs.Least.{greatest}
 use Rattle.activation.specs.declared.events.Phase.{Phase}
 use Rattle.activation.specs.declared.events.Phase.TheVariants.{Idle, Running, Done}
 use Rattle.activation.specs.declared.room.Room.{Room}
-use Rattle.activation.specs.Machine.{Setting, State, phase_in, is_running}
+use Rattle.activation.specs.Machine.{Setting, State, phase_in, is_running, running_count}
 use Rattle.activation.specs.Running.{IsNumber}
+use Rattle.activation.specs.Clock.{ClockValue, IsDueOf, has_place}
 use Rattle.activation.specs.Schedule.{task_entry, Moment, StandsBefore, HoldsEach}
 use Rattle.activation.specs.Tables.{AreTaskPlaces, is_startable}
 
@@ -35,10 +35,6 @@ pub record AreRanks (count : ℕ) (ranks : List ℕ) : Type 0 where
   pub within : (t : ℕ) → IsNumber t count → task_entry ranks t < count
   pub once : (t u : ℕ) → IsNumber t count → IsNumber u count → task_entry ranks t ≡ task_entry ranks u → t ≡ u
 
--- the mark of a task in the tree of the startable ones
-abbrev pub mark : Bool → ℕ
-mark startable = if startable then 0 else greatest
-
 -- the running task that is due first, and stands first in the order of those that are due with it
 pub record IsNextDue (c : Setting) (m : Moment) (t : ℕ) : Type 0 where
   pub running : phase_in m.state.phases t ≡ Running
@@ -54,8 +50,8 @@ pub record IsFirstStartable (c : Setting) (priority : List ℕ) (st : State) (t 
 -- the trees and tables of a run
 pub record RunTables : Type 0 where
   pub dues : List ℕ
-  pub clock : List ℕ
-  pub ready : List ℕ
+  pub clock : ClockValue
+  pub ready : List Bool
   pub ranks : List ℕ
   pub priority : List ℕ
 
@@ -75,24 +71,24 @@ pub record AreRanked (c : Setting) (priority ranks : List ℕ) : Type 0 where
   pub ranks_are : AreRanks (length c.system.tasks) ranks
   pub places : AreTaskPlaces priority ranks
 
--- at the place of each running task the clock has its due moment, at the rank of each startable task the tree has 0, and elsewhere both
--- have the greatest number
+-- the clock has the due of each running task once, and no other; the set of the startable ones has the ranks of the startable tasks
 pub record IsRun (c : Setting) (st : State) (time : ℕ) (x : RunTables) : Type 0 where
   pub ranked : AreRanked c x.priority x.ranks
   pub dues_long : length x.dues ≡ length c.system.tasks
-  pub clock_long : length x.clock ≡ length c.system.tasks
-  pub clock_is : (k : ℕ) → k < length c.order →
-      slice_index x.clock k ≡ (if is_running st (slice_index c.order k) then task_entry x.dues (slice_index c.order k) else greatest)
+  pub clock_room : x.clock.room ≡ c.workers
+  pub clock_long : length x.clock.dues ≡ running_count c st
+  pub clock_has : (k : ℕ) → k < length c.order → sum_by (has_place k) x.clock.dues ≡ (if is_running st (slice_index c.order k) then 1 else 0)
+  pub clock_is : All (IsDueOf c.order x.dues) x.clock.dues
   pub ready_long : length x.ready ≡ length c.system.tasks
-  pub ready_is : (t : ℕ) → IsTask c.system t → slice_index x.ready (task_entry x.ranks t) ≡ mark (is_startable c st t)
+  pub ready_is : (t : ℕ) → IsTask c.system t → slice_index_or x.ready (task_entry x.ranks t) false ≡ is_startable c st t
   pub not_past : (t : ℕ) → phase_in st.phases t ≡ Running → time ≤ task_entry x.dues t
   pub dues_small : (t : ℕ) → phase_in st.phases t ≡ Running → task_entry x.dues t ≤ most_time * event_count c st
   pub time_small : time ≤ most_time * event_count c st
 
 -- the room that a run takes, before it has begun
-pub record IsRoom (count : ℕ) (x : RunTables) : Type 0 where
-  pub dues_are : x.dues ≡ replicate count 0
-  pub clock_are : x.clock ≡ replicate count greatest
-  pub ready_are : x.ready ≡ replicate count greatest
-  pub ranks_long : length x.ranks ≡ count
-  pub priority_long : length x.priority ≡ count
+pub record IsRoom (c : Setting) (x : RunTables) : Type 0 where
+  pub dues_are : x.dues ≡ replicate (length c.system.tasks) 0
+  pub clock_are : x.clock ≡ record { dues = []; room = c.workers }
+  pub ready_are : x.ready ≡ replicate (length c.system.tasks) false
+  pub ranks_long : length x.ranks ≡ length c.system.tasks
+  pub priority_long : length x.priority ≡ length c.system.tasks

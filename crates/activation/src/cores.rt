@@ -1,4 +1,4 @@
-ghost use Rattle.std.specs.Prelude.{◌≡◌, nat_eq, ◌*◌, ◌<◌, ◌≤◌, ℕ, true, false, if◌then◌else◌, [], length, slice_index, count_by, vec_capacity, IfOk, IfErr, IsTrue, IfSome, IfNone, ◌↔◌};
+ghost use Rattle.std.specs.Prelude.{◌≡◌, nat_eq, ◌*◌, ◌<◌, ◌≤◌, ℕ, true, false, if◌then◌else◌, [], length, slice_index, slice_index_or, count_by, vec_capacity, IfOk, IfErr, IsTrue, IfSome, IfNone, ◌↔◌};
 ghost use Rattle.std.specs.Bool.{OnTrue, OnFalse};
 ghost use Rattle.std.specs.List.{IsDistinct};
 ghost use Rattle.limits.specs.Limits.{most_time, most_workers};
@@ -10,19 +10,19 @@ ghost use Rattle.activation.specs.Safe.{IsSafe};
 ghost use Rattle.activation.specs.Refusal.{IsCoreRefusal};
 ghost use Rattle.activation.specs.Tables.{AreCoreTables, is_startable, is_edge};
 ghost use Rattle.activation.specs.Schedule.{task_entry};
-ghost use Rattle.activation.specs.Run.{AreRanks, mark};
+ghost use Rattle.activation.specs.Run.{AreRanks};
 
 use crate::NoMemory;
 use crate::events::{Event, EventKind, Phase};
 use crate::laws::{event_law, start_law};
 use crate::outputs::output_rows;
 use crate::places::{fill_places, is_number};
+use crate::rank_set::RankSet;
 use crate::refusal::CoreRefusal;
 use crate::running::RunningTasks;
 use crate::start::{copy_system, start_memory};
 use crate::sums::needs_of;
 use crate::waiting::{count_waiting, release};
-use min_tree::MinTree;
 use mp_system::laws::traversal_law;
 use mp_system::{System, replay};
 use row_table::RowTable;
@@ -69,13 +69,6 @@ impl Model for Core {
           booked = m.booked;
           used = m.used;
         }) };
-}
-
-// The mark of a task that is startable, or is not.
-fn mark(startable: bool) -> u64
-    ensures { result ≡ mark startable }
-{
-    if startable { 0 } else { u64::MAX }
 }
 
 impl Core {
@@ -293,6 +286,13 @@ impl Core {
         self.system.tasks().len()
     }
 
+    /// How many workers there are.
+    pub(crate) fn workers(&self) -> usize
+        ensures { result ≡ self.now.setting.workers }
+    {
+        self.workers as usize
+    }
+
     /// The task that stands at this place of the order, counted from 0.
     pub(crate) fn task_at(&self, place: usize) -> u32
         requires { place < length self.now.setting.order }
@@ -319,32 +319,32 @@ impl Core {
         self.system.tasks()[task as usize - 1].time
     }
 
-    /// Writes down at the rank of the task that is named, if one is, whether it is startable.
-    pub(crate) fn refresh(&self, task: Option<u32>, ranks: &[u32], ready: &mut MinTree)
+    /// Puts the rank of the task that is named, if one is, into the set of those that are startable, or takes it out.
+    pub(crate) fn refresh(&self, task: Option<u32>, ranks: &[u32], ready: &mut RankSet)
         requires tasks { (t : ℕ) → is_named task t ≡ true → IsTask self.now.setting.system t }
         requires ranks { AreRanks (length self.now.setting.system.tasks) ranks.now }
         requires long { length ready.old ≡ length self.now.setting.system.tasks }
         ensures long { length ready.new ≡ length ready.old }
-        ensures marks { (t : ℕ) → IsTask self.now.setting.system t → slice_index ready.new (task_entry ranks.now t)
-            ≡ (if is_named task t then mark (is_startable self.now.setting self.now.state t)
-            else slice_index ready.old (task_entry ranks.now t)) }
+        ensures marks { (t : ℕ) → IsTask self.now.setting.system t → slice_index_or ready.new (task_entry ranks.now t) false
+            ≡ (if is_named task t then is_startable self.now.setting self.now.state t
+            else slice_index_or ready.old (task_entry ranks.now t) false) }
     {
         if let Some(named) = task {
             let rank = ranks[named as usize - 1] as usize;
-            ready.put(rank, mark(self.is_startable(named)));
+            ready.put(rank, self.is_startable(named));
         }
     }
 
     /// Does so for each task that consumes an output of this one.
-    pub(crate) fn refresh_consumers(&self, task: u32, ranks: &[u32], ready: &mut MinTree)
+    pub(crate) fn refresh_consumers(&self, task: u32, ranks: &[u32], ready: &mut RankSet)
         requires task { IsTask self.now.setting.system task }
         requires ranks { AreRanks (length self.now.setting.system.tasks) ranks.now }
         requires long { length ready.old ≡ length self.now.setting.system.tasks }
         ensures long { length ready.new ≡ length ready.old }
         ensures consumers { (t : ℕ) → IsTask self.now.setting.system t → 0 < count_by (is_edge task t) self.now.setting.system.items →
-            slice_index ready.new (task_entry ranks.now t) ≡ mark (is_startable self.now.setting self.now.state t) }
+            slice_index_or ready.new (task_entry ranks.now t) false ≡ is_startable self.now.setting self.now.state t }
         ensures others { (t : ℕ) → IsTask self.now.setting.system t → count_by (is_edge task t) self.now.setting.system.items ≡ 0 →
-            slice_index ready.new (task_entry ranks.now t) ≡ slice_index ready.old (task_entry ranks.now t) }
+            slice_index_or ready.new (task_entry ranks.now t) false ≡ slice_index_or ready.old (task_entry ranks.now t) false }
     {
         numbers_law();
         let items = self.system.items();

@@ -6,12 +6,14 @@
 //! [`holds_each`]. The definitions stand in specs/: `Machine`, `Runs`, `Safe`, `Schedule`; the laws over every list of events in [`laws`].
 #![tactic(auto)]
 
+mod clock;
 mod cores;
 mod events;
 pub mod laws;
 mod outputs;
 mod places;
 mod priority;
+mod rank_set;
 mod refusal;
 mod room;
 mod run;

@@ -7,9 +7,10 @@ ghost use Rattle.activation.specs.Tables.{is_startable};
 ghost use Rattle.activation.specs.Schedule.{HoldsEach, task_entry, moment_after, first_moment, ComesNext, NoneDue, NoneActivates, NoneStarts};
 ghost use Rattle.activation.specs.Run.{RunValue, IsRun, event_count, IsRoom, IsNextDue, IsFirstStartable, run_tables};
 
+use crate::clock::Due;
 use crate::cores::Core;
 use crate::events::{Event, EventKind};
-use crate::laws::progress_law;
+use crate::laws::{event_law, progress_law};
 use crate::places::fill_places;
 use crate::room::Room;
 use mp_system::laws::traversal_law;
@@ -39,7 +40,7 @@ impl Run {
     /// The run at moment 0, before any event.
     pub fn new(core: Core, room: Room, priority: &[u32]) -> Run
         requires start { core.state ≡ start_state core.setting }
-        requires room { IsRoom (length core.setting.system.tasks) (run_tables room) }
+        requires room { IsRoom core.setting (run_tables room) }
         requires priority { HoldsEach core.setting.system priority.now }
         ensures setting { result.setting ≡ core.setting }
         ensures priority { result.priority ≡ priority.now }
@@ -88,23 +89,6 @@ impl Run {
         self.core.booked()
     }
 
-    // The running task that is due first, a tie to the one that stands first in the order.
-    fn next_due(&self) -> Option<u32>
-        ensures some { IfSome result (λ t. IsNextDue self.now.setting self.now.moment t) }
-        ensures none { IfNone result ((u : ℕ) → phase_in self.now.moment.state.phases u ≡ IsRunning → ⊥) }
-    {
-        self.core.keeps();
-        traversal_law();
-        if self.room.clock.len() == 0 {
-            return None;
-        }
-        let place = self.room.clock.first_least();
-        if self.room.clock.at(place) == u64::MAX {
-            return None;
-        }
-        Some(self.core.task_at(place))
-    }
-
     // The task that may start as soon as a worker is free, and stands first in the priority.
     fn first_startable(&self) -> Option<u32>
         ensures some { IfSome result (λ t. IsFirstStartable self.now.setting self.now.priority self.now.moment.state t) }
@@ -113,46 +97,35 @@ impl Run {
     {
         self.core.keeps();
         traversal_law();
-        if self.room.ready.len() == 0 {
-            return None;
-        }
-        let rank = self.room.ready.first_least();
-        if self.room.ready.at(rank) > 0 {
-            return None;
-        }
+        let rank = self.room.ready.first()?;
         Some(self.room.priority[rank])
     }
 
-    // The moment at which a started task is due.
-    fn due_of(&self, task: u32) -> u64
-        requires { IsTask self.now.setting.system task }
-        ensures { result ≡ task_entry self.now.moment.dues task }
-    {
-        self.room.dues[task as usize - 1]
-    }
-
-    // Ends the task that is due next, at the moment at which it is due.
-    fn finish_next(&mut self, task: u32) -> Event
-        requires { IsNextDue self.old.setting self.old.moment task }
+    // Ends the running task that is due first, a tie to the one that stands first in the order, at the moment at which it is due.
+    fn finish_next(&mut self) -> Option<Event>
         ensures setting { self.new.setting ≡ self.old.setting }
         ensures priority { self.new.priority ≡ self.old.priority }
-        ensures event { result ≡ record { time = task_entry self.old.moment.dues task; kind = EventKind.Finish; task = task } }
-        ensures next { self.new.moment ≡ moment_after self.old.setting self.old.moment result }
+        ensures due { IfSome result (λ e. IsNextDue self.old.setting self.old.moment e.task) }
+        ensures event { IfSome result (λ e.
+            e ≡ record { time = task_entry self.old.moment.dues e.task; kind = EventKind.Finish; task = e.task }) }
+        ensures next { IfSome result (λ e. self.new.moment ≡ moment_after self.old.setting self.old.moment e) }
+        ensures none { IfNone result ((u : ℕ) → phase_in self.old.moment.state.phases u ≡ IsRunning → ⊥) }
+        ensures unchanged { IfNone result (self.new ≡ self.old) }
     {
         self.core.keeps();
         traversal_law();
-        let place = self.core.place_of(task);
-        let due = self.due_of(task);
+        event_law();
+        let next = self.room.clock.take_first()?;
+        let task = self.core.task_at(next.place as usize);
         self.core.finish(task);
-        self.time = due;
-        self.room.clock.put(place, u64::MAX);
+        self.time = next.time;
         self.core
             .refresh_consumers(task, &self.room.ranks, &mut self.room.ready);
-        Event {
-            time: due,
+        Some(Event {
+            time: next.time,
             kind: EventKind::Finish,
             task,
-        }
+        })
     }
 
     // The finish that is due now, if one is.
@@ -164,12 +137,12 @@ impl Run {
         ensures none { IfNone result (NoneDue self.old.moment) }
         ensures unchanged { IfNone result (self.new ≡ self.old) }
     {
-        self.keeps();
-        let task = self.next_due()?;
-        if self.due_of(task) > self.time {
+        self.core.keeps();
+        traversal_law();
+        if self.room.clock.first()?.time > self.time {
             return None;
         }
-        Some(self.finish_next(task))
+        self.finish_next()
     }
 
     // The next activation, if a task may be activated.
@@ -206,14 +179,15 @@ impl Run {
     {
         self.core.keeps();
         traversal_law();
+        event_law();
         let task = self.first_startable()?;
-        let place = self.core.place_of(task);
-        let due = self.time + self.core.time_of(task);
+        let place = self.core.place_of(task) as u32;
+        let time = self.time + self.core.time_of(task);
         if !self.core.start(task) {
             return None;
         }
-        self.room.dues[task as usize - 1] = due;
-        self.room.clock.put(place, due);
+        self.room.dues[task as usize - 1] = time;
+        self.room.clock.add(Due { time, place });
         self.core
             .refresh(Some(task), &self.room.ranks, &mut self.room.ready);
         Some(Event {
@@ -237,8 +211,7 @@ impl Run {
     {
         progress_law();
         self.keeps();
-        let task = self.next_due()?;
-        Some(self.finish_next(task))
+        self.finish_next()
     }
 
     /// The event that comes next; none where every task is done.

@@ -65,7 +65,7 @@ impl Model for Simulator {
 
     ghost view = { λ s. s.core };
 
-    ghost invariant = { λ s. IsRoom (length s.core.setting.system.tasks) (run_tables s.room)
+    ghost invariant = { λ s. IsRoom s.core.setting (run_tables s.room)
         × (s.events.items ≡ []) × (3 * length s.core.setting.system.tasks ≤ vec_capacity s.events) };
 }
 
@@ -75,9 +75,9 @@ impl Simulator {
     pub fn new(alloc: Global, core: Core) -> Result<Simulator, NoMemory>
         ensures { IfOk result (λ simulator. simulator ≡ core) }
     {
-        let tasks = core.tasks();
-        let room = Room::new(alloc, tasks)?;
-        let events = Vec::with_capacity(alloc, 3 * tasks)?;
+        core.keeps();
+        let room = Room::new(alloc, &core)?;
+        let events = Vec::with_capacity(alloc, 3 * core.tasks())?;
         Ok(Simulator { core, room, events })
     }
 

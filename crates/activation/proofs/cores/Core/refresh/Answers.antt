@@ -1,5 +1,4 @@
 use Rattle.std.proofs.Common.{arith, ap, ◌∙◌}
-use Rattle.activation.specs.Run.{mark}
 use Rattle.activation.specs.Tables.{is_startable}
 use Rattle.activation.proofs.Numbers.{named}
 use Rattle.activation.proofs.Ranking.{rank_within, marked}
@@ -22,4 +21,4 @@ returns-in-Some-clause-marks c =
     let v = c.args.self.now in
     λ t in'. rw c.put.ensures
     (marked c.requires.ranks c.in-Some.is (c.requires.tasks c.in-Some.named (named _ c.in-Some.named c.in-Some.is)) c.args.ready.now c.requires.long
-    (λ t. mark (is_startable v.setting v.state t)) c.mark.result (c.mark.ensures ∙ ap mark c.is_startable.ensures) t in')
+    (λ t. is_startable v.setting v.state t) c.is_startable.result c.is_startable.ensures t in')

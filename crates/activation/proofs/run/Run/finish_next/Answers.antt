@@ -1,29 +1,102 @@
-use Rattle.std.proofs.Common.{◌≡◌, sym, ap, ◌∙◌}
+use Rattle.std.proofs.Common.{◌≡◌, ℕ, List, length, refl, sym, ap, ◌∙◌}
 use Rattle.std.proofs.lemmas.Bool.{OnTrue_at}
-use Rattle.activation.specs.Machine.{MayFinish}
-use Rattle.activation.specs.Schedule.{task_entry, Moment}
-use Rattle.activation.specs.Run.{IsNextDue, RunValue}
+use Rattle.activation.specs.declared.events.Event.{Event}
+use Rattle.activation.specs.declared.events.EventKind.TheVariants.{Finish}
+use Rattle.activation.specs.declared.events.Phase.TheVariants.{Running}
+use Rattle.activation.specs.Machine.{MayFinish, phase_in}
+use Rattle.activation.specs.Schedule.{task_entry}
 use Rattle.activation.proofs.Advancing.{finished_run, running_is_task}
+use Rattle.activation.proofs.Clocks.{due_within, due_time, none_before, next_is_due, none_runs}
+use Rattle.activation.proofs.Dues.{taken_among}
 use Rattle.activation.proofs.run.Run.finish_next.Goals as goal
 
-pub place_of-place-requires : goal.place_of-place-requires
-place_of-place-requires c =
+pub returns-in_err-next-clause-none : goal.returns-in_err-next-clause-none
+returns-in_err-next-clause-none c =
+    let k = c.keeps.ensures in
+    rw (← c.self.view_is, c.from_residual.ensures) (none_runs c.traversal_law.ensures.long k.setting k.safe c.self.invariant c.in_err-next.ensures.none)
+
+pub task_at-task-requires : goal.task_at-task-requires
+task_at-task-requires c =
     let f = c.self.inside in
     let k = c.keeps.ensures in
-    let moment : Moment = record { state = f.core.state; time = f.time; dues = f.room.dues.items } in
-    let next : IsNextDue f.core.setting moment c.args.task = rw (← c.self.view_is) at c.requires in
-    running_is_task f.core.setting k.setting f.core.state k.safe c.args.task next.running
+    let next = c.in_ok-next.next in
+    let among = taken_among f.room.clock.dues c.take_first.new.self.dues next c.in_ok-next.ensures.dues in
+    due_within c.traversal_law.ensures.long k.setting k.safe c.self.invariant next among c.in_ok-next.ensures.first
+
+pub refresh_consumers-requires-clause-task : goal.refresh_consumers-requires-clause-task
+refresh_consumers-requires-clause-task c =
+    let f = c.self.inside in
+    let k = c.keeps.ensures in
+    let long = c.traversal_law.ensures.long in
+    let next = c.in_ok-next.next in
+    let task = c.task_at-task.result in
+    let among = taken_among f.room.clock.dues c.take_first.new.self.dues next c.in_ok-next.ensures.dues in
+    let first = c.in_ok-next.ensures.first in
+    let due = next_is_due long k.setting k.safe c.self.invariant next among first in
+    let running : phase_in f.core.state.phases task ≡ Running = rw c.task_at-task.ensures due.running in
+    rw c.finish.ensures.setting (running_is_task f.core.setting k.setting f.core.state k.safe task running)
 
 pub invariant_of-self : goal.invariant_of-self
-invariant_of-self c =
+invariant_of-self c = rw c.in_err-next.ensures.unchanged c.self.invariant
+
+pub invariant_of-self-2 : goal.invariant_of-self-2
+invariant_of-self-2 c =
     let f = c.self.inside in
     let k = c.keeps.ensures in
-    let moment : Moment = record { state = f.core.state; time = f.time; dues = f.room.dues.items } in
-    let next : IsNextDue f.core.setting moment c.args.task = rw (← c.self.view_is) at c.requires in
-    let legal : MayFinish f.core.setting f.core.state c.args.task = record { running = next.running } in
+    let long = c.traversal_law.ensures.long in
+    let next = c.in_ok-next.next in
+    let task = c.task_at-task.result in
+    let among = taken_among f.room.clock.dues c.take_first.new.self.dues next c.in_ok-next.ensures.dues in
+    let first = c.in_ok-next.ensures.first in
+    let due = next_is_due long k.setting k.safe c.self.invariant next among first in
+    let running : phase_in f.core.state.phases task ≡ Running = rw c.task_at-task.ensures due.running in
+    let legal : MayFinish f.core.setting f.core.state task = record { running = running } in
     let done = OnTrue_at (c.finish.ensures.legal.1 legal) c.finish.ensures.next in
-    let due : task_entry f.room.dues.items c.args.task ≡ c.due_of-due.result = ap (λ (u : RunValue). task_entry u.moment.dues c.args.task) c.self.view_is ∙ sym c.due_of-due.ensures in
-    rw (c.put.ensures, c.finish.ensures.setting, done) (finished_run k.setting k.safe c.self.invariant c.args.task c.place_of-place.result legal c.place_of-place.ensures.within c.place_of-place.ensures.there
-    (c.traversal_law.ensures.long f.core.setting.system f.core.setting.order k.setting.traversal) c.due_of-due.result due (λ u e. rw (← due) (next.least u e)) c.refresh_consumers.new.ready c.refresh_consumers.ensures.long
+    let fewer = c.event_law.ensures.change f.core.setting k.setting f.core.state k.safe Finish task legal in
+    let time = due_time long k.setting k.safe c.self.invariant next among first ∙ ap (task_entry f.room.dues.items) (sym c.task_at-task.ensures) in
+    rw (c.finish.ensures.setting, done) (finished_run k.setting k.safe c.self.invariant task next legal
+    (due_within long k.setting k.safe c.self.invariant next among first) (sym c.task_at-task.ensures) time
+    (none_before long k.setting k.safe c.self.invariant next among first) c.take_first.new.self c.in_ok-next.ensures.room c.in_ok-next.ensures.dues fewer.running
+    c.refresh_consumers.new.ready c.refresh_consumers.ensures.long
     (rw (c.finish.ensures.setting, done, c.deref.ensures.value) at c.refresh_consumers.ensures.consumers)
     (rw (c.finish.ensures.setting, c.deref.ensures.value) at c.refresh_consumers.ensures.others))
+
+pub returns-clause-due : goal.returns-clause-due
+returns-clause-due c =
+    let f = c.self.inside in
+    let k = c.keeps.ensures in
+    let long = c.traversal_law.ensures.long in
+    let next = c.in_ok-next.next in
+    let task = c.task_at-task.result in
+    let among = taken_among f.room.clock.dues c.take_first.new.self.dues next c.in_ok-next.ensures.dues in
+    let first = c.in_ok-next.ensures.first in
+    let due = next_is_due long k.setting k.safe c.self.invariant next among first in
+    rw (← c.self.view_is, c.task_at-task.ensures) due
+
+pub returns-clause-event : goal.returns-clause-event
+returns-clause-event c =
+    let f = c.self.inside in
+    let k = c.keeps.ensures in
+    let long = c.traversal_law.ensures.long in
+    let next = c.in_ok-next.next in
+    let task = c.task_at-task.result in
+    let among = taken_among f.room.clock.dues c.take_first.new.self.dues next c.in_ok-next.ensures.dues in
+    let first = c.in_ok-next.ensures.first in
+    let time = due_time long k.setting k.safe c.self.invariant next among first ∙ ap (task_entry f.room.dues.items) (sym c.task_at-task.ensures) in
+    let event : ℕ → Event = λ t. record { time = t; kind = Finish; task = task } in
+    rw (← c.self.view_is) (ap event time)
+
+pub returns-clause-next : goal.returns-clause-next
+returns-clause-next c =
+    let f = c.self.inside in
+    let k = c.keeps.ensures in
+    let long = c.traversal_law.ensures.long in
+    let next = c.in_ok-next.next in
+    let task = c.task_at-task.result in
+    let among = taken_among f.room.clock.dues c.take_first.new.self.dues next c.in_ok-next.ensures.dues in
+    let first = c.in_ok-next.ensures.first in
+    let due = next_is_due long k.setting k.safe c.self.invariant next among first in
+    let running : phase_in f.core.state.phases task ≡ Running = rw c.task_at-task.ensures due.running in
+    let legal : MayFinish f.core.setting f.core.state task = record { running = running } in
+    let done = OnTrue_at (c.finish.ensures.legal.1 legal) c.finish.ensures.next in
+    rw (← c.self.view_is, done)

@@ -22,4 +22,4 @@ invariant_of-result c =
     let len : length ranks ≡ room.ranks.len = omega (arith, c.fill_places.auto.places, c.deref_mut.ensures.len) in
     let long : length ranks ≡ length s.system.tasks = omega (arith, len, c.requires.room.ranks_long) in
     rw (take_at ranks (drop (length ranks) room.ranks.items) room.ranks.len len, c.copy_from_slice.ensures.items, c.requires.start)
-    (start_run s (run_tables room) c.requires.room (c.traversal_law.ensures.long s.system s.order c.keeps.ensures.setting.traversal) c.args.priority.now ranks c.requires.priority long c.fill_places.ensures)
+    (start_run s (run_tables room) c.requires.room c.args.priority.now ranks c.requires.priority long c.fill_places.ensures)

@@ -8,10 +8,12 @@ use Rattle.activation.proofs.Numbers.{number_written}
 use Rattle.activation.proofs.Advancing.{started_run, no_start, may_start_task}
 use Rattle.activation.proofs.Keeping.{start_startable}
 use Rattle.activation.proofs.Counting.{count_le}
+use Rattle.activation.specs.declared.clock.Due.{Due}
+use Rattle.activation.specs.declared.events.EventKind.TheVariants.{Start}
 use Rattle.activation.proofs.run.Run.start.Goals as goal
 
-pub overflow_add-due : goal.overflow_add-due
-overflow_add-due c =
+pub overflow_add-time : goal.overflow_add-time
+overflow_add-time c =
     let k = c.keeps.ensures in
     let count = count_le c.traversal_law.ensures.long c.self.inside.core.setting k.setting c.self.inside.core.state k.safe in
     omega (arith, c.self.invariant.time_small, count, k.setting.system.few_tasks, c.time_of.ensures.long)
@@ -31,14 +33,28 @@ returns-then-not-start-clause-none c =
     rw (← c.self.view_is) (no_start first
     (λ h. true≢false (sym (c.start.ensures.legal.1 h) ∙ c.if-not-start.true)))
 
+pub overflow_cast-place : goal.overflow_cast-place
+overflow_cast-place c =
+    let k = c.keeps.ensures in
+    let long = c.traversal_law.ensures.long c.self.inside.core.setting.system c.self.inside.core.setting.order k.setting.traversal in
+    omega (arith, c.place_of-place.ensures.within, long, k.setting.system.few_tasks)
+
+pub add-requires : goal.add-requires
+add-requires c =
+    let legal = c.start.ensures.legal.0 c.if-not-start.false in
+    omega (arith, c.self.invariant.clock_long, c.self.invariant.clock_room, legal.free)
+
 pub invariant_of-self-2 : goal.invariant_of-self-2
 invariant_of-self-2 c =
     let f = c.self.inside in
     let k = c.keeps.ensures in
+    let task = c.in_ok-task.task in
     let legal = c.start.ensures.legal.0 c.if-not-start.false in
     let next = OnTrue_at c.if-not-start.false c.start.ensures.next in
-    rw (c.put.ensures, c.start.ensures.setting, next) (started_run k.setting k.safe c.self.invariant c.in_ok-task.task c.place_of-place.result (f.time + c.time_of.result) legal c.place_of-place.ensures.within c.place_of-place.ensures.there
-    (c.traversal_law.ensures.long f.core.setting.system f.core.setting.order k.setting.traversal) (omega arith) (omega (arith, c.time_of.ensures.long)) c.refresh.new.ready c.refresh.ensures.long
+    let due : Due = record { time = f.time + c.time_of.result; place = c.place_of-place.result } in
+    let more = c.event_law.ensures.change f.core.setting k.setting f.core.state k.safe Start task legal in
+    rw (c.start.ensures.setting, next) (started_run k.setting k.safe c.self.invariant task due legal c.place_of-place.ensures.within c.place_of-place.ensures.there
+    (omega arith) (omega (arith, c.time_of.ensures.long)) c.add.new.self c.add.ensures.room c.add.ensures.dues more.running c.refresh.new.ready c.refresh.ensures.long
     (rw (c.start.ensures.setting, next, c.deref.ensures.value) at c.refresh.ensures.marks))
 
 pub returns-clause-comes : goal.returns-clause-comes
