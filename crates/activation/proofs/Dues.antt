@@ -21,11 +21,14 @@ use Rattle.activation.specs.Clock.{IsFirstDue, has_place, due_cmp, dues_in}
 not_less : (a b c d : ℕ) → is_lt (ordering_then (nat_cmp a b) (nat_cmp c d)) ≡ false → (b ≤ a) × (a ≡ b → d ≤ c)
 not_less a b c d h = elim (cases_lt a b) [
   | inl lt ↦ absurd (true≢false (ap (λ (o : Ordering). is_lt (ordering_then o (nat_cmp c d))) (nat_cmp_is a b Less lt) ∙ h))
-  | inr ge ↦ (ge, λ e. elim (cases_lt c d) [
+  | inr ge ↦ (
+    ge,
+    λ e. elim (cases_lt c d) [
       | inl lt ↦ absurd (true≢false (ap (λ (o : Ordering). is_lt (ordering_then o Less)) (nat_cmp_is a b Equal e)
           ∙ ap (λ (o : Ordering). is_lt (ordering_then (nat_cmp a b) o)) (nat_cmp_is c d Less lt) ∙ h))
       | inr le ↦ le
-    ])
+    ],
+  )
 ]
 
 -- what the greatest element of the heap is among the dues

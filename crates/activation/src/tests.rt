@@ -1,3 +1,4 @@
+mod parts;
 mod plain;
 mod random;
 mod rows;
