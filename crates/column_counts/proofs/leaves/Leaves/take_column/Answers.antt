@@ -18,7 +18,7 @@ take_leaf-requires-clause-before c =
     let back = c.places_are_inverse.ensures.place (length order) order c.keeps.ensures j within in
     subst (λ v. 0 < slice_index t.last.items v → slice_index firsts (place_of order v) ≤ slice_index t.last.items v) (sym c.at.ensures.value)
     (λ pos. subst (λ i. slice_index firsts i ≤ slice_index t.last.items (vertex_at order j)) (sym back)
-      (own_leaf row.0 firsts c.args.row.now order j (omega (arith, c.requires.places.0, c.requires.spans.own j)) t row.1 c.requires.places.1 pos))
+    (own_leaf row.0 firsts c.args.row.now order j (omega (arith, c.requires.places.0, c.requires.spans.own j)) t row.1 c.requires.places.1 pos))
 
 pub loop-vertex-init : goal.loop-vertex-init
 loop-vertex-init c =

@@ -61,7 +61,7 @@ returns-then-leaf-eq0-clause-taken c = λ from taken st.
     (λ x. slice_index (set t.last.items v j) (vertex_at order x)) (slice_index (set t.leaves.items j more))
     (ap (slice_index (set t.last.items v j)) back ∙ at_here t.last.items v j (omega arith))
     (λ x ne. at_other t.last.items v j (vertex_at order x)
-      (other_vertex order place_back v (omega arith) x ne))
+    (other_vertex order place_back v (omega arith) x ne))
     (at_here t.leaves.items j more (omega arith) ∙ ap (λ v. v + 1) count) (at_other t.leaves.items j more) (here ∙ sym leaf ∙ c.if-leaf-eq0.true)
 
 pub overflow_add-index_mut-2 : goal.overflow_add-index_mut-2
@@ -119,7 +119,7 @@ returns-clause-taken c = λ from taken st.
     (λ x. slice_index (set t.last.items v j) (vertex_at order x)) (slice_index (set t.leaves.items j more))
     (ap (slice_index (set t.last.items v j)) back ∙ at_here t.last.items v j (omega arith))
     (λ x ne. at_other t.last.items v j (vertex_at order x)
-      (other_vertex order place_back v (omega arith) x ne))
+    (other_vertex order place_back v (omega arith) x ne))
     (at_here t.leaves.items j more (omega arith) ∙ ap (λ v. v + 1) count) (at_other t.leaves.items j more)
     some over q start above (λ z zn le f. met.least z (omega arith) le (omega arith))
     (slice_index (set t.meetings.items q met_more)) (at_here t.meetings.items q met_more (omega arith) ∙ ap (λ v. v + 1) met_count) (at_other t.meetings.items q met_more)
