@@ -340,9 +340,20 @@ class Tables:
         return self.alone_table("spill", head, found, [""])
 
     def fronts(self) -> str:
-        """The bound is twice the peak of the rows, which a refusal tells."""
-        found = []
-        for label, matrix, perm in self.matrices():
+        """The bound is twice the peak of the rows, which a refusal tells. All rows of all fronts
+        are printed, so these are matrices of little fill."""
+        sizes, make, found = self.sizes, self.inputs.matrix, []
+        grid, side, rows, band = sizes.grid, sizes.small_grid, sizes.rows, sizes.band
+        matrices = [
+            (
+                f"grid {grid:,} by {grid:,}, nested dissection",
+                make("grid", grid, grid),
+                make("dissection", grid, grid),
+            ),
+            (f"grid {side} by {side}", make("grid", side, side), ""),
+            (f"band of {rows:,} rows, {band} wide", make("band", rows, band), ""),
+        ]
+        for label, matrix, perm in matrices:
             words = ["fronts", "--matrix", matrix, *(["--perm", perm] if perm else [])]
             asked = [self.program, *words, "--bound", "0", "--workers", "1"]
             done = subprocess.run(
