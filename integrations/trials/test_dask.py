@@ -390,19 +390,19 @@ def on_processes(check: Callable[[Client], None]) -> Callable[[], None]:
 
 
 CHECKS_OF_THEIR_OWN: List[Tuple[str, Callable[[], None]]] = [
-    ("processes: a late release keeps the bound", keeps_its_bound_where_memory_is_released_late),
-    ("processes: it would pass it if tasks finished when futures are done", would_pass_its_bound_if_tasks_finished_when_futures_are_done),
-    ("processes: workers have bounds of their own", on_processes(workers_have_bounds_of_their_own)),
-    ("processes: a lost worker ends the run", a_lost_worker_ends_the_run),
-    ("threads: a closed client ends the run", a_closed_client_ends_the_run),
-    ("processes: a dead scheduler ends the run", a_dead_scheduler_ends_the_run),
+    ("Dask's processes: a late release keeps the bound", keeps_its_bound_where_memory_is_released_late),
+    ("Dask's processes: it would pass it if tasks finished when futures are done", would_pass_its_bound_if_tasks_finished_when_futures_are_done),
+    ("Dask's processes: workers have bounds of their own", on_processes(workers_have_bounds_of_their_own)),
+    ("Dask's processes: a lost worker ends the run", a_lost_worker_ends_the_run),
+    ("Dask's threads: a closed client ends the run", a_closed_client_ends_the_run),
+    ("Dask's processes: a dead scheduler ends the run", a_dead_scheduler_ends_the_run),
 ]
 
 
 def main() -> int:
     status = 0
     for processes in (False, True):
-        kind = "processes" if processes else "threads"
+        kind = "Dask's processes" if processes else "Dask's threads"
         with cluster(processes) as client:
             status |= run_all([(f"{kind}: {name}", partial(check, client)) for name, check in CHECKS_ON_ANY_CLUSTER])
     return status | run_all(CHECKS_OF_THEIR_OWN)
