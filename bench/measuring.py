@@ -3,14 +3,14 @@ import json
 import subprocess
 from collections.abc import Collection
 from pathlib import Path
-from time import monotonic
 from typing import NamedTuple, Optional
 
 # How much of a first line is kept as what a program said.
 MOST_SAID = 80
 
-# A row has no further turn, after the second, once it has taken so many seconds.
-LONG_ROW = 20
+# A row has two turns; and further ones, while it has taken no more seconds of processor time than
+# these for each turn that is asked for.
+LONG_TURN = 4
 
 # The status that the meter tells for a program that was killed, as after the limit; and that of
 # memplan for words that it does not know.
@@ -100,9 +100,9 @@ class Bench:
     def in_turn(self, sides: list[Side], turns: int) -> dict[str, list[Figure]]:
         """The figures of each turn of each side; what took too long is not run again."""
         tries: dict[str, list[Figure]] = {side.name: [] for side in sides}
-        start = monotonic()
         for turn in range(turns):
-            if turn > 1 and monotonic() - start > LONG_ROW:
+            spent = sum(it.cpu for figures in tries.values() for it in figures)
+            if turn > 1 and spent > 1000 * LONG_TURN * turns:
                 break
             for side in sides:
                 if all(it.status != KILLED for it in tries[side.name]):

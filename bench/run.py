@@ -6,17 +6,17 @@ usage: bench/run.py [--quick] [--program FILE] [--out FOLDER] [--turns N] [--lim
 
 It wants an idle machine, g++ and make, and Debian's package libsuitesparse-dev (CXSparse, CHOLMOD,
 AMD) for the tables `analysis` and `mindeg`. It builds the peers in bench/peers, makes the inputs,
-and runs memplan and the peers in turn. A whole run takes WHOLE_RUN.
+and runs memplan and the peers in turn. A whole run takes some 20 minutes and 3 GB of disk.
 It can be stopped at any time: what is measured stands in FOLDER (bench/out), and the next run of
 the same programs goes on from there; --anew forgets it. --quick tries every line on small inputs,
 in some seconds; its figures mean nothing. --only makes some tables alone, of reading, replay,
 analysis, mindeg, post, plan, hard, check, simulate, spill, fronts, segments, reduce, growth;
 --growth names the numbers of tasks of the last one.
 
-Of each program the least of N turns (5) counts; a row that has taken 20 seconds has no further
-turn after its second one. Each run has SECONDS (100) of processor time. Where memplan has no such
-command yet, the table says so. The program stops where two sides differ in what they found. Tables
-go to standard output, how far it is to standard error.
+Of each program the least of N turns (5) counts; a row that has taken 4 N seconds of processor time
+has no further turn after its second one. Each run has SECONDS (100) of processor time. Where
+memplan has no such command yet, the table says so. The program stops where two sides differ in what
+they found. Tables go to standard output, how far it is to standard error.
 """
 import argparse
 import datetime
