@@ -1,7 +1,7 @@
 #!/usr/bin/python3
 """Memory and time of the same tasks by Dask alone and by the runner, as tables in Markdown.
 
-usage: compare.py [--turns N] [--slowness S] [--program PROGRAM] [--quick]
+usage: compare.py [--turns N] [--slowness S] [--program PROGRAM] [--only threads|processes|costs] [--quick]
 
 Four workers of one thread, as threads of one process and as processes. Of each cell the tasks run N times (2 if nothing else is said): the
 greatest sum of bytes at any moment, recorded exactly in every process, in MB; and the least time, in seconds. Tasks sleep, S (4) times
@@ -246,12 +246,16 @@ def main() -> None:
     parser.add_argument("--slowness", type=int, default=4)
     parser.add_argument("--program", type=Path)
     parser.add_argument("--quick", action="store_true", help="small cases, whose figures mean nothing")
+    parser.add_argument("--only", choices=("threads", "processes", "costs"), help="one of the tables")
     asked = parser.parse_args()
     some = cases(asked.slowness, asked.quick)
     print("MB at most at once / seconds (of the simulated run)\n", flush=True)
-    for processes in (False, True):
-        print(compared(processes, some, asked.turns, asked.program), flush=True)
-    print(costs(asked.quick), flush=True)
+    if asked.only in (None, "threads"):
+        print(compared(False, some, asked.turns, asked.program), flush=True)
+    if asked.only in (None, "processes"):
+        print(compared(True, some, asked.turns, asked.program), flush=True)
+    if asked.only in (None, "costs"):
+        print(costs(asked.quick), flush=True)
     print(machine())
 
 
