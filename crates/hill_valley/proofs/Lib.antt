@@ -4,7 +4,6 @@ pub mod Kept
 pub mod Profiles
 pub mod Inserting
 pub mod InRow
-pub mod InSlot
 pub mod Last
 pub mod Fronts
 pub mod Walk

@@ -16,7 +16,6 @@ use crate::ropes::{Rope, Ropes};
 use crate::row::{Row, joined};
 use crate::side::{Seg, Segments};
 use crate::steps::Step;
-use side_laws::laws;
 use std::alloc::Global;
 use std::marker::Model;
 
