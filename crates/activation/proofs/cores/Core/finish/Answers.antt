@@ -1,16 +1,13 @@
-use Rattle.std.proofs.Common.{◌≡◌, ℕ, ◌+◌, true, length, map, get_or, refl, sym, arith, ap, drop, ◌∙◌, Option}
+use Rattle.std.proofs.Common.{◌≡◌, ℕ, ◌+◌, length, map, arith, ap, drop, ◌∙◌}
 use Rattle.std.specs.Prelude.{count_by}
 use Rattle.std.proofs.lemmas.List.{take_at, length-map}
-use Rattle.std.proofs.Math.ListN.{get_or-map}
-use Rattle.mp_system.specs.System.{is_named, is_input}
 use Rattle.activation.specs.declared.events.Phase.TheVariants.{Done}
 use Rattle.activation.specs.declared.events.EventKind.TheVariants.{Finish}
 use Rattle.activation.specs.Schedule.{task_entry}
-use Rattle.activation.specs.Tables.{is_edge, producer_of, consumer_of, no_item}
+use Rattle.activation.specs.Tables.{is_edge, producer_of}
 use Rattle.activation.proofs.Phases.{phase_written}
-use Rattle.activation.proofs.Keeping.{finish_is_task, finish_frees, finish_enough, finished_tables}
+use Rattle.activation.proofs.Keeping.{finish_is_task, finish_frees, finish_enough, finished_tables, consumers_length, consumer_within}
 use Rattle.activation.proofs.Producing.{consumed_row}
-use Rattle.activation.proofs.Sizes.{consumer_is_task}
 use Rattle.activation.proofs.cores.Core.finish.Goals as goal
 
 pub overflow_sub-at : goal.overflow_sub-at
@@ -50,16 +47,12 @@ release-requires-clause-places c =
     let items = c.self.inside.system.value.items in
     let h = rw (← c.self.view_is) at c.may_finish.ensures.0 c.if-not-may_finish.false in
     let row = c.row.ensures ∙ c.self.invariant.fixed.outputs_are.rows_are c.args.task (finish_is_task c.self.invariant c.args.task h) in
-    rw (row, c.self.invariant.fixed.consumers_are) (λ k d w. let p = c.numbers_law.ensures.each (map producer_of items) 0 c.args.task k d w in omega (arith, p.1, length-map items producer_of, length-map items consumer_of))
+    rw row (λ k d w. let p = c.numbers_law.ensures.each (map producer_of items) 0 c.args.task k d w in omega (arith, p.1, length-map items producer_of, consumers_length c.self.invariant))
 
 pub release-requires-clause-numbers : goal.release-requires-clause-numbers
 release-requires-clause-numbers c =
     let a = c.self.invariant in
-    let items = c.self.inside.system.value.items in
-    rw (a.fixed.consumers_are) (λ i t w is.
-    let is' : is_input t (get_or items i no_item) ≡ true = ap (λ (o : Option ℕ). is_named o t) (sym (get_or-map consumer_of items i no_item)) ∙ is in
-    let r = consumer_is_task c.self.inside.system.value a.setting.system items refl i no_item (omega (arith, w, length-map items consumer_of)) t is' in
-    (r.0, omega (arith, r.1, a.waiting_length, c.deref_mut.ensures.len, ap length c.deref_mut.ensures.value)))
+    λ i t w is. let r = consumer_within a i t w is in (r.0, omega (arith, r.1, a.waiting_length, ap length c.deref_mut.ensures.value))
 
 pub release-requires-clause-enough : goal.release-requires-clause-enough
 release-requires-clause-enough c =
