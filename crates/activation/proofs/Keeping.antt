@@ -62,6 +62,9 @@ module _ {c : Setting} {st : State} {x : CoreTables} (a : AreCoreTables c st x) 
       let at : get_or x.fixed.consumers i None ≡ (get_or c.system.items i no_item).to = ap (λ os. get_or os i None) a.fixed.consumers_are ∙ get_or-map consumer_of c.system.items i no_item in
       consumer_is_task c.system a.setting.system c.system.items refl i no_item (omega (arith, w, consumers_length)) t (ap (λ (o : Option ℕ). is_named o t) (sym at) ∙ is)
 
+  pub consumer_read : (i : ℕ) (o : Option ℕ) → i < length x.fixed.consumers → o ≡ get_or x.fixed.consumers i o → o ≡ get_or x.fixed.consumers i None
+  consumer_read i o w e = e ∙ get_or_default x.fixed.consumers i o None w
+
   -- an activated task is one of the system
   pub front_is_task : (task : ℕ) → stands_in (activated_tasks c st) task ≡ true → IsTask c.system task
   front_is_task task h = task_in_order c.system c.order (each a.setting) task (in_front c.system c.order (each a.setting) st.activated task h)

@@ -52,7 +52,7 @@ refreshed_more {n} {given} {ranks} {old} {f} {ready} places i r w new len marks 
     let mark : (t : ℕ) (b : Bool) → IsNumber t n → test t ≡ b → get_or new (task_entry ranks t) false ≡ cond b (f t) (get_or ready (task_entry ranks t) false) =
     λ t b in' e. marks t in' ∙ ap (λ (q : Bool). cond q (f t) (get_or ready (task_entry ranks t) false)) e in
     let more : (t : ℕ) (b : Bool) → test t ≡ b → consumed_by t given (take (i + 1) places) ≡ consumed_by t given (take i places) + cond b 1 0 =
-    λ t b e. consumed_more t items places i w ∙ ap (λ (q : Bool). consumed_by t given (take i places) + cond q 1 0) e in
+    λ t b e. consumed_more t given places i w ∙ ap (λ (q : Bool). consumed_by t given (take i places) + cond q 1 0) e in
     record {
       long = len ∙ r.long;
       consumers = λ t in' some.

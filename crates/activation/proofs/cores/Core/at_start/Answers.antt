@@ -50,5 +50,5 @@ invariant_of-result c =
       consumers_are = c.in_ok-consumers.ensures;
     })
     c.in_ok-waiting.waiting.items c.in_ok-waiting.ensures.len c.in_ok-waiting.ensures.counts c.start_memory-memory.result c.start_memory-memory.ensures in
-    rw (take_at places (drop (length places) c.in_ok-places.places.items) c.in_ok-places.places.len len, c.in_ok-running.ensures, count, phases, c.in_ok-order.ensures.items)
+    rw (take_at places (drop (length places) c.in_ok-places.places.items) c.in_ok-places.places.len len, c.in_ok-running.ensures, count, phases, c.in_ok-order.ensures.items, c.of.ensures)
     tables

@@ -52,7 +52,7 @@ release-requires-clause-places c =
 pub release-requires-clause-numbers : goal.release-requires-clause-numbers
 release-requires-clause-numbers c =
     let a = c.self.invariant in
-    λ i t w is. let r = consumer_within a i t w is in (r.0, omega (arith, r.1, a.waiting_length, ap length c.deref_mut.ensures.value))
+    rw c.deref.ensures.value (λ i t w is. let r = consumer_within a i t w is in (r.0, omega (arith, r.1, a.waiting_length, ap length c.deref_mut.ensures.value)))
 
 pub release-requires-clause-enough : goal.release-requires-clause-enough
 release-requires-clause-enough c =
@@ -62,7 +62,7 @@ release-requires-clause-enough c =
     let is = finish_is_task a c.args.task h in
     let row = c.row.ensures ∙ a.fixed.outputs_are.rows_are c.args.task is in
     let change = c.event_law.ensures.change _ a.setting _ a.safe Finish c.args.task h in
-    rw (c.deref_mut.ensures.value, row, a.fixed.consumers_are) (λ u in'. omega (arith, consumed_row items c.args.task u is.0, finish_enough a h c.index-frees.ensures change u in'))
+    rw (c.deref_mut.ensures.value, row, c.deref.ensures.value, a.fixed.consumers_are) (λ u in'. omega (arith, consumed_row items c.args.task u is.0, finish_enough a h c.index-frees.ensures change u in'))
 
 pub invariant_of-self : goal.invariant_of-self
 invariant_of-self c =
@@ -72,7 +72,7 @@ invariant_of-self c =
     let is = finish_is_task a c.args.task h in
     let now = c.release.new.waiting in
     let len : length now ≡ f.waiting.len = omega (arith, c.release.auto.waiting, c.deref_mut.ensures.len) in
-    let released = rw (c.row.ensures ∙ a.fixed.outputs_are.rows_are c.args.task is, c.deref_mut.ensures.value, a.fixed.consumers_are) at c.release.ensures in
+    let released = rw (c.row.ensures ∙ a.fixed.outputs_are.rows_are c.args.task is, c.deref_mut.ensures.value, c.deref.ensures.value, a.fixed.consumers_are) at c.release.ensures in
     let counts : (u : ℕ) → task_entry now u + count_by (is_edge c.args.task u) f.system.value.items ≡ task_entry f.waiting.items u = λ u. omega (arith, released u, consumed_row f.system.value.items c.args.task u is.0) in
     rw (take_at now (drop (length now) f.waiting.items) f.waiting.len len)
     (finished_tables a h c.index-frees.ensures (c.event_law.ensures.change _ a.setting _ a.safe Finish c.args.task h) (c.event_law.ensures.kept _ a.setting _ a.safe Finish c.args.task h) c.remove.new.self
