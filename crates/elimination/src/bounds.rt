@@ -7,7 +7,7 @@ ghost use Rattle.elimination.specs.Quotients.{Quotient, at};
 ghost use Rattle.elimination.specs.Tables.{tables, AllHaveLength};
 ghost use Rattle.elimination.specs.Turns.{HasMarks, IsSearch, IsChosen};
 
-use crate::hoods::NoMemory;
+use crate::NoMemory;
 use crate::search::Search;
 use crate::switch::Effort;
 use crate::twins::weigh;

@@ -7,12 +7,9 @@ ghost use Rattle.elimination.specs.Quotients.{Quotient, AreLinks, at, inner_at};
 ghost use Rattle.elimination.specs.Tables.{tables, AllHaveLength};
 ghost use Rattle.elimination.specs.Turns.{CanGather, HasMarks, IsReleased};
 
+use crate::NoMemory;
 use crate::links::last_of;
 use crate::search::Search;
-use std::alloc::AllocError;
-
-/// Want of memory: an allocation was refused.
-pub type NoMemory = AllocError;
 
 /// The neighbours of a vertex in the pattern that is left that stand for their groups, each once, and the parts that the vertex touches.
 #[derive(Drop)]

@@ -23,5 +23,8 @@ mod switch;
 mod tests;
 mod twins;
 
-pub use hoods::NoMemory;
 pub use order::by_least_degree;
+use std::alloc::AllocError;
+
+/// Want of memory: an allocation was refused.
+pub type NoMemory = AllocError;

@@ -9,8 +9,8 @@ ghost use Rattle.elimination.specs.Tables.{tables, AllHaveLength};
 ghost use Rattle.elimination.specs.Turns.{IsSearch, IsEliminated};
 ghost use Rattle.elimination.specs.Progress.{IsBegun, IsUnderWay, IsFinishing};
 
+use crate::NoMemory;
 use crate::bounds::lower;
-use crate::hoods::NoMemory;
 use crate::parts::absorb;
 use crate::search::Search;
 use crate::switch::Effort;

@@ -5,7 +5,8 @@ ghost use Rattle.matrix_market.specs.Pattern.{has};
 ghost use Rattle.elimination.specs.Quotients.{at, inner_at};
 ghost use Rattle.elimination.specs.Turns.{IsAbsorbed};
 
-use crate::hoods::{Hood, NoMemory};
+use crate::NoMemory;
+use crate::hoods::Hood;
 use std::alloc::Global;
 
 // So many empty lists.

@@ -7,7 +7,8 @@ ghost use Rattle.elimination.specs.Elimination.{IsVertex};
 ghost use Rattle.elimination.specs.Quotients.{at};
 ghost use Rattle.elimination.specs.Tables.{tables, AllHaveLength, IsUntouched};
 
-use crate::hoods::{Hood, NoMemory};
+use crate::NoMemory;
+use crate::hoods::Hood;
 use crate::parts::empty_lists;
 use matrix_market::Pattern;
 use min_tree::MinTree;

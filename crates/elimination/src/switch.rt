@@ -12,8 +12,8 @@ ghost use Rattle.elimination.specs.Twins.{is_near};
 ghost use Rattle.elimination.specs.Dense.{bit_in, IsFullRow, IsFilling, IsDense, IsLeastDegreeOrder};
 ghost use Rattle.elimination.specs.Switch.{most_of, stage_at, AreNumbered, AreNumbers, IsNumberIn, IsNumberInGroups, CanFill, IsRestAfter};
 
+use crate::NoMemory;
 use crate::dense::{DenseSearch, eliminate_dense, row_with, set_bit};
-use crate::hoods::NoMemory;
 use crate::search::Search;
 use matrix_market::Pattern;
 use std::alloc::Global;

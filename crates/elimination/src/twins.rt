@@ -10,7 +10,8 @@ ghost use Rattle.elimination.specs.Tables.{tables, AllHaveLength};
 ghost use Rattle.elimination.specs.Turns.{HasMarks, CanPair, StandForOthers, AreBack};
 ghost use Rattle.min_tree.specs.Least.{greatest};
 
-use crate::hoods::{NoMemory, unmark};
+use crate::NoMemory;
+use crate::hoods::unmark;
 use crate::links::last_of;
 use crate::search::Search;
 use matrix_market::Pattern;

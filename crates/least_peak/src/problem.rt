@@ -110,8 +110,8 @@ impl Problem {
         }
     }
 
-    /// A traversal of least peak, with claims that certify it; `check` accepts it. `NoMemory` says nothing of the problem. Near linear;
-    /// only the claims may take longer, by the segments that each parallel composition keeps. Liu 1987.
+    /// A traversal of least peak, with claims that certify it; `check` accepts it. `NoMemory` says nothing of the problem. Near linear
+    /// in the tasks. Liu 1987.
     pub fn plan(&self, alloc: Global) -> Result<PlanFile, NoMemory>
         // the order is a traversal, the peak is its own, and no traversal has a lower one
         ensures best { IfOk result (λ plan. IsBestTraversal (system_of self.now) plan.order plan.peak) }

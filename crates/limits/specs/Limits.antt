@@ -17,7 +17,7 @@ most_entries = 10000000
 abbrev pub most_mindeg : ℕ
 most_mindeg = 50000
 
--- tasks of a workflow, nodes of a tree, numbers of an order
+-- tasks of a workflow or of a task graph, nodes of a tree, numbers of an order
 abbrev pub most_tasks : ℕ
 most_tasks = 1000000
 
@@ -43,7 +43,7 @@ most_arcs = 2000001
 abbrev pub most_steps : ℕ
 most_steps = 10000000
 
--- workers of a run, or of a check
+-- workers of a run, of a check, or of a making of fronts
 abbrev pub most_workers : ℕ
 most_workers = 4096
 

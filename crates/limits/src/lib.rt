@@ -22,7 +22,7 @@ pub const MOST_ENTRIES: u64 = 10_000_000;
 /// Rows of a matrix that is ordered by minimum degree.
 pub const MOST_MINDEG: u64 = 50_000;
 
-/// Tasks of a workflow, nodes of a tree, or numbers of an order.
+/// Tasks of a workflow or of a task graph, nodes of a tree, or numbers of an order.
 pub const MOST_TASKS: u64 = 1_000_000;
 
 /// Positions of a term, claims of a plan, or data items of a system.
@@ -43,5 +43,5 @@ pub const MOST_ARCS: u64 = 2_000_001;
 /// Steps of all staircases of a term.
 pub const MOST_STEPS: u64 = 10_000_000;
 
-/// Workers of a run, or of a check.
+/// Workers of a run, of a check, or of a making of fronts.
 pub const MOST_WORKERS: u32 = 4_096;

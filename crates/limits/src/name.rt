@@ -18,7 +18,7 @@ pub enum LimitName {
     Entries,
     /// Rows of a matrix that is ordered by minimum degree.
     Mindeg,
-    /// Tasks of a workflow, nodes of a tree, or numbers of an order.
+    /// Tasks of a workflow or of a task graph, nodes of a tree, or numbers of an order.
     Tasks,
     /// Positions of a term, or claims of a plan.
     Positions,

@@ -4,8 +4,8 @@ use Rattle.std.specs.Prelude.{◌≡◌, ◌-◌, ◌^◌, [], ◌∷◌, Some, 
 use Rattle.mp_outside.specs.Outside.{one_more}
 use Rattle.mp_outside.specs.MemFiles.{FilesState, contents_of, fault_count_of, have_one_count}
 
-one_more-last : one_more (2 ^ 64 - 1) ≡ 2 ^ 64 - 1
-one_more-last = refl
+one_more_last : one_more (2 ^ 64 - 1) ≡ 2 ^ 64 - 1
+one_more_last = refl
 
 -- one file `a` of two bytes whose loads failed three times, and five failed loads of other names
 abbrev one_file : FilesState

@@ -1,3 +1,4 @@
+-- No public clause names this.
 -- The state of the reduction: arcs that carry terms.
 use Rattle.std.specs.Prelude.{◌≡◌, ℕ, ◌≤◌, cond, Bool, true, false, List, [], ◌∷◌, Option, Some, None}
 use Rattle.std.specs.List.{sum_by}

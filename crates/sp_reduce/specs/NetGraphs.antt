@@ -1,3 +1,4 @@
+-- No public clause names this.
 -- Graphs as lists of arcs, and the two reductions.
 use Rattle.std.specs.Prelude.{◌≡◌, ℕ, ◌≤◌, List, [], ◌∷◌, Option, Some, None}
 use Rattle.std.specs.List.{sum_by}

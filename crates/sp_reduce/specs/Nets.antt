@@ -1,3 +1,4 @@
+-- No public clause names this.
 -- Terms whose tasks have names, and the arcs of such a term.
 use Rattle.mp_system.specs.declared.system.Item.{Item}
 use Rattle.std.specs.Prelude.{ℕ, ◌+◌, ◌≤◌, ◌==◌, cond, min, List, [], ◌∷◌, ◌++◌, Option, Some, None}
