@@ -22,10 +22,10 @@ use side_laws::laws;
 use std::alloc::Global;
 use std::marker::Model;
 
-// A side of so few segments goes into another one by one, in place.
+// A side of at most so many segments goes into another one by one, in place.
 const FEW: u64 = 4;
 
-// A side of more that has at least an eighth as many segments as another goes into it in one pass over both.
+// A longer side, with at least an eighth as many segments as the other, goes into it in one pass over both.
 const ALIKE: u64 = 8;
 
 /// A segment: a run of tasks over a hill and down to a valley.
