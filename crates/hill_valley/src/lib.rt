@@ -12,6 +12,7 @@ mod numbers;
 mod ropes;
 mod row;
 mod side;
+mod slot;
 mod steps;
 #[cfg(test)]
 mod tests;

@@ -134,7 +134,7 @@ impl Ropes {
     }
 
     /// The tasks of the list, in order. The rope is of these ropes. Time is linear in the joins that the list was made of,
-    /// and no call is nested in another, however deep they lie.
+    /// where a join counts as often as it is used. No call is nested in another, however deep the joins lie.
     pub fn list(&self, alloc: Global, rope: Rope) -> Result<Vec<u32>, NoMemory>
         requires rope { IsRope self.now rope }
         ensures list { IfOk result (λ tasks. tasks.items ≡ list_of self.now rope) }

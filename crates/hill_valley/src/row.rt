@@ -9,7 +9,6 @@ ghost use Rattle.hill_valley.specs.Numbers.{segments_of, first_down_to};
 ghost use Rattle.hill_valley.specs.Staircase.{AreSteps};
 ghost use Rattle.hill_valley.specs.Descents.{first_up};
 ghost use Rattle.hill_valley.specs.Places.{IsPlace, IsGap, IsThere};
-ghost use Rattle.std.specs.List.{insert};
 
 use crate::NoMemory;
 use crate::numbers::Numbers;
@@ -44,14 +43,6 @@ impl Model for Row {
 }
 
 impl Row {
-    pub fn new(alloc: Global) -> Row
-        ensures empty { result ≡ [] }
-    {
-        Row {
-            segments: VecDeque::new(alloc),
-        }
-    }
-
     // With room for this many segments.
     pub fn with_room(alloc: Global, count: u64) -> Result<Row, NoMemory>
         ensures empty { IfOk result (λ row. row ≡ []) }
@@ -123,7 +114,7 @@ impl Row {
                 let whole = joined(ropes, own, seg, before)?;
                 self.segments[at] = whole;
             }
-            None => put_at(&mut self.segments, at, seg)?,
+            None => self.segments.insert(at, seg)?,
         }
         Ok(())
     }
@@ -257,19 +248,6 @@ fn own_at(row: &VecDeque<Seg>, at: usize, up: u64) -> Option<Seg>
 {
     let own = *row.get(at)?;
     if own.up == up { Some(own) } else { None }
-}
-
-// Most rows never have more than one segment, and take no more room than that.
-fn put_at(row: &mut VecDeque<Seg>, at: usize, seg: Seg) -> Result<(), NoMemory>
-    requires at { at ≤ length row.old.items }
-    ensures items { OnOk result (row.new.items ≡ insert row.old.items at seg) }
-    ensures err { OnErr result (row.new.items ≡ row.old.items) }
-{
-    if row.is_empty() {
-        row.reserve_exact(1)?;
-    }
-    row.insert(at, seg)?;
-    Ok(())
 }
 
 // Two segments of one `up` as one.

@@ -1,4 +1,4 @@
-//! Sides: rows of few segments, ordered maps of many.
+//! Sides: a slot for one segment, rows of few, ordered maps of many.
 
 ghost use Rattle.std.specs.Prelude.{◌≡◌, ℕ, ◌+◌, ◌-◌, ◌<◌, ◌≤◌, ◌^◌, max, if◌then◌else◌, nat_lt, [], ◌∷◌, ◌++◌, length, ◌↔◌, IfOk, IfSome, OnOk, OnErr, MatchOption};
 ghost use Rattle.limits.specs.Limits.{most_total};
@@ -15,13 +15,17 @@ use crate::NoMemory;
 use crate::numbers::Numbers;
 use crate::ropes::{Rope, Ropes};
 use crate::row::{Row, joined};
+use crate::slot::Slot;
 use crate::steps::Step;
 use crate::tree::Tree;
 use side_laws::laws;
 use std::alloc::Global;
 use std::marker::Model;
 
-// A side that has at least an eighth as many segments as another goes into it in one pass over both.
+// A side of at most so many segments goes into another one by one, in place.
+const FEW: u64 = 4;
+
+// A longer side, with at least an eighth as many segments as the other, goes into it in one pass over both.
 const ALIKE: u64 = 8;
 
 /// A segment: a run of tasks over a hill and down to a valley.
@@ -42,9 +46,10 @@ pub struct Side {
     segments: Segments,
 }
 
-// Both have the segments in rising order of `up`.
+// Each has the segments in rising order of `up`.
 #[derive(Drop)]
-enum Segments {
+pub(crate) enum Segments {
+    Slot(Slot),
     Row(Row),
     Tree(Tree),
 }
@@ -65,7 +70,7 @@ impl Side {
         ensures empty { result ≡ [] }
     {
         Side {
-            segments: Segments::Row(Row::new(alloc)),
+            segments: Segments::Slot(Slot::new()),
         }
     }
 
@@ -74,6 +79,7 @@ impl Side {
         ensures { IsSide (profile self.now) }
     {
         match &self.segments {
+            Segments::Slot(slot) => slot.keeps(),
             Segments::Row(row) => row.keeps(),
             Segments::Tree(tree) => tree.keeps(),
         }
@@ -84,6 +90,7 @@ impl Side {
         ensures len { result ≡ length self.now }
     {
         match &self.segments {
+            Segments::Slot(slot) => slot.len(),
             Segments::Row(row) => row.len(),
             Segments::Tree(tree) => tree.len(),
         }
@@ -103,6 +110,7 @@ impl Side {
     {
         self.keeps();
         match &mut self.segments {
+            Segments::Slot(slot) => slot.take_first(),
             Segments::Row(row) => row.take_first(),
             Segments::Tree(tree) => tree.take_first(),
         }
@@ -204,7 +212,7 @@ impl Side {
         ensures kept { Extends ropes.old ropes.new }
     {
         laws::inserting();
-        if other.len().saturating_mul(ALIKE) < self.len() {
+        if other.len() <= FEW || other.len().saturating_mul(ALIKE) < self.len() {
             self.take_in(other, ropes, before)
         } else {
             self.weave(other, ropes, before)
@@ -216,6 +224,7 @@ impl Side {
         ensures value { result ≡ last_up (profile self.now) }
     {
         match &self.segments {
+            Segments::Slot(slot) => slot.last_up(),
             Segments::Row(row) => row.last_up(),
             Segments::Tree(tree) => tree.last_up(),
         }
@@ -229,6 +238,7 @@ impl Side {
         ensures kept { Extends ropes.old ropes.new }
     {
         match &self.segments {
+            Segments::Slot(slot) => Ok(slot.tasks(ropes)),
             Segments::Row(row) => row.tasks(ropes),
             Segments::Tree(tree) => tree.tasks(ropes),
         }
@@ -243,6 +253,7 @@ impl Side {
     {
         let limit = limit_above(bound);
         match &self.segments {
+            Segments::Slot(slot) => slot.lowest(level, limit),
             Segments::Row(row) => row.lowest(level, limit),
             Segments::Tree(tree) => tree.lowest(level, limit),
         }
@@ -259,6 +270,7 @@ impl Side {
     {
         laws::one_side();
         match &self.segments {
+            Segments::Slot(slot) => slot.top(level),
             Segments::Row(row) => row.top(level),
             Segments::Tree(tree) => tree.top(level),
         }
@@ -278,6 +290,7 @@ impl Side {
             segments_of numbers.new.items ≡ segments_of numbers.old.items ++ first_down_to stop level (profile self.now)) }
     {
         match &self.segments {
+            Segments::Slot(slot) => slot.push_numbers(level, stop, numbers),
             Segments::Row(row) => row.push_numbers(level, stop, numbers),
             Segments::Tree(tree) => tree.push_numbers(level, stop, numbers),
         }
@@ -290,6 +303,7 @@ impl Side {
         ensures steps { IfOk result (λ steps. AreSteps level (profile self.now) steps.items) }
     {
         match &self.segments {
+            Segments::Slot(slot) => slot.steps(alloc, level),
             Segments::Row(row) => row.steps(alloc, level),
             Segments::Tree(tree) => tree.steps(alloc, level),
         }
@@ -302,6 +316,7 @@ impl Side {
     {
         self.keeps();
         match &self.segments {
+            Segments::Slot(slot) => slot.first_up(),
             Segments::Row(row) => row.first_up(),
             Segments::Tree(tree) => tree.first_up(),
         }
@@ -320,6 +335,10 @@ impl Side {
         ensures kept { Extends ropes.old ropes.new }
     {
         match &mut self.segments {
+            Segments::Slot(slot) => {
+                self.segments = slot.with(ropes, seg, before)?;
+                Ok(())
+            }
             Segments::Row(row) => row.insert(ropes, seg, before),
             Segments::Tree(tree) => tree.insert(ropes, seg, before),
         }

@@ -31,8 +31,8 @@ invariant_of-self c =
 
 pub invariant_of-self-in-Continue-branch-2 : goal.invariant_of-self-in-Continue-branch-2
 invariant_of-self-in-Continue-branch-2 c =
-    let runs = gap_runs c.args.ropes.now c.args.before c.args.seg c.place_of-at.result c.self.inside.segments.items c.args.self.now c.put_at.new.row.items c.self.view_is c.in-None.ensures.own
-    c.in_ok-put_at-in-None.ensures.items in
+    let runs = gap_runs c.args.ropes.now c.args.before c.args.seg c.place_of-at.result c.self.inside.segments.items c.args.self.now c.insert.new.self.items c.self.view_is c.in-None.ensures.own
+    c.in_ok-insert-in-None.ensures.items in
     side_after _ _ _ (profile_put c.args.ropes.now c.args.ropes.now c.args.before c.args.seg c.args.self.now _ runs) (rw c.self.view_is at c.self.invariant) c.inserting.ensures.net c.inserting.ensures.rising c.requires.up c.requires.net
 
 pub returns-in_ok-whole-in-Some-clause-segments : goal.returns-in_ok-whole-in-Some-clause-segments
@@ -45,7 +45,7 @@ returns-in_ok-whole-in-Some-clause-ropes c =
     ropes_there c.joined.new.ropes c.in_ok-whole-in-Some.whole c.place_of-at.result c.self.inside.segments.items
     (ropes_kept _ _ _ (rw c.self.view_is c.requires.ropes) c.joined.ensures.kept) c.in_ok-whole-in-Some.ensures.rope
 
-pub returns-in_ok-put_at-in-None-clause-segments : goal.returns-in_ok-put_at-in-None-clause-segments
-returns-in_ok-put_at-in-None-clause-segments c =
-    gap_runs c.args.ropes.now c.args.before c.args.seg c.place_of-at.result c.self.inside.segments.items c.args.self.now c.put_at.new.row.items c.self.view_is c.in-None.ensures.own
-    c.in_ok-put_at-in-None.ensures.items
+pub returns-in_ok-insert-in-None-clause-segments : goal.returns-in_ok-insert-in-None-clause-segments
+returns-in_ok-insert-in-None-clause-segments c =
+    gap_runs c.args.ropes.now c.args.before c.args.seg c.place_of-at.result c.self.inside.segments.items c.args.self.now c.insert.new.self.items c.self.view_is c.in-None.ensures.own
+    c.in_ok-insert-in-None.ensures.items

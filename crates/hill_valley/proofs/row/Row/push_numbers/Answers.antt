@@ -1,6 +1,5 @@
-use Rattle.std.proofs.Common.{arith}
 use Rattle.hill_valley.proofs.Walk.{row_next}
-use Rattle.hill_valley.proofs.Numbering.{numbering_fits, numbering_on}
+use Rattle.hill_valley.proofs.Numbering.{numbering_on}
 use Rattle.hill_valley.proofs.row.Row.push_numbers.Goals as goal
 
 pub loop-seg-preserved : goal.loop-seg-preserved
