@@ -1,5 +1,5 @@
 -- The dues of a clock, and which of them is the first.
-use Rattle.std.proofs.Common.{◌≡◌, ◌≢◌, ℕ, Bool, zero, suc, ◌+◌, ◌<◌, ◌≤◌, inl, inr, true, false, cond, eqb, All, List, [], ◌∷◌, length, map, get_or, IsPermutation, refl, sym, ap, subst, ◌∙◌, arith}
+use Rattle.std.proofs.Common.{◌≡◌, ◌≢◌, ℕ, Bool, zero, suc, ◌<◌, ◌≤◌, inl, inr, false, cond, List, [], ◌∷◌, length, map, get_or, IsPermutation, refl, sym, ap, ◌∙◌, arith}
 use Rattle.std.specs.List.{Contains, sum_by}
 use Rattle.std.specs.Prelude.{Result, Ok, Err, OnOk}
 use Rattle.std.specs.Result.{IsOk}

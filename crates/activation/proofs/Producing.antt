@@ -7,7 +7,7 @@ use Rattle.std.proofs.lemmas.Bool.{cases_Bool, ne_eqb}
 use Rattle.std.proofs.Math.ListN.{get_or-map}
 use Rattle.row_table.specs.Rows.{numbers_with}
 use Rattle.mp_system.specs.declared.system.Item.{Item}
-use Rattle.mp_system.specs.System.{is_named, is_input, is_output}
+use Rattle.mp_system.specs.System.{is_named, is_output}
 use Rattle.activation.specs.Tables.{no_item, is_edge, consumed_by, producer_of, consumer_of}
 
 module _ (t u : ℕ) (low : 1 ≤ t) where

@@ -1,4 +1,4 @@
-use Rattle.std.proofs.Common.{length, arith, sym, ap, ◌∙◌}
+use Rattle.std.proofs.Common.{arith, sym, ◌∙◌}
 use Rattle.std.proofs.lemmas.Bool.{true≢false}
 use Rattle.activation.proofs.Keeping.{start_is_task, start_room}
 use Rattle.activation.proofs.cores.Core.may_start.Goals as goal

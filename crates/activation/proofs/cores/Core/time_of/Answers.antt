@@ -1,4 +1,4 @@
-use Rattle.std.proofs.Common.{ap, arith, ◌∙◌}
+use Rattle.std.proofs.Common.{arith}
 use Rattle.mp_system.specs.System.{IsTask}
 use Rattle.activation.proofs.Keeping.{times_length, time_read, time_long}
 use Rattle.activation.proofs.cores.Core.time_of.Goals as goal
