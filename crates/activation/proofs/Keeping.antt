@@ -5,7 +5,7 @@ use Rattle.std.proofs.lemmas.List.{get_or_read, get_or_default, length-map, leng
 use Rattle.std.proofs.lemmas.List.Elements.{All-get_or}
 use Rattle.std.proofs.Math.ListN.{get_or-map}
 use Rattle.limits.specs.Limits.{most_time}
-use Rattle.std.proofs.lemmas.Bool.{cases_eq, eq-eqb, eqb-true, ne_eqb, ltb-true, lt-ltb, and_parts, and_from}
+use Rattle.std.proofs.lemmas.Bool.{cases_eq, eq-eqb, eqb-true, ne_eqb, ltb-true, lt-ltb, and_from}
 use Rattle.std.proofs.lemmas.List.Folds.{list_any-append}
 use Rattle.std.proofs.Math.Bool.{or-true, or-false, and-true, and-false}
 use Rattle.mp_system.specs.System.{IsTask, IsTaskWithin, task_at, is_named, need_of, inputs_of, outputs_of}
@@ -22,7 +22,7 @@ use Rattle.activation.specs.Tables.{CoreTables, AreCoreTables, awaited, is_edge,
 use Rattle.activation.proofs.Totals.{place_in, in_at}
 use Rattle.activation.proofs.Numbers.{number_read}
 use Rattle.activation.proofs.Sizes.{consumer_is_task}
-use Rattle.activation.proofs.Phases.{idle_from, phase_read, phase_written, with_phase_same, with_phase_other}
+use Rattle.activation.proofs.Phases.{phase_read, phase_written, with_phase_same, with_phase_other}
 use Rattle.activation.proofs.Orders.{each, task_in_order, task_has_place, in_front}
 use Rattle.activation.proofs.Changes.{same_done, finish_adds, finishes_front}
 use Rattle.activation.proofs.Awaiting.{awaited_same, awaited_later, ready_from, awaits_none}
@@ -156,18 +156,7 @@ module _ {c : Setting} {st : State} {x : CoreTables} (a : AreCoreTables c st x) 
         let left : n ≡ awaited c.system (is_done st) task = number_read x.waiting task n is.0 (omega (arith, is.1, a.waiting_length)) e ∙ a.waiting_are task is in
         both_ways _ _ (λ h. eq-eqb n 0 (omega (arith, left, awaits_none c.system (is_done st) task h))) (λ h. ready_from c.system (is_done st) task (omega (arith, left, eqb-true n 0 h)))
 
-  -- what may start
-  pub yes_start : (task : ℕ) → is_startable c st task ≡ true → length x.running.listed < x.running.room → MayStart c st task
-  yes_start task h room =
-      let p = and_parts _ _ h in
-      let q = and_parts _ _ p.1 in
-      record {
-        activated = p.0;
-        idle = idle_from (phase_in st.phases task) q.0;
-        ready = q.1;
-        free = omega (arith, a.running_length, a.running_room);
-      }
-
+  -- where a task may start, a worker is free
   pub start_room : (task : ℕ) → MayStart c st task → length x.running.listed < x.running.room
   start_room task h = omega (arith, a.running_length, a.running_room, h.free)
 

@@ -1,5 +1,5 @@
 -- The set of the startable tasks, when the marks of some are written anew.
-use Rattle.std.proofs.Common.{◌≡◌, ◌≢◌, ℕ, ◌+◌, ◌-◌, ◌<◌, Bool, true, false, cond, List, length, take, get_or, set, get_or-set_same, get_or-set_other, refl, sym, ◌∙◌, ap, arith, ⊎_elim, Option, Some, None}
+use Rattle.std.proofs.Common.{◌≡◌, ◌≢◌, ℕ, ◌+◌, ◌-◌, ◌<◌, Bool, true, false, cond, List, length, take, get_or, set, get_or-set_same, get_or-set_other, sym, ◌∙◌, ap, arith, ⊎_elim, Option, Some, None}
 use Rattle.std.proofs.lemmas.Bool.{cases_eq, cases_Bool, eq-eqb, ne_eqb}
 use Rattle.mp_system.specs.System.{is_named}
 use Rattle.activation.specs.Running.{IsNumber}
@@ -35,13 +35,6 @@ pub record AreRefreshed (n : ℕ) (given : List (Option ℕ)) (places ranks : Li
   pub long : length ready ≡ length old
   pub consumers : (t : ℕ) → IsNumber t n → 0 < consumed_by t given places → get_or ready (task_entry ranks t) false ≡ f t
   pub others : (t : ℕ) → IsNumber t n → consumed_by t given places ≡ 0 → get_or ready (task_entry ranks t) false ≡ get_or old (task_entry ranks t) false
-
-pub refreshed_none : (n : ℕ) (given : List (Option ℕ)) (places ranks : List ℕ) (old : List Bool) (f : ℕ → Bool) → AreRefreshed n given (take 0 places) ranks old f old
-refreshed_none n given places ranks old f = record {
-  long = refl;
-  consumers = λ t in' some. absurd (omega (arith, some));
-  others = λ t in' none. refl;
-}
 
 pub refreshed_more : {n : ℕ} {given : List (Option ℕ)} {ranks : List ℕ} {old : List Bool} {f : ℕ → Bool} {ready : List Bool} (places : List ℕ) (i : ℕ) → AreRefreshed n given (take i places) ranks old f ready → i < length places →
     (new : List Bool) → length new ≡ length ready →
