@@ -1,5 +1,5 @@
 -- What the trees of a run tell.
-use Rattle.std.proofs.Common.{◌≡◌, ◌≢◌, ℕ, ◌*◌, ◌<◌, ◌≤◌, Bool, true, false, cond, List, [], length, get_or, refl, sym, subst, ◌∙◌, ap, arith, ⊎_elim, inl}
+use Rattle.std.proofs.Common.{◌≡◌, ℕ, ◌<◌, ◌≤◌, Bool, true, false, List, [], length, get_or, refl, sym, subst, ◌∙◌, ap, arith, ⊎_elim, inl}
 use Rattle.std.specs.Prelude.{slice_index, Option, None, Some, IfSome}
 use Rattle.std.proofs.lemmas.List.{get_or-replicate, length-replicate}
 use Rattle.std.proofs.lemmas.Bool.{cases_lt, cases_Bool, true≢false}
@@ -16,7 +16,7 @@ use Rattle.activation.specs.Safe.{IsSafe}
 use Rattle.activation.specs.Bits.{IsFirstRank}
 use Rattle.activation.specs.Schedule.{task_entry, HoldsEach, Moment, FinishesNext, ComesNext}
 use Rattle.activation.specs.Tables.{AreTaskPlaces, is_startable}
-use Rattle.activation.specs.Run.{event_count, AreRanks, RunTables, IsNextDue, IsFirstStartable, IsRun, IsRoom}
+use Rattle.activation.specs.Run.{AreRanks, RunTables, IsNextDue, IsFirstStartable, IsRun, IsRoom}
 use Rattle.activation.proofs.Totals.{place_in}
 use Rattle.activation.proofs.Orders.{each, in_front, task_has_place}
 use Rattle.activation.proofs.Premises.{Long}

@@ -1,9 +1,8 @@
 -- How many events a run has, and how often each comes.
-use Rattle.std.proofs.Common.{◌≡◌, ◌≢◌, ℕ, ◌+◌, ◌*◌, ◌≤◌, Bool, true, false, cond, ◌&&◌, List, [], ◌∷◌, length, get_or, refl, sym, ◌∙◌, ap, arith, ⊎_elim}
+use Rattle.std.proofs.Common.{◌≡◌, ℕ, ◌+◌, ◌*◌, ◌≤◌, Bool, true, false, cond, ◌&&◌, List, [], ◌∷◌, length, get_or, refl, sym, ◌∙◌, ap, arith, ⊎_elim}
 use Rattle.std.specs.Prelude.{sum_by, count_by, ◌==◌}
 use Rattle.std.proofs.lemmas.List.Sums.{sum_by-cons, sum_by_more, sum_by-le}
 use Rattle.std.proofs.lemmas.Bool.{cases_eq, eq-eqb, ne_eqb}
-use Rattle.std.proofs.Math.Bool.{and-false}
 use Rattle.activation.specs.declared.events.Phase.{Phase}
 use Rattle.activation.specs.declared.events.Phase.TheVariants.{Idle, Running, Done}
 use Rattle.activation.specs.declared.events.EventKind.{EventKind}
@@ -91,10 +90,6 @@ seen_le c set st Finish t = ended_le (phase_in st.phases t)
 -- what one event adds
 adds : EventKind → ℕ → EventKind → ℕ → ℕ
 adds kind t k u = cond (is_kind kind k && (u == t)) 1 0
-
-adds_no : (kind : EventKind) (t : ℕ) (k : EventKind) (u : ℕ) → u ≢ t → adds kind t k u ≡ 0
-unfolding adds
-adds_no kind t k u n = rw (ne_eqb u t n, and-false (is_kind kind k))
 
 -- a number of a task's phase, when one task's phase changes
 times_step : (n : Phase → ℕ) (d : ℕ) (ps : List Phase) (u t : ℕ) (p q : Phase) → phase_in ps u ≡ p → phase_in (with_phase ps u q) u ≡ q → n q ≡ n p + d → n (phase_in (with_phase ps u q) t) ≡ n (phase_in ps t) + cond (u == t) d 0

@@ -1,5 +1,5 @@
 -- The dues of a clock, and which of them is the first.
-use Rattle.std.proofs.Common.{◌≡◌, ◌≢◌, ℕ, Bool, zero, suc, ◌+◌, ◌<◌, ◌≤◌, inl, inr, true, false, cond, eqb, All, List, [], ◌∷◌, length, map, get_or, IsPermutation, refl, sym, ap, subst, ◌∙◌, arith}
+use Rattle.std.proofs.Common.{◌≡◌, ◌≢◌, ℕ, Bool, zero, suc, ◌<◌, ◌≤◌, inl, inr, false, cond, List, [], ◌∷◌, length, get_or, IsPermutation, refl, sym, ap, ◌∙◌, arith}
 use Rattle.std.specs.List.{Contains, sum_by}
 use Rattle.std.specs.Prelude.{Result, Ok, Err, OnOk}
 use Rattle.std.specs.Result.{IsOk}
@@ -10,7 +10,6 @@ use Rattle.std.specs.declared.cmp.Ordering.TheVariants.{Less, Equal}
 use Rattle.std.specs.declared.cmp.Reverse.{Reverse}
 use Rattle.std.specs.BinaryHeap.{IsUpperBound}
 use Rattle.std.proofs.lemmas.Bool.{cases_lt, cases_eq, true≢false, eq-eqb, ne_eqb}
-use Rattle.std.proofs.lemmas.List.{get_or-map, length-map}
 use Rattle.std.proofs.lemmas.List.Elements.{All-from_recursion, All-map}
 use Rattle.std.proofs.lemmas.List.Sums.{sum_by-cons}
 use Rattle.std.proofs.lemmas.List.Sorted.{IsPermutation-sym, Contains-permutation}
@@ -42,12 +41,6 @@ first_due item items bound =
           (λ k d w. (not_less (get_or items k d).0.time item.0.time (get_or items k d).0.place item.0.place (all k d w)).1);
     }
 
--- the first element is one of them
-pub first_among : (item : Reverse Due) (items : List (Reverse Due)) → 0 < length items → item ≡ get_or items 0 item → Contains (dues_in items) item.0
-first_among item items some is =
-    let first : Reverse Due → Due = λ item. item.0 in
-    (0, (let long : length (map first items) ≡ length items = simp length-map in omega arith), get_or-map first items 0 item item.0 some ∙ sym (ap first is))
-
 -- a due that is taken out of some was one of them
 pub taken_among : (old new : List Due) (d : Due) → IsPermutation old (d ∷ new) → Contains old d
 taken_among old new d moved = Contains-permutation (d ∷ new) old d (IsPermutation-sym old (d ∷ new) moved) (0, omega arith, refl)
@@ -71,9 +64,6 @@ pub place_at : (k : ℕ) (dues : List Due) (i : ℕ) (d : Due) → i < length du
 place_at k [] i d lt e = absurd (omega arith)
 place_at k (x ∷ xs) zero d lt e = let s = sum_by-cons (has_place k) x xs in let one : has_place k x ≡ 1 = ap (λ b. cond b 1 0) (eq-eqb x.place k e) in omega arith
 place_at k (x ∷ xs) (suc i) d lt e = let s = sum_by-cons (has_place k) x xs in let h = place_at k xs i d (omega arith) e in omega arith
-
-pub place_among : (k : ℕ) (dues : List Due) (d : Due) → Contains dues d → d.place ≡ k → 0 < sum_by (has_place k) dues
-place_among k dues d c e = place_at k dues c.0 d c.1 (ap (λ (x : Due). x.place) c.2 ∙ e)
 
 pub found : (k : ℕ) (dues : List Due) (d : Due) → 0 < sum_by (has_place k) dues → (i : ℕ) × (i < length dues) × ((get_or dues i d).place ≡ k)
 found k [] d some = absurd (omega arith)

@@ -1,11 +1,14 @@
 -- The tables of a machine before and after each event.
-use Rattle.std.proofs.Common.{◌≡◌, ℕ, ◌+◌, ◌-◌, ◌<◌, ◌≤◌, true, false, not, ◌&&◌, List, [], ◌∷◌, ◌++◌, length, get_or, set, sym, ◌∙◌, ap, arith, ⊎_elim, length-append}
+use Rattle.std.proofs.Common.{◌≡◌, ℕ, ◌+◌, ◌-◌, ◌<◌, ◌≤◌, true, false, not, ◌&&◌, List, [], ◌∷◌, ◌++◌, length, get_or, set, refl, sym, ◌∙◌, ap, arith, ⊎_elim, length-append, Option, None}
 use Rattle.std.specs.Prelude.{count_by, ◌==◌, ◌||◌, nat_lt, slice_index}
-use Rattle.std.proofs.lemmas.List.{get_or_read, length-take, get_or-take}
-use Rattle.std.proofs.lemmas.Bool.{cases_eq, eq-eqb, eqb-true, ne_eqb, ltb-true, lt-ltb, and_parts, and_from}
+use Rattle.std.proofs.lemmas.List.{get_or_read, get_or_default, length-map, length-take, get_or-take}
+use Rattle.std.proofs.lemmas.List.Elements.{All-get_or}
+use Rattle.std.proofs.Math.ListN.{get_or-map}
+use Rattle.limits.specs.Limits.{most_time}
+use Rattle.std.proofs.lemmas.Bool.{cases_eq, eq-eqb, eqb-true, ne_eqb, ltb-true, lt-ltb, and_from}
 use Rattle.std.proofs.lemmas.List.Folds.{list_any-append}
 use Rattle.std.proofs.Math.Bool.{or-true, or-false, and-true, and-false}
-use Rattle.mp_system.specs.System.{IsTask, need_of, inputs_of, outputs_of}
+use Rattle.mp_system.specs.System.{IsTask, IsTaskWithin, task_at, is_named, need_of, inputs_of, outputs_of}
 use Rattle.mp_system.specs.Memory.{stands_in, is_ready}
 use Rattle.activation.specs.declared.events.Phase.{Phase}
 use Rattle.activation.specs.declared.events.Phase.TheVariants.{Running, Done}
@@ -15,10 +18,11 @@ use Rattle.activation.specs.Machine.{Setting, State, phase_in, is_idle_phase, is
 use Rattle.activation.specs.Safe.{IsSafe}
 use Rattle.activation.specs.Schedule.{task_entry}
 use Rattle.activation.specs.Changes.{BooksNeed, UsesNeed, FreesNeed}
-use Rattle.activation.specs.Tables.{CoreTables, AreCoreTables, awaited, is_edge, is_startable}
+use Rattle.activation.specs.Tables.{CoreTables, AreCoreTables, awaited, is_edge, is_startable, time_of, consumer_of, no_item}
 use Rattle.activation.proofs.Totals.{place_in, in_at}
 use Rattle.activation.proofs.Numbers.{number_read}
-use Rattle.activation.proofs.Phases.{idle_from, phase_read, phase_written, with_phase_same, with_phase_other}
+use Rattle.activation.proofs.Sizes.{consumer_is_task}
+use Rattle.activation.proofs.Phases.{phase_read, phase_written, with_phase_same, with_phase_other}
 use Rattle.activation.proofs.Orders.{each, task_in_order, task_has_place, in_front}
 use Rattle.activation.proofs.Changes.{same_done, finish_adds, finishes_front}
 use Rattle.activation.proofs.Awaiting.{awaited_same, awaited_later, ready_from, awaits_none}
@@ -36,6 +40,30 @@ module _ {c : Setting} {st : State} {x : CoreTables} (a : AreCoreTables c st x) 
   -- what is read of the needs
   pub need_read : (task n : ℕ) → IsTask c.system task → n ≡ get_or x.fixed.needs (task - 1) n → n ≡ need_of c.system task
   need_read task n is e = number_read x.fixed.needs task n is.0 (omega (arith, is.1, a.fixed.needs_length)) e ∙ a.fixed.needs_are task is
+
+  -- what is read of the times
+  pub times_length : length x.fixed.times ≡ length c.system.tasks
+  times_length = ap length a.fixed.times_are ∙ length-map c.system.tasks time_of
+
+  pub time_read : (task n : ℕ) → IsTask c.system task → n ≡ get_or x.fixed.times (task - 1) n → n ≡ (task_at c.system task).time
+  time_read task n is e =
+      let w : task - 1 < length x.fixed.times = omega (arith, is.0, is.1, times_length) in
+      e ∙ get_or_default x.fixed.times (task - 1) n 0 w ∙ ap (λ ns. get_or ns (task - 1) 0) a.fixed.times_are ∙ get_or-map time_of c.system.tasks (task - 1) (record { extra = 0; share = 0; time = 0 })
+
+  pub time_long : (task : ℕ) → IsTask c.system task → (task_at c.system task).time ≤ most_time
+  time_long task is = (All-get_or IsTaskWithin c.system.tasks (task - 1) (record { extra = 0; share = 0; time = 0 }) (omega (arith, is.0, is.1)) a.setting.system.tasks).time.1
+
+  -- the consumers of the items are tasks
+  pub consumers_length : length x.fixed.consumers ≡ length c.system.items
+  consumers_length = ap length a.fixed.consumers_are ∙ length-map c.system.items consumer_of
+
+  pub consumer_within : (i t : ℕ) → i < length x.fixed.consumers → is_named (get_or x.fixed.consumers i None) t ≡ true → IsTask c.system t
+  consumer_within i t w is =
+      let at : get_or x.fixed.consumers i None ≡ (get_or c.system.items i no_item).to = ap (λ os. get_or os i None) a.fixed.consumers_are ∙ get_or-map consumer_of c.system.items i no_item in
+      consumer_is_task c.system a.setting.system c.system.items refl i no_item (omega (arith, w, consumers_length)) t (ap (λ (o : Option ℕ). is_named o t) (sym at) ∙ is)
+
+  pub consumer_read : (i : ℕ) (o : Option ℕ) → i < length x.fixed.consumers → o ≡ get_or x.fixed.consumers i o → o ≡ get_or x.fixed.consumers i None
+  consumer_read i o w e = e ∙ get_or_default x.fixed.consumers i o None w
 
   -- an activated task is one of the system
   pub front_is_task : (task : ℕ) → stands_in (activated_tasks c st) task ≡ true → IsTask c.system task
@@ -128,18 +156,7 @@ module _ {c : Setting} {st : State} {x : CoreTables} (a : AreCoreTables c st x) 
         let left : n ≡ awaited c.system (is_done st) task = number_read x.waiting task n is.0 (omega (arith, is.1, a.waiting_length)) e ∙ a.waiting_are task is in
         both_ways _ _ (λ h. eq-eqb n 0 (omega (arith, left, awaits_none c.system (is_done st) task h))) (λ h. ready_from c.system (is_done st) task (omega (arith, left, eqb-true n 0 h)))
 
-  -- what may start
-  pub yes_start : (task : ℕ) → is_startable c st task ≡ true → length x.running.listed < x.running.room → MayStart c st task
-  yes_start task h room =
-      let p = and_parts _ _ h in
-      let q = and_parts _ _ p.1 in
-      record {
-        activated = p.0;
-        idle = idle_from (phase_in st.phases task) q.0;
-        ready = q.1;
-        free = omega (arith, a.running_length, a.running_room);
-      }
-
+  -- where a task may start, a worker is free
   pub start_room : (task : ℕ) → MayStart c st task → length x.running.listed < x.running.room
   start_room task h = omega (arith, a.running_length, a.running_room, h.free)
 

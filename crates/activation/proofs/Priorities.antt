@@ -1,7 +1,7 @@
 -- Which tasks a list holds, marked one after the other.
 use Rattle.std.proofs.Common.{◌≡◌, ℕ, ◌+◌, ◌-◌, ◌<◌, Bool, true, false, cond, List, length, take, get_or, set, get_or-set_same, get_or-set_other, refl, sym, subst, add-zero, ◌∙◌, ap, arith, ⊎_elim}
-use Rattle.std.specs.Prelude.{count_by, ◌==◌, replicate}
-use Rattle.std.proofs.lemmas.List.{length-set, length-replicate, get_or-replicate, take_all}
+use Rattle.std.specs.Prelude.{count_by, ◌==◌}
+use Rattle.std.proofs.lemmas.List.{length-set, take_all}
 use Rattle.std.proofs.lemmas.List.Elements.{All-get_or, All-from_get_or}
 use Rattle.std.proofs.lemmas.List.Sums.{sum_by_more, sum_by-take-le}
 use Rattle.std.proofs.lemmas.Bool.{cases_eq, cases_Bool, eq-eqb, ne_eqb}
@@ -13,15 +13,6 @@ pub record AreMarked (s : TaskSystem) (tasks : List ℕ) (i : ℕ) (found : List
   pub long : length found ≡ length s.tasks
   pub within : (k : ℕ) → k < i → IsTask s (get_or tasks k 0)
   pub counts : (t : ℕ) → IsTask s t → count_by (λ u. u == t) (take i tasks) ≡ cond (get_or found (t - 1) false) 1 0
-
-pub none_marked : (s : TaskSystem) (tasks : List ℕ) (found : List Bool) → found ≡ replicate (length s.tasks) false → AreMarked s tasks 0 found
-none_marked s tasks found e = record {
-  long = ap length e ∙ length-replicate (length s.tasks) false;
-  within = λ k w. absurd (omega arith);
-  counts = λ t is.
-      let here : get_or found (t - 1) false ≡ false = ap (λ xs. get_or xs (t - 1) false) e ∙ get_or-replicate (length s.tasks) (t - 1) false false (omega (arith, is.0, is.1)) in
-      rw here;
-}
 
 module _ {s : TaskSystem} {tasks : List ℕ} {i : ℕ} {found : List Bool} (m : AreMarked s tasks i found) (w : i < length tasks) where
   counted : (t : ℕ) → count_by (λ u. u == t) (take (i + 1) tasks) ≡ count_by (λ u. u == t) (take i tasks) + cond (get_or tasks i 0 == t) 1 0

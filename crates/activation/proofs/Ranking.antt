@@ -1,12 +1,11 @@
 -- The set of the startable tasks, when the marks of some are written anew.
-use Rattle.std.proofs.Common.{◌≡◌, ◌≢◌, ℕ, ◌+◌, ◌-◌, ◌<◌, Bool, true, false, cond, List, length, take, get_or, set, get_or-set_same, get_or-set_other, refl, sym, ◌∙◌, ap, arith, ⊎_elim, Option, Some}
+use Rattle.std.proofs.Common.{◌≡◌, ◌≢◌, ℕ, ◌+◌, ◌-◌, ◌<◌, Bool, true, false, cond, List, length, take, get_or, set, get_or-set_same, get_or-set_other, sym, ◌∙◌, ap, arith, ⊎_elim, Option, Some, None}
 use Rattle.std.proofs.lemmas.Bool.{cases_eq, cases_Bool, eq-eqb, ne_eqb}
-use Rattle.mp_system.specs.declared.system.Item.{Item}
-use Rattle.mp_system.specs.System.{is_named, is_input}
+use Rattle.mp_system.specs.System.{is_named}
 use Rattle.activation.specs.Running.{IsNumber}
 use Rattle.activation.specs.Schedule.{task_entry}
 use Rattle.activation.specs.Run.{AreRanks}
-use Rattle.activation.specs.Tables.{consumed_by, no_item}
+use Rattle.activation.specs.Tables.{consumed_by}
 use Rattle.activation.proofs.Numbers.{number_at}
 use Rattle.activation.proofs.Producing.{consumed_more}
 
@@ -32,28 +31,21 @@ module _ {n : ℕ} {ranks : List ℕ} (r : AreRanks n ranks) {task : Option ℕ}
       (cases_eq named t)
 
 -- the marks of those are written anew that consume one of these items, told by their places
-pub record AreRefreshed (n : ℕ) (items : List Item) (places ranks : List ℕ) (old : List Bool) (f : ℕ → Bool) (ready : List Bool) : Type 0 where
+pub record AreRefreshed (n : ℕ) (given : List (Option ℕ)) (places ranks : List ℕ) (old : List Bool) (f : ℕ → Bool) (ready : List Bool) : Type 0 where
   pub long : length ready ≡ length old
-  pub consumers : (t : ℕ) → IsNumber t n → 0 < consumed_by t items places → get_or ready (task_entry ranks t) false ≡ f t
-  pub others : (t : ℕ) → IsNumber t n → consumed_by t items places ≡ 0 → get_or ready (task_entry ranks t) false ≡ get_or old (task_entry ranks t) false
+  pub consumers : (t : ℕ) → IsNumber t n → 0 < consumed_by t given places → get_or ready (task_entry ranks t) false ≡ f t
+  pub others : (t : ℕ) → IsNumber t n → consumed_by t given places ≡ 0 → get_or ready (task_entry ranks t) false ≡ get_or old (task_entry ranks t) false
 
-pub refreshed_none : (n : ℕ) (items : List Item) (places ranks : List ℕ) (old : List Bool) (f : ℕ → Bool) → AreRefreshed n items (take 0 places) ranks old f old
-refreshed_none n items places ranks old f = record {
-  long = refl;
-  consumers = λ t in' some. absurd (omega (arith, some));
-  others = λ t in' none. refl;
-}
-
-pub refreshed_more : {n : ℕ} {items : List Item} {ranks : List ℕ} {old : List Bool} {f : ℕ → Bool} {ready : List Bool} (places : List ℕ) (i : ℕ) → AreRefreshed n items (take i places) ranks old f ready → i < length places →
+pub refreshed_more : {n : ℕ} {given : List (Option ℕ)} {ranks : List ℕ} {old : List Bool} {f : ℕ → Bool} {ready : List Bool} (places : List ℕ) (i : ℕ) → AreRefreshed n given (take i places) ranks old f ready → i < length places →
     (new : List Bool) → length new ≡ length ready →
-    ((t : ℕ) → IsNumber t n → get_or new (task_entry ranks t) false ≡ cond (is_input t (get_or items (get_or places i 0) no_item)) (f t) (get_or ready (task_entry ranks t) false)) →
-    AreRefreshed n items (take (i + 1) places) ranks old f new
-refreshed_more {n} {items} {ranks} {old} {f} {ready} places i r w new len marks =
-    let test : ℕ → Bool = λ t. is_input t (get_or items (get_or places i 0) no_item) in
+    ((t : ℕ) → IsNumber t n → get_or new (task_entry ranks t) false ≡ cond (is_named (get_or given (get_or places i 0) None) t) (f t) (get_or ready (task_entry ranks t) false)) →
+    AreRefreshed n given (take (i + 1) places) ranks old f new
+refreshed_more {n} {given} {ranks} {old} {f} {ready} places i r w new len marks =
+    let test : ℕ → Bool = λ t. is_named (get_or given (get_or places i 0) None) t in
     let mark : (t : ℕ) (b : Bool) → IsNumber t n → test t ≡ b → get_or new (task_entry ranks t) false ≡ cond b (f t) (get_or ready (task_entry ranks t) false) =
     λ t b in' e. marks t in' ∙ ap (λ (q : Bool). cond q (f t) (get_or ready (task_entry ranks t) false)) e in
-    let more : (t : ℕ) (b : Bool) → test t ≡ b → consumed_by t items (take (i + 1) places) ≡ consumed_by t items (take i places) + cond b 1 0 =
-    λ t b e. consumed_more t items places i w ∙ ap (λ (q : Bool). consumed_by t items (take i places) + cond q 1 0) e in
+    let more : (t : ℕ) (b : Bool) → test t ≡ b → consumed_by t given (take (i + 1) places) ≡ consumed_by t given (take i places) + cond b 1 0 =
+    λ t b e. consumed_more t given places i w ∙ ap (λ (q : Bool). consumed_by t given (take i places) + cond q 1 0) e in
     record {
       long = len ∙ r.long;
       consumers = λ t in' some.

@@ -1,11 +1,12 @@
 -- No public clause names this.
 -- The tables of a core: what its code keeps beside the state, and what each number stands for.
-use Rattle.std.specs.Prelude.{◌≡◌, ℕ, ◌+◌, ◌<◌, ◌≤◌, Bool, not, ◌&&◌, None, List, length, map, slice_index, slice_index_or, unwrap_or}
+use Rattle.std.specs.Prelude.{◌≡◌, ℕ, ◌+◌, ◌<◌, ◌≤◌, Bool, not, ◌&&◌, Option, None, List, length, map, slice_index, slice_index_or, unwrap_or}
 use Rattle.std.specs.Prelude.{count_by}
 use Rattle.limits.specs.Limits.{most_workers}
 use Rattle.row_table.specs.Rows.{row_at, numbers_with}
 use Rattle.mp_system.specs.declared.system.Item.{Item}
-use Rattle.mp_system.specs.System.{TaskSystem, IsTask, is_input, is_output, inputs_of, outputs_of, need_of}
+use Rattle.mp_system.specs.declared.system.Task.{Task}
+use Rattle.mp_system.specs.System.{TaskSystem, IsTask, is_named, is_input, is_output, inputs_of, outputs_of, need_of}
 use Rattle.mp_system.specs.Memory.{is_produced, is_ready, stands_in}
 use Rattle.activation.specs.Machine.{Setting, State, IsSetting, phase_in, is_idle_phase, activated_tasks, is_done, is_running}
 use Rattle.activation.specs.Machine.{running_count, booked_memory, used_memory}
@@ -28,9 +29,17 @@ is_awaited done t item = is_input t item && not (is_produced done item)
 unfoldable pub awaited : TaskSystem → (ℕ → Bool) → ℕ → ℕ
 awaited system done t = count_by (is_awaited done t) system.items
 
--- how many of these items, told by their places, a task consumes
-abbrev pub consumed_by : ℕ → List Item → List ℕ → ℕ
-consumed_by t items places = count_by (λ i. is_input t (slice_index_or items i no_item)) places
+-- how long a task takes
+abbrev pub time_of : Task → ℕ
+time_of task = task.time
+
+-- the task that consumes an item, if one does
+abbrev pub consumer_of : Item → Option ℕ
+consumer_of item = item.to
+
+-- how many of these items, told by their places, a task consumes, where each item's consumer is told
+abbrev pub consumed_by : ℕ → List (Option ℕ) → List ℕ → ℕ
+consumed_by t consumers places = count_by (λ i. is_named (slice_index_or consumers i None) t) places
 
 -- the producer of an item, or 0
 abbrev pub producer_of : Item → ℕ
@@ -49,14 +58,18 @@ AreTaskPlaces tasks places = (k : ℕ) → k < length tasks → task_entry place
 abbrev pub is_startable : Setting → State → ℕ → Bool
 is_startable c st t = stands_in (activated_tasks c st) t && (is_idle_phase (phase_in st.phases t) && is_ready c.system (is_done st) t)
 
--- the tables that no event changes: what each task needs; what its end frees, less what it leaves; its place in the order; its outputs
+-- the tables that no event changes: how long each task takes; what it needs; what its end frees, less what it leaves; its place in the
+-- order; its outputs; and the consumer of each item
 pub record FixedTables : Type 0 where
+  pub times : List ℕ
   pub needs : List ℕ
   pub frees : List ℕ
   pub places : List ℕ
   pub outputs : List (List ℕ)
+  pub consumers : List (Option ℕ)
 
 pub record AreFixed (c : Setting) (x : FixedTables) : Type 0 where
+  pub times_are : x.times ≡ map time_of c.system.tasks
   pub needs_length : length x.needs ≡ length c.system.tasks
   pub needs_are : (t : ℕ) → IsTask c.system t → task_entry x.needs t ≡ need_of c.system t
   pub frees_length : length x.frees ≡ length c.system.tasks
@@ -64,6 +77,7 @@ pub record AreFixed (c : Setting) (x : FixedTables) : Type 0 where
   pub places_length : length x.places ≡ length c.system.tasks
   pub places_are : AreTaskPlaces c.order x.places
   pub outputs_are : AreOutputRows (length c.system.tasks) c.system.items x.outputs
+  pub consumers_are : x.consumers ≡ map consumer_of c.system.items
 
 -- and those that go along: how many items each task waits for; the running tasks; booked and used memory
 pub record CoreTables : Type 0 where

@@ -15,12 +15,12 @@ ghost use Rattle.activation.specs.Run.{AreRanks};
 use crate::NoMemory;
 use crate::events::{Event, EventKind, Phase};
 use crate::laws::{event_law, start_law};
-use crate::outputs::output_rows;
+use crate::outputs::{consumers_of, output_rows};
 use crate::places::{fill_places, is_number};
 use crate::rank_set::RankSet;
 use crate::refusal::CoreRefusal;
 use crate::running::RunningTasks;
-use crate::start::{copy_system, start_memory};
+use crate::start::{start_memory, times_of};
 use crate::sums::needs_of;
 use crate::waiting::{count_waiting, release};
 use mp_system::laws::traversal_law;
@@ -29,20 +29,24 @@ use row_table::RowTable;
 use row_table::laws::numbers_law;
 use std::alloc::Global;
 use std::marker::Model;
+use std::snapshot::Snapshot;
 
 /// The activation core of a system, an order, a bound on memory and so many workers. Whoever runs the tasks embeds it: it activates the
 /// next task where its need fits, and starts and finishes the tasks that it is told, where they may. All its calls but `new` take no
 /// memory. Agullo et al. 2016.
 #[derive(Drop)]
 pub struct Core {
-    system: System,
+    // The system, for contracts alone: it takes no memory.
+    system: Snapshot<System>,
     order: Vec<u32>,
     bound: u64,
     workers: u32,
+    times: Vec<u64>,
     needs: Vec<u64>,
     frees: Vec<u64>,
     places: Vec<u32>,
     outputs: RowTable,
+    consumers: Vec<Option<u32>>,
     waiting: Vec<u64>,
     phases: Vec<Phase>,
     activated: usize,
@@ -55,15 +59,22 @@ impl Model for Core {
     ghost Value = { CoreValue };
 
     ghost view = { λ m. record {
-      setting = record { system = m.system; order = m.order.items; bound = m.bound; workers = m.workers };
+      setting = record { system = m.system.value; order = m.order.items; bound = m.bound; workers = m.workers };
       state = record { activated = m.activated; phases = m.phases.items };
     } };
 
     ghost invariant = { λ m. AreCoreTables
-        (record { system = m.system; order = m.order.items; bound = m.bound; workers = m.workers })
+        (record { system = m.system.value; order = m.order.items; bound = m.bound; workers = m.workers })
         (record { activated = m.activated; phases = m.phases.items })
         (record {
-          fixed = record { needs = m.needs.items; frees = m.frees.items; places = m.places.items; outputs = m.outputs };
+          fixed = record {
+            times = m.times.items;
+            needs = m.needs.items;
+            frees = m.frees.items;
+            places = m.places.items;
+            outputs = m.outputs;
+            consumers = m.consumers.items;
+          };
           waiting = m.waiting.items;
           running = m.running;
           booked = m.booked;
@@ -113,8 +124,10 @@ impl Core {
         start_law();
         traversal_law();
         let count = system.tasks().len();
+        let times = times_of(alloc, system)?;
         let needs = needs_of(alloc, system)?;
         let outputs = output_rows(alloc, system)?;
+        let consumers = consumers_of(alloc, system)?;
         let waiting = count_waiting(alloc, system)?;
         let mut places = vec![in alloc; 0u32; count]?;
         fill_places(order, &mut places);
@@ -122,16 +135,17 @@ impl Core {
         let phases = vec![in alloc; Phase::Idle; count]?;
         let memory = start_memory(system);
         let order = Vec::from_slice(alloc, order)?;
-        let system = copy_system(alloc, system)?;
         Ok(Core {
-            system,
+            system: Snapshot::of(system),
             order,
             bound,
             workers,
+            times,
             needs: needs.needs,
             frees: needs.frees,
             places,
             outputs,
+            consumers,
             waiting,
             phases,
             activated: 0,
@@ -178,9 +192,7 @@ impl Core {
     pub fn may_start(&self, task: u32) -> bool
         ensures { IsTrue result ↔ MayStart self.now.setting self.now.state task }
     {
-        is_number(task, self.system.tasks().len())
-            && self.running.has_room()
-            && self.is_startable(task)
+        is_number(task, self.phases.len()) && self.running.has_room() && self.is_startable(task)
     }
 
     /// Starts an activated task whose suppliers are done, where a worker is free.
@@ -206,7 +218,7 @@ impl Core {
     fn may_finish(&self, task: u32) -> bool
         ensures { IsTrue result ↔ MayFinish self.now.setting self.now.state task }
     {
-        is_number(task, self.system.tasks().len()) && self.phases[task as usize - 1].is_running()
+        is_number(task, self.phases.len()) && self.phases[task as usize - 1].is_running()
     }
 
     /// Ends a running task.
@@ -227,7 +239,7 @@ impl Core {
         self.running.remove(task);
         self.booked -= frees;
         self.used -= frees;
-        release(&self.system, self.outputs.row(task), &mut self.waiting);
+        release(&self.consumers, self.outputs.row(task), &mut self.waiting);
         true
     }
 
@@ -276,14 +288,14 @@ impl Core {
         // running and done tasks are activated and ready, no more tasks run than there are workers, and memory is within the bound
         ensures safe { IsSafe self.now.setting self.now.state }
     {
-        let _ = &self.system;
+        let _ = &self.order;
     }
 
     /// How many tasks there are.
     pub(crate) fn tasks(&self) -> usize
         ensures { result ≡ length self.now.setting.system.tasks }
     {
-        self.system.tasks().len()
+        self.phases.len()
     }
 
     /// How many workers there are.
@@ -316,7 +328,7 @@ impl Core {
         ensures time { result ≡ (task_at self.now.setting.system task).time }
         ensures long { result ≤ most_time }
     {
-        self.system.tasks()[task as usize - 1].time
+        self.times[task as usize - 1]
     }
 
     /// Puts the rank of the task that is named, if one is, into the set of those that are startable, or takes it out.
@@ -347,9 +359,8 @@ impl Core {
             slice_index_or ready.new (task_entry ranks.now t) false ≡ slice_index_or ready.old (task_entry ranks.now t) false }
     {
         numbers_law();
-        let items = self.system.items();
         for place in self.outputs.row(task) {
-            self.refresh(items[*place as usize].to, ranks, ready);
+            self.refresh(self.consumers[*place as usize], ranks, ready);
         }
     }
 }

@@ -1,5 +1,5 @@
-ghost use Rattle.std.specs.Prelude.{IfOk, length};
-ghost use Rattle.activation.specs.Tables.{AreOutputRows};
+ghost use Rattle.std.specs.Prelude.{◌≡◌, IfOk, length, map};
+ghost use Rattle.activation.specs.Tables.{AreOutputRows, consumer_of};
 
 use crate::NoMemory;
 use mp_system::System;
@@ -16,4 +16,11 @@ pub fn output_rows(alloc: Global, system: &System) -> Result<RowTable, NoMemory>
         .map(|item| item.from.unwrap_or(0))
         .collect(alloc)?;
     RowTable::group(alloc, &producers, tasks.len() as u32 + 1, 0)
+}
+
+/// The task that consumes each item, if one does.
+pub fn consumers_of(alloc: Global, system: &System) -> Result<Vec<Option<u32>>, NoMemory>
+    ensures { IfOk result (λ consumers. consumers.items ≡ map consumer_of system.now.items) }
+{
+    system.items().iter().map(|item| item.to).collect(alloc)
 }

@@ -1,5 +1,6 @@
-ghost use Rattle.std.specs.Prelude.{◌≡◌, ℕ, false, IfOk};
+ghost use Rattle.std.specs.Prelude.{◌≡◌, ℕ, false, map, IfOk};
 ghost use Rattle.mp_system.specs.Memory.{state_memory};
+ghost use Rattle.activation.specs.Tables.{time_of};
 
 use crate::NoMemory;
 use mp_system::System;
@@ -18,11 +19,9 @@ pub fn start_memory(system: &System) -> u64
     memory
 }
 
-/// The system again, in memory of its own.
-pub fn copy_system(alloc: Global, system: &System) -> Result<System, NoMemory>
-    ensures { IfOk result (λ copy. copy ≡ system.now) }
+/// How long each task takes.
+pub fn times_of(alloc: Global, system: &System) -> Result<Vec<u64>, NoMemory>
+    ensures { IfOk result (λ times. times.items ≡ map time_of system.now.tasks) }
 {
-    let tasks = Vec::from_slice(alloc, system.tasks())?;
-    let items = Vec::from_slice(alloc, system.items())?;
-    Ok(System::new(tasks, items))
+    system.tasks().iter().map(|task| task.time).collect(alloc)
 }

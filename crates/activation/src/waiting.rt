@@ -1,4 +1,4 @@
-ghost use Rattle.std.specs.Prelude.{◌≡◌, ℕ, ◌+◌, ◌<◌, ◌≤◌, true, false, All, if◌then◌else◌, length, count_by, IfOk};
+ghost use Rattle.std.specs.Prelude.{◌≡◌, ℕ, ◌+◌, ◌<◌, ◌≤◌, true, false, All, if◌then◌else◌, None, length, slice_index_or, count_by, IfOk};
 ghost use Rattle.mp_system.specs.System.{is_named};
 ghost use Rattle.activation.specs.Schedule.{task_entry};
 ghost use Rattle.activation.specs.Running.{IsNumber};
@@ -35,14 +35,14 @@ pub fn count_waiting(alloc: Global, system: &System) -> Result<Vec<u64>, NoMemor
 }
 
 /// Takes one off the count of a task for each of these items, told by their places, that it consumes.
-pub fn release(system: &System, places: &[u32], waiting: &mut [u64])
-    requires places { All (λ i. i < length system.now.items) places.now }
-    requires long { length waiting.old ≡ length system.now.tasks }
-    requires enough { (t : ℕ) → IsNumber t (length waiting.old) → consumed_by t system.now.items places.now ≤ task_entry waiting.old t }
-    ensures { (t : ℕ) → task_entry waiting.new t + consumed_by t system.now.items places.now ≡ task_entry waiting.old t }
+pub fn release(consumers: &[Option<u32>], places: &[u32], waiting: &mut [u64])
+    requires places { All (λ i. i < length consumers.now) places.now }
+    requires numbers { (i t : ℕ) → i < length consumers.now → is_named (slice_index_or consumers.now i None) t ≡ true →
+        IsNumber t (length waiting.old) }
+    requires enough { (t : ℕ) → IsNumber t (length waiting.old) → consumed_by t consumers.now places.now ≤ task_entry waiting.old t }
+    ensures { (t : ℕ) → task_entry waiting.new t + consumed_by t consumers.now places.now ≡ task_entry waiting.old t }
 {
-    let items = system.items();
     for place in places {
-        lower(waiting, items[*place as usize].to);
+        lower(waiting, consumers[*place as usize]);
     }
 }

@@ -30,8 +30,16 @@ invariant_of-result c =
     let phases_made : c.in_ok-phases.phases.items ≡ replicate (length c.tasks-count.result.now) Idle = search rules in
     let phases : c.in_ok-phases.phases.items ≡ replicate (length system.tasks) Idle = rw count at phases_made in
     let tables = start_tables setting is c.requires.workers.1 (c.start_law.ensures.safe setting is) (c.start_law.ensures.booked setting) (c.start_law.ensures.used setting)
-    (record { needs = c.in_ok-needs.needs.needs.items; frees = c.in_ok-needs.needs.frees.items; places = places; outputs = c.in_ok-outputs.outputs })
     (record {
+      times = c.in_ok-times.times.items;
+      needs = c.in_ok-needs.needs.needs.items;
+      frees = c.in_ok-needs.needs.frees.items;
+      places = places;
+      outputs = c.in_ok-outputs.outputs;
+      consumers = c.in_ok-consumers.consumers.items;
+    })
+    (record {
+      times_are = c.in_ok-times.ensures;
       needs_length = c.in_ok-needs.ensures.needs_len;
       needs_are = c.in_ok-needs.ensures.needs;
       frees_length = c.in_ok-needs.ensures.frees_len;
@@ -39,7 +47,8 @@ invariant_of-result c =
       places_length = places_length;
       places_are = c.fill_places.ensures;
       outputs_are = c.in_ok-outputs.ensures;
+      consumers_are = c.in_ok-consumers.ensures;
     })
     c.in_ok-waiting.waiting.items c.in_ok-waiting.ensures.len c.in_ok-waiting.ensures.counts c.start_memory-memory.result c.start_memory-memory.ensures in
-    rw (take_at places (drop (length places) c.in_ok-places.places.items) c.in_ok-places.places.len len, c.in_ok-running.ensures, count, phases, c.in_ok-order.ensures.items, c.in_ok-system.ensures)
+    rw (take_at places (drop (length places) c.in_ok-places.places.items) c.in_ok-places.places.len len, c.in_ok-running.ensures, count, phases, c.in_ok-order.ensures.items, c.of.ensures)
     tables

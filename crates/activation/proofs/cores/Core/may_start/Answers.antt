@@ -1,4 +1,4 @@
-use Rattle.std.proofs.Common.{length, arith, sym, ap, ◌∙◌}
+use Rattle.std.proofs.Common.{arith, sym, ◌∙◌}
 use Rattle.std.proofs.lemmas.Bool.{true≢false}
 use Rattle.activation.proofs.Keeping.{start_is_task, start_room}
 use Rattle.activation.proofs.cores.Core.may_start.Goals as goal
@@ -12,6 +12,6 @@ returns-else-has_room c =
           let is = start_is_task c.self.invariant c.args.task h in
           elim c.if-is_number.branch [
             | then-is_number w ↦ w.value-is ∙ w.has_room.ensures.1 (start_room c.self.invariant c.args.task h)
-            | else-is_number w ↦ absurd (true≢false (sym (c.is_number.ensures.1 (is.0, omega (arith, is.1, ap length c.tasks.ensures.value))) ∙ w.if-is_number.false))
+            | else-is_number w ↦ absurd (true≢false (sym (c.is_number.ensures.1 (is.0, omega (arith, is.1, c.self.invariant.safe.phases))) ∙ w.if-is_number.false))
           ],
     )

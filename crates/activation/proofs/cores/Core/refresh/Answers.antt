@@ -1,4 +1,4 @@
-use Rattle.std.proofs.Common.{arith, ap, ◌∙◌}
+use Rattle.std.proofs.Common.{arith}
 use Rattle.activation.specs.Tables.{is_startable}
 use Rattle.activation.proofs.Numbers.{named}
 use Rattle.activation.proofs.Ranking.{rank_within, marked}

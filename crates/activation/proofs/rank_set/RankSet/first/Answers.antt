@@ -1,5 +1,5 @@
-use Rattle.std.proofs.Common.{◌≡◌, ◌<◌, ◌/◌, length, drop, ap, sym, ◌∙◌, arith, subst}
-use Rattle.activation.specs.Bits.{bit_in, IsFirstWith, IsFirstWord, IsEmptyRow}
+use Rattle.std.proofs.Common.{length, ap, arith}
+use Rattle.activation.specs.Bits.{bit_in, IsFirstWith, IsEmptyRow}
 use Rattle.activation.proofs.Bits.{first_rank, no_rank, first_word_below}
 use Rattle.activation.proofs.rank_set.RankSet.first.Goals as goal
 

@@ -1,4 +1,4 @@
-use Rattle.std.proofs.Common.{◌≡◌, ◌<◌, ◌/◌, List, Bool, not, eqb, length, get_or, drop, ap, sym, ◌∙◌, arith}
+use Rattle.std.proofs.Common.{◌≡◌, ◌<◌, ◌/◌, List, Bool, not, eqb, length, get_or, drop, ap, ◌∙◌, arith}
 use Rattle.std.proofs.lemmas.List.{take_at, get_or_read}
 use Rattle.activation.proofs.Bits.{ranks_long, ranks_put, rows_put}
 use Rattle.activation.proofs.rank_set.RankSet.put.Goals as goal

@@ -1,4 +1,4 @@
-use Rattle.std.proofs.Common.{◌≡◌, arith}
+use Rattle.std.proofs.Common.{arith}
 use Rattle.activation.proofs.Clocks.{none_runs, none_before, due_now, finish_comes}
 use Rattle.activation.specs.Schedule.{Moment}
 use Rattle.activation.proofs.run.Run.finish_due.Goals as goal

@@ -1,4 +1,4 @@
-use Rattle.std.proofs.Common.{◌+◌, ◌∷◌, length, arith}
+use Rattle.std.proofs.Common.{◌∷◌, arith}
 use Rattle.std.proofs.lemmas.List.Sorted.{length_permutation}
 use Rattle.activation.specs.declared.clock.Due.{Due}
 use Rattle.activation.proofs.tests.parts.check_add.Goals as goal
