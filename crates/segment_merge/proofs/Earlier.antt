@@ -1,5 +1,5 @@
 -- What holds while earlier sides are moved into one.
-use Rattle.std.proofs.Common.{◌≡◌, ℕ, ◌+◌, ◌≤◌, ◌^◌, List, [], ◌∷◌, ◌++◌, refl, ap, sym, ◌∙◌, arith, true}
+use Rattle.std.proofs.Common.{◌≡◌, ℕ, ◌+◌, ◌≤◌, ◌^◌, List, [], ◌∷◌, ◌++◌, ap, sym, ◌∙◌, arith, true}
 use Rattle.side_laws.specs.Segments.{net_sum, IsRising}
 use Rattle.hill_valley.specs.declared.side.Seg.{Seg}
 use Rattle.hill_valley.specs.Ropes.{Extends}
@@ -7,7 +7,7 @@ use Rattle.hill_valley.specs.Side.{profile, HaveRopes, Run, runs_of, run_profile
 use Rattle.segment_merge.specs.Merging.{insert_runs, merge_runs, move_runs, all_runs_of, AllHaveRopes, net_sum_all}
 use Rattle.hill_valley.specs.Laws.{RunLaws}
 use Rattle.segment_merge.proofs.Order.{moved_before, merged_append, merged_one, put_assoc}
-use Rattle.segment_merge.proofs.Kept.{each_kept, all_kept, each_append, ropes_front, ropes_last, net_append}
+use Rattle.segment_merge.proofs.Kept.{each_kept, all_kept, each_append, ropes_front, net_append}
 
 -- `rest` is left of sides0
 pub record Taking (ropes0 ropes : List (List ℕ)) (sides0 : List (List Seg)) (into0 : List Seg) (rest : List (List Seg)) (into : List Seg) : Type 0 where
@@ -19,17 +19,8 @@ pub record Taking (ropes0 ropes : List (List ℕ)) (sides0 : List (List Seg)) (i
   pub within : net_sum_all rest + net_sum (profile into) ≤ 2 ^ 60
 
 module _ (laws : RunLaws) where
-  pub taking_starts : (ropes : List (List ℕ)) (sides : List (List Seg)) (into : List Seg) → AllHaveRopes ropes sides → HaveRopes ropes into → net_sum_all sides + net_sum (profile into) ≤ 2 ^ 60 → Taking ropes ropes sides into sides into
-  taking_starts ropes sides into s i n = record { told = refl; rest_ropes = s; into_ropes = i; kept = laws.itself ropes; net = refl; within = n }
-
   module _ (ropes0 ropes : List (List ℕ)) (sides0 : List (List Seg)) (into0 : List Seg) (rest front : List (List Seg)) (side into : List Seg)
       (t : Taking ropes0 ropes sides0 into0 rest into) (last : rest ≡ front ++ side ∷ []) where
-    pub taking_last : HaveRopes ropes side × (net_sum (profile side) + net_sum (profile into) ≤ 2 ^ 60)
-    taking_last =
-        let r = rw last at t.rest_ropes in
-        let n = rw last at t.within in
-        ((ropes_last ropes front (side ∷ []) r).0, omega (arith, net_append front (side ∷ []), n))
-
     pub taking_on : (ropes' : List (List ℕ)) (into' : List Seg) → Extends ropes ropes' → HaveRopes ropes' into' → IsRising (profile side) → runs_of ropes' into' ≡ move_runs true (runs_of ropes side) (runs_of ropes into)
         → net_sum (profile into') ≡ net_sum (profile side) + net_sum (profile into) → Taking ropes0 ropes' sides0 into0 front into'
     taking_on ropes' into' kept ropes_in rising put net =

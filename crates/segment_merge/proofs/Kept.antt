@@ -1,8 +1,6 @@
 -- Lists of sides: older ropes, and sums.
-use Rattle.std.proofs.Common.{◌≡◌, ℕ, ◌+◌, List, [], ◌∷◌, ◌++◌, refl, arith, length, reverse}
-use Rattle.std.proofs.lemmas.Grind.{common_steps}
-use Rattle.std.proofs.lemmas.List.Sums.{sum_by-append}
-use Rattle.std.proofs.lemmas.List.Sorted.{IsPermutation-reverse, sum_by-IsPermutation}
+use Rattle.std.proofs.Common.{◌≡◌, ℕ, ◌+◌, List, [], ◌∷◌, ◌++◌, refl, length}
+use Rattle.std.proofs.lemmas.List.Sums.{sum_by-append, sum_by-cons}
 use Rattle.side_laws.specs.Segments.{net_sum}
 use Rattle.hill_valley.specs.declared.side.Seg.{Seg}
 use Rattle.hill_valley.specs.Ropes.{Extends}
@@ -41,21 +39,8 @@ net_append a b = sum_by-append (λ (side : List Seg). net_sum (profile side)) a 
 pub count_append : (a b : List (List Seg)) → segment_count (a ++ b) ≡ segment_count a + segment_count b
 count_append a b = sum_by-append (length {A = Seg}) a b
 
-pub reverse_first : (side : List Seg) (sides : List (List Seg)) → reverse (side ∷ sides) ≡ reverse sides ++ side ∷ []
-reverse_first side sides = grind (arith, common_steps)
+pub net_cons : (side : List Seg) (sides : List (List Seg)) → net_sum_all (side ∷ sides) ≡ net_sum (profile side) + net_sum_all sides
+net_cons side sides = sum_by-cons (λ (s : List Seg). net_sum (profile s)) side sides
 
-pub reverse_last : (front : List (List Seg)) (side : List Seg) → reverse (front ++ side ∷ []) ≡ side ∷ reverse front
-reverse_last front side = grind (arith, common_steps)
-
-pub reverse_twice : (sides : List (List Seg)) → reverse (reverse sides) ≡ sides
-reverse_twice sides = grind (arith, common_steps)
-
-pub ropes_reverse : (lists : List (List ℕ)) (a : List (List Seg)) → AllHaveRopes lists a → AllHaveRopes lists (reverse a)
-ropes_reverse lists [] h = tt
-ropes_reverse lists (side ∷ a) h = rw (reverse_first side a) (ropes_append lists (reverse a) (side ∷ []) (ropes_reverse lists a h.1) (h.0, tt))
-
-pub net_reverse : (a : List (List Seg)) → net_sum_all (reverse a) ≡ net_sum_all a
-net_reverse a = sum_by-IsPermutation (λ (side : List Seg). net_sum (profile side)) a (reverse a) (IsPermutation-reverse a)
-
-pub count_reverse : (a : List (List Seg)) → segment_count (reverse a) ≡ segment_count a
-count_reverse a = sum_by-IsPermutation (length {A = Seg}) a (reverse a) (IsPermutation-reverse a)
+pub count_cons : (side : List Seg) (sides : List (List Seg)) → segment_count (side ∷ sides) ≡ length side + segment_count sides
+count_cons side sides = sum_by-cons (length {A = Seg}) side sides

@@ -1,10 +1,9 @@
 -- The longest of several sides.
-use Rattle.std.proofs.Common.{◌≡◌, ℕ, zero, suc, ◌+◌, ◌-◌, ◌<◌, ◌≤◌, max, min, List, [], ◌∷◌, ◌++◌, ap, ◌∙◌, arith, length, get_or, take}
+use Rattle.std.proofs.Common.{◌≡◌, ℕ, zero, suc, ◌+◌, ◌-◌, ◌<◌, ◌≤◌, max, List, [], ◌∷◌, ◌++◌, ap, ◌∙◌, arith, length, get_or, take}
 use Rattle.std.proofs.lemmas.Grind.{common_steps}
-use Rattle.std.proofs.lemmas.List.Sums.{sum_by-cons}
 use Rattle.hill_valley.specs.declared.side.Seg.{Seg}
 use Rattle.hill_valley.specs.Side.{profile, IsSide}
-use Rattle.segment_merge.specs.Merging.{AllSides, segment_count, longest}
+use Rattle.segment_merge.specs.Merging.{AllSides, longest}
 
 longest_append : (a b : List (List Seg)) → longest (a ++ b) ≡ max (longest a) (longest b)
 longest_append [] b = omega arith
@@ -17,27 +16,19 @@ sides_append (side ∷ a) b ha hb = (ha.0, sides_append a b ha.1 hb)
 all_of_them : (sides : List (List Seg)) → take (length sides) sides ≡ sides
 all_of_them sides = grind (arith, common_steps)
 
-pub longest_le_count : (sides : List (List Seg)) → longest sides ≤ segment_count sides
-longest_le_count [] = omega arith
-longest_le_count (side ∷ sides) = omega (arith, longest_le_count sides, sum_by-cons (length {A = Seg}) side sides)
-
 at_most_longest : (sides : List (List Seg)) (i : ℕ) → length (get_or sides i []) ≤ longest sides
 at_most_longest [] i = omega arith
 at_most_longest (side ∷ sides) zero = omega arith
 at_most_longest (side ∷ sides) (suc i) = omega (arith, at_most_longest sides i)
 
--- of the first i sides, `most` is the length of the longest, and the last of the first `end` sides has it
-pub record Seeking (sides : List (List Seg)) (i end most : ℕ) : Type 0 where
+-- of the first i sides, `most` is the length of the longest, which stands at `place`
+pub record Seeking (sides : List (List Seg)) (i place most : ℕ) : Type 0 where
   pub so_far : longest (take i sides) ≤ most
-  pub there : most ≤ length (get_or sides (end - 1) [])
-  pub within : end ≤ length sides
-  pub some : 0 < length sides → 0 < end
+  pub there : most ≤ length (get_or sides place [])
+  pub within : place ≤ length sides - 1
   pub seen : AllSides (take i sides)
 
-pub seeking_starts : (sides : List (List Seg)) → Seeking sides 0 (min (length sides) 1) 0
-seeking_starts sides = record { so_far = omega arith; there = omega arith; within = omega arith; some = λ h. omega arith; seen = tt }
-
-module _ (sides : List (List Seg)) (i end most : ℕ) (side : List Seg) (s : Seeking sides i end most) (lt : i < length sides) (here : side ≡ get_or sides i []) (good : IsSide (profile side)) where
+module _ (sides : List (List Seg)) (i place most : ℕ) (side : List Seg) (s : Seeking sides i place most) (lt : i < length sides) (here : side ≡ get_or sides i []) (good : IsSide (profile side)) where
   more : take (i + 1) sides ≡ take i sides ++ get_or sides i [] ∷ []
   more = grind (arith, common_steps)
 
@@ -47,30 +38,30 @@ module _ (sides : List (List Seg)) (i end most : ℕ) (side : List Seg) (s : See
   more_seen : AllSides (take (i + 1) sides)
   more_seen = rw more (sides_append (take i sides) (get_or sides i [] ∷ []) s.seen (rw here at good, tt))
 
-  pub seeking_longer : most < length side → Seeking sides (i + 1) (i + 1) (length side)
+  pub seeking_longer : most < length side → Seeking sides (i + 1) i (length side)
   seeking_longer h =
       let a = s.so_far in
-      let at : i + 1 - 1 ≡ i = omega arith in
       record {
         so_far = omega (arith, more_longest);
-        there = rw at (omega (arith, ap (length {A = Seg}) here));
+        there = omega (arith, ap (length {A = Seg}) here);
         within = omega arith;
-        some = λ _. omega arith;
         seen = more_seen;
       }
 
-  pub seeking_on : length side ≤ most → Seeking sides (i + 1) end most
-  seeking_on h = let a = s.so_far in record { so_far = omega (arith, more_longest); there = s.there; within = s.within; some = s.some; seen = more_seen }
+  pub seeking_on : length side ≤ most → Seeking sides (i + 1) place most
+  seeking_on h = let a = s.so_far in record { so_far = omega (arith, more_longest); there = s.there; within = s.within; seen = more_seen }
 
-pub record Found (sides : List (List Seg)) (end : ℕ) : Type 0 where
-  pub longest_is : longest sides ≡ length (get_or sides (end - 1) [])
+pub record Found (sides : List (List Seg)) (place : ℕ) : Type 0 where
+  pub within : place ≤ length sides - 1
+  pub longest_is : longest sides ≡ length (get_or sides place [])
   pub all : AllSides sides
 
-pub seeking_ends : (sides : List (List Seg)) (i end most : ℕ) → Seeking sides i end most → i ≡ length sides → Found sides end
-seeking_ends sides i end most s e =
+pub seeking_ends : (sides : List (List Seg)) (i place most : ℕ) → Seeking sides i place most → i ≡ length sides → Found sides place
+seeking_ends sides i place most s e =
     let t : take i sides ≡ sides = ap (λ (k : ℕ). take k sides) e ∙ all_of_them sides in
     record {
-      longest_is = let a = s.so_far in let b = s.there in omega (arith, ap longest t, at_most_longest sides (end - 1), a, b);
+      within = s.within;
+      longest_is = let a = s.so_far in let b = s.there in omega (arith, ap longest t, at_most_longest sides place, a, b);
       all = rw (← t) s.seen;
     }
 

@@ -1,71 +1,45 @@
 -- The sides on both hands of the one that takes them in.
-use Rattle.std.proofs.Common.{◌≡◌, ℕ, ◌+◌, ◌-◌, ◌<◌, ◌≤◌, List, [], ◌∷◌, ◌++◌, refl, ap, sym, ◌∙◌, arith, length, reverse, get_or, take, drop, length-append}
-use Rattle.std.proofs.lemmas.Grind.{common_steps}
+use Rattle.std.proofs.Common.{◌≡◌, ℕ, ◌+◌, ◌-◌, ◌≤◌, List, [], ◌∷◌, ◌++◌, refl, ap, sym, ◌∙◌, arith, length, length-append}
 use Rattle.side_laws.specs.Segments.{net_sum, lowest, top}
 use Rattle.side_laws.specs.Merging.{merge_segments, AllRising, AreStuckAt, IsLeastTogether, IsInterleaving}
 use Rattle.side_laws.specs.Laws.{NetOfInserts, LowestOfMerge, TopOfMerge}
 use Rattle.hill_valley.specs.declared.side.Seg.{Seg}
 use Rattle.hill_valley.specs.Side.{profile, HaveRopes, runs_of, run_profile, tasks_of}
-use Rattle.segment_merge.specs.Merging.{insert_runs, merge_runs, all_tasks_of, all_runs_of, profiles, AllHaveRopes, AllSides, net_sum_all, segment_count, longest}
+use Rattle.segment_merge.specs.Merging.{insert_runs, merge_runs, all_tasks_of, all_runs_of, profiles, AllHaveRopes, AllSides, net_sum_all}
 use Rattle.hill_valley.specs.Laws.{RunLaws}
 use Rattle.segment_merge.proofs.Order.{merged_append, put_assoc}
-use Rattle.segment_merge.proofs.Kept.{each_append, ropes_front, ropes_last, ropes_reverse, net_append, net_reverse, count_append, count_reverse, reverse_twice}
+use Rattle.segment_merge.proofs.Kept.{each_append, ropes_front, ropes_last, net_append, net_cons}
 use Rattle.segment_merge.proofs.Profiles.{profile_merge, profiles_runs, net_merge}
 use Rattle.segment_merge.proofs.Interleaving.{interleaved}
 
--- `front`, `side` and `later` are all sides, and `after` are the later ones, the nearest last
-pub record Around (sides front : List (List Seg)) (side : List Seg) (later after : List (List Seg)) : Type 0 where
-  pub split : (front ++ side ∷ []) ++ later ≡ sides
-  pub back : after ≡ reverse later
+-- `front`, `side` and `after` are all sides
+pub record Around (sides front : List (List Seg)) (side : List Seg) (after : List (List Seg)) : Type 0 where
+  pub split : front ++ side ∷ after ≡ sides
 
--- the sides are cut at `end`
-pub around : (sides before front : List (List Seg)) (side : List Seg) (later after : List (List Seg)) (end : ℕ) → before ≡ take end sides → later ≡ drop end sides → before ≡ front ++ side ∷ [] → after ≡ reverse later
-    → Around sides front side later after
-around sides before front side later after end b l p r =
-    let e : take end sides ++ drop end sides ≡ sides = grind (arith, common_steps) in
-    record { split = rw (← p, b, l) e; back = r }
+-- the sides are cut in front of the one that takes in the others, which is then taken out of its place
+pub around : {sides whole front rest after : List (List Seg)} {first side : List Seg} → whole ≡ sides → whole ≡ front ++ rest → rest ≡ first ∷ after → side ≡ first → Around sides front side after
+around {front = front} {after = after} same cut begins taken = record { split = ap (λ (s : List Seg). front ++ s ∷ after) taken ∙ ap (λ (l : List (List Seg)). front ++ l) (sym begins) ∙ sym cut ∙ same }
 
-pub at_front : (sides before front : List (List Seg)) (side : List Seg) (end : ℕ) → before ≡ take end sides → end ≤ length sides → before ≡ front ++ side ∷ [] → end - 1 ≡ length front
-at_front sides before front side end b within p =
-    let n : length (take end sides) ≡ end = grind (arith, common_steps) in
-    omega (arith, ap (length {A = List Seg}) b, ap (length {A = List Seg}) p, n, length-append front (side ∷ []))
+pub none_left : (sides front rest : List (List Seg)) → sides ≡ front ++ rest → length front ≤ length sides - 1 → length rest ≡ 0 → sides ≡ []
+none_left [] front rest e within none = refl
+none_left (side ∷ sides) front rest e within none = absurd (omega (arith, ap (length {A = List Seg}) e, length-append front rest))
 
-pub none_left : (sides before : List (List Seg)) (end : ℕ) → before ≡ take end sides → end ≤ length sides → (0 < length sides → 0 < end) → length before ≡ 0 → sides ≡ []
-none_left [] before end b within some none = refl
-none_left (side ∷ sides) before end b within some none =
-    let n : length (take end (side ∷ sides)) ≡ end = grind (arith, common_steps) in
-    absurd (let e = some (omega arith) in omega (arith, e, ap (length {A = List Seg}) b, n))
-
-module _ (sides front : List (List Seg)) (side : List Seg) (later after : List (List Seg)) (a : Around sides front side later after) where
+module _ (sides front : List (List Seg)) (side : List Seg) (after : List (List Seg)) (a : Around sides front side after) where
   pub around_ropes : (lists : List (List ℕ)) → AllHaveRopes lists sides → AllHaveRopes lists front × HaveRopes lists side × AllHaveRopes lists after
   around_ropes lists h =
       let r = rw (sym a.split) at h in
-      let f = ropes_front lists (front ++ side ∷ []) later r in
-      (ropes_front lists front (side ∷ []) f, (ropes_last lists front (side ∷ []) f).0, rw a.back (ropes_reverse lists later (ropes_last lists (front ++ side ∷ []) later r)))
+      let l = ropes_last lists front (side ∷ after) r in
+      (ropes_front lists front (side ∷ after) r, l.0, l.1)
 
   pub around_net : net_sum_all front + net_sum (profile side) + net_sum_all after ≡ net_sum_all sides
-  around_net = omega (arith, ap net_sum_all a.split, net_append (front ++ side ∷ []) later, net_append front (side ∷ []), ap net_sum_all a.back, net_reverse later)
+  around_net = omega (arith, ap net_sum_all a.split, net_append front (side ∷ after), net_cons side after)
 
-  pub around_count : segment_count front + length side + segment_count after ≡ segment_count sides
-  around_count = omega (arith, ap segment_count a.split, count_append (front ++ side ∷ []) later, count_append front (side ∷ []), ap segment_count a.back, count_reverse later)
-
-  around_get : get_or sides (length front) [] ≡ side
-  around_get =
-      let e : get_or ((front ++ side ∷ []) ++ later) (length front) [] ≡ side = grind (arith, common_steps) in
-      ap (λ (l : List (List Seg)). get_or l (length front) []) (sym a.split) ∙ e
-
-  pub around_longest : (end : ℕ) → longest sides ≡ length (get_or sides (end - 1) []) → end - 1 ≡ length front → longest sides ≡ length side
-  around_longest end h e = h ∙ ap (λ (i : ℕ). length (get_or sides i [])) e ∙ ap (length {A = Seg}) around_get
-
-  pub around_merged : (lists : List (List ℕ)) → insert_runs (insert_runs (merge_runs (all_runs_of lists front)) (runs_of lists side)) (merge_runs (all_runs_of lists (reverse after))) ≡ merge_runs (all_runs_of lists sides)
+  pub around_merged : (lists : List (List ℕ)) → insert_runs (insert_runs (merge_runs (all_runs_of lists front)) (runs_of lists side)) (merge_runs (all_runs_of lists after)) ≡ merge_runs (all_runs_of lists sides)
   around_merged lists =
-      let m = merge_runs (all_runs_of lists later) in
-      let back : reverse after ≡ later = ap (reverse {A = List Seg}) a.back ∙ reverse_twice later in
-      ap (λ (l : List (List Seg)). insert_runs (insert_runs (merge_runs (all_runs_of lists front)) (runs_of lists side)) (merge_runs (all_runs_of lists l))) back
-      ∙ put_assoc (merge_runs (all_runs_of lists front)) (runs_of lists side) m
-      ∙ sym (merged_append (all_runs_of lists front) (runs_of lists side ∷ all_runs_of lists later))
-      ∙ ap merge_runs (sym (each_append lists front (side ∷ later)))
-      ∙ ap (λ (l : List (List Seg)). merge_runs (all_runs_of lists l)) (let e : front ++ side ∷ later ≡ (front ++ side ∷ []) ++ later = grind (arith, common_steps) in e ∙ a.split)
+      put_assoc (merge_runs (all_runs_of lists front)) (runs_of lists side) (merge_runs (all_runs_of lists after))
+      ∙ sym (merged_append (all_runs_of lists front) (runs_of lists side ∷ all_runs_of lists after))
+      ∙ ap merge_runs (sym (each_append lists front (side ∷ after)))
+      ∙ ap (λ (l : List (List Seg)). merge_runs (all_runs_of lists l)) a.split
 
 all_rising : (sides : List (List Seg)) → AllSides sides → AllRising (profiles sides)
 all_rising [] h = tt

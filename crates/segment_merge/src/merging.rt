@@ -13,6 +13,7 @@ use crate::moving::move_all;
 use hill_valley::{Ropes, Side, laws as run_laws};
 use side_laws::laws;
 use std::alloc::Global;
+use std::mem;
 use std::sync::ledger::Ledger;
 use step_count::Steps;
 
@@ -49,88 +50,88 @@ pub fn merge<L: Ledger>(
 {
     run_laws::runs();
     laws::merging();
-    let mut before = sides;
-    let end = longest_end(&before);
-    let mut after = before.split_off(end)?;
-    after.reverse();
-    match before.pop() {
-        Some(side) => {
-            let mut merged = side;
-            take_before(before, &mut merged, ropes, steps)?;
-            take_after(after, &mut merged, ropes, steps)?;
-            Ok(merged)
-        }
-        None => Ok(Side::new(alloc)),
-    }
+    let mut sides = sides;
+    let place = longest_place(&sides);
+    let (before, rest) = sides.split_at_mut(place);
+    let Some((longest, after)) = rest.split_first_mut() else {
+        return Ok(Side::new(alloc));
+    };
+    let mut merged = mem::replace(longest, Side::new(alloc));
+    take_before(alloc, before, &mut merged, ropes, steps)?;
+    take_after(alloc, after, &mut merged, ropes, steps)?;
+    Ok(merged)
 }
 
-// How many sides stand up to a longest one, which is the last of them, and 0 where there are none.
-fn longest_end(sides: &[Side]) -> usize
-    ensures within { result ≤ length sides.now }
-    ensures some { 0 < length sides.now → 0 < result }
-    ensures longest { longest sides.now ≡ length (get_or sides.now (result - 1) []) }
+// How many sides stand before the first longest one, and 0 where there are none.
+fn longest_place(sides: &[Side]) -> usize
+    ensures within { result ≤ length sides.now - 1 }
+    ensures longest { longest sides.now ≡ length (get_or sides.now result []) }
     ensures sides { AllSides sides.now }
 {
-    let mut end = sides.len().min(1);
+    let mut place = 0;
     let mut most = 0;
     for (i, side) in sides.iter().enumerate() {
         side.keeps();
         let len = side.len();
         if most < len {
-            end = i + 1;
+            place = i;
             most = len;
         }
     }
-    end
+    place
 }
 
 // Moves earlier sides into one, the nearest first.
 fn take_before<L: Ledger>(
-    mut sides: Vec<Side>,
+    alloc: Global,
+    sides: &mut [Side],
     into: &mut Side,
     ropes: &mut Ropes,
     steps: &mut Steps<L>,
 ) -> Result<(), NoMemory>
-    requires sides { AllHaveRopes ropes.old sides.items }
+    requires sides { AllHaveRopes ropes.old sides.old }
     requires into { HaveRopes ropes.old into.old }
-    requires net { net_sum_all sides.items + net_sum (profile into.old) ≤ most_total }
+    requires net { net_sum_all sides.old + net_sum (profile into.old) ≤ most_total }
     ensures segments { OnOk result (
-        runs_of ropes.new into.new ≡ insert_runs (merge_runs (all_runs_of ropes.old sides.items)) (runs_of ropes.old into.old)) }
-    ensures net { OnOk result (net_sum (profile into.new) ≡ net_sum_all sides.items + net_sum (profile into.old)) }
+        runs_of ropes.new into.new ≡ insert_runs (merge_runs (all_runs_of ropes.old sides.old)) (runs_of ropes.old into.old)) }
+    ensures net { OnOk result (net_sum (profile into.new) ≡ net_sum_all sides.old + net_sum (profile into.old)) }
     ensures ropes { HaveRopes ropes.new into.new }
     ensures kept { Extends ropes.old ropes.new }
-    ensures steps { OnOk result (steps.new ≡ steps.old + segment_count sides.items) }
-    ensures most_steps { steps.new ≤ steps.old + segment_count sides.items }
+    ensures steps { OnOk result (steps.new ≡ steps.old + segment_count sides.old) }
+    ensures most_steps { steps.new ≤ steps.old + segment_count sides.old }
     ensures ticks_stay { steps.old ≤ steps.new }
 {
     run_laws::runs();
-    while let Some(side) = sides.pop() {
+    for place in sides.iter_mut().rev() {
+        let side = mem::replace(place, Side::new(alloc));
         side.keeps();
         move_all(side, into, true, ropes, steps)?;
     }
     Ok(())
 }
 
-// Moves later sides into one. The nearest of them stands last.
+// Moves later sides into one, the nearest first.
 fn take_after<L: Ledger>(
-    mut sides: Vec<Side>,
+    alloc: Global,
+    sides: &mut [Side],
     into: &mut Side,
     ropes: &mut Ropes,
     steps: &mut Steps<L>,
 ) -> Result<(), NoMemory>
-    requires sides { AllHaveRopes ropes.old sides.items }
+    requires sides { AllHaveRopes ropes.old sides.old }
     requires into { HaveRopes ropes.old into.old }
-    requires net { net_sum_all sides.items + net_sum (profile into.old) ≤ most_total }
+    requires net { net_sum_all sides.old + net_sum (profile into.old) ≤ most_total }
     ensures segments { OnOk result (
-        runs_of ropes.new into.new ≡ insert_runs (runs_of ropes.old into.old) (merge_runs (all_runs_of ropes.old (reverse sides.items)))) }
+        runs_of ropes.new into.new ≡ insert_runs (runs_of ropes.old into.old) (merge_runs (all_runs_of ropes.old sides.old))) }
     ensures ropes { HaveRopes ropes.new into.new }
     ensures kept { Extends ropes.old ropes.new }
-    ensures steps { OnOk result (steps.new ≡ steps.old + segment_count sides.items) }
-    ensures most_steps { steps.new ≤ steps.old + segment_count sides.items }
+    ensures steps { OnOk result (steps.new ≡ steps.old + segment_count sides.old) }
+    ensures most_steps { steps.new ≤ steps.old + segment_count sides.old }
     ensures ticks_stay { steps.old ≤ steps.new }
 {
     run_laws::runs();
-    while let Some(side) = sides.pop() {
+    for place in sides.iter_mut() {
+        let side = mem::replace(place, Side::new(alloc));
         side.keeps();
         into.keeps();
         move_all(side, into, false, ropes, steps)?;

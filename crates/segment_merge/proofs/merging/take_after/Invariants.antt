@@ -1,14 +1,11 @@
-use Rattle.std.proofs.Common.{◌≡◌, ◌≤◌, ◌+◌, length}
+use Rattle.std.proofs.Common.{◌≡◌, ◌≤◌, ◌+◌, drop}
 use Rattle.segment_merge.specs.Merging.{segment_count}
 use Rattle.segment_merge.proofs.Later.{Following}
 use Rattle.segment_merge.proofs.merging.take_after.Given as goal
 
-abbrev pub invariant-loop-side : goal.invariant-loop-side
-invariant-loop-side g l = record {
-  following : Following l.fn.ropes l.ropes l.fn.sides.items l.fn.into l.sides.items l.into;
-  steps : l.steps + segment_count l.sides.items ≡ l.fn.steps + segment_count l.fn.sides.items;
+abbrev pub invariant-loop-place : goal.invariant-loop-place
+invariant-loop-place g l = record {
+  following : Following l.fn.ropes l.ropes l.fn.sides l.fn.into (drop l.place-index l.sides) l.into;
+  steps : l.steps + segment_count (drop l.place-index l.sides) ≡ l.fn.steps + segment_count l.fn.sides;
   ticks : l.fn.steps ≤ l.steps;
 }
-
-abbrev pub decreases-loop-side : goal.decreases-loop-side
-decreases-loop-side g l = length l.sides.items

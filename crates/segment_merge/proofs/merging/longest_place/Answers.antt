@@ -1,7 +1,7 @@
 use Rattle.std.proofs.Common.{arith}
 use Rattle.segment_merge.proofs.Longest.{seeking_longer, seeking_on, seeking_ends, same_there}
-use Rattle.segment_merge.proofs.merging.longest_end.Goals.{then-most-len, else-most-len}
-use Rattle.segment_merge.proofs.merging.longest_end.Goals as goal
+use Rattle.segment_merge.proofs.merging.longest_place.Goals.{then-most-len, else-most-len}
+use Rattle.segment_merge.proofs.merging.longest_place.Goals as goal
 
 pub loop-i-preserved : goal.loop-i-preserved
 loop-i-preserved c =
@@ -9,8 +9,8 @@ loop-i-preserved c =
     let here = same_there c.args.sides.now c.loop-i.i side c.loop-i-test.true c.index-sides-i.is in
     let len = c.len-len.ensures.len in
     elim c.if-most-len.branch [
-      | then-most-len w ↦ rw (w.most-is, w.end-is, len) (seeking_longer c.args.sides.now c.loop-i.i c.loop-i.end c.loop-i.most side c.loop-i.invariant c.loop-i-test.true here c.keeps.ensures (let h = w.if-most-len.true in omega (arith, h, len)))
-      | else-most-len w ↦ rw (w.most-is, w.end-is) (seeking_on c.args.sides.now c.loop-i.i c.loop-i.end c.loop-i.most side c.loop-i.invariant c.loop-i-test.true here c.keeps.ensures (let h = w.if-most-len.false in omega (arith, h, len)))
+      | then-most-len w ↦ rw (w.most-is, w.place-is, len) (seeking_longer c.args.sides.now c.loop-i.i c.loop-i.place c.loop-i.most side c.loop-i.invariant c.loop-i-test.true here c.keeps.ensures (let h = w.if-most-len.true in omega (arith, h, len)))
+      | else-most-len w ↦ rw (w.most-is, w.place-is) (seeking_on c.args.sides.now c.loop-i.i c.loop-i.place c.loop-i.most side c.loop-i.invariant c.loop-i-test.true here c.keeps.ensures (let h = w.if-most-len.false in omega (arith, h, len)))
     ]
 
 pub returns-clause-longest : goal.returns-clause-longest
