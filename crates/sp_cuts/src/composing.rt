@@ -217,8 +217,8 @@ fn split(alloc: Global, parts: Vec<Part>) -> Result<Apart, NoMemory>
     requires peak { sum_by (λ p. p.peak) parts.items ≤ most_total }
     ensures { IfOk result (λ s. AreSplit parts.items s.fronts.items s.backs.items s.initial s.fin s.least s.peak) }
 {
-    let mut fronts = Vec::new(alloc);
-    let mut backs = Vec::new(alloc);
+    let mut fronts = Vec::with_capacity(alloc, parts.len())?;
+    let mut backs = Vec::with_capacity(alloc, parts.len())?;
     let mut start = 0;
     let mut end = 0;
     let mut least = 0;

@@ -5,7 +5,7 @@ use Rattle.sp_cuts.proofs.composing.split.Goals as goal
 pub loop-part-init : goal.loop-part-init
 loop-part-init c = record {
   goes = (tt, tt);
-  splitting = rw (c.new-fronts.ensures.items, c.new-backs.ensures.items) (splitting_starts _ _ c.into_iter-part-iterator.ensures.into_iter_gives.0);
+  splitting = rw (c.in_ok-fronts.ensures.items, c.in_ok-backs.ensures.items) (splitting_starts _ _ c.into_iter-part-iterator.ensures.into_iter_gives.0);
   len = search rules;
 }
 
