@@ -1,6 +1,7 @@
 pub mod Totals
 pub mod Phases
 pub mod Numbers
+pub mod Placing
 pub mod Sizes
 pub mod Spots
 pub mod Awaiting

@@ -5,8 +5,7 @@ use Rattle.std.specs.Prelude.{count_by}
 use Rattle.limits.specs.Limits.{most_workers}
 use Rattle.row_table.specs.Rows.{row_at, numbers_with}
 use Rattle.mp_system.specs.declared.system.Item.{Item}
-use Rattle.mp_system.specs.declared.system.Task.{Task}
-use Rattle.mp_system.specs.System.{TaskSystem, IsTask, is_named, is_input, is_output, inputs_of, outputs_of, need_of}
+use Rattle.mp_system.specs.System.{TaskSystem, IsTask, task_at, is_named, is_input, is_output, inputs_of, outputs_of, need_of}
 use Rattle.mp_system.specs.Memory.{is_produced, is_ready, stands_in}
 use Rattle.activation.specs.Machine.{Setting, State, IsSetting, phase_in, is_idle_phase, activated_tasks, is_done, is_running}
 use Rattle.activation.specs.Machine.{running_count, booked_memory, used_memory}
@@ -29,9 +28,10 @@ is_awaited done t item = is_input t item && not (is_produced done item)
 unfoldable pub awaited : TaskSystem → (ℕ → Bool) → ℕ → ℕ
 awaited system done t = count_by (is_awaited done t) system.items
 
--- how long a task takes
-abbrev pub time_of : Task → ℕ
-time_of task = task.time
+-- the number k tells of the task at place k of the order what the relation says
+pub record AreByPlace (order : List ℕ) (tells : ℕ → ℕ → Type 0) (numbers : List ℕ) : Type 0 where
+  pub long : length numbers ≡ length order
+  pub each : (k : ℕ) → k < length order → tells (slice_index order k) (slice_index numbers k)
 
 -- the task that consumes an item, if one does
 abbrev pub consumer_of : Item → Option ℕ
@@ -58,8 +58,8 @@ AreTaskPlaces tasks places = (k : ℕ) → k < length tasks → task_entry place
 abbrev pub is_startable : Setting → State → ℕ → Bool
 is_startable c st t = stands_in (activated_tasks c st) t && (is_idle_phase (phase_in st.phases t) && is_ready c.system (is_done st) t)
 
--- the tables that no event changes: how long each task takes; what it needs; what its end frees, less what it leaves; its place in the
--- order; its outputs; and the consumer of each item
+-- the tables that no event changes. By the places of the order: how long the task there takes, what it needs, and what its end frees, less
+-- what it leaves. By the tasks: their places and their outputs. By the items: their consumers
 pub record FixedTables : Type 0 where
   pub times : List ℕ
   pub needs : List ℕ
@@ -69,11 +69,9 @@ pub record FixedTables : Type 0 where
   pub consumers : List (Option ℕ)
 
 pub record AreFixed (c : Setting) (x : FixedTables) : Type 0 where
-  pub times_are : x.times ≡ map time_of c.system.tasks
-  pub needs_length : length x.needs ≡ length c.system.tasks
-  pub needs_are : (t : ℕ) → IsTask c.system t → task_entry x.needs t ≡ need_of c.system t
-  pub frees_length : length x.frees ≡ length c.system.tasks
-  pub frees_are : (t : ℕ) → IsTask c.system t → task_entry x.frees t + outputs_of c.system t ≡ need_of c.system t + inputs_of c.system t
+  pub times_are : AreByPlace c.order (λ t n. n ≡ (task_at c.system t).time) x.times
+  pub needs_are : AreByPlace c.order (λ t n. n ≡ need_of c.system t) x.needs
+  pub frees_are : AreByPlace c.order (λ t n. n + outputs_of c.system t ≡ need_of c.system t + inputs_of c.system t) x.frees
   pub places_length : length x.places ≡ length c.system.tasks
   pub places_are : AreTaskPlaces c.order x.places
   pub outputs_are : AreOutputRows (length c.system.tasks) c.system.items x.outputs

@@ -41,9 +41,11 @@ pub struct Core {
     order: Vec<u32>,
     bound: u64,
     workers: u32,
+    // By the places of the order, along which the tasks are activated, and mostly started and finished.
     times: Vec<u64>,
     needs: Vec<u64>,
     frees: Vec<u64>,
+    // By the tasks.
     places: Vec<u32>,
     outputs: RowTable,
     consumers: Vec<Option<u32>>,
@@ -124,8 +126,8 @@ impl Core {
         start_law();
         traversal_law();
         let count = system.tasks().len();
-        let times = times_of(alloc, system)?;
-        let needs = needs_of(alloc, system)?;
+        let times = times_of(alloc, system, order)?;
+        let needs = needs_of(alloc, system, order)?;
         let outputs = output_rows(alloc, system)?;
         let consumers = consumers_of(alloc, system)?;
         let waiting = count_waiting(alloc, system)?;
@@ -164,11 +166,12 @@ impl Core {
         ensures unchanged { IfNone result (self.new ≡ self.old) }
     {
         event_law();
-        if self.activated == self.order.len() {
+        let place = self.activated;
+        if place == self.order.len() {
             return None;
         }
-        let task = self.order[self.activated];
-        let need = self.needs[task as usize - 1];
+        let task = self.order[place];
+        let need = self.needs[place];
         if self.bound - self.booked < need {
             return None;
         }
@@ -177,22 +180,48 @@ impl Core {
         Some(task)
     }
 
-    /// Whether a task may start as soon as a worker is free.
-    pub(crate) fn is_startable(&self, task: u32) -> bool
-        requires { IsTask self.now.setting.system task }
-        ensures { result ≡ is_startable self.now.setting self.now.state task }
+    /// Whether the task at a place of the order may start as soon as a worker is free.
+    pub(crate) fn is_startable(&self, place: usize) -> bool
+        requires { place < length self.now.setting.order }
+        ensures { result ≡ is_startable self.now.setting self.now.state (slice_index self.now.setting.order place) }
     {
-        let at = task as usize - 1;
-        (self.places[at] as usize) < self.activated
-            && self.phases[at].is_idle()
-            && self.waiting[at] == 0
+        let at = self.order[place] as usize - 1;
+        place < self.activated && self.phases[at].is_idle() && self.waiting[at] == 0
+    }
+
+    // Whether it may start now.
+    fn may_start_at(&self, place: usize) -> bool
+        requires { place < length self.now.setting.order }
+        ensures { IsTrue result ↔ MayStart self.now.setting self.now.state (slice_index self.now.setting.order place) }
+    {
+        self.running.has_room() && self.is_startable(place)
     }
 
     /// Whether a task may start now: `start` answers yes just then.
     pub fn may_start(&self, task: u32) -> bool
         ensures { IsTrue result ↔ MayStart self.now.setting self.now.state task }
     {
-        is_number(task, self.phases.len()) && self.running.has_room() && self.is_startable(task)
+        is_number(task, self.phases.len()) && self.may_start_at(self.place_of(task))
+    }
+
+    /// Starts the task at a place of the order, where it may start.
+    pub(crate) fn start_at(&mut self, place: usize) -> bool
+        requires { place < length self.old.setting.order }
+        ensures setting { self.new.setting ≡ self.old.setting }
+        ensures legal { IsTrue result ↔ MayStart self.old.setting self.old.state (slice_index self.old.setting.order place) }
+        ensures next { OnTrue result (self.new.state ≡ state_after self.old.state EventKind.Start (slice_index self.old.setting.order place)) }
+        ensures unchanged { OnFalse result (self.new ≡ self.old) }
+    {
+        event_law();
+        if !self.may_start_at(place) {
+            return false;
+        }
+        let task = self.order[place];
+        let need = self.needs[place];
+        self.phases[task as usize - 1] = Phase::Running;
+        self.running.add(task);
+        self.used += need;
+        true
     }
 
     /// Starts an activated task whose suppliers are done, where a worker is free.
@@ -202,23 +231,35 @@ impl Core {
         ensures next { OnTrue result (self.new.state ≡ state_after self.old.state EventKind.Start task) }
         ensures unchanged { OnFalse result (self.new ≡ self.old) }
     {
-        event_law();
-        if !self.may_start(task) {
+        if !is_number(task, self.phases.len()) {
             return false;
         }
-        let at = task as usize - 1;
-        let need = self.needs[at];
-        self.phases[at] = Phase::Running;
-        self.running.add(task);
-        self.used += need;
-        true
+        let place = self.place_of(task);
+        self.start_at(place)
     }
 
-    // Whether the task runs now.
-    fn may_finish(&self, task: u32) -> bool
-        ensures { IsTrue result ↔ MayFinish self.now.setting self.now.state task }
+    /// Ends the task at a place of the order, where it runs.
+    pub(crate) fn finish_at(&mut self, place: usize) -> bool
+        requires { place < length self.old.setting.order }
+        ensures setting { self.new.setting ≡ self.old.setting }
+        ensures legal { IsTrue result ↔ MayFinish self.old.setting self.old.state (slice_index self.old.setting.order place) }
+        ensures next { OnTrue result (self.new.state ≡ state_after self.old.state EventKind.Finish (slice_index self.old.setting.order place)) }
+        ensures unchanged { OnFalse result (self.new ≡ self.old) }
     {
-        is_number(task, self.phases.len()) && self.phases[task as usize - 1].is_running()
+        event_law();
+        numbers_law();
+        let task = self.order[place];
+        let at = task as usize - 1;
+        if !self.phases[at].is_running() {
+            return false;
+        }
+        let frees = self.frees[place];
+        self.phases[at] = Phase::Done;
+        self.running.remove(task);
+        self.booked -= frees;
+        self.used -= frees;
+        release(&self.consumers, self.outputs.row(task), &mut self.waiting);
+        true
     }
 
     /// Ends a running task.
@@ -228,19 +269,11 @@ impl Core {
         ensures next { OnTrue result (self.new.state ≡ state_after self.old.state EventKind.Finish task) }
         ensures unchanged { OnFalse result (self.new ≡ self.old) }
     {
-        event_law();
-        numbers_law();
-        if !self.may_finish(task) {
+        if !is_number(task, self.phases.len()) {
             return false;
         }
-        let at = task as usize - 1;
-        let frees = self.frees[at];
-        self.phases[at] = Phase::Done;
-        self.running.remove(task);
-        self.booked -= frees;
-        self.used -= frees;
-        release(&self.consumers, self.outputs.row(task), &mut self.waiting);
-        true
+        let place = self.place_of(task);
+        self.finish_at(place)
     }
 
     /// Used memory: the items that are present, and the needs of the running tasks.
@@ -322,13 +355,13 @@ impl Core {
         self.places[task as usize - 1] as usize
     }
 
-    /// How long a task takes.
-    pub(crate) fn time_of(&self, task: u32) -> u64
-        requires { IsTask self.now.setting.system task }
-        ensures time { result ≡ (task_at self.now.setting.system task).time }
+    /// How long the task at a place of the order takes.
+    pub(crate) fn time_at(&self, place: usize) -> u64
+        requires { place < length self.now.setting.order }
+        ensures time { result ≡ (task_at self.now.setting.system (slice_index self.now.setting.order place)).time }
         ensures long { result ≤ most_time }
     {
-        self.times[task as usize - 1]
+        self.times[place]
     }
 
     /// Puts the rank of the task that is named, if one is, into the set of those that are startable, or takes it out.
@@ -343,7 +376,7 @@ impl Core {
     {
         if let Some(named) = task {
             let rank = ranks[named as usize - 1] as usize;
-            ready.put(rank, self.is_startable(named));
+            ready.put(rank, self.is_startable(self.place_of(named)));
         }
     }
 

@@ -1,6 +1,9 @@
-ghost use Rattle.std.specs.Prelude.{◌≡◌, ℕ, ◌<◌, ◌≤◌, ◌^◌, length, slice_index, IsTrue, ◌↔◌};
+ghost use Rattle.std.specs.Prelude.{◌≡◌, ℕ, ◌<◌, ◌≤◌, ◌^◌, ◌-◌, All, length, map, slice_index, IsTrue, ◌↔◌, IfOk};
 ghost use Rattle.activation.specs.Running.{IsNumber};
 ghost use Rattle.activation.specs.Tables.{AreTaskPlaces};
+
+use crate::NoMemory;
+use std::alloc::Global;
 
 /// Whether this is the number of one of so many tasks.
 pub fn is_number(task: u32, count: usize) -> bool
@@ -19,4 +22,15 @@ pub fn fill_places(tasks: &[u32], places: &mut [u32])
     for i in 0..tasks.len() {
         places[tasks[i] as usize - 1] = i as u32;
     }
+}
+
+/// The numbers of the tasks of a list, in the list's order, out of a table that has one for each task.
+pub fn by_place(alloc: Global, tasks: &[u32], numbers: &[u64]) -> Result<Vec<u64>, NoMemory>
+    requires { All (λ t. IsNumber t (length numbers.now)) tasks.now }
+    ensures { IfOk result (λ placed. placed.items ≡ map (λ t. slice_index numbers.now (t - 1)) tasks.now) }
+{
+    tasks
+        .iter()
+        .map(|task| numbers[*task as usize - 1])
+        .collect(alloc)
 }

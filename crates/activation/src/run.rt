@@ -117,7 +117,7 @@ impl Run {
         event_law();
         let next = self.room.clock.take_first()?;
         let task = self.core.task_at(next.place as usize);
-        self.core.finish(task);
+        self.core.finish_at(next.place as usize);
         self.time = next.time;
         self.core
             .refresh_consumers(task, &self.room.ranks, &mut self.room.ready);
@@ -181,13 +181,16 @@ impl Run {
         traversal_law();
         event_law();
         let task = self.first_startable()?;
-        let place = self.core.place_of(task) as u32;
-        let time = self.time + self.core.time_of(task);
+        let place = self.core.place_of(task);
+        let time = self.time + self.core.time_at(place);
         if !self.core.start(task) {
             return None;
         }
         self.room.dues[task as usize - 1] = time;
-        self.room.clock.add(Due { time, place });
+        self.room.clock.add(Due {
+            time,
+            place: place as u32,
+        });
         self.core
             .refresh(Some(task), &self.room.ranks, &mut self.room.ready);
         Some(Event {

@@ -2,11 +2,12 @@ use Rattle.std.proofs.Common.{◌≡◌, ℕ, ◌≤◌, List, length, drop, ari
 use Rattle.std.specs.Prelude.{replicate, slice_index}
 use Rattle.std.proofs.lemmas.List.{take_at}
 use Rattle.activation.specs.declared.events.Phase.TheVariants.{Idle}
-use Rattle.mp_system.specs.System.{TaskSystem, IsSystem}
+use Rattle.mp_system.specs.System.{TaskSystem, IsSystem, IsTask, task_at}
 use Rattle.mp_system.specs.Memory.{peak_of}
 use Rattle.mp_system.specs.Traversal.{IsTraversal}
 use Rattle.activation.specs.Machine.{Setting, IsSetting}
 use Rattle.activation.proofs.Orders.{each, stands_once}
+use Rattle.activation.proofs.Placing.{placed}
 use Rattle.activation.proofs.Beginning.{start_tables}
 use Rattle.activation.proofs.cores.Core.at_start.Goals as goal
 
@@ -39,10 +40,8 @@ invariant_of-result c =
       consumers = c.in_ok-consumers.consumers.items;
     })
     (record {
-      times_are = c.in_ok-times.ensures;
-      needs_length = c.in_ok-needs.ensures.needs_len;
+      times_are = placed (λ t. (task_at system t).time) {P = IsTask system} c.requires.traversal.tasks c.in_ok-times.ensures (λ t is. refl);
       needs_are = c.in_ok-needs.ensures.needs;
-      frees_length = c.in_ok-needs.ensures.frees_len;
       frees_are = c.in_ok-needs.ensures.frees;
       places_length = places_length;
       places_are = c.fill_places.ensures;

@@ -1,4 +1,4 @@
-use Rattle.std.proofs.Common.{arith}
+use Rattle.std.proofs.Common.{arith, ap, ◌∙◌}
 use Rattle.activation.specs.Tables.{is_startable}
 use Rattle.activation.proofs.Numbers.{named}
 use Rattle.activation.proofs.Ranking.{rank_within, marked}
@@ -10,8 +10,8 @@ overflow_sub-rank c = (c.requires.tasks c.in-Some.named (named _ c.in-Some.named
 pub bounds-ranks-named : goal.bounds-ranks-named
 bounds-ranks-named c = let is = c.requires.tasks c.in-Some.named (named _ c.in-Some.named c.in-Some.is) in omega (arith, is, c.requires.ranks.long)
 
-pub is_startable-requires : goal.is_startable-requires
-is_startable-requires c = c.requires.tasks c.in-Some.named (named _ c.in-Some.named c.in-Some.is)
+pub place_of-requires : goal.place_of-requires
+place_of-requires c = c.requires.tasks c.in-Some.named (named _ c.in-Some.named c.in-Some.is)
 
 pub put-requires : goal.put-requires
 put-requires c = rank_within c.requires.ranks c.in-Some.is (c.requires.tasks c.in-Some.named (named _ c.in-Some.named c.in-Some.is)) c.args.ready.now c.requires.long
@@ -21,4 +21,4 @@ returns-in-Some-clause-marks c =
     let v = c.args.self.now in
     λ t in'. rw c.put.ensures
     (marked c.requires.ranks c.in-Some.is (c.requires.tasks c.in-Some.named (named _ c.in-Some.named c.in-Some.is)) c.args.ready.now c.requires.long
-    (λ t. is_startable v.setting v.state t) c.is_startable.result c.is_startable.ensures t in')
+    (λ t. is_startable v.setting v.state t) c.is_startable.result (c.is_startable.ensures ∙ ap (is_startable v.setting v.state) c.place_of.ensures.there) t in')

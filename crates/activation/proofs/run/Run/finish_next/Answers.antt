@@ -23,6 +23,14 @@ task_at-task-requires c =
     let among = taken_among f.room.clock.dues c.take_first.new.self.dues next c.in_ok-next.ensures.dues in
     due_within c.traversal_law.ensures.long k.setting k.safe c.self.invariant next among c.in_ok-next.ensures.first
 
+pub finish_at-requires : goal.finish_at-requires
+finish_at-requires c =
+    let f = c.self.inside in
+    let k = c.keeps.ensures in
+    let next = c.in_ok-next.next in
+    let among = taken_among f.room.clock.dues c.take_first.new.self.dues next c.in_ok-next.ensures.dues in
+    due_within c.traversal_law.ensures.long k.setting k.safe c.self.invariant next among c.in_ok-next.ensures.first
+
 pub refresh_consumers-requires-clause-task : goal.refresh_consumers-requires-clause-task
 refresh_consumers-requires-clause-task c =
     let f = c.self.inside in
@@ -34,7 +42,7 @@ refresh_consumers-requires-clause-task c =
     let first = c.in_ok-next.ensures.first in
     let due = next_is_due long k.setting k.safe c.self.invariant next among first in
     let running : phase_in f.core.state.phases task ≡ Running = rw c.task_at-task.ensures due.running in
-    rw c.finish.ensures.setting (running_is_task f.core.setting k.setting f.core.state k.safe task running)
+    rw c.finish_at.ensures.setting (running_is_task f.core.setting k.setting f.core.state k.safe task running)
 
 pub invariant_of-self : goal.invariant_of-self
 invariant_of-self c = rw c.in_err-next.ensures.unchanged c.self.invariant
@@ -51,15 +59,15 @@ invariant_of-self-2 c =
     let due = next_is_due long k.setting k.safe c.self.invariant next among first in
     let running : phase_in f.core.state.phases task ≡ Running = rw c.task_at-task.ensures due.running in
     let legal : MayFinish f.core.setting f.core.state task = record { running = running } in
-    let done = OnTrue_at (c.finish.ensures.legal.1 legal) c.finish.ensures.next in
+    let done = rw (← c.task_at-task.ensures) at (OnTrue_at (c.finish_at.ensures.legal.1 (record { running = due.running })) c.finish_at.ensures.next) in
     let fewer = c.event_law.ensures.change f.core.setting k.setting f.core.state k.safe Finish task legal in
     let time = due_time long k.setting k.safe c.self.invariant next among first ∙ ap (task_entry f.room.dues.items) (sym c.task_at-task.ensures) in
-    rw (c.finish.ensures.setting, done) (finished_run k.setting k.safe c.self.invariant task next legal
+    rw (c.finish_at.ensures.setting, done) (finished_run k.setting k.safe c.self.invariant task next legal
     (due_within long k.setting k.safe c.self.invariant next among first) (sym c.task_at-task.ensures) time
     (none_before long k.setting k.safe c.self.invariant next among first) c.take_first.new.self c.in_ok-next.ensures.room c.in_ok-next.ensures.dues fewer.running
     c.refresh_consumers.new.ready c.refresh_consumers.ensures.long
-    (rw (c.finish.ensures.setting, done, c.deref.ensures.value) at c.refresh_consumers.ensures.consumers)
-    (rw (c.finish.ensures.setting, c.deref.ensures.value) at c.refresh_consumers.ensures.others))
+    (rw (c.finish_at.ensures.setting, done, c.deref.ensures.value) at c.refresh_consumers.ensures.consumers)
+    (rw (c.finish_at.ensures.setting, c.deref.ensures.value) at c.refresh_consumers.ensures.others))
 
 pub returns-clause-due : goal.returns-clause-due
 returns-clause-due c =
@@ -98,5 +106,5 @@ returns-clause-next c =
     let due = next_is_due long k.setting k.safe c.self.invariant next among first in
     let running : phase_in f.core.state.phases task ≡ Running = rw c.task_at-task.ensures due.running in
     let legal : MayFinish f.core.setting f.core.state task = record { running = running } in
-    let done = OnTrue_at (c.finish.ensures.legal.1 legal) c.finish.ensures.next in
+    let done = rw (← c.task_at-task.ensures) at (OnTrue_at (c.finish_at.ensures.legal.1 (record { running = due.running })) c.finish_at.ensures.next) in
     rw (← c.self.view_is, done)

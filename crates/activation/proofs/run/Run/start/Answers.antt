@@ -1,6 +1,6 @@
-use Rattle.std.proofs.Common.{◌≡◌, ℕ, ◌+◌, false, sym, refl, ◌∙◌, arith}
+use Rattle.std.proofs.Common.{◌≡◌, ℕ, ◌+◌, false, sym, refl, ap, ◌∙◌, arith}
 use Rattle.std.proofs.lemmas.Bool.{OnTrue_at, true≢false}
-use Rattle.mp_system.specs.System.{IsTask}
+use Rattle.mp_system.specs.System.{IsTask, task_at}
 use Rattle.activation.specs.Schedule.{Moment, NoneDue, NoneActivates}
 use Rattle.activation.specs.Tables.{is_startable}
 use Rattle.activation.specs.Run.{IsFirstStartable}
@@ -16,7 +16,7 @@ pub overflow_add-time : goal.overflow_add-time
 overflow_add-time c =
     let k = c.keeps.ensures in
     let count = count_le c.traversal_law.ensures.long c.self.inside.core.setting k.setting c.self.inside.core.state k.safe in
-    omega (arith, c.self.invariant.time_small, count, k.setting.system.few_tasks, c.time_of.ensures.long)
+    omega (arith, c.self.invariant.time_small, count, k.setting.system.few_tasks, c.time_at.ensures.long)
 
 pub returns-in_err-task-clause-none : goal.returns-in_err-task-clause-none
 returns-in_err-task-clause-none c =
@@ -51,10 +51,10 @@ invariant_of-self-2 c =
     let task = c.in_ok-task.task in
     let legal = c.start.ensures.legal.0 c.if-not-start.false in
     let next = OnTrue_at c.if-not-start.false c.start.ensures.next in
-    let due : Due = record { time = f.time + c.time_of.result; place = c.place_of-place.result } in
+    let due : Due = record { time = f.time + c.time_at.result; place = c.place_of-place.result } in
     let more = c.event_law.ensures.change f.core.setting k.setting f.core.state k.safe Start task legal in
     rw (c.start.ensures.setting, next) (started_run k.setting k.safe c.self.invariant task due legal c.place_of-place.ensures.within c.place_of-place.ensures.there
-    (omega arith) (omega (arith, c.time_of.ensures.long)) c.add.new.self c.add.ensures.room c.add.ensures.dues more.running c.refresh.new.ready c.refresh.ensures.long
+    (omega arith) (omega (arith, c.time_at.ensures.long)) c.add.new.self c.add.ensures.room c.add.ensures.dues more.running c.refresh.new.ready c.refresh.ensures.long
     (rw (c.start.ensures.setting, next, c.deref.ensures.value) at c.refresh.ensures.marks))
 
 pub returns-clause-comes : goal.returns-clause-comes
@@ -79,4 +79,5 @@ returns-clause-next c =
     let f = c.self.inside in
     let next = OnTrue_at c.if-not-start.false c.start.ensures.next in
     let first : IsFirstStartable f.core.setting f.room.priority.items f.core.state c.in_ok-task.task = rw (← c.self.view_is) at c.in_ok-task.ensures.some in
-    rw (← c.self.view_is, next, ← c.time_of.ensures.time, number_written f.room.dues.items c.in_ok-task.task (f.time + c.time_of.result) first.task.0)
+    let time = c.time_at.ensures.time ∙ ap (λ t. (task_at f.core.setting.system t).time) c.place_of-place.ensures.there in
+    rw (← c.self.view_is, next, ← time, number_written f.room.dues.items c.in_ok-task.task (f.time + c.time_at.result) first.task.0)
