@@ -1,9 +1,10 @@
 -- The tables of a machine before and after each event.
-use Rattle.std.proofs.Common.{◌≡◌, ℕ, ◌+◌, ◌-◌, ◌<◌, ◌≤◌, true, false, not, ◌&&◌, List, [], ◌∷◌, ◌++◌, length, get_or, set, refl, sym, subst, ◌∙◌, ap, arith, ⊎_elim, length-append, Option, None}
+use Rattle.std.proofs.Common.{◌≡◌, ℕ, ◌+◌, ◌-◌, ◌<◌, ◌≤◌, All, true, false, not, ◌&&◌, List, [], ◌∷◌, ◌++◌, length, get_or, set, refl, sym, subst, ◌∙◌, ap, arith, ⊎_elim, length-append}
 use Rattle.std.specs.Prelude.{count_by, ◌==◌, ◌||◌, nat_lt, slice_index}
 use Rattle.std.proofs.lemmas.List.{get_or_read, get_or_default, length-map, length-take, get_or-take}
 use Rattle.std.proofs.lemmas.List.Elements.{All-get_or}
 use Rattle.std.proofs.Math.ListN.{get_or-map}
+use Rattle.row_table.specs.Rows.{row_at}
 use Rattle.limits.specs.Limits.{most_time}
 use Rattle.std.proofs.lemmas.Bool.{true≢false, cases_eq, eq-eqb, eqb-true, ne_eqb, ltb-true, lt-ltb, and_from}
 use Rattle.std.proofs.lemmas.List.Folds.{list_any-append}
@@ -18,10 +19,9 @@ use Rattle.activation.specs.Machine.{Setting, State, phase_in, is_idle_phase, is
 use Rattle.activation.specs.Safe.{IsSafe}
 use Rattle.activation.specs.Schedule.{task_entry}
 use Rattle.activation.specs.Changes.{BooksNeed, UsesNeed, FreesNeed}
-use Rattle.activation.specs.Tables.{CoreTables, AreCoreTables, AreByPlace, awaited, is_edge, is_startable, consumer_of, no_item}
+use Rattle.activation.specs.Tables.{CoreTables, AreCoreTables, AreByPlace, awaited, is_edge, is_startable}
 use Rattle.activation.proofs.Totals.{place_in, in_at}
 use Rattle.activation.proofs.Numbers.{number_read}
-use Rattle.activation.proofs.Sizes.{consumer_is_task}
 use Rattle.activation.proofs.Phases.{phase_read, running_from, phase_written, with_phase_same, with_phase_other}
 use Rattle.activation.proofs.Orders.{each, task_in_order, task_has_place, in_front}
 use Rattle.activation.proofs.Changes.{same_done, finish_adds, finishes_front}
@@ -46,18 +46,6 @@ module _ {c : Setting} {st : State} {x : CoreTables} (a : AreCoreTables c st x) 
 
   pub time_long : (task : ℕ) → IsTask c.system task → (task_at c.system task).time ≤ most_time
   time_long task is = (All-get_or IsTaskWithin c.system.tasks (task - 1) (record { extra = 0; share = 0; time = 0 }) (omega (arith, is.0, is.1)) a.setting.system.tasks).time.1
-
-  -- the consumers of the items are tasks
-  pub consumers_length : length x.fixed.consumers ≡ length c.system.items
-  consumers_length = ap length a.fixed.consumers_are ∙ length-map c.system.items consumer_of
-
-  pub consumer_within : (i t : ℕ) → i < length x.fixed.consumers → is_named (get_or x.fixed.consumers i None) t ≡ true → IsTask c.system t
-  consumer_within i t w is =
-      let at : get_or x.fixed.consumers i None ≡ (get_or c.system.items i no_item).to = ap (λ os. get_or os i None) a.fixed.consumers_are ∙ get_or-map consumer_of c.system.items i no_item in
-      consumer_is_task c.system a.setting.system c.system.items refl i no_item (omega (arith, w, consumers_length)) t (ap (λ (o : Option ℕ). is_named o t) (sym at) ∙ is)
-
-  pub consumer_read : (i : ℕ) (o : Option ℕ) → i < length x.fixed.consumers → o ≡ get_or x.fixed.consumers i o → o ≡ get_or x.fixed.consumers i None
-  consumer_read i o w e = e ∙ get_or_default x.fixed.consumers i o None w
 
   -- an activated task is one of the system
   pub front_is_task : (task : ℕ) → stands_in (activated_tasks c st) task ≡ true → IsTask c.system task
@@ -86,7 +74,6 @@ module _ {c : Setting} {st : State} {x : CoreTables} (a : AreCoreTables c st x) 
       few_workers = a.few_workers;
       safe = safe;
       fixed = a.fixed;
-      waiting_length = a.waiting_length;
       waiting_are = a.waiting_are;
       running_room = a.running_room;
       running_numbers = a.running_numbers;
@@ -151,9 +138,9 @@ module _ {c : Setting} {st : State} {x : CoreTables} (a : AreCoreTables c st x) 
     pub rests_here : {q : Phase} → q ≡ get_or st.phases (task - 1) q → is_running_phase q ≡ false → MayFinish c st task → ⊥
     rests_here e off h = true≢false (sym (ap is_running_phase (phase_here e ∙ h.running)) ∙ off)
 
-    pub ready_read : {n : ℕ} → n ≡ get_or x.waiting (task - 1) n → is_ready c.system (is_done st) task ≡ (n == 0)
+    pub ready_read : {n : ℕ} → n ≡ get_or x.waiting k n → is_ready c.system (is_done st) task ≡ (n == 0)
     ready_read {n} e =
-        let left : n ≡ awaited c.system (is_done st) task = number_read x.waiting task n is.0 (omega (arith, is.1, a.waiting_length)) e ∙ a.waiting_are task is in
+        let left : n ≡ awaited c.system (is_done st) task = number_here a.waiting_are e in
         both_ways _ _ (λ h. eq-eqb n 0 (omega (arith, left, awaits_none c.system (is_done st) task h))) (λ h. ready_from c.system (is_done st) task (omega (arith, left, eqb-true n 0 h)))
 
   -- where a task may start, a worker is free
@@ -176,8 +163,10 @@ module _ {c : Setting} {st : State} {x : CoreTables} (a : AreCoreTables c st x) 
           few_workers = a.few_workers;
           safe = safe;
           fixed = a.fixed;
-          waiting_length = a.waiting_length;
-          waiting_are = λ t in'. a.waiting_are t in' ∙ sym (awaited_same c.system (is_done (state_after st Start task)) (is_done st) (same_done c a.setting st a.safe task h) t);
+              waiting_are = record {
+            long = a.waiting_are.long;
+            each = λ k w. a.waiting_are.each k w ∙ sym (awaited_same c.system (is_done (state_after st Start task)) (is_done st) (same_done c a.setting st a.safe task h) (slice_index c.order k));
+          };
           running_room = room ∙ a.running_room;
           running_numbers = count ∙ a.running_numbers;
           running_length = omega (arith, longer, a.running_length, change.running);
@@ -201,8 +190,26 @@ module _ {c : Setting} {st : State} {x : CoreTables} (a : AreCoreTables c st x) 
     fewer : (u : ℕ) → awaited c.system (is_done (state_after st Finish task)) u + count_by (is_edge task u) c.system.items ≡ awaited c.system (is_done st) u
     fewer u = awaited_later c.system (is_done st) (is_done (state_after st Finish task)) task (ap is_done_phase h.running) (finish_adds c a.setting st a.safe task h) u
 
-    pub finish_enough : (u : ℕ) → IsNumber u (length x.waiting) → count_by (is_edge task u) c.system.items ≤ task_entry x.waiting u
-    finish_enough u in' = omega (arith, a.waiting_are u (in'.0, omega (arith, in'.1, a.waiting_length)), fewer u)
+    -- at its place the row of consumers has as many of each place as it takes off there
+    module _ {k : ℕ} (w : k < length c.order) (here : slice_index c.order k ≡ task) where
+      taken : (p : ℕ) → p < length c.order → count_by (λ q. q == p) (row_at x.fixed.consumers k) ≡ count_by (is_edge task (slice_index c.order p)) c.system.items
+      taken p v = a.fixed.consumers_are.counts k p w v ∙ ap (λ t. count_by (is_edge t (slice_index c.order p)) c.system.items) here
+
+      pub finish_within : All (λ p. p < length x.waiting) (row_at x.fixed.consumers k)
+      finish_within i d v = omega (arith, a.fixed.consumers_are.within k w i d v, a.waiting_are.long)
+
+      pub finish_enough : (p : ℕ) → p < length x.waiting → count_by (λ q. q == p) (row_at x.fixed.consumers k) ≤ slice_index x.waiting p
+      finish_enough p v =
+          let v' : p < length c.order = omega (arith, v, a.waiting_are.long) in
+          omega (arith, taken p v', a.waiting_are.each p v', fewer (slice_index c.order p))
+
+      pub finish_waiting : (waiting : List ℕ) → length waiting ≡ length x.waiting →
+          ((p : ℕ) → p < length x.waiting → slice_index waiting p + count_by (λ q. q == p) (row_at x.fixed.consumers k) ≡ slice_index x.waiting p) →
+          AreByPlace c.order (λ t n. n ≡ awaited c.system (is_done (state_after st Finish task)) t) waiting
+      finish_waiting waiting len counts = record {
+        long = len ∙ a.waiting_are.long;
+        each = λ p v. omega (arith, taken p v, a.waiting_are.each p v, fewer (slice_index c.order p), counts p (omega (arith, v, a.waiting_are.long)));
+      }
 
     module _ (n : ℕ) (freed : n + outputs_of c.system task ≡ need_of c.system task + inputs_of c.system task) (change : FreesNeed c st task) where
       pub finish_frees : (n ≤ x.booked) × (n ≤ x.used)
@@ -210,9 +217,9 @@ module _ {c : Setting} {st : State} {x : CoreTables} (a : AreCoreTables c st x) 
 
       pub finished_tables : IsSafe c (state_after st Finish task) → (now : RunningValue) → ((t : ℕ) → stands_in now.listed t ≡ (stands_in x.running.listed t && not (t == task))) →
           length now.listed + 1 ≡ length x.running.listed → now.room ≡ x.running.room → now.count ≡ x.running.count →
-          (waiting : List ℕ) → length waiting ≡ length x.waiting → ((u : ℕ) → task_entry waiting u + count_by (is_edge task u) c.system.items ≡ task_entry x.waiting u) →
+          (waiting : List ℕ) → AreByPlace c.order (λ t n. n ≡ awaited c.system (is_done (state_after st Finish task)) t) waiting →
           AreCoreTables c (record { activated = st.activated; phases = set st.phases (task - 1) Done }) (record x { waiting = waiting; running = now; booked = x.booked - n; used = x.used - n })
-      finished_tables safe now listed shorter room count waiting len counts =
+      finished_tables safe now listed shorter room count waiting waits =
           let is = finish_is_task task h in
           let here = with_phase_same st.phases task Done is.0 (omega (arith, is.1, a.safe.phases)) in
           let tables : AreCoreTables c (state_after st Finish task) (record x { waiting = waiting; running = now; booked = x.booked - n; used = x.used - n }) = record {
@@ -220,8 +227,7 @@ module _ {c : Setting} {st : State} {x : CoreTables} (a : AreCoreTables c st x) 
             few_workers = a.few_workers;
             safe = safe;
             fixed = a.fixed;
-            waiting_length = len ∙ a.waiting_length;
-            waiting_are = λ u in'. omega (arith, counts u, a.waiting_are u in', fewer u);
+            waiting_are = waits;
             running_room = room ∙ a.running_room;
             running_numbers = count ∙ a.running_numbers;
             running_length = omega (arith, shorter, a.running_length, change.running);

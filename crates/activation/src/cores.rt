@@ -1,32 +1,29 @@
-ghost use Rattle.std.specs.Prelude.{◌≡◌, nat_eq, ◌*◌, ◌<◌, ◌≤◌, ℕ, true, false, if◌then◌else◌, [], length, slice_index, slice_index_or, count_by, vec_capacity, IfOk, IfErr, IsTrue, IfSome, IfNone, ◌↔◌};
+ghost use Rattle.std.specs.Prelude.{◌≡◌, ◌==◌, nat_eq, ◌*◌, ◌<◌, ◌≤◌, ℕ, true, false, if◌then◌else◌, [], length, slice_index, slice_index_or, count_by, vec_capacity, IfOk, IfErr, IsTrue, IfSome, IfNone, ◌↔◌};
 ghost use Rattle.std.specs.Bool.{OnTrue, OnFalse};
 ghost use Rattle.std.specs.List.{IsDistinct};
 ghost use Rattle.limits.specs.Limits.{most_time, most_workers};
-ghost use Rattle.mp_system.specs.System.{IsTask, is_named, task_at};
+ghost use Rattle.mp_system.specs.System.{IsTask, task_at};
 ghost use Rattle.mp_system.specs.Memory.{peak_of, stands_in};
 ghost use Rattle.mp_system.specs.Traversal.{IsTraversal};
 ghost use Rattle.activation.specs.Machine.{CoreValue, IsSetting, MayActivate, MayStart, MayFinish, state_after, start_state, is_running, is_done, booked_memory, used_memory};
 ghost use Rattle.activation.specs.Safe.{IsSafe};
 ghost use Rattle.activation.specs.Refusal.{IsCoreRefusal};
-ghost use Rattle.activation.specs.Tables.{AreCoreTables, is_startable, is_edge};
-ghost use Rattle.activation.specs.Schedule.{task_entry};
-ghost use Rattle.activation.specs.Run.{AreRanks};
+ghost use Rattle.activation.specs.Tables.{AreCoreTables, IsNumbering, is_startable, is_edge};
 
 use crate::NoMemory;
+use crate::consumers::consumer_rows;
 use crate::events::{Event, EventKind, Phase};
 use crate::laws::{event_law, start_law};
-use crate::outputs::{consumers_of, output_rows};
-use crate::places::{fill_places, is_number};
+use crate::places::{is_number, places_of};
 use crate::rank_set::RankSet;
 use crate::refusal::CoreRefusal;
 use crate::running::RunningTasks;
 use crate::start::{start_memory, times_of};
 use crate::sums::needs_of;
-use crate::waiting::{count_waiting, release};
+use crate::waiting::{release, waiting_of};
 use mp_system::laws::traversal_law;
 use mp_system::{System, replay};
 use row_table::RowTable;
-use row_table::laws::numbers_law;
 use std::alloc::Global;
 use std::marker::Model;
 use std::snapshot::Snapshot;
@@ -45,11 +42,10 @@ pub struct Core {
     times: Vec<u64>,
     needs: Vec<u64>,
     frees: Vec<u64>,
+    consumers: RowTable,
+    waiting: Vec<u64>,
     // By the tasks.
     places: Vec<u32>,
-    outputs: RowTable,
-    consumers: Vec<Option<u32>>,
-    waiting: Vec<u64>,
     phases: Vec<Phase>,
     activated: usize,
     running: RunningTasks,
@@ -74,8 +70,7 @@ impl Model for Core {
             needs = m.needs.items;
             frees = m.frees.items;
             places = m.places.items;
-            outputs = m.outputs;
-            consumers = m.consumers.items;
+            consumers = m.consumers;
           };
           waiting = m.waiting.items;
           running = m.running;
@@ -128,11 +123,9 @@ impl Core {
         let count = system.tasks().len();
         let times = times_of(alloc, system, order)?;
         let needs = needs_of(alloc, system, order)?;
-        let outputs = output_rows(alloc, system)?;
-        let consumers = consumers_of(alloc, system)?;
-        let waiting = count_waiting(alloc, system)?;
-        let mut places = vec![in alloc; 0u32; count]?;
-        fill_places(order, &mut places);
+        let waiting = waiting_of(alloc, system, order)?;
+        let places = places_of(alloc, system, order)?;
+        let consumers = consumer_rows(alloc, system, &places)?;
         let running = RunningTasks::new(alloc, workers as usize, count)?;
         let phases = vec![in alloc; Phase::Idle; count]?;
         let memory = start_memory(system);
@@ -145,10 +138,9 @@ impl Core {
             times,
             needs: needs.needs,
             frees: needs.frees,
-            places,
-            outputs,
             consumers,
             waiting,
+            places,
             phases,
             activated: 0,
             running,
@@ -181,16 +173,18 @@ impl Core {
     }
 
     /// Whether the task at a place of the order may start as soon as a worker is free.
-    pub(crate) fn is_startable(&self, place: usize) -> bool
+    pub(crate) fn is_startable(&self, place: u32) -> bool
         requires { place < length self.now.setting.order }
         ensures { result ≡ is_startable self.now.setting self.now.state (slice_index self.now.setting.order place) }
     {
-        let at = self.order[place] as usize - 1;
-        place < self.activated && self.phases[at].is_idle() && self.waiting[at] == 0
+        let at = place as usize;
+        at < self.activated
+            && self.waiting[at] == 0
+            && self.phases[self.order[at] as usize - 1].is_idle()
     }
 
     // Whether it may start now.
-    fn may_start_at(&self, place: usize) -> bool
+    fn may_start_at(&self, place: u32) -> bool
         requires { place < length self.now.setting.order }
         ensures { IsTrue result ↔ MayStart self.now.setting self.now.state (slice_index self.now.setting.order place) }
     {
@@ -205,7 +199,7 @@ impl Core {
     }
 
     /// Starts the task at a place of the order, where it may start.
-    pub(crate) fn start_at(&mut self, place: usize) -> bool
+    pub(crate) fn start_at(&mut self, place: u32) -> bool
         requires { place < length self.old.setting.order }
         ensures setting { self.new.setting ≡ self.old.setting }
         ensures legal { IsTrue result ↔ MayStart self.old.setting self.old.state (slice_index self.old.setting.order place) }
@@ -216,8 +210,8 @@ impl Core {
         if !self.may_start_at(place) {
             return false;
         }
-        let task = self.order[place];
-        let need = self.needs[place];
+        let task = self.order[place as usize];
+        let need = self.needs[place as usize];
         self.phases[task as usize - 1] = Phase::Running;
         self.running.add(task);
         self.used += need;
@@ -239,7 +233,7 @@ impl Core {
     }
 
     /// Ends the task at a place of the order, where it runs.
-    pub(crate) fn finish_at(&mut self, place: usize) -> bool
+    pub(crate) fn finish_at(&mut self, place: u32) -> bool
         requires { place < length self.old.setting.order }
         ensures setting { self.new.setting ≡ self.old.setting }
         ensures legal { IsTrue result ↔ MayFinish self.old.setting self.old.state (slice_index self.old.setting.order place) }
@@ -247,18 +241,17 @@ impl Core {
         ensures unchanged { OnFalse result (self.new ≡ self.old) }
     {
         event_law();
-        numbers_law();
-        let task = self.order[place];
+        let task = self.order[place as usize];
         let at = task as usize - 1;
         if !self.phases[at].is_running() {
             return false;
         }
-        let frees = self.frees[place];
+        let frees = self.frees[place as usize];
         self.phases[at] = Phase::Done;
         self.running.remove(task);
         self.booked -= frees;
         self.used -= frees;
-        release(&self.consumers, self.outputs.row(task), &mut self.waiting);
+        release(self.consumers.row(place), &mut self.waiting);
         true
     }
 
@@ -339,61 +332,60 @@ impl Core {
     }
 
     /// The task that stands at this place of the order, counted from 0.
-    pub(crate) fn task_at(&self, place: usize) -> u32
+    pub(crate) fn task_at(&self, place: u32) -> u32
         requires { place < length self.now.setting.order }
         ensures { result ≡ slice_index self.now.setting.order place }
     {
-        self.order[place]
+        self.order[place as usize]
     }
 
     /// Where a task stands in the order, counted from 0.
-    pub(crate) fn place_of(&self, task: u32) -> usize
+    pub(crate) fn place_of(&self, task: u32) -> u32
         requires { IsTask self.now.setting.system task }
         ensures within { result < length self.now.setting.order }
         ensures there { slice_index self.now.setting.order result ≡ task }
     {
-        self.places[task as usize - 1] as usize
+        self.places[task as usize - 1]
     }
 
     /// How long the task at a place of the order takes.
-    pub(crate) fn time_at(&self, place: usize) -> u64
+    pub(crate) fn time_at(&self, place: u32) -> u64
         requires { place < length self.now.setting.order }
         ensures time { result ≡ (task_at self.now.setting.system (slice_index self.now.setting.order place)).time }
         ensures long { result ≤ most_time }
     {
-        self.times[place]
+        self.times[place as usize]
     }
 
-    /// Puts the rank of the task that is named, if one is, into the set of those that are startable, or takes it out.
-    pub(crate) fn refresh(&self, task: Option<u32>, ranks: &[u32], ready: &mut RankSet)
-        requires tasks { (t : ℕ) → is_named task t ≡ true → IsTask self.now.setting.system t }
-        requires ranks { AreRanks (length self.now.setting.system.tasks) ranks.now }
-        requires long { length ready.old ≡ length self.now.setting.system.tasks }
+    /// Puts the rank of a place of the order into the set of those whose tasks are startable, or takes it out.
+    pub(crate) fn refresh(&self, place: u32, ranks: &[u32], ready: &mut RankSet)
+        requires place { place < length self.now.setting.order }
+        requires ranks { IsNumbering (length self.now.setting.order) ranks.now }
+        requires long { length ready.old ≡ length self.now.setting.order }
         ensures long { length ready.new ≡ length ready.old }
-        ensures marks { (t : ℕ) → IsTask self.now.setting.system t → slice_index_or ready.new (task_entry ranks.now t) false
-            ≡ (if is_named task t then is_startable self.now.setting self.now.state t
-            else slice_index_or ready.old (task_entry ranks.now t) false) }
+        ensures marks { (k : ℕ) → k < length self.now.setting.order → slice_index_or ready.new (slice_index ranks.now k) false
+            ≡ (if place == k then is_startable self.now.setting self.now.state (slice_index self.now.setting.order k)
+            else slice_index_or ready.old (slice_index ranks.now k) false) }
     {
-        if let Some(named) = task {
-            let rank = ranks[named as usize - 1] as usize;
-            ready.put(rank, self.is_startable(self.place_of(named)));
-        }
+        ready.put(ranks[place as usize] as usize, self.is_startable(place));
     }
 
-    /// Does so for each task that consumes an output of this one.
-    pub(crate) fn refresh_consumers(&self, task: u32, ranks: &[u32], ready: &mut RankSet)
-        requires task { IsTask self.now.setting.system task }
-        requires ranks { AreRanks (length self.now.setting.system.tasks) ranks.now }
-        requires long { length ready.old ≡ length self.now.setting.system.tasks }
+    /// Does so for the places of the tasks that consume an output of the task at this one.
+    pub(crate) fn refresh_consumers(&self, place: u32, ranks: &[u32], ready: &mut RankSet)
+        requires place { place < length self.now.setting.order }
+        requires ranks { IsNumbering (length self.now.setting.order) ranks.now }
+        requires long { length ready.old ≡ length self.now.setting.order }
         ensures long { length ready.new ≡ length ready.old }
-        ensures consumers { (t : ℕ) → IsTask self.now.setting.system t → 0 < count_by (is_edge task t) self.now.setting.system.items →
-            slice_index_or ready.new (task_entry ranks.now t) false ≡ is_startable self.now.setting self.now.state t }
-        ensures others { (t : ℕ) → IsTask self.now.setting.system t → count_by (is_edge task t) self.now.setting.system.items ≡ 0 →
-            slice_index_or ready.new (task_entry ranks.now t) false ≡ slice_index_or ready.old (task_entry ranks.now t) false }
+        ensures consumers { (k : ℕ) → k < length self.now.setting.order →
+            0 < count_by (is_edge (slice_index self.now.setting.order place) (slice_index self.now.setting.order k)) self.now.setting.system.items →
+            slice_index_or ready.new (slice_index ranks.now k) false
+            ≡ is_startable self.now.setting self.now.state (slice_index self.now.setting.order k) }
+        ensures others { (k : ℕ) → k < length self.now.setting.order →
+            count_by (is_edge (slice_index self.now.setting.order place) (slice_index self.now.setting.order k)) self.now.setting.system.items ≡ 0 →
+            slice_index_or ready.new (slice_index ranks.now k) false ≡ slice_index_or ready.old (slice_index ranks.now k) false }
     {
-        numbers_law();
-        for place in self.outputs.row(task) {
-            self.refresh(self.consumers[*place as usize], ranks, ready);
+        for consumer in self.consumers.row(place) {
+            self.refresh(*consumer, ranks, ready);
         }
     }
 }

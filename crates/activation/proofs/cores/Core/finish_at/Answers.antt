@@ -1,15 +1,11 @@
 use Rattle.std.proofs.Common.{◌≡◌, ℕ, ◌+◌, ◌<◌, length, map, arith, ap, drop, sym, refl, ◌∙◌}
 use Rattle.std.proofs.lemmas.Bool.{true≢false}
 use Rattle.activation.specs.Machine.{is_running_phase}
-use Rattle.std.specs.Prelude.{count_by}
-use Rattle.std.proofs.lemmas.List.{take_at, length-map}
+use Rattle.std.proofs.lemmas.List.{take_at}
 use Rattle.activation.specs.declared.events.Phase.TheVariants.{Done}
 use Rattle.activation.specs.declared.events.EventKind.TheVariants.{Finish}
-use Rattle.activation.specs.Schedule.{task_entry}
-use Rattle.activation.specs.Tables.{is_edge, producer_of}
 use Rattle.activation.proofs.Phases.{phase_written}
-use Rattle.activation.proofs.Keeping.{read_here, number_here, runs_here, rests_here, finish_is_task, finish_frees, finish_enough, finished_tables, consumers_length, consumer_within}
-use Rattle.activation.proofs.Producing.{consumed_row}
+use Rattle.activation.proofs.Keeping.{read_here, number_here, runs_here, rests_here, finish_is_task, finish_frees, finish_within, finish_enough, finish_waiting, finished_tables}
 use Rattle.activation.proofs.cores.Core.finish_at.Goals as goal
 
 pub overflow_sub-self : goal.overflow_sub-self
@@ -33,53 +29,6 @@ overflow_sub-self-2 c =
     let is = finish_is_task a c.index-task.result.now h in
     let freed = number_here a w here a.fixed.frees_are c.index-frees.ensures in
     (finish_frees a h c.index-frees.result.now freed (c.event_law.ensures.change _ a.setting _ a.safe Finish c.index-task.result.now h)).1
-
-pub release-requires-clause-places : goal.release-requires-clause-places
-release-requires-clause-places c =
-    let f = c.self.inside in
-    let a = c.self.invariant in
-    let items = f.system.value.items in
-    let w : c.args.place < length f.order.items = rw (← c.self.view_is) at c.requires in
-    let here = read_here a c.args.place c.index-task.result.now w c.index-task.ensures in
-    let h = runs_here a w here c.index.ensures (sym c.is_running.ensures ∙ c.if-not-is_running.false) in
-    let is = finish_is_task a c.index-task.result.now h in
-    let row = c.row.ensures ∙ c.self.invariant.fixed.outputs_are.rows_are c.index-task.result.now is in
-    rw row (λ k d w. let p = c.numbers_law.ensures.each (map producer_of items) 0 c.index-task.result.now k d w in omega (arith, p.1, length-map items producer_of, consumers_length c.self.invariant))
-
-pub release-requires-clause-numbers : goal.release-requires-clause-numbers
-release-requires-clause-numbers c =
-    let a = c.self.invariant in
-    rw c.deref.ensures.value (λ i t w is. let r = consumer_within a i t w is in (r.0, omega (arith, r.1, a.waiting_length, ap length c.deref_mut.ensures.value)))
-
-pub release-requires-clause-enough : goal.release-requires-clause-enough
-release-requires-clause-enough c =
-    let f = c.self.inside in
-    let a = c.self.invariant in
-    let items = f.system.value.items in
-    let w : c.args.place < length f.order.items = rw (← c.self.view_is) at c.requires in
-    let here = read_here a c.args.place c.index-task.result.now w c.index-task.ensures in
-    let h = runs_here a w here c.index.ensures (sym c.is_running.ensures ∙ c.if-not-is_running.false) in
-    let is = finish_is_task a c.index-task.result.now h in
-    let row = c.row.ensures ∙ a.fixed.outputs_are.rows_are c.index-task.result.now is in
-    rw (c.deref_mut.ensures.value, row, c.deref.ensures.value, a.fixed.consumers_are) (λ u in'. omega (arith, consumed_row items c.index-task.result.now u is.0, finish_enough a h u in'))
-
-pub invariant_of-self : goal.invariant_of-self
-invariant_of-self c =
-    let f = c.self.inside in
-    let a = c.self.invariant in
-    let w : c.args.place < length f.order.items = rw (← c.self.view_is) at c.requires in
-    let here = read_here a c.args.place c.index-task.result.now w c.index-task.ensures in
-    let h = runs_here a w here c.index.ensures (sym c.is_running.ensures ∙ c.if-not-is_running.false) in
-    let is = finish_is_task a c.index-task.result.now h in
-    let freed = number_here a w here a.fixed.frees_are c.index-frees.ensures in
-    let now = c.release.new.waiting in
-    let len : length now ≡ f.waiting.len = omega (arith, c.release.auto.waiting, c.deref_mut.ensures.len) in
-    let released = rw (c.row.ensures ∙ a.fixed.outputs_are.rows_are c.index-task.result.now is, c.deref_mut.ensures.value, c.deref.ensures.value, a.fixed.consumers_are) at c.release.ensures in
-    let counts : (u : ℕ) → task_entry now u + count_by (is_edge c.index-task.result.now u) f.system.value.items ≡ task_entry f.waiting.items u = λ u. omega (arith, released u, consumed_row f.system.value.items c.index-task.result.now u is.0) in
-    rw (take_at now (drop (length now) f.waiting.items) f.waiting.len len)
-    (finished_tables a h c.index-frees.result.now freed (c.event_law.ensures.change _ a.setting _ a.safe Finish c.index-task.result.now h) (c.event_law.ensures.kept _ a.setting _ a.safe Finish c.index-task.result.now h) c.remove.new.self
-    c.remove.ensures.members c.remove.ensures.shorter c.remove.ensures.room c.remove.ensures.count now
-    (omega (arith, len, c.deref_mut.ensures.len, ap length c.deref_mut.ensures.value)) counts)
 
 pub returns-clause-next : goal.returns-clause-next
 returns-clause-next c =
@@ -116,3 +65,37 @@ remove-requires c =
     let here = read_here a c.args.place c.index-task.result.now w c.index-task.ensures in
     let h = runs_here a w here c.index.ensures (sym c.is_running.ensures ∙ c.if-not-is_running.false) in
     a.running_are c.index-task.result.now ∙ ap is_running_phase h.running
+
+pub release-requires-clause-within : goal.release-requires-clause-within
+release-requires-clause-within c =
+    let f = c.self.inside in
+    let a = c.self.invariant in
+    let w : c.args.place < length f.order.items = rw (← c.self.view_is) at c.requires in
+    let here = read_here a c.args.place c.index-task.result.now w c.index-task.ensures in
+    let h = runs_here a w here c.index.ensures (sym c.is_running.ensures ∙ c.if-not-is_running.false) in
+    rw (c.row.ensures, c.deref_mut.ensures.value) (finish_within a h w here)
+
+pub release-requires-clause-enough : goal.release-requires-clause-enough
+release-requires-clause-enough c =
+    let f = c.self.inside in
+    let a = c.self.invariant in
+    let w : c.args.place < length f.order.items = rw (← c.self.view_is) at c.requires in
+    let here = read_here a c.args.place c.index-task.result.now w c.index-task.ensures in
+    let h = runs_here a w here c.index.ensures (sym c.is_running.ensures ∙ c.if-not-is_running.false) in
+    rw (c.row.ensures, c.deref_mut.ensures.value) (finish_enough a h w here)
+
+pub invariant_of-self : goal.invariant_of-self
+invariant_of-self c =
+    let f = c.self.inside in
+    let a = c.self.invariant in
+    let w : c.args.place < length f.order.items = rw (← c.self.view_is) at c.requires in
+    let here = read_here a c.args.place c.index-task.result.now w c.index-task.ensures in
+    let h = runs_here a w here c.index.ensures (sym c.is_running.ensures ∙ c.if-not-is_running.false) in
+    let freed = number_here a w here a.fixed.frees_are c.index-frees.ensures in
+    let now = c.release.new.waiting in
+    let len : length now ≡ f.waiting.len = omega (arith, c.release.auto.waiting, c.deref_mut.ensures.len) in
+    let released = rw (c.row.ensures, c.deref_mut.ensures.value) at c.release.ensures in
+    let waits = finish_waiting a h w here now (omega (arith, len, c.deref_mut.ensures.len, ap length c.deref_mut.ensures.value)) released in
+    rw (take_at now (drop (length now) f.waiting.items) f.waiting.len len)
+    (finished_tables a h c.index-frees.result.now freed (c.event_law.ensures.change _ a.setting _ a.safe Finish c.index-task.result.now h) (c.event_law.ensures.kept _ a.setting _ a.safe Finish c.index-task.result.now h) c.remove.new.self
+    c.remove.ensures.members c.remove.ensures.shorter c.remove.ensures.room c.remove.ensures.count now waits)
