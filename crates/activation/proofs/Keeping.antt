@@ -1,20 +1,19 @@
 -- The tables of a machine before and after each event.
-use Rattle.std.proofs.Common.{◌≡◌, ℕ, ◌+◌, ◌-◌, ◌<◌, ◌≤◌, All, true, false, not, ◌&&◌, List, [], ◌∷◌, ◌++◌, length, get_or, set, refl, sym, subst, ◌∙◌, ap, arith, ⊎_elim, length-append}
+use Rattle.std.proofs.Common.{◌≡◌, ℕ, ◌+◌, ◌-◌, ◌<◌, ◌≤◌, All, true, false, not, ◌&&◌, List, [], ◌∷◌, ◌++◌, length, get_or, set, sym, subst, ◌∙◌, ap, arith, ⊎_elim, length-append}
 use Rattle.std.specs.Prelude.{count_by, ◌==◌, ◌||◌, nat_lt, slice_index}
-use Rattle.std.proofs.lemmas.List.{get_or_read, get_or_default, length-map, length-take, get_or-take}
+use Rattle.std.proofs.lemmas.List.{get_or_read, length-take, get_or-take}
 use Rattle.std.proofs.lemmas.List.Elements.{All-get_or}
-use Rattle.std.proofs.Math.ListN.{get_or-map}
 use Rattle.row_table.specs.Rows.{row_at}
 use Rattle.limits.specs.Limits.{most_time}
 use Rattle.std.proofs.lemmas.Bool.{true≢false, cases_eq, eq-eqb, eqb-true, ne_eqb, ltb-true, lt-ltb, and_from}
 use Rattle.std.proofs.lemmas.List.Folds.{list_any-append}
 use Rattle.std.proofs.Math.Bool.{or-true, or-false, and-true, and-false}
-use Rattle.mp_system.specs.System.{IsTask, IsTaskWithin, task_at, is_named, need_of, inputs_of, outputs_of}
+use Rattle.mp_system.specs.System.{IsTask, IsTaskWithin, task_at, need_of, inputs_of, outputs_of}
 use Rattle.mp_system.specs.Memory.{stands_in, is_ready}
 use Rattle.activation.specs.declared.events.Phase.{Phase}
 use Rattle.activation.specs.declared.events.Phase.TheVariants.{Running, Done}
 use Rattle.activation.specs.declared.events.EventKind.TheVariants.{Activate, Start, Finish}
-use Rattle.activation.specs.Running.{IsNumber, RunningValue}
+use Rattle.activation.specs.Running.{RunningValue}
 use Rattle.activation.specs.Machine.{Setting, State, phase_in, is_idle_phase, is_running_phase, is_done_phase, is_done, is_running, activated_tasks, MayActivate, MayStart, MayFinish, state_after}
 use Rattle.activation.specs.Safe.{IsSafe}
 use Rattle.activation.specs.Schedule.{task_entry}
@@ -163,7 +162,7 @@ module _ {c : Setting} {st : State} {x : CoreTables} (a : AreCoreTables c st x) 
           few_workers = a.few_workers;
           safe = safe;
           fixed = a.fixed;
-              waiting_are = record {
+          waiting_are = record {
             long = a.waiting_are.long;
             each = λ k w. a.waiting_are.each k w ∙ sym (awaited_same c.system (is_done (state_after st Start task)) (is_done st) (same_done c a.setting st a.safe task h) (slice_index c.order k));
           };

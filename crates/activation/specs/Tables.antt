@@ -4,12 +4,12 @@ use Rattle.std.specs.Prelude.{◌≡◌, ℕ, ◌+◌, ◌<◌, ◌≤◌, Bool,
 use Rattle.limits.specs.Limits.{most_workers}
 use Rattle.row_table.specs.Rows.{row_at}
 use Rattle.mp_system.specs.declared.system.Item.{Item}
-use Rattle.mp_system.specs.System.{TaskSystem, IsTask, task_at, is_named, is_input, is_output, inputs_of, outputs_of, need_of}
+use Rattle.mp_system.specs.System.{TaskSystem, task_at, is_input, is_output, inputs_of, outputs_of, need_of}
 use Rattle.mp_system.specs.Memory.{is_produced, is_ready, stands_in}
 use Rattle.activation.specs.Machine.{Setting, State, IsSetting, phase_in, is_idle_phase, activated_tasks, is_done, is_running}
 use Rattle.activation.specs.Machine.{running_count, booked_memory, used_memory}
 use Rattle.activation.specs.Safe.{IsSafe}
-use Rattle.activation.specs.Running.{IsNumber, RunningValue}
+use Rattle.activation.specs.Running.{RunningValue}
 use Rattle.activation.specs.Schedule.{task_entry}
 
 abbrev pub no_item : Item

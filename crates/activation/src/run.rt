@@ -116,6 +116,7 @@ impl Run {
         traversal_law();
         event_law();
         let next = self.room.clock.take_first()?;
+        let task = self.core.task_at(next.place);
         self.core.finish_at(next.place);
         self.time = next.time;
         self.core
@@ -123,7 +124,7 @@ impl Run {
         Some(Event {
             time: next.time,
             kind: EventKind::Finish,
-            task: self.core.task_at(next.place),
+            task,
         })
     }
 

@@ -1,8 +1,5 @@
-use Rattle.std.proofs.Common.{◌≡◌, ◌-◌, get_or, sym, ◌∙◌, ap, arith, Option, Some}
-use Rattle.std.specs.Prelude.{◌==◌, ◌&&◌}
-use Rattle.mp_system.specs.System.{is_named}
+use Rattle.std.proofs.Common.{◌-◌, arith}
 use Rattle.activation.specs.Running.{IsNumber}
-use Rattle.activation.specs.Schedule.{task_entry}
 use Rattle.activation.proofs.Numbers.{named, number_at}
 use Rattle.activation.proofs.Consuming.{same_place}
 use Rattle.activation.proofs.consumers.edge_of.Goals as goal

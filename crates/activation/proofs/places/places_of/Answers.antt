@@ -1,4 +1,4 @@
-use Rattle.std.proofs.Common.{below_more, ◌≡◌, ◌≢◌, ◌-◌, length, get_or, refl, ◌∙◌, arith}
+use Rattle.std.proofs.Common.{below_more, ◌≢◌, ◌-◌, get_or, refl, ◌∙◌, arith}
 use Rattle.std.proofs.lemmas.List.{length-set}
 use Rattle.std.proofs.lemmas.List.Elements.{All-get_or}
 use Rattle.mp_system.specs.System.{IsTask}

@@ -1,5 +1,5 @@
-use Rattle.std.proofs.Common.{◌≡◌, ℕ, ◌≤◌, List, length, drop, arith, ap, refl, rules}
-use Rattle.std.specs.Prelude.{replicate, slice_index}
+use Rattle.std.proofs.Common.{◌≡◌, ℕ, ◌≤◌, List, length, ap, refl, rules}
+use Rattle.std.specs.Prelude.{replicate}
 use Rattle.activation.specs.declared.events.Phase.TheVariants.{Idle}
 use Rattle.mp_system.specs.System.{TaskSystem, IsSystem, IsTask, task_at}
 use Rattle.mp_system.specs.Memory.{peak_of}

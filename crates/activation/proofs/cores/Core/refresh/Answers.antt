@@ -1,4 +1,3 @@
-use Rattle.std.proofs.Common.{arith, ap, ◌∙◌}
 use Rattle.std.specs.Prelude.{slice_index}
 use Rattle.activation.specs.Tables.{is_startable}
 use Rattle.activation.proofs.Ranking.{marked}

@@ -1,4 +1,4 @@
-use Rattle.std.proofs.Common.{◌≡◌, ℕ, ◌<◌, length, take, subst, ◌∙◌, ap, arith}
+use Rattle.std.proofs.Common.{◌≡◌, ℕ, ◌<◌, length, subst, ◌∙◌, ap, arith}
 use Rattle.std.specs.Prelude.{slice_index, count_by, ◌==◌}
 use Rattle.std.proofs.lemmas.List.{take_all}
 use Rattle.activation.specs.Machine.{CoreValue}
