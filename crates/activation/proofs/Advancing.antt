@@ -24,7 +24,7 @@ use Rattle.activation.specs.Clock.{ClockValue, IsDueOf, has_place}
 use Rattle.activation.proofs.Dues.{bit, place_one, place_none}
 use Rattle.activation.proofs.Clocks.{clock_runs}
 use Rattle.activation.proofs.Numbers.{number_set_same, number_set_other}
-use Rattle.activation.proofs.Phases.{with_phase_other, idle_from, running_from, busy}
+use Rattle.activation.proofs.Phases.{with_phase_other, idle_from, running_from}
 use Rattle.activation.proofs.Orders.{each, task_in_order, in_front, stands_once}
 use Rattle.activation.proofs.Changes.{is_changed, finishes_front, finish_adds, same_done}
 use Rattle.activation.proofs.Counting.{count_step}
@@ -217,10 +217,6 @@ module _ {c : Setting} {st : State} {time : ℕ} {x : RunTables} (set' : IsSetti
           dues_small = λ u e. small_more (task_entry x.dues u) su (r.dues_small u (old u e)) count;
           time_small = omega (arith, due_is, r.dues_small task h.running, count);
         }
-
--- a running task is one of the system
-pub running_is_task : (c : Setting) → IsSetting c → (st : State) → IsSafe c st → (t : ℕ) → phase_in st.phases t ≡ Running → IsTask c.system t
-running_is_task c set st safe t run = task_in_order c.system c.order (each set) t (in_front c.system c.order (each set) st.activated t (safe.activated t (busy run)))
 
 -- where the first startable task may not start, none may
 pub no_start : {c : Setting} {priority : List ℕ} {st : State} {t : ℕ} → IsFirstStartable c priority st t → (MayStart c st t → ⊥) → (u : ℕ) → MayStart c st u → ⊥

@@ -4,11 +4,10 @@ use Rattle.std.specs.Prelude.{count_by, ◌==◌, ◌||◌, nat_lt, slice_index}
 use Rattle.std.proofs.lemmas.List.{get_or_read, length-take, get_or-take}
 use Rattle.std.proofs.lemmas.List.Elements.{All-get_or}
 use Rattle.row_table.specs.Rows.{row_at}
-use Rattle.limits.specs.Limits.{most_time}
 use Rattle.std.proofs.lemmas.Bool.{true≢false, cases_eq, eq-eqb, eqb-true, ne_eqb, ltb-true, lt-ltb, and_from}
 use Rattle.std.proofs.lemmas.List.Folds.{list_any-append}
 use Rattle.std.proofs.Math.Bool.{or-true, or-false, and-true, and-false}
-use Rattle.mp_system.specs.System.{IsTask, IsTaskWithin, task_at, need_of, inputs_of, outputs_of}
+use Rattle.mp_system.specs.System.{IsTask, need_of, inputs_of, outputs_of}
 use Rattle.mp_system.specs.Memory.{stands_in, is_ready}
 use Rattle.activation.specs.declared.events.Phase.{Phase}
 use Rattle.activation.specs.declared.events.Phase.TheVariants.{Running, Done}
@@ -42,9 +41,6 @@ module _ {c : Setting} {st : State} {x : CoreTables} (a : AreCoreTables c st x) 
 
   pub read_here : (k task : ℕ) → k < length c.order → task ≡ get_or c.order k task → slice_index c.order k ≡ task
   read_here k task w e = sym (get_or_read c.order k task w e 0)
-
-  pub time_long : (task : ℕ) → IsTask c.system task → (task_at c.system task).time ≤ most_time
-  time_long task is = (All-get_or IsTaskWithin c.system.tasks (task - 1) (record { extra = 0; share = 0; time = 0 }) (omega (arith, is.0, is.1)) a.setting.system.tasks).time.1
 
   -- an activated task is one of the system
   pub front_is_task : (task : ℕ) → stands_in (activated_tasks c st) task ≡ true → IsTask c.system task
