@@ -1,11 +1,11 @@
 -- The trees and tables of a run after each event.
-use Rattle.std.proofs.Common.{◌≡◌, ◌≢◌, ℕ, ◌+◌, ◌-◌, ◌*◌, ◌<◌, ◌≤◌, Bool, false, cond, ◌&&◌, List, ◌∷◌, length, take, get_or, set, refl, sym, ◌∙◌, ap, arith, ⊎_elim, Some, IsPermutation}
+use Rattle.std.proofs.Common.{◌≡◌, ◌≢◌, ℕ, ◌+◌, ◌-◌, ◌*◌, ◌<◌, ◌≤◌, Bool, false, cond, ◌&&◌, List, ◌∷◌, length, take, get_or, set, refl, sym, ◌∙◌, ap, arith, ⊎_elim, IsPermutation}
 use Rattle.std.specs.Prelude.{slice_index, count_by, ◌==◌, ◌||◌}
 use Rattle.std.proofs.lemmas.List.{length-set, take_more}
 use Rattle.std.proofs.lemmas.Bool.{cases_eq, cases_lt, eq-eqb, ne_eqb, and_parts, cases_Bool, true≢false, false_from_ne_true}
 use Rattle.std.proofs.Math.Bool.{or-false}
 use Rattle.limits.specs.Limits.{most_time}
-use Rattle.mp_system.specs.System.{TaskSystem, IsTask, is_named}
+use Rattle.mp_system.specs.System.{TaskSystem, IsTask}
 use Rattle.mp_system.specs.Memory.{stands_in, is_ready}
 use Rattle.activation.specs.declared.events.Phase.{Phase}
 use Rattle.activation.specs.declared.events.Phase.TheVariants.{Running, Done}
@@ -24,7 +24,7 @@ use Rattle.activation.specs.Clock.{ClockValue, IsDueOf, has_place}
 use Rattle.activation.proofs.Dues.{bit, place_one, place_none}
 use Rattle.activation.proofs.Clocks.{clock_runs}
 use Rattle.activation.proofs.Numbers.{number_set_same, number_set_other}
-use Rattle.activation.proofs.Phases.{with_phase_other, idle_from, running_from, busy}
+use Rattle.activation.proofs.Phases.{with_phase_other, idle_from, running_from}
 use Rattle.activation.proofs.Orders.{each, task_in_order, in_front, stands_once}
 use Rattle.activation.proofs.Changes.{is_changed, finishes_front, finish_adds, same_done}
 use Rattle.activation.proofs.Counting.{count_step}
@@ -42,16 +42,19 @@ module _ {c : Setting} {st : State} {time : ℕ} {x : RunTables} (set' : IsSetti
   small_more : (n : ℕ) (su : State) → n ≤ most_time * event_count c st → event_count c su ≡ event_count c st + 1 → n ≤ most_time * event_count c su
   small_more n su h e = omega (arith, h, e)
 
-  -- the mark of one task is written anew
-  marks_anew : (su : State) (task : ℕ) (new : List Bool) → ((t : ℕ) → t ≢ task → is_startable c su t ≡ is_startable c st t) →
-      ((t : ℕ) → IsTask c.system t → get_or new (task_entry x.ranks t) false ≡ cond (is_named (Some task) t) (is_startable c su t) (get_or x.ready (task_entry x.ranks t) false)) →
-      (t : ℕ) → IsTask c.system t → get_or new (task_entry x.ranks t) false ≡ is_startable c su t
-  marks_anew su task new same marks t is =
+  -- the mark of one place is written anew
+  marks_anew : (su : State) (place task : ℕ) (new : List Bool) → slice_index c.order place ≡ task → place < length c.order →
+      ((t : ℕ) → t ≢ task → is_startable c su t ≡ is_startable c st t) →
+      ((k : ℕ) → k < length c.order → get_or new (get_or x.ranks k 0) false ≡ cond (place == k) (is_startable c su (slice_index c.order k)) (get_or x.ready (get_or x.ranks k 0) false)) →
+      (k : ℕ) → k < length c.order → get_or new (get_or x.ranks k 0) false ≡ is_startable c su (slice_index c.order k)
+  marks_anew su place task new here w same marks k v =
       ⊎_elim
-      (λ (e : task ≡ t). marks t is ∙ ap (λ b. cond b (is_startable c su t) (get_or x.ready (task_entry x.ranks t) false)) (eq-eqb task t e))
-      (λ n. marks t is ∙ ap (λ b. cond b (is_startable c su t) (get_or x.ready (task_entry x.ranks t) false)) (ne_eqb task t n)
-      ∙ r.ready_is t is ∙ sym (same t (λ z. n (sym z))))
-      (cases_eq task t)
+      (λ (e : place ≡ k). marks k v ∙ ap (λ b. cond b (is_startable c su (slice_index c.order k)) (get_or x.ready (get_or x.ranks k 0) false)) (eq-eqb place k e))
+      (λ n.
+      let apart : slice_index c.order k ≢ task = λ z. n (stands_once c.system c.order (each set') task place k w v here z) in
+      marks k v ∙ ap (λ b. cond b (is_startable c su (slice_index c.order k)) (get_or x.ready (get_or x.ranks k 0) false)) (ne_eqb place k n)
+      ∙ r.ready_is k v ∙ sym (same (slice_index c.order k) apart))
+      (cases_eq place k)
 
   -- after an activation
   module _ (task : ℕ) (h : MayActivate c st task) where
@@ -64,7 +67,7 @@ module _ {c : Setting} {st : State} {time : ℕ} {x : RunTables} (set' : IsSetti
         ap (λ b. b && (is_idle_phase (phase_in st.phases t) && is_ready c.system (is_done st) t)) same
 
     pub activated_run : (new : List Bool) → length new ≡ length x.ready →
-        ((t : ℕ) → IsTask c.system t → get_or new (task_entry x.ranks t) false ≡ cond (is_named (Some task) t) (is_startable c (state_after st Activate task) t) (get_or x.ready (task_entry x.ranks t) false)) →
+        ((k : ℕ) → k < length c.order → get_or new (get_or x.ranks k 0) false ≡ cond (st.activated == k) (is_startable c (state_after st Activate task) (slice_index c.order k)) (get_or x.ready (get_or x.ranks k 0) false)) →
         IsRun c (state_after st Activate task) time (record x { ready = new })
     activated_run new len marks =
         let su = state_after st Activate task in
@@ -77,7 +80,7 @@ module _ {c : Setting} {st : State} {time : ℕ} {x : RunTables} (set' : IsSetti
           clock_has = r.clock_has;
           clock_is = r.clock_is;
           ready_long = len ∙ r.ready_long;
-          ready_is = marks_anew su task new still marks;
+          ready_is = marks_anew su st.activated task new h.next h.left still marks;
           not_past = r.not_past;
           dues_small = λ t e. small_more (task_entry x.dues t) su (r.dues_small t e) count;
           time_small = small_more time su r.time_small count;
@@ -110,7 +113,7 @@ module _ {c : Setting} {st : State} {time : ℕ} {x : RunTables} (set' : IsSetti
 
     pub started_run : (low : time ≤ d.time) → (high : d.time ≤ time + most_time) → (clock : ClockValue) → clock.room ≡ x.clock.room → IsPermutation (d ∷ x.clock.dues) clock.dues →
         running_count c (state_after st Start task) ≡ running_count c st + 1 → (new : List Bool) → length new ≡ length x.ready →
-        ((t : ℕ) → IsTask c.system t → get_or new (task_entry x.ranks t) false ≡ cond (is_named (Some task) t) (is_startable c (state_after st Start task) t) (get_or x.ready (task_entry x.ranks t) false)) →
+        ((k : ℕ) → k < length c.order → get_or new (get_or x.ranks k 0) false ≡ cond (d.place == k) (is_startable c (state_after st Start task) (slice_index c.order k)) (get_or x.ready (get_or x.ranks k 0) false)) →
         IsRun c (state_after st Start task) time (record x { dues = set x.dues (task - 1) d.time; clock = clock; ready = new })
     started_run low high clock room moved more new len marks =
         let due = d.time in
@@ -144,7 +147,7 @@ module _ {c : Setting} {st : State} {time : ℕ} {x : RunTables} (set' : IsSetti
               let apart : u ≢ task = λ z. true≢false (sym (clock_runs r i e w) ∙ ap (is_running st) z ∙ ap is_running_phase h.idle) in
               record { within = other.within; time = other.time ∙ sym (others u apart) }));
           ready_long = len ∙ r.ready_long;
-          ready_is = marks_anew su task new stays marks;
+          ready_is = marks_anew su d.place task new there within stays marks;
           not_past = λ u e.
               ⊎_elim
               (λ z. let due' : task_entry newdues u ≡ due = ap (task_entry newdues) z ∙ mine in omega (arith, due', low))
@@ -176,8 +179,8 @@ module _ {c : Setting} {st : State} {time : ℕ} {x : RunTables} (set' : IsSetti
     pub finished_run : d.time ≡ task_entry x.dues task → ((u : ℕ) → phase_in st.phases u ≡ Running → d.time ≤ task_entry x.dues u) →
         (clock : ClockValue) → clock.room ≡ x.clock.room → IsPermutation x.clock.dues (d ∷ clock.dues) → running_count c (state_after st Finish task) + 1 ≡ running_count c st →
         (new : List Bool) → length new ≡ length x.ready →
-        ((t : ℕ) → IsTask c.system t → 0 < count_by (is_edge task t) c.system.items → get_or new (task_entry x.ranks t) false ≡ is_startable c (state_after st Finish task) t) →
-        ((t : ℕ) → IsTask c.system t → count_by (is_edge task t) c.system.items ≡ 0 → get_or new (task_entry x.ranks t) false ≡ get_or x.ready (task_entry x.ranks t) false) →
+        ((k : ℕ) → k < length c.order → 0 < count_by (is_edge task (slice_index c.order k)) c.system.items → get_or new (get_or x.ranks k 0) false ≡ is_startable c (state_after st Finish task) (slice_index c.order k)) →
+        ((k : ℕ) → k < length c.order → count_by (is_edge task (slice_index c.order k)) c.system.items ≡ 0 → get_or new (get_or x.ranks k 0) false ≡ get_or x.ready (get_or x.ranks k 0) false) →
         IsRun c (state_after st Finish task) d.time (record x { clock = clock; ready = new })
     finished_run due_is least clock room moved fewer new len consumers others =
         let su = state_after st Finish task in
@@ -202,21 +205,18 @@ module _ {c : Setting} {st : State} {time : ℕ} {x : RunTables} (set' : IsSetti
               omega (arith, popped, none));
           clock_is = All-tail (IsDueOf c.order x.dues) d clock.dues (All-permutation (IsDueOf c.order x.dues) x.clock.dues (d ∷ clock.dues) moved r.clock_is);
           ready_long = len ∙ r.ready_long;
-          ready_is = λ t it.
+          ready_is = λ k v.
+              let t = slice_index c.order k in
               ⊎_elim
-              (λ (some : 0 < count_by (is_edge task t) c.system.items). consumers t it some)
+              (λ (some : 0 < count_by (is_edge task t) c.system.items). consumers k v some)
               (λ (le : count_by (is_edge task t) c.system.items ≤ 0).
               let none : count_by (is_edge task t) c.system.items ≡ 0 = omega arith in
-              others t it none ∙ r.ready_is t it ∙ sym (keeps_mark t none))
+              others k v none ∙ r.ready_is k v ∙ sym (keeps_mark t none))
               (cases_lt 0 (count_by (is_edge task t) c.system.items));
           not_past = λ u e. least u (old u e);
           dues_small = λ u e. small_more (task_entry x.dues u) su (r.dues_small u (old u e)) count;
           time_small = omega (arith, due_is, r.dues_small task h.running, count);
         }
-
--- a running task is one of the system
-pub running_is_task : (c : Setting) → IsSetting c → (st : State) → IsSafe c st → (t : ℕ) → phase_in st.phases t ≡ Running → IsTask c.system t
-running_is_task c set st safe t run = task_in_order c.system c.order (each set) t (in_front c.system c.order (each set) st.activated t (safe.activated t (busy run)))
 
 -- where the first startable task may not start, none may
 pub no_start : {c : Setting} {priority : List ℕ} {st : State} {t : ℕ} → IsFirstStartable c priority st t → (MayStart c st t → ⊥) → (u : ℕ) → MayStart c st u → ⊥

@@ -1,7 +1,7 @@
 -- What the trees of a run tell.
-use Rattle.std.proofs.Common.{◌≡◌, ℕ, ◌<◌, ◌≤◌, Bool, true, false, List, [], length, get_or, refl, sym, subst, ◌∙◌, ap, arith, ⊎_elim, inl}
+use Rattle.std.proofs.Common.{◌≡◌, ℕ, ◌<◌, ◌≤◌, Bool, true, false, List, [], length, map, get_or, refl, sym, subst, ◌∙◌, ap, arith, ⊎_elim, inl}
 use Rattle.std.specs.Prelude.{slice_index, Option, None, Some, IfSome}
-use Rattle.std.proofs.lemmas.List.{get_or-replicate, length-replicate}
+use Rattle.std.proofs.lemmas.List.{get_or-replicate, length-replicate, length-map, get_or-map, get_or_past}
 use Rattle.std.proofs.lemmas.Bool.{cases_lt, cases_Bool, true≢false}
 use Rattle.std.proofs.lemmas.List.Elements.{All-get_or, All-contains}
 use Rattle.mp_system.specs.System.{TaskSystem, IsTask}
@@ -15,10 +15,10 @@ use Rattle.activation.specs.Clock.{ClockValue, IsFirstDue, IsDueOf, has_place}
 use Rattle.activation.specs.Safe.{IsSafe}
 use Rattle.activation.specs.Bits.{IsFirstRank}
 use Rattle.activation.specs.Schedule.{task_entry, HoldsEach, Moment, FinishesNext, ComesNext}
-use Rattle.activation.specs.Tables.{AreTaskPlaces, is_startable}
-use Rattle.activation.specs.Run.{AreRanks, RunTables, IsNextDue, IsFirstStartable, IsRun, IsRoom}
+use Rattle.activation.specs.Tables.{IsNumbering, is_startable}
+use Rattle.activation.specs.Run.{RunTables, IsNextDue, IsFirstStartable, IsRun, IsRoom}
 use Rattle.activation.proofs.Totals.{place_in}
-use Rattle.activation.proofs.Orders.{each, in_front, task_has_place}
+use Rattle.activation.proofs.Orders.{each, in_front, task_has_place, stands_once}
 use Rattle.activation.proofs.Premises.{Long}
 use Rattle.activation.proofs.Phases.{busy, running_from}
 use Rattle.activation.proofs.Lengths.{each_long}
@@ -26,25 +26,40 @@ use Rattle.activation.proofs.Safety.{phase_replicate, count_zero}
 use Rattle.activation.proofs.Dues.{bit, found, place_at}
 use Rattle.std.specs.List.{Contains, sum_by}
 
--- where a task stands in a priority
-priority_place : (system : TaskSystem) (priority ranks : List ℕ) → HoldsEach system priority → AreTaskPlaces priority ranks → (u : ℕ) → IsTask system u →
-    (k : ℕ) × (k < length priority) × (get_or priority k 0 ≡ u) × (task_entry ranks u ≡ k)
-priority_place system priority ranks each places u is =
-    let p = place_in priority u (task_has_place system priority each u is) in
-    (p.0, p.1, p.2, ap (task_entry ranks) (sym p.2) ∙ places p.0 p.1)
+-- a priority that is told by places of an order
+module _ (system : TaskSystem) (order priority : List ℕ) (holds : HoldsEach system (map (slice_index order) priority)) where
+  task_ranked : (r : ℕ) → r < length priority → IsTask system (get_or order (get_or priority r 0) 0)
+  task_ranked r w =
+      let f : ℕ → ℕ = slice_index order in
+      subst (IsTask system) (get_or-map f priority r 0 0 w) (All-get_or (IsTask system) (map f priority) r 0 (omega (arith, w, length-map priority f)) holds.within)
 
--- the ranks of a priority
-pub ranks_of : (system : TaskSystem) (priority ranks : List ℕ) → HoldsEach system priority → AreTaskPlaces priority ranks → length ranks ≡ length system.tasks → AreRanks (length system.tasks) ranks
-ranks_of system priority ranks each places long =
-    let n = each_long system priority each in
-    record {
+  place_within : (r : ℕ) → r < length priority → get_or priority r 0 < length order
+  place_within r w =
+      ⊎_elim (λ lt. lt)
+      (λ past. let none : get_or order (get_or priority r 0) 0 ≡ 0 = get_or_past order (get_or priority r 0) 0 past in absurd (omega (arith, none, (task_ranked r w).0)))
+      (cases_lt (get_or priority r 0) (length order))
+
+  module _ (orders : HoldsEach system order) (ranks : List ℕ) (places : (r : ℕ) → r < length priority → get_or ranks (get_or priority r 0) 0 ≡ r) where
+    -- the rank of a place
+    rank_of : (k : ℕ) → k < length order → (r : ℕ) × (r < length priority) × (get_or priority r 0 ≡ k) × (get_or ranks k 0 ≡ r)
+    rank_of k w =
+        let f : ℕ → ℕ = slice_index order in
+        let task = get_or order k 0 in
+        let p = place_in (map f priority) task (task_has_place system (map f priority) holds task (All-get_or (IsTask system) order k 0 w orders.within)) in
+        let within : p.0 < length priority = omega (arith, p.1, length-map priority f) in
+        let there : get_or order (get_or priority p.0 0) 0 ≡ task = sym (get_or-map f priority p.0 0 0 within) ∙ p.2 in
+        let same = stands_once system order orders task (get_or priority p.0 0) k (place_within p.0 within) w there refl in
+        (p.0, within, same, ap (λ j. get_or ranks j 0) (sym same) ∙ places p.0 within)
+
+    ranks_of : length priority ≡ length order → length ranks ≡ length order → IsNumbering (length order) ranks
+    ranks_of same long = record {
       long = long;
-      within = λ t is. let p = priority_place system priority ranks each places t is in omega (arith, p.1, p.3, n);
-      once = λ t u it iu e.
-          let p = priority_place system priority ranks each places t it in
-          let q = priority_place system priority ranks each places u iu in
-          let same : p.0 ≡ q.0 = sym p.3 ∙ e ∙ q.3 in
-          sym p.2 ∙ ap (λ k. get_or priority k 0) same ∙ q.2;
+      within = λ k w. let p = rank_of k w in omega (arith, p.1, p.3, same);
+      once = λ j k wj wk e.
+          let p = rank_of j wj in
+          let q = rank_of k wk in
+          let ranks' : p.0 ≡ q.0 = sym p.3 ∙ e ∙ q.3 in
+          sym p.2 ∙ ap (λ r. get_or priority r 0) ranks' ∙ q.2;
     }
 
 -- the task of a due of the clock runs
@@ -108,27 +123,34 @@ module _ {c : Setting} {st : State} {time : ℕ} {x : RunTables} (long' : Long) 
     pub due_now : d.time ≤ time → (t : ℕ) → IsNextDue c (record { state = st; time = time; dues = x.dues }) t → task_entry x.dues t ≡ time
     due_now low t next = omega (arith, next.least (slice_index c.order d.place) next_is_due.running, due_time, low, r.not_past t next.running)
 
-  pub first_is_startable : (rank : ℕ) → IsFirstRank x.ready rank → IsFirstStartable c x.priority st (get_or x.priority rank 0)
+  pub first_is_startable : (rank : ℕ) → IsFirstRank x.ready rank → (get_or x.priority rank 0 < length c.order) × IsFirstStartable c (map (slice_index c.order) x.priority) st (slice_index c.order (get_or x.priority rank 0))
   first_is_startable rank first =
+      let f : ℕ → ℕ = slice_index c.order in
       let within : rank < length x.priority = omega (arith, first.within, r.ready_long, r.ranked.long) in
-      let task = get_or x.priority rank 0 in
-      let is : IsTask c.system task = All-get_or (IsTask c.system) x.priority rank 0 within r.ranked.each.within in
-      let here : get_or x.ready rank false ≡ is_startable c st task = ap (λ k. get_or x.ready k false) (sym (r.ranked.places rank within)) ∙ r.ready_is task is in
-      record {
-        task = is;
-        startable = sym here ∙ first.here;
-        first = λ u iu su m.
-            let p = priority_place c.system x.priority x.ranks r.ranked.each r.ranked.places u iu in
-            let there : get_or x.ready p.0 false ≡ true = ap (λ k. get_or x.ready k false) (sym p.3) ∙ r.ready_is u iu ∙ su in
-            let later : rank < p.0 = ⊎_elim
-            (λ lt. absurd (true≢false (sym there ∙ first.first p.0 lt)))
-            (λ ge. ⊎_elim (λ h. h) (λ h. let same : p.0 ≡ rank = omega arith in absurd (m (sym p.2 ∙ ap (λ k. get_or x.priority k 0) same))) (cases_lt rank p.0))
-            (cases_lt p.0 rank) in
-            record { place = rank; later = p.0; within = p.1; before = later; here = refl; there = p.2 };
-      }
+      let place = get_or x.priority rank 0 in
+      let inside : place < length c.order = place_within c.system c.order x.priority r.ranked.each rank within in
+      let here : get_or x.ready rank false ≡ is_startable c st (get_or c.order place 0) = ap (λ k. get_or x.ready k false) (sym (r.ranked.places rank within)) ∙ r.ready_is place inside in (
+        inside,
+        record {
+          task = task_ranked c.system c.order x.priority r.ranked.each rank within;
+          startable = sym here ∙ first.here;
+          first = λ u iu su m.
+              let p = place_in c.order u (task_has_place c.system c.order (each set) u iu) in
+              let q = rank_of c.system c.order x.priority r.ranked.each (each set) x.ranks r.ranked.places p.0 p.1 in
+              let there : get_or x.ready q.0 false ≡ true = ap (λ k. get_or x.ready k false) (sym q.3) ∙ r.ready_is p.0 p.1 ∙ ap (is_startable c st) p.2 ∙ su in
+              let task : get_or (map f x.priority) q.0 0 ≡ u = get_or-map f x.priority q.0 0 0 q.1 ∙ ap f q.2 ∙ p.2 in
+              let later : rank < q.0 = ⊎_elim
+              (λ lt. absurd (true≢false (sym there ∙ first.first q.0 lt)))
+              (λ ge. ⊎_elim (λ h. h) (λ h. let same : q.0 ≡ rank = omega arith in absurd (m (sym p.2 ∙ ap f (sym q.2 ∙ ap (λ k. get_or x.priority k 0) same)))) (cases_lt rank q.0))
+              (cases_lt q.0 rank) in
+              record { place = rank; later = q.0; within = (let long = length-map x.priority f in omega (arith, q.1, long)); before = later; here = get_or-map f x.priority rank 0 0 within; there = task };
+        },
+      )
 
   pub none_startable : ((k : ℕ) → k < length x.ready → get_or x.ready k false ≡ false) → (u : ℕ) → IsTask c.system u → is_startable c st u ≡ false
-  none_startable none u is = sym (r.ready_is u is) ∙ none (task_entry x.ranks u) (omega (arith, r.ready_long, r.ranked.ranks_are.within u is))
+  none_startable none u is =
+      let p = place_in c.order u (task_has_place c.system c.order (each set) u is) in
+      ap (is_startable c st) (sym p.2) ∙ sym (r.ready_is p.0 p.1) ∙ none (get_or x.ranks p.0 0) (omega (arith, r.ready_long, r.ranked.ranks_are.within p.0 p.1))
 
 -- at the start no task is startable
 start_unstartable : (c : Setting) (t : ℕ) → is_startable c (start_state c) t ≡ false
@@ -146,24 +168,26 @@ finish_comes c priority m (Some e) due event now =
     subst (λ (x : Event). ComesNext c priority m x.kind x.time x.task) (sym event) finishes
 
 -- the run at its start
-pub start_run : (c : Setting) (x : RunTables) → IsRoom c x → (priority ranks : List ℕ) → HoldsEach c.system priority →
-    length ranks ≡ length c.system.tasks → AreTaskPlaces priority ranks → IsRun c (start_state c) 0 (record x { priority = priority; ranks = ranks })
-start_run c x room priority ranks each ranks_long places =
+pub start_run : (c : Setting) (x : RunTables) → IsRoom c x → HoldsEach c.system c.order → (tasks priority ranks : List ℕ) → HoldsEach c.system tasks → map (slice_index c.order) priority ≡ tasks →
+    length ranks ≡ length c.order → ((r : ℕ) → r < length priority → get_or ranks (get_or priority r 0) 0 ≡ r) → IsRun c (start_state c) 0 (record x { priority = priority; ranks = ranks })
+start_run c x room orders tasks priority ranks holds are ranks_long places =
     let n = length c.system.tasks in
     let idle = phase_replicate n in
     let none : (t : ℕ) → phase_in (start_state c).phases t ≡ Running → ⊥ = λ t e. let k : Idle ≡ Running = sym (idle t) ∙ e in cc in
-    let rs = ranks_of c.system priority ranks each places ranks_long in
+    let each' = subst (HoldsEach c.system) (sym are) holds in
+    let same : length priority ≡ length c.order = sym (length-map priority (slice_index c.order)) ∙ ap length are ∙ each_long c.system tasks holds ∙ sym (each_long c.system c.order orders) in
+    let rs = ranks_of c.system c.order priority each' orders ranks places same ranks_long in
     let empty : length x.clock.dues ≡ 0 = ap (λ (k : ClockValue). length k.dues) room.clock_are in
     let zeros : running_count c (start_state c) ≡ 0 = count_zero (is_running (start_state c)) c.order (λ t h. ap is_running_phase (idle t)) in
     record {
-      ranked = record { each = each; long = each_long c.system priority each; ranks_are = rs; places = places };
+      ranked = record { each = each'; long = same; ranks_are = rs; places = places };
       dues_long = ap length room.dues_are ∙ length-replicate n 0;
       clock_room = ap (λ (k : ClockValue). k.room) room.clock_are;
       clock_long = empty ∙ sym zeros;
       clock_has = λ k w. ap (λ (v : ClockValue). sum_by (has_place k) v.dues) room.clock_are ∙ sym (ap (λ (p : Phase). bit (is_running_phase p)) (idle (slice_index c.order k)));
       clock_is = λ k d w. absurd (omega (arith, w, empty));
-      ready_long = ap length room.ready_are ∙ length-replicate n false;
-      ready_is = λ t is. ap (λ (xs : List Bool). get_or xs (task_entry ranks t) false) room.ready_are ∙ get_or-replicate n (task_entry ranks t) false false (rs.within t is) ∙ sym (start_unstartable c t);
+      ready_long = ap length room.ready_are ∙ length-replicate (length c.order) false;
+      ready_is = λ k w. ap (λ (xs : List Bool). get_or xs (get_or ranks k 0) false) room.ready_are ∙ get_or-replicate (length c.order) (get_or ranks k 0) false false (rs.within k w) ∙ sym (start_unstartable c (slice_index c.order k));
       not_past = λ t e. absurd (none t e);
       dues_small = λ t e. absurd (none t e);
       time_small = omega arith;

@@ -1,28 +1,26 @@
 -- The tables of a machine before and after each event.
-use Rattle.std.proofs.Common.{◌≡◌, ℕ, ◌+◌, ◌-◌, ◌<◌, ◌≤◌, true, false, not, ◌&&◌, List, [], ◌∷◌, ◌++◌, length, get_or, set, refl, sym, ◌∙◌, ap, arith, ⊎_elim, length-append, Option, None}
+use Rattle.std.proofs.Common.{◌≡◌, ℕ, ◌+◌, ◌-◌, ◌<◌, ◌≤◌, All, true, false, not, ◌&&◌, List, [], ◌∷◌, ◌++◌, length, get_or, set, sym, subst, ◌∙◌, ap, arith, ⊎_elim, length-append}
 use Rattle.std.specs.Prelude.{count_by, ◌==◌, ◌||◌, nat_lt, slice_index}
-use Rattle.std.proofs.lemmas.List.{get_or_read, get_or_default, length-map, length-take, get_or-take}
+use Rattle.std.proofs.lemmas.List.{get_or_read, length-take, get_or-take}
 use Rattle.std.proofs.lemmas.List.Elements.{All-get_or}
-use Rattle.std.proofs.Math.ListN.{get_or-map}
-use Rattle.limits.specs.Limits.{most_time}
-use Rattle.std.proofs.lemmas.Bool.{cases_eq, eq-eqb, eqb-true, ne_eqb, ltb-true, lt-ltb, and_from}
+use Rattle.row_table.specs.Rows.{row_at}
+use Rattle.std.proofs.lemmas.Bool.{true≢false, cases_eq, eq-eqb, eqb-true, ne_eqb, ltb-true, lt-ltb, and_from}
 use Rattle.std.proofs.lemmas.List.Folds.{list_any-append}
 use Rattle.std.proofs.Math.Bool.{or-true, or-false, and-true, and-false}
-use Rattle.mp_system.specs.System.{IsTask, IsTaskWithin, task_at, is_named, need_of, inputs_of, outputs_of}
+use Rattle.mp_system.specs.System.{IsTask, need_of, inputs_of, outputs_of}
 use Rattle.mp_system.specs.Memory.{stands_in, is_ready}
 use Rattle.activation.specs.declared.events.Phase.{Phase}
 use Rattle.activation.specs.declared.events.Phase.TheVariants.{Running, Done}
 use Rattle.activation.specs.declared.events.EventKind.TheVariants.{Activate, Start, Finish}
-use Rattle.activation.specs.Running.{IsNumber, RunningValue}
+use Rattle.activation.specs.Running.{RunningValue}
 use Rattle.activation.specs.Machine.{Setting, State, phase_in, is_idle_phase, is_running_phase, is_done_phase, is_done, is_running, activated_tasks, MayActivate, MayStart, MayFinish, state_after}
 use Rattle.activation.specs.Safe.{IsSafe}
 use Rattle.activation.specs.Schedule.{task_entry}
 use Rattle.activation.specs.Changes.{BooksNeed, UsesNeed, FreesNeed}
-use Rattle.activation.specs.Tables.{CoreTables, AreCoreTables, awaited, is_edge, is_startable, time_of, consumer_of, no_item}
+use Rattle.activation.specs.Tables.{CoreTables, AreCoreTables, AreByPlace, awaited, is_edge, is_startable}
 use Rattle.activation.proofs.Totals.{place_in, in_at}
 use Rattle.activation.proofs.Numbers.{number_read}
-use Rattle.activation.proofs.Sizes.{consumer_is_task}
-use Rattle.activation.proofs.Phases.{phase_read, phase_written, with_phase_same, with_phase_other}
+use Rattle.activation.proofs.Phases.{phase_read, running_from, phase_written, with_phase_same, with_phase_other}
 use Rattle.activation.proofs.Orders.{each, task_in_order, task_has_place, in_front}
 use Rattle.activation.proofs.Changes.{same_done, finish_adds, finishes_front}
 use Rattle.activation.proofs.Awaiting.{awaited_same, awaited_later, ready_from, awaits_none}
@@ -37,33 +35,12 @@ pub stands_appended : (xs : List ℕ) (t u : ℕ) → stands_in (xs ++ t ∷ [])
 stands_appended xs t u = list_any-append (λ x. x == u) xs (t ∷ []) ∙ ap (λ b. stands_in xs u || b) (or-false (t == u))
 
 module _ {c : Setting} {st : State} {x : CoreTables} (a : AreCoreTables c st x) where
-  -- what is read of the needs
-  pub need_read : (task n : ℕ) → IsTask c.system task → n ≡ get_or x.fixed.needs (task - 1) n → n ≡ need_of c.system task
-  need_read task n is e = number_read x.fixed.needs task n is.0 (omega (arith, is.1, a.fixed.needs_length)) e ∙ a.fixed.needs_are task is
+  -- the task at a place of the order
+  pub task_here : (k : ℕ) → k < length c.order → IsTask c.system (slice_index c.order k)
+  task_here k w = All-get_or (IsTask c.system) c.order k 0 w a.setting.traversal.tasks
 
-  -- what is read of the times
-  pub times_length : length x.fixed.times ≡ length c.system.tasks
-  times_length = ap length a.fixed.times_are ∙ length-map c.system.tasks time_of
-
-  pub time_read : (task n : ℕ) → IsTask c.system task → n ≡ get_or x.fixed.times (task - 1) n → n ≡ (task_at c.system task).time
-  time_read task n is e =
-      let w : task - 1 < length x.fixed.times = omega (arith, is.0, is.1, times_length) in
-      e ∙ get_or_default x.fixed.times (task - 1) n 0 w ∙ ap (λ ns. get_or ns (task - 1) 0) a.fixed.times_are ∙ get_or-map time_of c.system.tasks (task - 1) (record { extra = 0; share = 0; time = 0 })
-
-  pub time_long : (task : ℕ) → IsTask c.system task → (task_at c.system task).time ≤ most_time
-  time_long task is = (All-get_or IsTaskWithin c.system.tasks (task - 1) (record { extra = 0; share = 0; time = 0 }) (omega (arith, is.0, is.1)) a.setting.system.tasks).time.1
-
-  -- the consumers of the items are tasks
-  pub consumers_length : length x.fixed.consumers ≡ length c.system.items
-  consumers_length = ap length a.fixed.consumers_are ∙ length-map c.system.items consumer_of
-
-  pub consumer_within : (i t : ℕ) → i < length x.fixed.consumers → is_named (get_or x.fixed.consumers i None) t ≡ true → IsTask c.system t
-  consumer_within i t w is =
-      let at : get_or x.fixed.consumers i None ≡ (get_or c.system.items i no_item).to = ap (λ os. get_or os i None) a.fixed.consumers_are ∙ get_or-map consumer_of c.system.items i no_item in
-      consumer_is_task c.system a.setting.system c.system.items refl i no_item (omega (arith, w, consumers_length)) t (ap (λ (o : Option ℕ). is_named o t) (sym at) ∙ is)
-
-  pub consumer_read : (i : ℕ) (o : Option ℕ) → i < length x.fixed.consumers → o ≡ get_or x.fixed.consumers i o → o ≡ get_or x.fixed.consumers i None
-  consumer_read i o w e = e ∙ get_or_default x.fixed.consumers i o None w
+  pub read_here : (k task : ℕ) → k < length c.order → task ≡ get_or c.order k task → slice_index c.order k ≡ task
+  read_here k task w e = sym (get_or_read c.order k task w e 0)
 
   -- an activated task is one of the system
   pub front_is_task : (task : ℕ) → stands_in (activated_tasks c st) task ≡ true → IsTask c.system task
@@ -75,25 +52,15 @@ module _ {c : Setting} {st : State} {x : CoreTables} (a : AreCoreTables c st x) 
   pub finish_is_task : (task : ℕ) → MayFinish c st task → IsTask c.system task
   finish_is_task task h = front_is_task task (finishes_front c a.setting st a.safe task h)
 
-  -- what `activate` reads, where a task is left
-  module _ {task n : ℕ} (left : st.activated < length c.order) (read : task ≡ get_or c.order st.activated task) (cost : n ≡ get_or x.fixed.needs (task - 1) n) where
-    read_next : slice_index c.order st.activated ≡ task
-    read_next = sym (get_or_read c.order st.activated task left read 0)
-
-    read_is_task : IsTask c.system task
-    read_is_task = task_in_order c.system c.order (each a.setting) task (ap (λ t. stands_in c.order t) (sym read_next) ∙ in_at c.order st.activated left)
-
+  -- where a task is left to activate
+  module _ {task n : ℕ} (left : st.activated < length c.order) (next : slice_index c.order st.activated ≡ task) (cost : n ≡ need_of c.system task) where
     pub may_activate : n ≤ c.bound - x.booked → MayActivate c st task
-    may_activate fits = record {
-      left = left;
-      next = read_next;
-      fits = omega (arith, need_read task n read_is_task cost, a.booked_is, a.safe.booked);
-    }
+    may_activate fits = record { left = left; next = next; fits = omega (arith, cost, a.booked_is, a.safe.booked) }
 
     pub may_not_activate : c.bound - x.booked < n → (other : ℕ) → MayActivate c st other → ⊥
     may_not_activate tight other h =
-        let same : task ≡ other = sym read_next ∙ h.next in
-        omega (arith, need_read task n read_is_task cost, ap (need_of c.system) same, a.booked_is, h.fits)
+        let same : task ≡ other = sym next ∙ h.next in
+        omega (arith, cost, ap (need_of c.system) same, a.booked_is, h.fits)
 
     pub activated_tables : IsSafe c (state_after st Activate task) → BooksNeed c st task →
         AreCoreTables c (state_after st Activate task) (record x { booked = x.booked + n })
@@ -102,13 +69,12 @@ module _ {c : Setting} {st : State} {x : CoreTables} (a : AreCoreTables c st x) 
       few_workers = a.few_workers;
       safe = safe;
       fixed = a.fixed;
-      waiting_length = a.waiting_length;
       waiting_are = a.waiting_are;
       running_room = a.running_room;
       running_numbers = a.running_numbers;
       running_length = a.running_length;
       running_are = a.running_are;
-      booked_is = omega (arith, a.booked_is, change.booked, need_read task n read_is_task cost);
+      booked_is = omega (arith, a.booked_is, change.booked, cost);
       used_is = a.used_is;
     }
 
@@ -141,19 +107,35 @@ module _ {c : Setting} {st : State} {x : CoreTables} (a : AreCoreTables c st x) 
       let same : p ≡ q.0 = number_read x.fixed.places task p is.0 (omega (arith, is.1, a.fixed.places_length)) e ∙ q.3 in
       (omega (arith, same, q.1), ap (λ k. get_or c.order k 0) same ∙ q.2)
 
-  -- what `is_startable` reads
-  module _ {task : ℕ} (is : IsTask c.system task) where
-    pub front_read : {p : ℕ} → p ≡ get_or x.fixed.places (task - 1) p → stands_in (activated_tasks c st) task ≡ nat_lt p st.activated
-    front_read {p} e =
-        let at : p ≡ task_entry x.fixed.places task = number_read x.fixed.places task p is.0 (omega (arith, is.1, a.fixed.places_length)) e in
-        both_ways _ _ (λ h. lt-ltb _ _ (omega (arith, at, place_of_activated task is h))) (λ h. activated_by_place task is (omega (arith, at, ltb-true _ _ h)))
+  -- what is read of the task at a place
+  module _ {k task : ℕ} (w : k < length c.order) (here : slice_index c.order k ≡ task) where
+    is : IsTask c.system task
+    is = subst (IsTask c.system) here (task_here k w)
+
+    pub number_here : {n : ℕ} {tells : ℕ → ℕ → Type 0} {numbers : List ℕ} → AreByPlace c.order tells numbers → n ≡ get_or numbers k n → tells task n
+    number_here {n} {tells} {numbers} are e = subst (λ t. tells t n) here (subst (tells (slice_index c.order k)) (sym (get_or_read numbers k n (omega (arith, w, are.long)) e 0)) (are.each k w))
+
+    at : task_entry x.fixed.places task ≡ k
+    at = ap (task_entry x.fixed.places) (sym here) ∙ a.fixed.places_are k w
+
+    pub front_read : stands_in (activated_tasks c st) task ≡ nat_lt k st.activated
+    front_read = both_ways _ _ (λ h. lt-ltb _ _ (omega (arith, at, place_of_activated task is h))) (λ h. activated_by_place task is (omega (arith, at, ltb-true _ _ h)))
+
+    phase_here : {q : Phase} → q ≡ get_or st.phases (task - 1) q → q ≡ phase_in st.phases task
+    phase_here {q} e = phase_read st.phases task q is.0 (omega (arith, is.1, a.safe.phases)) e
 
     pub idle_read : {q : Phase} → q ≡ get_or st.phases (task - 1) q → is_idle_phase (phase_in st.phases task) ≡ is_idle_phase q
-    idle_read {q} e = ap is_idle_phase (sym (phase_read st.phases task q is.0 (omega (arith, is.1, a.safe.phases)) e))
+    idle_read e = ap is_idle_phase (sym (phase_here e))
 
-    pub ready_read : {n : ℕ} → n ≡ get_or x.waiting (task - 1) n → is_ready c.system (is_done st) task ≡ (n == 0)
+    pub runs_here : {q : Phase} → q ≡ get_or st.phases (task - 1) q → is_running_phase q ≡ true → MayFinish c st task
+    runs_here e on = record { running = running_from (phase_in st.phases task) (ap is_running_phase (sym (phase_here e)) ∙ on) }
+
+    pub rests_here : {q : Phase} → q ≡ get_or st.phases (task - 1) q → is_running_phase q ≡ false → MayFinish c st task → ⊥
+    rests_here e off h = true≢false (sym (ap is_running_phase (phase_here e ∙ h.running)) ∙ off)
+
+    pub ready_read : {n : ℕ} → n ≡ get_or x.waiting k n → is_ready c.system (is_done st) task ≡ (n == 0)
     ready_read {n} e =
-        let left : n ≡ awaited c.system (is_done st) task = number_read x.waiting task n is.0 (omega (arith, is.1, a.waiting_length)) e ∙ a.waiting_are task is in
+        let left : n ≡ awaited c.system (is_done st) task = number_here a.waiting_are e in
         both_ways _ _ (λ h. eq-eqb n 0 (omega (arith, left, awaits_none c.system (is_done st) task h))) (λ h. ready_from c.system (is_done st) task (omega (arith, left, eqb-true n 0 h)))
 
   -- where a task may start, a worker is free
@@ -161,9 +143,9 @@ module _ {c : Setting} {st : State} {x : CoreTables} (a : AreCoreTables c st x) 
   start_room task h = omega (arith, a.running_length, a.running_room, h.free)
 
   -- after a start
-  module _ {task n : ℕ} (h : MayStart c st task) (cost : n ≡ get_or x.fixed.needs (task - 1) n) (change : UsesNeed c st task) where
+  module _ {task n : ℕ} (h : MayStart c st task) (cost : n ≡ need_of c.system task) (change : UsesNeed c st task) where
     pub start_fits : IsSafe c (state_after st Start task) → x.used + n ≤ c.bound
-    start_fits safe = omega (arith, a.used_is, need_read task n (start_is_task task h) cost, change.used, safe.used, safe.booked)
+    start_fits safe = omega (arith, a.used_is, cost, change.used, safe.used, safe.booked)
 
     pub started_tables : IsSafe c (state_after st Start task) → (now : RunningValue) → now.listed ≡ x.running.listed ++ task ∷ [] → now.room ≡ x.running.room → now.count ≡ x.running.count →
         AreCoreTables c (record { activated = st.activated; phases = set st.phases (task - 1) Running }) (record x { running = now; used = x.used + n })
@@ -176,8 +158,10 @@ module _ {c : Setting} {st : State} {x : CoreTables} (a : AreCoreTables c st x) 
           few_workers = a.few_workers;
           safe = safe;
           fixed = a.fixed;
-          waiting_length = a.waiting_length;
-          waiting_are = λ t in'. a.waiting_are t in' ∙ sym (awaited_same c.system (is_done (state_after st Start task)) (is_done st) (same_done c a.setting st a.safe task h) t);
+          waiting_are = record {
+            long = a.waiting_are.long;
+            each = λ k w. a.waiting_are.each k w ∙ sym (awaited_same c.system (is_done (state_after st Start task)) (is_done st) (same_done c a.setting st a.safe task h) (slice_index c.order k));
+          };
           running_room = room ∙ a.running_room;
           running_numbers = count ∙ a.running_numbers;
           running_length = omega (arith, longer, a.running_length, change.running);
@@ -192,54 +176,67 @@ module _ {c : Setting} {st : State} {x : CoreTables} (a : AreCoreTables c st x) 
               rw (no, other) (or-false (stands_in x.running.listed t) ∙ a.running_are t))
               (cases_eq task t);
           booked_is = a.booked_is ∙ sym change.booked;
-          used_is = omega (arith, a.used_is, change.used, need_read task n is cost);
+          used_is = omega (arith, a.used_is, change.used, cost);
         } in
         rw (phase_written st.phases task Running is.0) at tables
 
   -- after a finish
-  module _ {task n : ℕ} (h : MayFinish c st task) (freed : n ≡ get_or x.fixed.frees (task - 1) n) (change : FreesNeed c st task) where
-    frees_read : n + outputs_of c.system task ≡ need_of c.system task + inputs_of c.system task
-    frees_read =
-        let is = finish_is_task task h in
-        omega (arith, number_read x.fixed.frees task n is.0 (omega (arith, is.1, a.fixed.frees_length)) freed, a.fixed.frees_are task is)
-
-    pub finish_frees : (n ≤ x.booked) × (n ≤ x.used)
-    finish_frees = (omega (arith, frees_read, change.booked, a.booked_is), omega (arith, frees_read, change.used, a.used_is))
-
+  module _ {task : ℕ} (h : MayFinish c st task) where
     fewer : (u : ℕ) → awaited c.system (is_done (state_after st Finish task)) u + count_by (is_edge task u) c.system.items ≡ awaited c.system (is_done st) u
     fewer u = awaited_later c.system (is_done st) (is_done (state_after st Finish task)) task (ap is_done_phase h.running) (finish_adds c a.setting st a.safe task h) u
 
-    pub finish_enough : (u : ℕ) → IsNumber u (length x.waiting) → count_by (is_edge task u) c.system.items ≤ task_entry x.waiting u
-    finish_enough u in' = omega (arith, a.waiting_are u (in'.0, omega (arith, in'.1, a.waiting_length)), fewer u)
+    -- at its place the row of consumers has as many of each place as it takes off there
+    module _ {k : ℕ} (w : k < length c.order) (here : slice_index c.order k ≡ task) where
+      taken : (p : ℕ) → p < length c.order → count_by (λ q. q == p) (row_at x.fixed.consumers k) ≡ count_by (is_edge task (slice_index c.order p)) c.system.items
+      taken p v = a.fixed.consumers_are.counts k p w v ∙ ap (λ t. count_by (is_edge t (slice_index c.order p)) c.system.items) here
 
-    pub finished_tables : IsSafe c (state_after st Finish task) → (now : RunningValue) → ((t : ℕ) → stands_in now.listed t ≡ (stands_in x.running.listed t && not (t == task))) →
-        length now.listed + 1 ≡ length x.running.listed → now.room ≡ x.running.room → now.count ≡ x.running.count →
-        (waiting : List ℕ) → length waiting ≡ length x.waiting → ((u : ℕ) → task_entry waiting u + count_by (is_edge task u) c.system.items ≡ task_entry x.waiting u) →
-        AreCoreTables c (record { activated = st.activated; phases = set st.phases (task - 1) Done }) (record x { waiting = waiting; running = now; booked = x.booked - n; used = x.used - n })
-    finished_tables safe now listed shorter room count waiting len counts =
-        let is = finish_is_task task h in
-        let here = with_phase_same st.phases task Done is.0 (omega (arith, is.1, a.safe.phases)) in
-        let tables : AreCoreTables c (state_after st Finish task) (record x { waiting = waiting; running = now; booked = x.booked - n; used = x.used - n }) = record {
-          setting = a.setting;
-          few_workers = a.few_workers;
-          safe = safe;
-          fixed = a.fixed;
-          waiting_length = len ∙ a.waiting_length;
-          waiting_are = λ u in'. omega (arith, counts u, a.waiting_are u in', fewer u);
-          running_room = room ∙ a.running_room;
-          running_numbers = count ∙ a.running_numbers;
-          running_length = omega (arith, shorter, a.running_length, change.running);
-          running_are = λ t.
-              listed t ∙
-              ⊎_elim
-              (λ e. let yes : (t == task) ≡ true = eq-eqb t task e in
-              let off : is_running (state_after st Finish task) t ≡ false = ap (λ u. is_running (state_after st Finish task) u) e ∙ ap is_running_phase here in
-              rw (yes, off) (and-false (stands_in x.running.listed t)))
-              (λ d. let no : (t == task) ≡ false = ne_eqb t task d in
-              let other : is_running (state_after st Finish task) t ≡ is_running st t = ap is_running_phase (with_phase_other st.phases task t Done d) in
-              rw (no, other) (and-true (stands_in x.running.listed t) ∙ a.running_are t))
-              (cases_eq t task);
-          booked_is = omega (arith, frees_read, change.booked, a.booked_is);
-          used_is = omega (arith, frees_read, change.used, a.used_is);
-        } in
-        rw (phase_written st.phases task Done is.0) at tables
+      pub finish_within : All (λ p. p < length x.waiting) (row_at x.fixed.consumers k)
+      finish_within i d v = omega (arith, a.fixed.consumers_are.within k w i d v, a.waiting_are.long)
+
+      pub finish_enough : (p : ℕ) → p < length x.waiting → count_by (λ q. q == p) (row_at x.fixed.consumers k) ≤ slice_index x.waiting p
+      finish_enough p v =
+          let v' : p < length c.order = omega (arith, v, a.waiting_are.long) in
+          omega (arith, taken p v', a.waiting_are.each p v', fewer (slice_index c.order p))
+
+      pub finish_waiting : (waiting : List ℕ) → length waiting ≡ length x.waiting →
+          ((p : ℕ) → p < length x.waiting → slice_index waiting p + count_by (λ q. q == p) (row_at x.fixed.consumers k) ≡ slice_index x.waiting p) →
+          AreByPlace c.order (λ t n. n ≡ awaited c.system (is_done (state_after st Finish task)) t) waiting
+      finish_waiting waiting len counts = record {
+        long = len ∙ a.waiting_are.long;
+        each = λ p v. omega (arith, taken p v, a.waiting_are.each p v, fewer (slice_index c.order p), counts p (omega (arith, v, a.waiting_are.long)));
+      }
+
+    module _ (n : ℕ) (freed : n + outputs_of c.system task ≡ need_of c.system task + inputs_of c.system task) (change : FreesNeed c st task) where
+      pub finish_frees : (n ≤ x.booked) × (n ≤ x.used)
+      finish_frees = (omega (arith, freed, change.booked, a.booked_is), omega (arith, freed, change.used, a.used_is))
+
+      pub finished_tables : IsSafe c (state_after st Finish task) → (now : RunningValue) → ((t : ℕ) → stands_in now.listed t ≡ (stands_in x.running.listed t && not (t == task))) →
+          length now.listed + 1 ≡ length x.running.listed → now.room ≡ x.running.room → now.count ≡ x.running.count →
+          (waiting : List ℕ) → AreByPlace c.order (λ t n. n ≡ awaited c.system (is_done (state_after st Finish task)) t) waiting →
+          AreCoreTables c (record { activated = st.activated; phases = set st.phases (task - 1) Done }) (record x { waiting = waiting; running = now; booked = x.booked - n; used = x.used - n })
+      finished_tables safe now listed shorter room count waiting waits =
+          let is = finish_is_task task h in
+          let here = with_phase_same st.phases task Done is.0 (omega (arith, is.1, a.safe.phases)) in
+          let tables : AreCoreTables c (state_after st Finish task) (record x { waiting = waiting; running = now; booked = x.booked - n; used = x.used - n }) = record {
+            setting = a.setting;
+            few_workers = a.few_workers;
+            safe = safe;
+            fixed = a.fixed;
+            waiting_are = waits;
+            running_room = room ∙ a.running_room;
+            running_numbers = count ∙ a.running_numbers;
+            running_length = omega (arith, shorter, a.running_length, change.running);
+            running_are = λ t.
+                listed t ∙
+                ⊎_elim
+                (λ e. let yes : (t == task) ≡ true = eq-eqb t task e in
+                let off : is_running (state_after st Finish task) t ≡ false = ap (λ u. is_running (state_after st Finish task) u) e ∙ ap is_running_phase here in
+                rw (yes, off) (and-false (stands_in x.running.listed t)))
+                (λ d. let no : (t == task) ≡ false = ne_eqb t task d in
+                let other : is_running (state_after st Finish task) t ≡ is_running st t = ap is_running_phase (with_phase_other st.phases task t Done d) in
+                rw (no, other) (and-true (stands_in x.running.listed t) ∙ a.running_are t))
+                (cases_eq t task);
+            booked_is = omega (arith, freed, change.booked, a.booked_is);
+            used_is = omega (arith, freed, change.used, a.used_is);
+          } in
+          rw (phase_written st.phases task Done is.0) at tables

@@ -1,10 +1,11 @@
 pub mod Totals
 pub mod Phases
 pub mod Numbers
+pub mod Placing
+pub mod Consuming
 pub mod Sizes
 pub mod Spots
 pub mod Awaiting
-pub mod Producing
 pub mod Premises
 pub mod Orders
 pub mod Lengths

@@ -39,7 +39,7 @@ number_replicate zero (suc i) = refl
 number_replicate (suc n) (suc zero) = refl
 number_replicate (suc n) (suc (suc i)) = number_replicate n (suc i)
 
--- one number raised, and lowered
+-- one number raised
 pub raised : (xs : List ℕ) (t x : ℕ) → 0 < t → t ≤ length xs → (u : ℕ) → task_entry (set xs (t - 1) (get_or xs (t - 1) 0 + x)) u ≡ task_entry xs u + cond (t == u) x 0
 raised xs t x low high u =
     ⊎_elim
@@ -49,18 +49,6 @@ raised xs t x low high u =
     rw (e', ← e) (omega (arith, a, b)))
     (λ n. let e' : (t == u) ≡ false = ne_eqb t u n in
     let a = number_set_other xs t u (get_or xs (t - 1) 0 + x) low (λ z. n (sym z)) in
-    rw e' (omega (arith, a)))
-    (cases_eq t u)
-
-pub lowered : (xs : List ℕ) (t : ℕ) → 0 < t → t ≤ length xs → 1 ≤ task_entry xs t → (u : ℕ) → task_entry (set xs (t - 1) (get_or xs (t - 1) 0 - 1)) u + cond (t == u) 1 0 ≡ task_entry xs u
-lowered xs t low high some u =
-    ⊎_elim
-    (λ e. let e' : (t == u) ≡ true = eq-eqb t u e in
-    let a = number_set_same xs t (get_or xs (t - 1) 0 - 1) low high in
-    let b = number_at xs t low in
-    rw (e', ← e) (omega (arith, a, b)))
-    (λ n. let e' : (t == u) ≡ false = ne_eqb t u n in
-    let a = number_set_other xs t u (get_or xs (t - 1) 0 - 1) low (λ z. n (sym z)) in
     rw e' (omega (arith, a)))
     (cases_eq t u)
 

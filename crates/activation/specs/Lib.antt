@@ -7,6 +7,7 @@ pub mod Running
 pub mod Bits
 pub mod Clock
 pub mod Tables
+pub mod Consumers
 pub mod Run
 pub mod Refusal
 pub mod Samples

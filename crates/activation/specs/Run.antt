@@ -1,6 +1,6 @@
 -- No public clause names this.
 -- A simulated run between two events: its trees and tables, and what they stand for.
-use Rattle.std.specs.Prelude.{◌≡◌, ◌≢◌, ℕ, ◌+◌, ◌*◌, ◌<◌, ◌≤◌, Bool, true, false, if◌then◌else◌, All, List, [], length, slice_index, slice_index_or, replicate}
+use Rattle.std.specs.Prelude.{◌≡◌, ◌≢◌, ℕ, ◌+◌, ◌*◌, ◌<◌, ◌≤◌, Bool, true, false, if◌then◌else◌, All, List, [], length, map, slice_index, slice_index_or, replicate}
 use Rattle.std.specs.List.{sum_by}
 use Rattle.limits.specs.Limits.{most_time}
 use Rattle.mp_system.specs.System.{IsTask}
@@ -8,10 +8,9 @@ use Rattle.activation.specs.declared.events.Phase.{Phase}
 use Rattle.activation.specs.declared.events.Phase.TheVariants.{Idle, Running, Done}
 use Rattle.activation.specs.declared.room.Room.{Room}
 use Rattle.activation.specs.Machine.{Setting, State, phase_in, is_running, running_count}
-use Rattle.activation.specs.Running.{IsNumber}
 use Rattle.activation.specs.Clock.{ClockValue, IsDueOf, has_place}
 use Rattle.activation.specs.Schedule.{task_entry, Moment, StandsBefore, HoldsEach}
-use Rattle.activation.specs.Tables.{AreTaskPlaces, is_startable}
+use Rattle.activation.specs.Tables.{IsNumbering, is_startable}
 
 -- how many events a task has had, beside its activation
 unfoldable pub steps_of : Phase → ℕ
@@ -28,12 +27,6 @@ pub record RunValue : Type 0 where
   pub setting : Setting
   pub priority : List ℕ
   pub moment : Moment
-
--- no two tasks have the same rank, and the ranks are below the number of tasks
-pub record AreRanks (count : ℕ) (ranks : List ℕ) : Type 0 where
-  pub long : length ranks ≡ count
-  pub within : (t : ℕ) → IsNumber t count → task_entry ranks t < count
-  pub once : (t u : ℕ) → IsNumber t count → IsNumber u count → task_entry ranks t ≡ task_entry ranks u → t ≡ u
 
 -- the running task that is due first, and stands first in the order of those that are due with it
 pub record IsNextDue (c : Setting) (m : Moment) (t : ℕ) : Type 0 where
@@ -64,12 +57,12 @@ run_tables room = record {
   priority = room.priority.items;
 }
 
--- the ranks are the places in the priority, which holds each task once
+-- the priority, told by places of the order, holds each task once, and the ranks of the places are where they stand in it
 pub record AreRanked (c : Setting) (priority ranks : List ℕ) : Type 0 where
-  pub each : HoldsEach c.system priority
-  pub long : length priority ≡ length c.system.tasks
-  pub ranks_are : AreRanks (length c.system.tasks) ranks
-  pub places : AreTaskPlaces priority ranks
+  pub each : HoldsEach c.system (map (slice_index c.order) priority)
+  pub long : length priority ≡ length c.order
+  pub ranks_are : IsNumbering (length c.order) ranks
+  pub places : (r : ℕ) → r < length priority → slice_index ranks (slice_index priority r) ≡ r
 
 -- the clock has the due of each running task once, and no other; the set of the startable ones has the ranks of the startable tasks
 pub record IsRun (c : Setting) (st : State) (time : ℕ) (x : RunTables) : Type 0 where
@@ -79,8 +72,8 @@ pub record IsRun (c : Setting) (st : State) (time : ℕ) (x : RunTables) : Type 
   pub clock_long : length x.clock.dues ≡ running_count c st
   pub clock_has : (k : ℕ) → k < length c.order → sum_by (has_place k) x.clock.dues ≡ (if is_running st (slice_index c.order k) then 1 else 0)
   pub clock_is : All (IsDueOf c.order x.dues) x.clock.dues
-  pub ready_long : length x.ready ≡ length c.system.tasks
-  pub ready_is : (t : ℕ) → IsTask c.system t → slice_index_or x.ready (task_entry x.ranks t) false ≡ is_startable c st t
+  pub ready_long : length x.ready ≡ length c.order
+  pub ready_is : (k : ℕ) → k < length c.order → slice_index_or x.ready (slice_index x.ranks k) false ≡ is_startable c st (slice_index c.order k)
   pub not_past : (t : ℕ) → phase_in st.phases t ≡ Running → time ≤ task_entry x.dues t
   pub dues_small : (t : ℕ) → phase_in st.phases t ≡ Running → task_entry x.dues t ≤ most_time * event_count c st
   pub time_small : time ≤ most_time * event_count c st
@@ -89,6 +82,6 @@ pub record IsRun (c : Setting) (st : State) (time : ℕ) (x : RunTables) : Type 
 pub record IsRoom (c : Setting) (x : RunTables) : Type 0 where
   pub dues_are : x.dues ≡ replicate (length c.system.tasks) 0
   pub clock_are : x.clock ≡ record { dues = []; room = c.workers }
-  pub ready_are : x.ready ≡ replicate (length c.system.tasks) false
-  pub ranks_long : length x.ranks ≡ length c.system.tasks
-  pub priority_long : length x.priority ≡ length c.system.tasks
+  pub ready_are : x.ready ≡ replicate (length c.order) false
+  pub ranks_long : length x.ranks ≡ length c.order
+  pub priority_long : length x.priority ≡ length c.order

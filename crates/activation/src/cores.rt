@@ -1,32 +1,29 @@
-ghost use Rattle.std.specs.Prelude.{◌≡◌, nat_eq, ◌*◌, ◌<◌, ◌≤◌, ℕ, true, false, if◌then◌else◌, [], length, slice_index, slice_index_or, count_by, vec_capacity, IfOk, IfErr, IsTrue, IfSome, IfNone, ◌↔◌};
+ghost use Rattle.std.specs.Prelude.{◌≡◌, ◌==◌, nat_eq, ◌*◌, ◌<◌, ◌≤◌, ℕ, true, false, if◌then◌else◌, [], length, slice_index, slice_index_or, count_by, vec_capacity, IfOk, IfErr, IsTrue, IfSome, IfNone, ◌↔◌};
 ghost use Rattle.std.specs.Bool.{OnTrue, OnFalse};
 ghost use Rattle.std.specs.List.{IsDistinct};
 ghost use Rattle.limits.specs.Limits.{most_time, most_workers};
-ghost use Rattle.mp_system.specs.System.{IsTask, is_named, task_at};
+ghost use Rattle.mp_system.specs.System.{IsTask, task_at};
 ghost use Rattle.mp_system.specs.Memory.{peak_of, stands_in};
 ghost use Rattle.mp_system.specs.Traversal.{IsTraversal};
 ghost use Rattle.activation.specs.Machine.{CoreValue, IsSetting, MayActivate, MayStart, MayFinish, state_after, start_state, is_running, is_done, booked_memory, used_memory};
 ghost use Rattle.activation.specs.Safe.{IsSafe};
 ghost use Rattle.activation.specs.Refusal.{IsCoreRefusal};
-ghost use Rattle.activation.specs.Tables.{AreCoreTables, is_startable, is_edge};
-ghost use Rattle.activation.specs.Schedule.{task_entry};
-ghost use Rattle.activation.specs.Run.{AreRanks};
+ghost use Rattle.activation.specs.Tables.{AreCoreTables, IsNumbering, is_startable, is_edge};
 
 use crate::NoMemory;
+use crate::consumers::consumer_rows;
 use crate::events::{Event, EventKind, Phase};
 use crate::laws::{event_law, start_law};
-use crate::outputs::{consumers_of, output_rows};
-use crate::places::{fill_places, is_number};
+use crate::places::{is_number, places_of};
 use crate::rank_set::RankSet;
 use crate::refusal::CoreRefusal;
 use crate::running::RunningTasks;
 use crate::start::{start_memory, times_of};
 use crate::sums::needs_of;
-use crate::waiting::{count_waiting, release};
+use crate::waiting::{release, waiting_of};
 use mp_system::laws::traversal_law;
 use mp_system::{System, replay};
 use row_table::RowTable;
-use row_table::laws::numbers_law;
 use std::alloc::Global;
 use std::marker::Model;
 use std::snapshot::Snapshot;
@@ -41,13 +38,14 @@ pub struct Core {
     order: Vec<u32>,
     bound: u64,
     workers: u32,
+    // By the places of the order, along which the tasks are activated, and mostly started and finished.
     times: Vec<u64>,
     needs: Vec<u64>,
     frees: Vec<u64>,
-    places: Vec<u32>,
-    outputs: RowTable,
-    consumers: Vec<Option<u32>>,
+    consumers: RowTable,
     waiting: Vec<u64>,
+    // By the tasks.
+    places: Vec<u32>,
     phases: Vec<Phase>,
     activated: usize,
     running: RunningTasks,
@@ -72,8 +70,7 @@ impl Model for Core {
             needs = m.needs.items;
             frees = m.frees.items;
             places = m.places.items;
-            outputs = m.outputs;
-            consumers = m.consumers.items;
+            consumers = m.consumers;
           };
           waiting = m.waiting.items;
           running = m.running;
@@ -124,13 +121,11 @@ impl Core {
         start_law();
         traversal_law();
         let count = system.tasks().len();
-        let times = times_of(alloc, system)?;
-        let needs = needs_of(alloc, system)?;
-        let outputs = output_rows(alloc, system)?;
-        let consumers = consumers_of(alloc, system)?;
-        let waiting = count_waiting(alloc, system)?;
-        let mut places = vec![in alloc; 0u32; count]?;
-        fill_places(order, &mut places);
+        let times = times_of(alloc, system, order)?;
+        let needs = needs_of(alloc, system, order)?;
+        let waiting = waiting_of(alloc, system, order)?;
+        let places = places_of(alloc, system, order)?;
+        let consumers = consumer_rows(alloc, system, &places)?;
         let running = RunningTasks::new(alloc, workers as usize, count)?;
         let phases = vec![in alloc; Phase::Idle; count]?;
         let memory = start_memory(system);
@@ -143,10 +138,9 @@ impl Core {
             times,
             needs: needs.needs,
             frees: needs.frees,
-            places,
-            outputs,
             consumers,
             waiting,
+            places,
             phases,
             activated: 0,
             running,
@@ -164,11 +158,12 @@ impl Core {
         ensures unchanged { IfNone result (self.new ≡ self.old) }
     {
         event_law();
-        if self.activated == self.order.len() {
+        let place = self.activated;
+        if place == self.order.len() {
             return None;
         }
-        let task = self.order[self.activated];
-        let need = self.needs[task as usize - 1];
+        let task = self.order[place];
+        let need = self.needs[place];
         if self.bound - self.booked < need {
             return None;
         }
@@ -177,22 +172,50 @@ impl Core {
         Some(task)
     }
 
-    /// Whether a task may start as soon as a worker is free.
-    pub(crate) fn is_startable(&self, task: u32) -> bool
-        requires { IsTask self.now.setting.system task }
-        ensures { result ≡ is_startable self.now.setting self.now.state task }
+    /// Whether the task at a place of the order may start as soon as a worker is free.
+    pub(crate) fn is_startable(&self, place: u32) -> bool
+        requires { place < length self.now.setting.order }
+        ensures { result ≡ is_startable self.now.setting self.now.state (slice_index self.now.setting.order place) }
     {
-        let at = task as usize - 1;
-        (self.places[at] as usize) < self.activated
-            && self.phases[at].is_idle()
+        let at = place as usize;
+        at < self.activated
             && self.waiting[at] == 0
+            && self.phases[self.order[at] as usize - 1].is_idle()
+    }
+
+    // Whether it may start now.
+    fn may_start_at(&self, place: u32) -> bool
+        requires { place < length self.now.setting.order }
+        ensures { IsTrue result ↔ MayStart self.now.setting self.now.state (slice_index self.now.setting.order place) }
+    {
+        self.running.has_room() && self.is_startable(place)
     }
 
     /// Whether a task may start now: `start` answers yes just then.
     pub fn may_start(&self, task: u32) -> bool
         ensures { IsTrue result ↔ MayStart self.now.setting self.now.state task }
     {
-        is_number(task, self.phases.len()) && self.running.has_room() && self.is_startable(task)
+        is_number(task, self.phases.len()) && self.may_start_at(self.place_of(task))
+    }
+
+    /// Starts the task at a place of the order, where it may start.
+    pub(crate) fn start_at(&mut self, place: u32) -> bool
+        requires { place < length self.old.setting.order }
+        ensures setting { self.new.setting ≡ self.old.setting }
+        ensures legal { IsTrue result ↔ MayStart self.old.setting self.old.state (slice_index self.old.setting.order place) }
+        ensures next { OnTrue result (self.new.state ≡ state_after self.old.state EventKind.Start (slice_index self.old.setting.order place)) }
+        ensures unchanged { OnFalse result (self.new ≡ self.old) }
+    {
+        event_law();
+        if !self.may_start_at(place) {
+            return false;
+        }
+        let task = self.order[place as usize];
+        let need = self.needs[place as usize];
+        self.phases[task as usize - 1] = Phase::Running;
+        self.running.add(task);
+        self.used += need;
+        true
     }
 
     /// Starts an activated task whose suppliers are done, where a worker is free.
@@ -202,23 +225,34 @@ impl Core {
         ensures next { OnTrue result (self.new.state ≡ state_after self.old.state EventKind.Start task) }
         ensures unchanged { OnFalse result (self.new ≡ self.old) }
     {
-        event_law();
-        if !self.may_start(task) {
+        if !is_number(task, self.phases.len()) {
             return false;
         }
-        let at = task as usize - 1;
-        let need = self.needs[at];
-        self.phases[at] = Phase::Running;
-        self.running.add(task);
-        self.used += need;
-        true
+        let place = self.place_of(task);
+        self.start_at(place)
     }
 
-    // Whether the task runs now.
-    fn may_finish(&self, task: u32) -> bool
-        ensures { IsTrue result ↔ MayFinish self.now.setting self.now.state task }
+    /// Ends the task at a place of the order, where it runs.
+    pub(crate) fn finish_at(&mut self, place: u32) -> bool
+        requires { place < length self.old.setting.order }
+        ensures setting { self.new.setting ≡ self.old.setting }
+        ensures legal { IsTrue result ↔ MayFinish self.old.setting self.old.state (slice_index self.old.setting.order place) }
+        ensures next { OnTrue result (self.new.state ≡ state_after self.old.state EventKind.Finish (slice_index self.old.setting.order place)) }
+        ensures unchanged { OnFalse result (self.new ≡ self.old) }
     {
-        is_number(task, self.phases.len()) && self.phases[task as usize - 1].is_running()
+        event_law();
+        let task = self.order[place as usize];
+        let at = task as usize - 1;
+        if !self.phases[at].is_running() {
+            return false;
+        }
+        let frees = self.frees[place as usize];
+        self.phases[at] = Phase::Done;
+        self.running.remove(task);
+        self.booked -= frees;
+        self.used -= frees;
+        release(self.consumers.row(place), &mut self.waiting);
+        true
     }
 
     /// Ends a running task.
@@ -228,19 +262,11 @@ impl Core {
         ensures next { OnTrue result (self.new.state ≡ state_after self.old.state EventKind.Finish task) }
         ensures unchanged { OnFalse result (self.new ≡ self.old) }
     {
-        event_law();
-        numbers_law();
-        if !self.may_finish(task) {
+        if !is_number(task, self.phases.len()) {
             return false;
         }
-        let at = task as usize - 1;
-        let frees = self.frees[at];
-        self.phases[at] = Phase::Done;
-        self.running.remove(task);
-        self.booked -= frees;
-        self.used -= frees;
-        release(&self.consumers, self.outputs.row(task), &mut self.waiting);
-        true
+        let place = self.place_of(task);
+        self.finish_at(place)
     }
 
     /// Used memory: the items that are present, and the needs of the running tasks.
@@ -306,61 +332,60 @@ impl Core {
     }
 
     /// The task that stands at this place of the order, counted from 0.
-    pub(crate) fn task_at(&self, place: usize) -> u32
+    pub(crate) fn task_at(&self, place: u32) -> u32
         requires { place < length self.now.setting.order }
         ensures { result ≡ slice_index self.now.setting.order place }
     {
-        self.order[place]
+        self.order[place as usize]
     }
 
     /// Where a task stands in the order, counted from 0.
-    pub(crate) fn place_of(&self, task: u32) -> usize
+    pub(crate) fn place_of(&self, task: u32) -> u32
         requires { IsTask self.now.setting.system task }
         ensures within { result < length self.now.setting.order }
         ensures there { slice_index self.now.setting.order result ≡ task }
     {
-        self.places[task as usize - 1] as usize
+        self.places[task as usize - 1]
     }
 
-    /// How long a task takes.
-    pub(crate) fn time_of(&self, task: u32) -> u64
-        requires { IsTask self.now.setting.system task }
-        ensures time { result ≡ (task_at self.now.setting.system task).time }
+    /// How long the task at a place of the order takes.
+    pub(crate) fn time_at(&self, place: u32) -> u64
+        requires { place < length self.now.setting.order }
+        ensures time { result ≡ (task_at self.now.setting.system (slice_index self.now.setting.order place)).time }
         ensures long { result ≤ most_time }
     {
-        self.times[task as usize - 1]
+        self.times[place as usize]
     }
 
-    /// Puts the rank of the task that is named, if one is, into the set of those that are startable, or takes it out.
-    pub(crate) fn refresh(&self, task: Option<u32>, ranks: &[u32], ready: &mut RankSet)
-        requires tasks { (t : ℕ) → is_named task t ≡ true → IsTask self.now.setting.system t }
-        requires ranks { AreRanks (length self.now.setting.system.tasks) ranks.now }
-        requires long { length ready.old ≡ length self.now.setting.system.tasks }
+    /// Puts the rank of a place of the order into the set of those whose tasks are startable, or takes it out.
+    pub(crate) fn refresh(&self, place: u32, ranks: &[u32], ready: &mut RankSet)
+        requires place { place < length self.now.setting.order }
+        requires ranks { IsNumbering (length self.now.setting.order) ranks.now }
+        requires long { length ready.old ≡ length self.now.setting.order }
         ensures long { length ready.new ≡ length ready.old }
-        ensures marks { (t : ℕ) → IsTask self.now.setting.system t → slice_index_or ready.new (task_entry ranks.now t) false
-            ≡ (if is_named task t then is_startable self.now.setting self.now.state t
-            else slice_index_or ready.old (task_entry ranks.now t) false) }
+        ensures marks { (k : ℕ) → k < length self.now.setting.order → slice_index_or ready.new (slice_index ranks.now k) false
+            ≡ (if place == k then is_startable self.now.setting self.now.state (slice_index self.now.setting.order k)
+            else slice_index_or ready.old (slice_index ranks.now k) false) }
     {
-        if let Some(named) = task {
-            let rank = ranks[named as usize - 1] as usize;
-            ready.put(rank, self.is_startable(named));
-        }
+        ready.put(ranks[place as usize] as usize, self.is_startable(place));
     }
 
-    /// Does so for each task that consumes an output of this one.
-    pub(crate) fn refresh_consumers(&self, task: u32, ranks: &[u32], ready: &mut RankSet)
-        requires task { IsTask self.now.setting.system task }
-        requires ranks { AreRanks (length self.now.setting.system.tasks) ranks.now }
-        requires long { length ready.old ≡ length self.now.setting.system.tasks }
+    /// Does so for the places of the tasks that consume an output of the task at this one.
+    pub(crate) fn refresh_consumers(&self, place: u32, ranks: &[u32], ready: &mut RankSet)
+        requires place { place < length self.now.setting.order }
+        requires ranks { IsNumbering (length self.now.setting.order) ranks.now }
+        requires long { length ready.old ≡ length self.now.setting.order }
         ensures long { length ready.new ≡ length ready.old }
-        ensures consumers { (t : ℕ) → IsTask self.now.setting.system t → 0 < count_by (is_edge task t) self.now.setting.system.items →
-            slice_index_or ready.new (task_entry ranks.now t) false ≡ is_startable self.now.setting self.now.state t }
-        ensures others { (t : ℕ) → IsTask self.now.setting.system t → count_by (is_edge task t) self.now.setting.system.items ≡ 0 →
-            slice_index_or ready.new (task_entry ranks.now t) false ≡ slice_index_or ready.old (task_entry ranks.now t) false }
+        ensures consumers { (k : ℕ) → k < length self.now.setting.order →
+            0 < count_by (is_edge (slice_index self.now.setting.order place) (slice_index self.now.setting.order k)) self.now.setting.system.items →
+            slice_index_or ready.new (slice_index ranks.now k) false
+            ≡ is_startable self.now.setting self.now.state (slice_index self.now.setting.order k) }
+        ensures others { (k : ℕ) → k < length self.now.setting.order →
+            count_by (is_edge (slice_index self.now.setting.order place) (slice_index self.now.setting.order k)) self.now.setting.system.items ≡ 0 →
+            slice_index_or ready.new (slice_index ranks.now k) false ≡ slice_index_or ready.old (slice_index ranks.now k) false }
     {
-        numbers_law();
-        for place in self.outputs.row(task) {
-            self.refresh(self.consumers[*place as usize], ranks, ready);
+        for consumer in self.consumers.row(place) {
+            self.refresh(*consumer, ranks, ready);
         }
     }
 }

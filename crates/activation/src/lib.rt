@@ -7,10 +7,10 @@
 #![tactic(auto)]
 
 mod clock;
+mod consumers;
 mod cores;
 mod events;
 pub mod laws;
-mod outputs;
 mod places;
 mod priority;
 mod rank_set;

@@ -1,4 +1,4 @@
-ghost use Rattle.std.specs.Prelude.{◌≡◌, ◌*◌, ◌≤◌, ◌<◌, ℕ, false, length, slice_index, IfSome, IfNone};
+ghost use Rattle.std.specs.Prelude.{◌≡◌, ◌*◌, ◌≤◌, ◌<◌, ℕ, false, length, map, slice_index, IfSome, IfNone};
 ghost use Rattle.mp_system.specs.System.{IsTask};
 ghost use Rattle.activation.specs.declared.events.Phase.TheVariants.{Running as IsRunning};
 ghost use Rattle.activation.specs.Machine.{IsSetting, phase_in, start_state, used_memory, booked_memory, AllDone};
@@ -11,8 +11,7 @@ use crate::clock::Due;
 use crate::cores::Core;
 use crate::events::{Event, EventKind};
 use crate::laws::{event_law, progress_law};
-use crate::places::fill_places;
-use crate::room::Room;
+use crate::room::{Room, write_ranks};
 use mp_system::laws::traversal_law;
 use std::marker::Model;
 
@@ -29,7 +28,7 @@ impl Model for Run {
 
     ghost view = { λ r. record {
       setting = r.core.setting;
-      priority = r.room.priority.items;
+      priority = map (slice_index r.core.setting.order) r.room.priority.items;
       moment = record { state = r.core.state; time = r.time; dues = r.room.dues.items };
     } };
 
@@ -49,8 +48,7 @@ impl Run {
         core.keeps();
         traversal_law();
         let mut room = room;
-        room.priority.copy_from_slice(priority);
-        fill_places(priority, &mut room.ranks);
+        write_ranks(&core, priority, &mut room.priority, &mut room.ranks);
         Run {
             core,
             room,
@@ -89,9 +87,11 @@ impl Run {
         self.core.booked()
     }
 
-    // The task that may start as soon as a worker is free, and stands first in the priority.
+    // The place of the task that may start as soon as a worker is free, and stands first in the priority.
     fn first_startable(&self) -> Option<u32>
-        ensures some { IfSome result (λ t. IsFirstStartable self.now.setting self.now.priority self.now.moment.state t) }
+        ensures within { IfSome result (λ k. k < length self.now.setting.order) }
+        ensures some { IfSome result (λ k.
+            IsFirstStartable self.now.setting self.now.priority self.now.moment.state (slice_index self.now.setting.order k)) }
         ensures none { IfNone result ((u : ℕ) → IsTask self.now.setting.system u →
             is_startable self.now.setting self.now.moment.state u ≡ false) }
     {
@@ -116,11 +116,11 @@ impl Run {
         traversal_law();
         event_law();
         let next = self.room.clock.take_first()?;
-        let task = self.core.task_at(next.place as usize);
-        self.core.finish(task);
+        let task = self.core.task_at(next.place);
+        self.core.finish_at(next.place);
         self.time = next.time;
         self.core
-            .refresh_consumers(task, &self.room.ranks, &mut self.room.ready);
+            .refresh_consumers(next.place, &self.room.ranks, &mut self.room.ready);
         Some(Event {
             time: next.time,
             kind: EventKind::Finish,
@@ -156,9 +156,10 @@ impl Run {
         ensures unchanged { IfNone result (self.new ≡ self.old) }
     {
         self.core.keeps();
+        let place = self.core.activated();
         let task = self.core.activate()?;
         self.core
-            .refresh(Some(task), &self.room.ranks, &mut self.room.ready);
+            .refresh(place, &self.room.ranks, &mut self.room.ready);
         Some(Event {
             time: self.time,
             kind: EventKind::Activate,
@@ -180,16 +181,16 @@ impl Run {
         self.core.keeps();
         traversal_law();
         event_law();
-        let task = self.first_startable()?;
-        let place = self.core.place_of(task) as u32;
-        let time = self.time + self.core.time_of(task);
-        if !self.core.start(task) {
+        let place = self.first_startable()?;
+        let task = self.core.task_at(place);
+        let time = self.time + self.core.time_at(place);
+        if !self.core.start_at(place) {
             return None;
         }
         self.room.dues[task as usize - 1] = time;
         self.room.clock.add(Due { time, place });
         self.core
-            .refresh(Some(task), &self.room.ranks, &mut self.room.ready);
+            .refresh(place, &self.room.ranks, &mut self.room.ready);
         Some(Event {
             time: self.time,
             kind: EventKind::Start,

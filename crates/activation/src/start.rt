@@ -1,6 +1,6 @@
-ghost use Rattle.std.specs.Prelude.{◌≡◌, ℕ, false, map, IfOk};
+ghost use Rattle.std.specs.Prelude.{◌≡◌, ℕ, false, All, map, IfOk};
+ghost use Rattle.mp_system.specs.System.{IsTask, task_at};
 ghost use Rattle.mp_system.specs.Memory.{state_memory};
-ghost use Rattle.activation.specs.Tables.{time_of};
 
 use crate::NoMemory;
 use mp_system::System;
@@ -19,9 +19,14 @@ pub fn start_memory(system: &System) -> u64
     memory
 }
 
-/// How long each task takes.
-pub fn times_of(alloc: Global, system: &System) -> Result<Vec<u64>, NoMemory>
-    ensures { IfOk result (λ times. times.items ≡ map time_of system.now.tasks) }
+/// How long each task takes, by the places of an order.
+pub fn times_of(alloc: Global, system: &System, order: &[u32]) -> Result<Vec<u64>, NoMemory>
+    requires { All (IsTask system.now) order.now }
+    ensures { IfOk result (λ times. times.items ≡ map (λ t. (task_at system.now t).time) order.now) }
 {
-    system.tasks().iter().map(|task| task.time).collect(alloc)
+    let tasks = system.tasks();
+    order
+        .iter()
+        .map(|task| tasks[*task as usize - 1].time)
+        .collect(alloc)
 }

@@ -1,9 +1,11 @@
-ghost use Rattle.std.specs.Prelude.{◌≡◌, ℕ, ◌+◌, ◌<◌, ◌≤◌, ◌^◌, true, if◌then◌else◌, length, IfOk};
+ghost use Rattle.std.specs.Prelude.{◌≡◌, ℕ, ◌+◌, ◌<◌, ◌≤◌, ◌^◌, true, All, if◌then◌else◌, length, IfOk};
 ghost use Rattle.mp_system.specs.System.{is_named, need_of, inputs_of, outputs_of, IsTask};
 ghost use Rattle.activation.specs.Schedule.{task_entry};
 ghost use Rattle.activation.specs.Running.{IsNumber};
+ghost use Rattle.activation.specs.Tables.{AreByPlace};
 
 use crate::NoMemory;
+use crate::places::by_place;
 use mp_system::System;
 use std::alloc::Global;
 
@@ -49,8 +51,8 @@ pub struct Needs {
     pub frees: Vec<u64>,
 }
 
-/// The needs of a system's tasks.
-pub fn needs_of(alloc: Global, system: &System) -> Result<Needs, NoMemory>
+// The needs of a system's tasks, by their numbers.
+fn needs_by_task(alloc: Global, system: &System) -> Result<Needs, NoMemory>
     ensures needs_len { IfOk result (λ r. length r.needs.items ≡ length system.now.tasks) }
     ensures needs { IfOk result (λ r. (t : ℕ) → IsTask system.now t → task_entry r.needs.items t ≡ need_of system.now t) }
     ensures frees_len { IfOk result (λ r. length r.frees.items ≡ length system.now.tasks) }
@@ -64,5 +66,18 @@ pub fn needs_of(alloc: Global, system: &System) -> Result<Needs, NoMemory>
         needs[i] = tasks[i].extra + needs[i] - tasks[i].share;
         frees[i] = tasks[i].extra + frees[i] - tasks[i].share;
     }
+    Ok(Needs { needs, frees })
+}
+
+/// The needs of a system's tasks, by the places of an order.
+pub fn needs_of(alloc: Global, system: &System, order: &[u32]) -> Result<Needs, NoMemory>
+    requires { All (IsTask system.now) order.now }
+    ensures needs { IfOk result (λ r. AreByPlace order.now (λ t n. n ≡ need_of system.now t) r.needs.items) }
+    ensures frees { IfOk result (λ r.
+        AreByPlace order.now (λ t n. n + outputs_of system.now t ≡ need_of system.now t + inputs_of system.now t) r.frees.items) }
+{
+    let tables = needs_by_task(alloc, system)?;
+    let needs = by_place(alloc, order, &tables.needs)?;
+    let frees = by_place(alloc, order, &tables.frees)?;
     Ok(Needs { needs, frees })
 }

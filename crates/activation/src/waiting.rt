@@ -1,26 +1,16 @@
-ghost use Rattle.std.specs.Prelude.{◌≡◌, ℕ, ◌+◌, ◌<◌, ◌≤◌, true, false, All, if◌then◌else◌, None, length, slice_index_or, count_by, IfOk};
-ghost use Rattle.mp_system.specs.System.{is_named};
+ghost use Rattle.std.specs.Prelude.{◌≡◌, ◌==◌, ℕ, ◌+◌, ◌<◌, ◌≤◌, false, All, length, slice_index, count_by, IfOk};
+ghost use Rattle.mp_system.specs.System.{IsTask};
 ghost use Rattle.activation.specs.Schedule.{task_entry};
-ghost use Rattle.activation.specs.Running.{IsNumber};
-ghost use Rattle.activation.specs.Tables.{is_awaited, consumed_by};
+ghost use Rattle.activation.specs.Tables.{is_awaited, AreByPlace};
 
 use crate::NoMemory;
+use crate::places::by_place;
 use crate::sums::add_size;
 use mp_system::System;
 use std::alloc::Global;
 
-// Takes one off the count of the task that is named, if one is.
-fn lower(waiting: &mut [u64], task: Option<u32>)
-    requires { (t : ℕ) → is_named task t ≡ true → IsNumber t (length waiting.old) × (1 ≤ task_entry waiting.old t) }
-    ensures { (t : ℕ) → task_entry waiting.new t + (if is_named task t then 1 else 0) ≡ task_entry waiting.old t }
-{
-    if let Some(named) = task {
-        waiting[named as usize - 1] -= 1;
-    }
-}
-
-/// For each task of a system how many items it waits for at the start.
-pub fn count_waiting(alloc: Global, system: &System) -> Result<Vec<u64>, NoMemory>
+// For each task of a system how many items it waits for at the start.
+fn count_waiting(alloc: Global, system: &System) -> Result<Vec<u64>, NoMemory>
     ensures len { IfOk result (λ waiting. length waiting.items ≡ length system.now.tasks) }
     ensures counts { IfOk result (λ waiting. (t : ℕ) → task_entry waiting.items t ≡ count_by (is_awaited (λ _. false) t) system.now.items) }
 {
@@ -34,15 +24,22 @@ pub fn count_waiting(alloc: Global, system: &System) -> Result<Vec<u64>, NoMemor
     Ok(waiting)
 }
 
-/// Takes one off the count of a task for each of these items, told by their places, that it consumes.
-pub fn release(consumers: &[Option<u32>], places: &[u32], waiting: &mut [u64])
-    requires places { All (λ i. i < length consumers.now) places.now }
-    requires numbers { (i t : ℕ) → i < length consumers.now → is_named (slice_index_or consumers.now i None) t ≡ true →
-        IsNumber t (length waiting.old) }
-    requires enough { (t : ℕ) → IsNumber t (length waiting.old) → consumed_by t consumers.now places.now ≤ task_entry waiting.old t }
-    ensures { (t : ℕ) → task_entry waiting.new t + consumed_by t consumers.now places.now ≡ task_entry waiting.old t }
+/// By the places of an order how many items the task there waits for at the start.
+pub fn waiting_of(alloc: Global, system: &System, order: &[u32]) -> Result<Vec<u64>, NoMemory>
+    requires { All (IsTask system.now) order.now }
+    ensures { IfOk result (λ waiting. AreByPlace order.now (λ t n. n ≡ count_by (is_awaited (λ _. false) t) system.now.items) waiting.items) }
 {
-    for place in places {
-        lower(waiting, consumers[*place as usize]);
+    let waiting = count_waiting(alloc, system)?;
+    by_place(alloc, order, &waiting)
+}
+
+/// Takes one off the number of a place each time that it stands in the row.
+pub fn release(row: &[u32], waiting: &mut [u64])
+    requires within { All (λ p. p < length waiting.old) row.now }
+    requires enough { (p : ℕ) → p < length waiting.old → count_by (λ q. q == p) row.now ≤ slice_index waiting.old p }
+    ensures { (p : ℕ) → p < length waiting.old → slice_index waiting.new p + count_by (λ q. q == p) row.now ≡ slice_index waiting.old p }
+{
+    for place in row {
+        waiting[*place as usize] -= 1;
     }
 }

@@ -1,25 +1,27 @@
-use Rattle.std.proofs.Common.{sym, ◌∙◌}
+use Rattle.std.proofs.Common.{◌<◌, length, sym, refl, ◌∙◌}
 use Rattle.std.proofs.lemmas.Bool.{true≢false, lt-ltb, le-ltb}
-use Rattle.std.proofs.Math.Bool.{and-false}
-use Rattle.mp_system.specs.System.{IsTask}
-use Rattle.activation.proofs.Keeping.{front_read, idle_read, ready_read}
+use Rattle.std.proofs.Math.Bool.{and-true, and-false}
+use Rattle.activation.proofs.Keeping.{read_here, front_read, idle_read, ready_read}
 use Rattle.activation.proofs.cores.Core.is_startable.Goals as goal
-use Rattle.activation.proofs.cores.Core.is_startable.Goals.{then-index-self, else-index-self}
+use Rattle.activation.proofs.cores.Core.is_startable.Goals.{then-at-self, else-at-self}
 
-pub returns-then-is_idle : goal.returns-then-is_idle
-returns-then-is_idle c =
+pub returns-then-index-eq0 : goal.returns-then-index-eq0
+returns-then-index-eq0 c =
+    let f = c.self.inside in
     let a = c.self.invariant in
-    let is : IsTask c.self.inside.system.value c.args.task = rw (← c.self.view_is) at c.requires in
-    rw (← c.self.view_is) (elim c.if-index-self.branch [
-      | then-index-self w ↦ rw (front_read a is c.index.ensures, lt-ltb _ _ w.if-index-self.true, idle_read a is w.index-then-index-self.ensures, ← w.is_idle.ensures, ← w.value-is, c.if-is_idle.true, ready_read a is c.index-then-is_idle.ensures)
-      | else-index-self w ↦ absurd (true≢false (sym c.if-is_idle.true ∙ w.value-is ∙ le-ltb _ _ w.if-index-self.false))
+    let w : c.args.place < length f.order.items = rw (← c.self.view_is) at c.requires in
+    let here = read_here a c.args.place c.index-then-index-eq0.result.now w c.index-then-index-eq0.ensures in
+    rw (← c.self.view_is, here) (elim c.if-at-self.branch [
+      | then-at-self b ↦ rw (front_read a w here, lt-ltb _ _ b.if-at-self.true, ready_read a w here b.index.ensures, ← b.value-is, c.if-index-eq0.true, and-true, idle_read a w here c.index-then-index-eq0-2.ensures, ← c.is_idle.ensures)
+      | else-at-self b ↦ absurd (true≢false (sym c.if-index-eq0.true ∙ b.value-is ∙ le-ltb _ _ b.if-at-self.false))
     ])
 
-pub returns-else-is_idle : goal.returns-else-is_idle
-returns-else-is_idle c =
+pub returns-else-index-eq0 : goal.returns-else-index-eq0
+returns-else-index-eq0 c =
+    let f = c.self.inside in
     let a = c.self.invariant in
-    let is : IsTask c.self.inside.system.value c.args.task = rw (← c.self.view_is) at c.requires in
-    rw (← c.self.view_is, c.if-is_idle.false) (elim c.if-index-self.branch [
-      | then-index-self w ↦ rw (idle_read a is w.index-then-index-self.ensures, ← w.is_idle.ensures, ← w.value-is, c.if-is_idle.false, and-false)
-      | else-index-self w ↦ rw (front_read a is c.index.ensures, le-ltb _ _ w.if-index-self.false)
+    let w : c.args.place < length f.order.items = rw (← c.self.view_is) at c.requires in
+    rw (← c.self.view_is, c.if-index-eq0.false) (elim c.if-at-self.branch [
+      | then-at-self b ↦ rw (ready_read a w refl b.index.ensures, ← b.value-is, c.if-index-eq0.false, and-false, and-false)
+      | else-at-self b ↦ rw (front_read a w refl, le-ltb _ _ b.if-at-self.false)
     ])

@@ -1,24 +1,10 @@
-use Rattle.std.proofs.Common.{arith}
+use Rattle.std.specs.Prelude.{slice_index}
 use Rattle.activation.specs.Tables.{is_startable}
-use Rattle.activation.proofs.Numbers.{named}
-use Rattle.activation.proofs.Ranking.{rank_within, marked}
+use Rattle.activation.proofs.Ranking.{marked}
 use Rattle.activation.proofs.cores.Core.refresh.Goals as goal
 
-pub overflow_sub-rank : goal.overflow_sub-rank
-overflow_sub-rank c = (c.requires.tasks c.in-Some.named (named _ c.in-Some.named c.in-Some.is)).0
-
-pub bounds-ranks-named : goal.bounds-ranks-named
-bounds-ranks-named c = let is = c.requires.tasks c.in-Some.named (named _ c.in-Some.named c.in-Some.is) in omega (arith, is, c.requires.ranks.long)
-
-pub is_startable-requires : goal.is_startable-requires
-is_startable-requires c = c.requires.tasks c.in-Some.named (named _ c.in-Some.named c.in-Some.is)
-
-pub put-requires : goal.put-requires
-put-requires c = rank_within c.requires.ranks c.in-Some.is (c.requires.tasks c.in-Some.named (named _ c.in-Some.named c.in-Some.is)) c.args.ready.now c.requires.long
-
-pub returns-in-Some-clause-marks : goal.returns-in-Some-clause-marks
-returns-in-Some-clause-marks c =
+pub returns-clause-marks : goal.returns-clause-marks
+returns-clause-marks c =
     let v = c.args.self.now in
-    λ t in'. rw c.put.ensures
-    (marked c.requires.ranks c.in-Some.is (c.requires.tasks c.in-Some.named (named _ c.in-Some.named c.in-Some.is)) c.args.ready.now c.requires.long
-    (λ t. is_startable v.setting v.state t) c.is_startable.result c.is_startable.ensures t in')
+    λ k w. rw (c.put.ensures, c.is_startable.ensures)
+    (marked c.requires.ranks c.args.place c.requires.place c.args.ready.now c.requires.long (λ j. is_startable v.setting v.state (slice_index v.setting.order j)) k w)

@@ -1,53 +1,29 @@
-use Rattle.std.proofs.Common.{◌≡◌, ℕ, ◌<◌, false, cond, length, map, get_or, sym, ◌∙◌, ap, arith, Option, None}
-use Rattle.std.proofs.lemmas.List.{length-map}
-use Rattle.row_table.specs.Rows.{numbers_with}
-use Rattle.mp_system.specs.System.{IsTask, is_named}
+use Rattle.std.proofs.Common.{◌≡◌, ℕ, ◌<◌, length, subst, ◌∙◌, ap, arith}
+use Rattle.std.specs.Prelude.{slice_index, count_by, ◌==◌}
+use Rattle.std.proofs.lemmas.List.{take_all}
 use Rattle.activation.specs.Machine.{CoreValue}
-use Rattle.activation.specs.Tables.{producer_of, consumer_of, is_startable}
-use Rattle.activation.specs.Schedule.{task_entry}
-use Rattle.activation.proofs.Keeping.{consumers_length, consumer_read, consumer_within}
-use Rattle.activation.proofs.Producing.{consumed_all}
+use Rattle.activation.specs.Tables.{is_edge}
 use Rattle.activation.proofs.Ranking.{refreshed_more}
 use Rattle.activation.proofs.cores.Core.refresh_consumers.Goals as goal
 
-pub refresh-requires-clause-tasks : goal.refresh-requires-clause-tasks
-refresh-requires-clause-tasks c =
-    let a = c.self.invariant in
-    let items = c.self.inside.system.value.items in
-    let is : IsTask c.self.inside.system.value c.args.task = rw (← c.self.view_is) at c.requires.task in
-    let row : c.row-place-items.result.now ≡ numbers_with (map producer_of items) 0 c.args.task = c.row-place-items.ensures ∙ a.fixed.outputs_are.rows_are c.args.task is in
-    let i = c.loop-place.place-index in
-    let place = get_or c.row-place-items.result.now i 0 in
-    let inside = c.numbers_law.ensures.each (map producer_of items) 0 c.args.task i 0 (omega (arith, ap length row, c.loop-place-test.true)) in
-    let within : place < length c.self.inside.consumers.items = omega (arith, inside.1, ap (λ ps. get_or ps i 0) row, length-map items producer_of, consumers_length a) in
-    let read = consumer_read a place c.index.result.now within c.index.ensures in
-    rw (← c.self.view_is) (λ t named. consumer_within a place t within (ap (λ (o : Option ℕ). is_named o t) (sym read) ∙ named))
-
-pub loop-place-preserved : goal.loop-place-preserved
-loop-place-preserved c =
-    let a = c.self.invariant in
-    let items = c.self.inside.system.value.items in
-    let is : IsTask c.self.inside.system.value c.args.task = rw (← c.self.view_is) at c.requires.task in
-    let row : c.row-place-items.result.now ≡ numbers_with (map producer_of items) 0 c.args.task = c.row-place-items.ensures ∙ a.fixed.outputs_are.rows_are c.args.task is in
-    let i = c.loop-place.place-index in
-    let place = get_or c.row-place-items.result.now i 0 in
-    let inside = c.numbers_law.ensures.each (map producer_of items) 0 c.args.task i 0 (omega (arith, ap length row, c.loop-place-test.true)) in
-    let within : place < length c.self.inside.consumers.items = omega (arith, inside.1, ap (λ ps. get_or ps i 0) row, length-map items producer_of, consumers_length a) in
-    let read = consumer_read a place c.index.result.now within c.index.ensures in
-    let now = c.args.self.now in
-    let at : c.index.result.now ≡ get_or (map consumer_of now.setting.system.items) place None =
-    read ∙ ap (λ os. get_or os place None) (a.fixed.consumers_are ∙ ap (λ (v : CoreValue). map consumer_of v.setting.system.items) c.self.view_is) in
-    refreshed_more c.row-place-items.result.now i c.loop-place.invariant c.loop-place-test.true c.refresh.new.ready c.refresh.ensures.long
-    (λ t in'. c.refresh.ensures.marks t in' ∙ ap (λ (o : Option ℕ). cond (is_named o t) (is_startable now.setting now.state t) (get_or c.loop-place.ready (task_entry c.args.ranks.now t) false)) at)
+pub loop-consumer-preserved : goal.loop-consumer-preserved
+loop-consumer-preserved c =
+    refreshed_more c.row-consumer-items.result.now c.loop-consumer.consumer-index c.loop-consumer.invariant c.loop-consumer-test.true c.refresh.new.ready c.refresh.ensures.long c.refresh.ensures.marks
 
 pub returns-clause-consumers : goal.returns-clause-consumers
-returns-clause-consumers c =
-    let is : IsTask c.self.inside.system.value c.args.task = rw (← c.self.view_is) at c.requires.task in
-    let row = c.row-place-items.ensures ∙ c.self.invariant.fixed.outputs_are.rows_are c.args.task is ∙ ap (λ (v : CoreValue). numbers_with (map producer_of v.setting.system.items) 0 c.args.task) c.self.view_is in
-    λ t in' some. c.loop-place.invariant.consumers t in' (omega (arith, some, consumed_all c.args.self.now.setting.system.items c.row-place-items.result.now c.args.task t c.loop-place.place-index is.0 row c.loop-place-test.false))
+returns-clause-consumers c = λ k w some.
+    let row = c.row-consumer-items.result.now in
+    let whole = subst
+    (λ (v : CoreValue). (p : ℕ) → c.args.place < length v.setting.order → p < length v.setting.order →
+    count_by (λ q. q == p) row ≡ count_by (is_edge (slice_index v.setting.order c.args.place) (slice_index v.setting.order p)) v.setting.system.items) c.self.view_is
+    (λ p here there. ap (count_by (λ q. q == p)) c.row-consumer-items.ensures ∙ c.self.invariant.fixed.consumers_are.counts c.args.place p here there) in
+    c.loop-consumer.invariant.consumers k w (omega (arith, some, whole k c.requires.place w, ap (count_by (λ q. q == k)) (take_all c.loop-consumer.consumer-index row c.loop-consumer-test.false)))
 
 pub returns-clause-others : goal.returns-clause-others
-returns-clause-others c =
-    let is : IsTask c.self.inside.system.value c.args.task = rw (← c.self.view_is) at c.requires.task in
-    let row = c.row-place-items.ensures ∙ c.self.invariant.fixed.outputs_are.rows_are c.args.task is ∙ ap (λ (v : CoreValue). numbers_with (map producer_of v.setting.system.items) 0 c.args.task) c.self.view_is in
-    λ t in' none. c.loop-place.invariant.others t in' (omega (arith, none, consumed_all c.args.self.now.setting.system.items c.row-place-items.result.now c.args.task t c.loop-place.place-index is.0 row c.loop-place-test.false))
+returns-clause-others c = λ k w none.
+    let row = c.row-consumer-items.result.now in
+    let whole = subst
+    (λ (v : CoreValue). (p : ℕ) → c.args.place < length v.setting.order → p < length v.setting.order →
+    count_by (λ q. q == p) row ≡ count_by (is_edge (slice_index v.setting.order c.args.place) (slice_index v.setting.order p)) v.setting.system.items) c.self.view_is
+    (λ p here there. ap (count_by (λ q. q == p)) c.row-consumer-items.ensures ∙ c.self.invariant.fixed.consumers_are.counts c.args.place p here there) in
+    c.loop-consumer.invariant.others k w (omega (arith, none, whole k c.requires.place w, ap (count_by (λ q. q == k)) (take_all c.loop-consumer.consumer-index row c.loop-consumer-test.false)))

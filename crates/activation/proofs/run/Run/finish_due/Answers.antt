@@ -1,4 +1,5 @@
-use Rattle.std.proofs.Common.{arith}
+use Rattle.std.proofs.Common.{map, arith}
+use Rattle.std.specs.Prelude.{slice_index}
 use Rattle.activation.proofs.Clocks.{none_runs, none_before, due_now, finish_comes}
 use Rattle.activation.specs.Schedule.{Moment}
 use Rattle.activation.proofs.run.Run.finish_due.Goals as goal
@@ -21,6 +22,6 @@ returns-clause-comes c =
     let k = c.keeps.ensures in
     let first = c.in_ok-first.ensures in
     let moment : Moment = record { state = f.core.state; time = f.time; dues = f.room.dues.items } in
-    rw (← c.self.view_is) (finish_comes f.core.setting f.room.priority.items moment c.finish_next.result
+    rw (← c.self.view_is) (finish_comes f.core.setting (map (slice_index f.core.setting.order) f.room.priority.items) moment c.finish_next.result
     (rw (← c.self.view_is) at c.finish_next.ensures.due) (rw (← c.self.view_is) at c.finish_next.ensures.event)
     (due_now c.traversal_law.ensures.long k.setting k.safe c.self.invariant c.in_ok-first.field-0 first.among first.first (omega (arith, c.if-branch-self.false))))

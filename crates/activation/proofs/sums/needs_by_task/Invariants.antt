@@ -1,7 +1,7 @@
 use Rattle.std.proofs.Common.{◌≡◌, ℕ, ◌+◌, ◌<◌, ◌≤◌, length}
 use Rattle.std.specs.Prelude.{slice_index}
 use Rattle.mp_system.specs.System.{inputs_of, outputs_of, need_of}
-use Rattle.activation.proofs.sums.needs_of.Given as goal
+use Rattle.activation.proofs.sums.needs_by_task.Given as goal
 
 abbrev pub invariant-loop-i : goal.invariant-loop-i
 invariant-loop-i l = record {
