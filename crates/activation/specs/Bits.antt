@@ -1,6 +1,8 @@
 -- No public clause names this.
--- Rows of bits, 64 to a word, and sets of ranks as three such rows: each row above the first tells which words of the row below it hold any.
-use Rattle.std.specs.Prelude.{◌≡◌, ◌≢◌, ◌==◌, ℕ, ◌+◌, ◌/◌, ◌%◌, ◌^◌, ◌<◌, ◌≤◌, Bool, true, false, not, List, length, map, slice_index, slice_index_or}
+-- Rows of bits, 64 to a word, and sets of ranks as three such rows: each row above the first tells which words of the row below it hold
+-- any.
+use Rattle.std.specs.Prelude.{◌≡◌, ◌≢◌, ◌==◌, ℕ, ◌+◌, ◌/◌, ◌%◌, ◌^◌, ◌<◌, ◌≤◌, Bool, true, false, not, List, length, map, slice_index}
+use Rattle.std.specs.Prelude.{slice_index_or}
 use Rattle.std.specs.List.{range_with_len}
 use Rattle.std.specs.Int.{bit_at}
 

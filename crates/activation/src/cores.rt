@@ -1,11 +1,13 @@
-ghost use Rattle.std.specs.Prelude.{◌≡◌, ◌==◌, nat_eq, ◌*◌, ◌<◌, ◌≤◌, ℕ, true, false, if◌then◌else◌, [], length, slice_index, slice_index_or, count_by, vec_capacity, IfOk, IfErr, IsTrue, IfSome, IfNone, ◌↔◌};
+ghost use Rattle.std.specs.Prelude.{◌≡◌, ◌==◌, nat_eq, ◌*◌, ◌<◌, ◌≤◌, ℕ, true, false, if◌then◌else◌, [], length, slice_index};
+ghost use Rattle.std.specs.Prelude.{slice_index_or, count_by, vec_capacity, IfOk, IfErr, IsTrue, IfSome, IfNone, ◌↔◌};
 ghost use Rattle.std.specs.Bool.{OnTrue, OnFalse};
 ghost use Rattle.std.specs.List.{IsDistinct};
 ghost use Rattle.limits.specs.Limits.{most_time, most_workers};
 ghost use Rattle.mp_system.specs.System.{IsTask, task_at};
 ghost use Rattle.mp_system.specs.Memory.{peak_of, stands_in};
 ghost use Rattle.mp_system.specs.Traversal.{IsTraversal};
-ghost use Rattle.activation.specs.Machine.{CoreValue, IsSetting, MayActivate, MayStart, MayFinish, state_after, start_state, is_running, is_done, booked_memory, used_memory};
+ghost use Rattle.activation.specs.Machine.{CoreValue, IsSetting, MayActivate, MayStart, MayFinish, state_after, start_state, is_running};
+ghost use Rattle.activation.specs.Machine.{is_done, booked_memory, used_memory};
 ghost use Rattle.activation.specs.Safe.{IsSafe};
 ghost use Rattle.activation.specs.Refusal.{IsCoreRefusal};
 ghost use Rattle.activation.specs.Tables.{AreCoreTables, IsNumbering, is_startable, is_edge};
@@ -203,7 +205,8 @@ impl Core {
         requires { place < length self.old.setting.order }
         ensures setting { self.new.setting ≡ self.old.setting }
         ensures legal { IsTrue result ↔ MayStart self.old.setting self.old.state (slice_index self.old.setting.order place) }
-        ensures next { OnTrue result (self.new.state ≡ state_after self.old.state EventKind.Start (slice_index self.old.setting.order place)) }
+        ensures next { OnTrue result (self.new.state ≡ state_after self.old.state EventKind.Start
+            (slice_index self.old.setting.order place)) }
         ensures unchanged { OnFalse result (self.new ≡ self.old) }
     {
         event_law();
@@ -237,7 +240,8 @@ impl Core {
         requires { place < length self.old.setting.order }
         ensures setting { self.new.setting ≡ self.old.setting }
         ensures legal { IsTrue result ↔ MayFinish self.old.setting self.old.state (slice_index self.old.setting.order place) }
-        ensures next { OnTrue result (self.new.state ≡ state_after self.old.state EventKind.Finish (slice_index self.old.setting.order place)) }
+        ensures next { OnTrue result (self.new.state ≡ state_after self.old.state EventKind.Finish
+            (slice_index self.old.setting.order place)) }
         ensures unchanged { OnFalse result (self.new ≡ self.old) }
     {
         event_law();
@@ -377,11 +381,13 @@ impl Core {
         requires long { length ready.old ≡ length self.now.setting.order }
         ensures long { length ready.new ≡ length ready.old }
         ensures consumers { (k : ℕ) → k < length self.now.setting.order →
-            0 < count_by (is_edge (slice_index self.now.setting.order place) (slice_index self.now.setting.order k)) self.now.setting.system.items →
+            0 < count_by (is_edge (slice_index self.now.setting.order place) (slice_index self.now.setting.order k))
+                self.now.setting.system.items →
             slice_index_or ready.new (slice_index ranks.now k) false
             ≡ is_startable self.now.setting self.now.state (slice_index self.now.setting.order k) }
         ensures others { (k : ℕ) → k < length self.now.setting.order →
-            count_by (is_edge (slice_index self.now.setting.order place) (slice_index self.now.setting.order k)) self.now.setting.system.items ≡ 0 →
+            count_by (is_edge (slice_index self.now.setting.order place) (slice_index self.now.setting.order k))
+                self.now.setting.system.items ≡ 0 →
             slice_index_or ready.new (slice_index ranks.now k) false ≡ slice_index_or ready.old (slice_index ranks.now k) false }
     {
         for consumer in self.consumers.row(place) {

@@ -3,7 +3,8 @@ ghost use Rattle.std.specs.Prelude.{◌≡◌, ℕ, false, ◌*◌, ◌≤◌, �
 ghost use Rattle.mp_system.specs.Memory.{state_memory};
 ghost use Rattle.activation.specs.declared.events.EventKind.{EventKind};
 ghost use Rattle.activation.specs.declared.events.Event.{Event};
-ghost use Rattle.activation.specs.Machine.{Setting, IsSetting, State, MayHappen, state_after, start_state, AllDone, booked_memory, used_memory};
+ghost use Rattle.activation.specs.Machine.{Setting, IsSetting, State, MayHappen, state_after, start_state, AllDone, booked_memory};
+ghost use Rattle.activation.specs.Machine.{used_memory};
 ghost use Rattle.activation.specs.Safe.{IsSafe};
 ghost use Rattle.activation.specs.Changes.{IsChange};
 ghost use Rattle.activation.specs.Runs.{AreLegal, state_after_all, IsWithinBound, HasNext, NoneRuns, CanBegin, AtMostOnce, EachOnce};

@@ -4,7 +4,8 @@ ghost use Rattle.activation.specs.declared.events.Phase.TheVariants.{Running as 
 ghost use Rattle.activation.specs.Machine.{IsSetting, phase_in, start_state, used_memory, booked_memory, AllDone};
 ghost use Rattle.activation.specs.Safe.{IsSafe};
 ghost use Rattle.activation.specs.Tables.{is_startable};
-ghost use Rattle.activation.specs.Schedule.{HoldsEach, task_entry, moment_after, first_moment, ComesNext, NoneDue, NoneActivates, NoneStarts};
+ghost use Rattle.activation.specs.Schedule.{HoldsEach, task_entry, moment_after, first_moment, ComesNext, NoneDue, NoneActivates};
+ghost use Rattle.activation.specs.Schedule.{NoneStarts};
 ghost use Rattle.activation.specs.Run.{RunValue, IsRun, event_count, IsRoom, IsNextDue, IsFirstStartable, run_tables};
 
 use crate::clock::Due;

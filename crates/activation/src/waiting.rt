@@ -27,7 +27,8 @@ fn count_waiting(alloc: Global, system: &System) -> Result<Vec<u64>, NoMemory>
 /// By the places of an order how many items the task there waits for at the start.
 pub fn waiting_of(alloc: Global, system: &System, order: &[u32]) -> Result<Vec<u64>, NoMemory>
     requires { All (IsTask system.now) order.now }
-    ensures { IfOk result (λ waiting. AreByPlace order.now (λ t n. n ≡ count_by (is_awaited (λ _. false) t) system.now.items) waiting.items) }
+    ensures { IfOk result (λ waiting. AreByPlace order.now
+        (λ t n. n ≡ count_by (is_awaited (λ _. false) t) system.now.items) waiting.items) }
 {
     let waiting = count_waiting(alloc, system)?;
     by_place(alloc, order, &waiting)

@@ -1,6 +1,7 @@
 -- No public clause names this.
 -- What a judge keeps at hand: what is known of each position, and a table that says which claim stands where.
-use Rattle.std.specs.Prelude.{◌≡◌, ◌==◌, ℕ, ◌+◌, ◌-◌, ◌<◌, ◌≤◌, All, List, [], ◌∷◌, length, map, if◌then◌else◌, Option, None, option_map, slice_index_or, slice_get}
+use Rattle.std.specs.Prelude.{◌≡◌, ◌==◌, ℕ, ◌+◌, ◌-◌, ◌<◌, ◌≤◌, All, List, [], ◌∷◌, length, map, if◌then◌else◌, Option, None, option_map}
+use Rattle.std.specs.Prelude.{slice_index_or, slice_get}
 use Rattle.limits.specs.Limits.{most_total}
 use Rattle.mp_system.specs.declared.system.Task.{Task}
 use Rattle.sp_terms.specs.declared.position.Position.{Position}

@@ -1,4 +1,5 @@
-ghost use Rattle.std.specs.Prelude.{◌≡◌, ◌==◌, ◌&&◌, nat_le, nat_lt, ◌≤◌, ◌+◌, ◌-◌, ◌↔◌, IsTrue, length, drop, vec_len, slice_index_or, option_map, IfOk};
+ghost use Rattle.std.specs.Prelude.{◌≡◌, ◌==◌, ◌&&◌, nat_le, nat_lt, ◌≤◌, ◌+◌, ◌-◌, ◌↔◌, IsTrue, length, drop, vec_len, slice_index_or};
+ghost use Rattle.std.specs.Prelude.{option_map, IfOk};
 ghost use Rattle.std.specs.List.{list_any, find};
 ghost use Rattle.limits.specs.Limits.{most_positions};
 ghost use Rattle.plan_text.specs.declared.claim.Claim.{Claim};

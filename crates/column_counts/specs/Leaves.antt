@@ -2,7 +2,8 @@
 -- Row subtrees by their leaves: what holds of the tables while columns are taken into rows one after another. Where the columns are
 -- numbered in postorder, the subtree of column x is a span, from the first column below x to x itself. Gilbert, Ng and Peyton 1994.
 -- Columns are counted from 1, and n is one more than there are.
-use Rattle.std.specs.Prelude.{◌≡◌, ◌⊎◌, ◌↔◌, ◌==◌, ℕ, suc, ◌+◌, ◌-◌, ◌*◌, ◌<◌, ◌≤◌, Bool, true, ◌&&◌, ◌||◌, IsTrue, List, length, slice_index}
+use Rattle.std.specs.Prelude.{◌≡◌, ◌⊎◌, ◌↔◌, ◌==◌, ℕ, suc, ◌+◌, ◌-◌, ◌*◌, ◌<◌, ◌≤◌, Bool, true, ◌&&◌, ◌||◌, IsTrue, List, length}
+use Rattle.std.specs.Prelude.{slice_index}
 use Rattle.std.specs.Prelude.{count_by, sum_by}
 use Rattle.std.specs.List.{list_any, range_with_len}
 use Rattle.ordering.specs.Fill.{count_of}
@@ -118,7 +119,8 @@ HoldLeaves firsts order j taken t =
 
 -- the columns before j were taken into all of their rows
 abbrev pub AreLeavesBefore : (ℕ → ℕ → Bool) → List ℕ → List ℕ → ℕ → Leaves → Type 0
-AreLeavesBefore joined firsts order j t = (taken : ℕ → ℕ → Bool) × HoldLeaves firsts order j taken t × AreTaken joined (length firsts) j taken
+AreLeavesBefore joined firsts order j t = (taken : ℕ → ℕ → Bool) ×
+  HoldLeaves firsts order j taken t × AreTaken joined (length firsts) j taken
 
 -- column j, with this list of neighbours, may be taken into its rows
 pub record CanTakeColumn (joined : ℕ → ℕ → Bool) (firsts list order : List ℕ) (j : ℕ) (t : Leaves) : Type 0 where

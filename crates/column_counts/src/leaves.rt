@@ -6,7 +6,8 @@ ghost use Rattle.limits.specs.Limits.{most_order};
 ghost use Rattle.matrix_market.specs.Pattern.{is_joined};
 ghost use Rattle.ordering.specs.Fill.{renumbered, count_of, parents_of};
 ghost use Rattle.ordering.specs.Perm.{place_of};
-ghost use Rattle.column_counts.specs.Leaves.{IsFirsts, AreSpans, with_entry, AreEmpty, AreReady, HoldLeaves, CanTakeColumn, AreLeavesBefore, AreAtMost, growth, AreBalanced, AreSums, HasCount};
+ghost use Rattle.column_counts.specs.Leaves.{IsFirsts, AreSpans, with_entry, AreEmpty, AreReady, HoldLeaves, CanTakeColumn};
+ghost use Rattle.column_counts.specs.Leaves.{AreLeavesBefore, AreAtMost, growth, AreBalanced, AreSums, HasCount};
 
 use crate::NoMemory;
 use crate::ancestors::Ancestors;
@@ -48,8 +49,8 @@ impl Leaves {
         })
     }
 
-    // Takes column `j` into the row of a vertex, where that is not an earlier one. Where it is a further leaf of the row subtree, its way up
-    // is new as far as it meets that of the last leaf.
+    // Takes column `j` into the row of a vertex, where that is not an earlier one. Where it is a further leaf of the row subtree, its way
+    // up is new as far as it meets that of the last leaf.
     fn take_leaf(&mut self, firsts: &[u32], perm: &Perm, vertex: u32, j: u32)
         requires len { length firsts.now ≡ length perm.now + 1 }
         requires places { (0 < slice_index firsts.now j) × (j < length firsts.now) × (vertex ≤ length perm.now) }

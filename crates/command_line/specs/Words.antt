@@ -1,6 +1,7 @@
 -- What the words of a command line say: a command, and options with a value each. The form is that of long options in the
 -- GNU C Library Reference Manual, section 'Program Argument Syntax Conventions', without its abbreviations.
-use Rattle.std.specs.Prelude.{ℕ, Bool, true, false, ◌&&◌, not, nat_eq, List, [], ◌∷◌, Option, Some, None, option_map, option_and_then, find, drop, if◌then◌else◌}
+use Rattle.std.specs.Prelude.{ℕ, Bool, true, false, ◌&&◌, not, nat_eq, List, [], ◌∷◌, Option, Some, None, option_map, option_and_then, find}
+use Rattle.std.specs.Prelude.{drop, if◌then◌else◌}
 use Rattle.std.specs.List.{list_any, list_all, flat_map, before_first, after_first}
 use Rattle.std.specs.Str.{bytes_eq}
 

@@ -1,6 +1,7 @@
 -- What is left of a pattern as rows of bits: the row of a vertex that is left has its neighbours as far as it was looked at, and itself; an
 -- eliminated vertex that is open keeps its row, whose vertices are all joined to each other. No public clause names this.
-use Rattle.std.specs.Prelude.{◌≡◌, ◌≢◌, ◌==◌, ◌⊎◌, ℕ, ◌+◌, ◌/◌, ◌%◌, ◌<◌, ◌≤◌, Bool, false, not, IsTrue, List, [], ◌∷◌, ◌++◌, length, slice_index}
+use Rattle.std.specs.Prelude.{◌≡◌, ◌≢◌, ◌==◌, ◌⊎◌, ℕ, ◌+◌, ◌/◌, ◌%◌, ◌<◌, ◌≤◌, Bool, false, not, IsTrue, List, [], ◌∷◌, ◌++◌, length}
+use Rattle.std.specs.Prelude.{slice_index}
 use Rattle.std.specs.Int.{bit_at}
 use Rattle.matrix_market.specs.Pattern.{has}
 use Rattle.min_tree.specs.Least.{greatest}

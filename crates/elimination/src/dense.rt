@@ -2,12 +2,14 @@
 //! at place x. An eliminated vertex whose row still counts is open; to look at a vertex is to put the open rows that have it into its row.
 //! So an open vertex is an element of a quotient graph, as in George and Liu, The evolution of the minimum degree ordering algorithm, 1989.
 
-ghost use Rattle.std.specs.Prelude.{◌≡◌, ◌≢◌, ℕ, ◌+◌, ◌-◌, ◌*◌, ◌/◌, ◌^◌, ◌<◌, ◌≤◌, ◌&&◌, ◌||◌, ◌⊎◌, Bool, List, IsTrue, OnOk, IfOk, ◌==◌, length, slice_index, take, not, true, false};
+ghost use Rattle.std.specs.Prelude.{◌≡◌, ◌≢◌, ℕ, ◌+◌, ◌-◌, ◌*◌, ◌/◌, ◌^◌, ◌<◌, ◌≤◌, ◌&&◌, ◌||◌, ◌⊎◌, Bool, List, IsTrue, OnOk, IfOk, ◌==◌};
+ghost use Rattle.std.specs.Prelude.{length, slice_index, take, not, true, false};
 ghost use Rattle.std.specs.List.{count_by, filter, range_with_len};
 ghost use Rattle.std.specs.Int.{bit_at};
 ghost use Rattle.matrix_market.specs.Pattern.{has};
 ghost use Rattle.elimination.specs.Elimination.{IsVertex, IsRemaining, degree_of};
-ghost use Rattle.elimination.specs.Dense.{bit_in, lacks, Stage, IsStanding, IsInOpen, AreBitRows, IsLookedAt, IsDense, IsDenseChoice, IsDenseUnderWay, IsDenseRest, IsLeastDegreeOrder, stage_after, width_of, IsFullRow, IsFilling};
+ghost use Rattle.elimination.specs.Dense.{bit_in, lacks, Stage, IsStanding, IsInOpen, AreBitRows, IsLookedAt, IsDense, IsDenseChoice};
+ghost use Rattle.elimination.specs.Dense.{IsDenseUnderWay, IsDenseRest, IsLeastDegreeOrder, stage_after, width_of, IsFullRow, IsFilling};
 ghost use Rattle.elimination.specs.Quotients.{inner_at};
 
 use crate::NoMemory;

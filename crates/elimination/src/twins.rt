@@ -1,6 +1,7 @@
 //! Twins: vertices that have the same neighbours. The least of each group stands for the others, which are left out of the rims.
 
-ghost use Rattle.std.specs.Prelude.{◌≡◌, ◌≢◌, ℕ, ◌+◌, ◌<◌, ◌≤◌, ◌^◌, ◌++◌, ◌∷◌, [], IsTrue, IfSome, length, slice_index, slice_set, false, OnOk};
+ghost use Rattle.std.specs.Prelude.{◌≡◌, ◌≢◌, ℕ, ◌+◌, ◌<◌, ◌≤◌, ◌^◌, ◌++◌, ◌∷◌, [], IsTrue, IfSome, length, slice_index, slice_set, false};
+ghost use Rattle.std.specs.Prelude.{OnOk};
 ghost use Rattle.std.specs.List.{sum_by};
 ghost use Rattle.elimination.specs.Elimination.{IsVertex};
 ghost use Rattle.matrix_market.specs.Pattern.{has, neighbours_of, is_joined};

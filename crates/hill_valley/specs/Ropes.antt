@@ -1,5 +1,5 @@
--- Ropes: lists of tasks that are joined and reversed without copying. Each rope is a list without a join, or a join of one store, and stands
--- for one list for good.
+-- Ropes: lists of tasks that are joined and reversed without copying. Each rope is a list without a join, or a join of one store, and
+-- stands for one list for good.
 -- Source: H. Boehm, R. Atkinson and M. Plass, Ropes: an alternative to strings, 1995.
 use Rattle.std.specs.Prelude.{◌≡◌, ℕ, ◌+◌, ◌<◌, List, [], ◌∷◌, ◌++◌, reverse, get_or, length, ⊤}
 use Rattle.hill_valley.specs.declared.ropes.Piece.{Piece}

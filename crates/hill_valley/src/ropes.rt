@@ -1,7 +1,8 @@
 //! Lists of tasks that are joined and reversed in constant time, in one growing store.
 
 ghost use Rattle.std.specs.Prelude.{◌≡◌, ℕ, ◌+◌, ◌<◌, ◌≤◌, [], ◌∷◌, ◌++◌, length, reverse, get_or, IfOk, OnOk, OnErr};
-ghost use Rattle.hill_valley.specs.Ropes.{list_of_piece, list_of_join, lists_of, IsPiece, HasPartsBelow, AllHavePartsBelow, list_of, IsRope, Extends};
+ghost use Rattle.hill_valley.specs.Ropes.{list_of_piece, list_of_join, lists_of, IsPiece, HasPartsBelow, AllHavePartsBelow, list_of};
+ghost use Rattle.hill_valley.specs.Ropes.{IsRope, Extends};
 ghost use Rattle.hill_valley.specs.Listing.{turned, tasks_opened, parts_opened, join_at};
 
 use crate::NoMemory;

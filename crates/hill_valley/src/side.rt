@@ -1,11 +1,13 @@
 //! Sides: a slot for one segment, rows of few, ordered maps of many.
 
-ghost use Rattle.std.specs.Prelude.{◌≡◌, ℕ, ◌+◌, ◌-◌, ◌<◌, ◌≤◌, ◌^◌, max, if◌then◌else◌, nat_lt, [], ◌∷◌, ◌++◌, length, ◌↔◌, IfOk, IfSome, OnOk, OnErr, MatchOption};
+ghost use Rattle.std.specs.Prelude.{◌≡◌, ℕ, ◌+◌, ◌-◌, ◌<◌, ◌≤◌, ◌^◌, max, if◌then◌else◌, nat_lt, [], ◌∷◌, ◌++◌, length, ◌↔◌, IfOk, IfSome};
+ghost use Rattle.std.specs.Prelude.{OnOk, OnErr, MatchOption};
 ghost use Rattle.limits.specs.Limits.{most_total};
 ghost use Rattle.side_laws.specs.Segments.{net_sum, lowest, top, Passes, StartsAbove, last_up};
 ghost use Rattle.side_laws.specs.Merging.{AreStuckAt, IsLeastTogether};
 ghost use Rattle.hill_valley.specs.Ropes.{list_of, IsRope, Extends};
-ghost use Rattle.hill_valley.specs.Side.{limit_of, numbers, profile, IsSide, HaveRopes, run_of, runs_of, tasks_of, insert_run, move_runs, append_run};
+ghost use Rattle.hill_valley.specs.Side.{limit_of, numbers, profile, IsSide, HaveRopes, run_of, runs_of, tasks_of, insert_run, move_runs};
+ghost use Rattle.hill_valley.specs.Side.{append_run};
 ghost use Rattle.hill_valley.specs.Numbers.{segments_of, first_down_to};
 ghost use Rattle.hill_valley.specs.Staircase.{AreSteps};
 ghost use Rattle.hill_valley.specs.Descents.{first_up};

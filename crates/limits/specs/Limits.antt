@@ -1,7 +1,8 @@
 -- The limits, each once.
 use Rattle.std.specs.Prelude.{ℕ, ◌^◌, List, codes}
 use Rattle.limits.specs.declared.name.LimitName.{LimitName}
-use Rattle.limits.specs.declared.name.LimitName.TheVariants.{Bytes, Order, Entries, Mindeg, Tasks, Positions, Size, Total, Time, Arcs, Steps}
+use Rattle.limits.specs.declared.name.LimitName.TheVariants.{Bytes, Order, Entries, Mindeg, Tasks, Positions, Size, Total, Time, Arcs}
+use Rattle.limits.specs.declared.name.LimitName.TheVariants.{Steps}
 
 -- bytes of one file
 abbrev pub most_bytes : ℕ

@@ -2,7 +2,8 @@
 
 ghost use Rattle.std.specs.Prelude.{◌≡◌, ◌<◌, ◌+◌, ◌-◌, ◌↔◌, length, slice_index, IfOk, IfErr, IsTrue, MatchResult};
 ghost use Rattle.matrix_market.specs.Pattern.{IsPatternOf};
-ghost use Rattle.matrix_input.specs.Columns.{AreColumns, AreCounted, IsColumnsRefusal, StartFits, StartsFit, EndTogether, RowFits, columns_in, pairs_given};
+ghost use Rattle.matrix_input.specs.Columns.{AreColumns, AreCounted, IsColumnsRefusal, StartFits, StartsFit, EndTogether, RowFits};
+ghost use Rattle.matrix_input.specs.Columns.{columns_in, pairs_given};
 ghost use Rattle.matrix_input.specs.Numbers.{Each, IsNumber};
 
 use crate::NoMemory;
@@ -111,7 +112,8 @@ fn judge_rows(base: u32, starts: &[u32], rows: &[u32]) -> Result<(), ColumnsRefu
     requires counted { AreCounted base starts.now rows.now }
     requires starts { StartsFit base starts.now }
     requires together { EndTogether base starts.now rows.now }
-    ensures { MatchResult result (λ _. Each (length rows.now) (RowFits base starts.now rows.now)) (IsColumnsRefusal base starts.now rows.now) }
+    ensures { MatchResult result (λ _. Each (length rows.now) (RowFits base starts.now rows.now))
+        (IsColumnsRefusal base starts.now rows.now) }
 {
     for i in 0..rows.len() {
         if !row_fits(base, starts.len() - 1, rows[i]) {

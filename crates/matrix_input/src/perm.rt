@@ -35,7 +35,8 @@ impl From<NoMemory> for PermRefusal {
 
 // The vertex that a number names, of n that are counted from a base.
 fn vertex_of(base: u32, n: u32, number: u32) -> Option<u32>
-    ensures { MatchOption result (IsNumber base n number → ⊥) (λ v. IsNumber base n number × (v ≡ from_one base number) × (1 ≤ v) × (v ≤ n)) }
+    ensures { MatchOption result (IsNumber base n number → ⊥)
+        (λ v. IsNumber base n number × (v ≡ from_one base number) × (1 ≤ v) × (v ≤ n)) }
 {
     if base <= number && number - base < n {
         Some(number - base + 1)

@@ -1,7 +1,8 @@
 -- The words of what is wrong with a matrix file.
 use Rattle.std.specs.Prelude.{ℕ, List, codes}
 use Rattle.matrix_market.specs.declared.kind.MatrixKind.{MatrixKind}
-use Rattle.matrix_market.specs.declared.kind.MatrixKind.TheVariants.{Banner, NotMatrix, ArrayFormat, Field, Symmetry, SizeLine, NotSquare, Entry, Index, TooFew, TooMany}
+use Rattle.matrix_market.specs.declared.kind.MatrixKind.TheVariants.{Banner, NotMatrix, ArrayFormat, Field, Symmetry, SizeLine, NotSquare}
+use Rattle.matrix_market.specs.declared.kind.MatrixKind.TheVariants.{Entry, Index, TooFew, TooMany}
 
 -- the word for it in reports
 abbrev pub word_of : MatrixKind → List ℕ

@@ -1,6 +1,7 @@
 -- Matrix files: the coordinate format of Matrix Market (Boisvert, Pozo and Remington 1996, NIST), with the field words `double` and
 -- `unsigned-integer` besides. What a file reads as, and what it is refused with.
-use Rattle.std.specs.Prelude.{◌==◌, ℕ, Bool, false, ◌&&◌, ◌||◌, not, nat_lt, nat_le, is_some, unwrap_or, Option, Some, None, List, [], ◌∷◌, length, map, codes, if◌then◌else◌}
+use Rattle.std.specs.Prelude.{◌==◌, ℕ, Bool, false, ◌&&◌, ◌||◌, not, nat_lt, nat_le, is_some, unwrap_or, Option, Some, None, List, [], ◌∷◌}
+use Rattle.std.specs.Prelude.{length, map, codes, if◌then◌else◌}
 use Rattle.std.specs.Option.{option_and_then, option_map}
 use Rattle.std.specs.Char.{to_ascii_lowercase}
 use Rattle.std.specs.Str.{bytes_eq}

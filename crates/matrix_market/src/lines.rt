@@ -1,12 +1,14 @@
 //! One function for each line of a matrix file: its tests in the order of the format's table.
 
-ghost use Rattle.std.specs.Prelude.{◌≡◌, ◌==◌, ◌≤◌, ◌<◌, ◌&&◌, ℕ, List, [], ◌∷◌, length, nat_le, false, true, MatchOption, IfOk, Some, None};
+ghost use Rattle.std.specs.Prelude.{◌≡◌, ◌==◌, ◌≤◌, ◌<◌, ◌&&◌, ℕ, List, [], ◌∷◌, length, nat_le, false, true, MatchOption, IfOk, Some};
+ghost use Rattle.std.specs.Prelude.{None};
 ghost use Rattle.limits.specs.Limits.{most_order, most_entries};
 ghost use Rattle.mp_text.specs.Text.{tokens_of};
 ghost use Rattle.mp_text.specs.Ahead.{row};
 ghost use Rattle.mp_text.specs.Reading.{Gives, tested};
 ghost use Rattle.matrix_market.specs.Pattern.{IsPairWithin};
-ghost use Rattle.matrix_market.specs.MatrixFile.{is_word, values_of_field, is_symmetry, banner_tests, values_stated, size_stated, size_of, size_tests, entry_stated, pair_of, entry_tests};
+ghost use Rattle.matrix_market.specs.MatrixFile.{is_word, values_of_field, is_symmetry, banner_tests, values_stated, size_stated, size_of};
+ghost use Rattle.matrix_market.specs.MatrixFile.{size_tests, entry_stated, pair_of, entry_tests};
 
 use crate::kind::MatrixKind;
 use limits::{LimitName, MOST_ENTRIES, MOST_ORDER};

@@ -3,7 +3,8 @@
 use Rattle.std.specs.Prelude.{◌≡◌, ℕ, List, [], Option, None, option_and_then, codes, if◌then◌else◌, ◌⊎◌}
 use Rattle.std.specs.Str.{bytes_eq}
 use Rattle.tree_input.specs.declared.node.Node.{Node}
-use Rattle.memplan.specs.Request.{Request, replay, tree, post, check, planning, simulate, demo, upgrade, spill, fronts, segments, reduce, files_of}
+use Rattle.memplan.specs.Request.{Request, replay, tree, post, check, planning, simulate, demo, upgrade, spill, fronts, segments, reduce}
+use Rattle.memplan.specs.Request.{files_of}
 use Rattle.memplan.specs.Replay.{replay_of, IsReplayOf}
 use Rattle.memplan.specs.Files.{IsTreeOf, IsFirstRefusal, IsMatrixTree, Answer}
 use Rattle.memplan.specs.Check.{check_of, IsCheckOf}

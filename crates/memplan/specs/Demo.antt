@@ -1,5 +1,6 @@
 -- `demo`: an input that is made from a number, its plan, and the verdict of the checker on the plan.
-use Rattle.std.specs.Prelude.{◌≡◌, ℕ, ◌*◌, false, nat_le, List, [], ◌∷◌, ◌++◌, length, Option, Some, None, option_map, option_and_then, codes, decimal, if◌then◌else◌}
+use Rattle.std.specs.Prelude.{◌≡◌, ℕ, ◌*◌, false, nat_le, List, [], ◌∷◌, ◌++◌, length, Option, Some, None, option_map, option_and_then}
+use Rattle.std.specs.Prelude.{codes, decimal, if◌then◌else◌}
 use Rattle.std.specs.Str.{bytes_eq}
 use Rattle.assembly_tree.specs.declared.front.Shape.TheVariants.{Triangle}
 use Rattle.claim_check.specs.Accepted.{IsAccepted}

@@ -28,7 +28,9 @@ use Rattle.task_graph.specs.Graph.{TaskGraph}
 use Rattle.task_graph.specs.GraphFile.{ReadsGraph, RefusesGraph}
 use Rattle.task_graph.specs.Kinds.{word_of as graph_word}
 use Rattle.memplan.specs.declared.status.Status.{Status}
-use Rattle.memplan.specs.Request.{Ordering, natural, min_degree, perm_named, Matrix, TreeInput, tree_named, matrix_named, Input, tree_input, workflow_named, OrderSource, order_named, plan_named, FileRole, tree_file, workflow_file, graph_file, matrix_file, perm_file, order_file, plan_file, priority_file, plan_priority_file, NamedFile}
+use Rattle.memplan.specs.Request.{Ordering, natural, min_degree, perm_named, Matrix, TreeInput, tree_named, matrix_named, Input, tree_input}
+use Rattle.memplan.specs.Request.{workflow_named, OrderSource, order_named, plan_named, FileRole, tree_file, workflow_file, graph_file}
+use Rattle.memplan.specs.Request.{matrix_file, perm_file, order_file, plan_file, priority_file, plan_priority_file, NamedFile}
 use Rattle.sp_terms.specs.Kinds.{word_of as workflow_word}
 use Rattle.ordering.specs.Kinds.{perm_word, order_file_word}
 use Rattle.plan_text.specs.Kinds.{word_of as plan_word}

@@ -1,6 +1,7 @@
--- `fronts`: the rows of every front of a sparse matrix, made by several workers, in rounds, within a bound on the rows that are held. What is
--- printed speaks of the matrix, its order, the bound and the number of workers alone: the rows are the same for every number of workers.
-use Rattle.std.specs.Prelude.{◌≡◌, ℕ, ◌-◌, ◌<◌, ◌≤◌, Bool, List, [], ◌∷◌, ◌++◌, length, drop, map, Option, option_map, option_and_then, codes, decimal, ◌⊎◌}
+-- `fronts`: the rows of every front of a sparse matrix, made by several workers, in rounds, within a bound on the rows that are held. What
+-- is printed speaks of the matrix, its order, the bound and the number of workers alone: the rows are the same for every number of workers.
+use Rattle.std.specs.Prelude.{◌≡◌, ℕ, ◌-◌, ◌<◌, ◌≤◌, Bool, List, [], ◌∷◌, ◌++◌, length, drop, map, Option, option_map, option_and_then}
+use Rattle.std.specs.Prelude.{codes, decimal, ◌⊎◌}
 use Rattle.std.specs.List.{range_with_len}
 use Rattle.limits.specs.Limits.{most_workers}
 use Rattle.mp_text.specs.Report.{text_of_lines}
@@ -69,8 +70,8 @@ abbrev pub IsFrontsOf : OrderedMatrix → ℕ → ℕ → List (List ℕ) → An
 IsFrontsOf m bound workers texts answer =
     (rows : List (List ℕ)) × (order : List ℕ) × IsOrderedMatrix m.ordering texts rows order × IsFrontsAnswer rows order bound workers answer
 
--- the rows of the fronts of the matrix were printed, with rounds in which they can be made: each list is the structure of the first column of
--- its supernode in the filled graph, in rising order, and of each further column the structure is the list from there on; the rounds are
+-- the rows of the fronts of the matrix were printed, with rounds in which they can be made: each list is the structure of the first column
+-- of its supernode in the filled graph, in rising order, and of each further column the structure is the list from there on; the rounds are
 -- those of the activation machine, along which the rows that are used are at most the bound, which is at least the peak
 pub record IsFactored (m : OrderedMatrix) (bound workers : ℕ) (texts : List (List ℕ)) (printed : List ℕ) : Type 0 where
   pub rows : List (List ℕ)

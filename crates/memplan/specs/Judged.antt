@@ -1,6 +1,7 @@
 -- No public clause names this.
 -- What a step over files says of their texts: a value, or why there is none.
-use Rattle.std.specs.Prelude.{◌≡◌, ◌≢◌, ℕ, ◌<◌, ◌≤◌, All, Contains, slice_index, List, [], ◌∷◌, ◌++◌, Option, Some, None, Ok, Err, Result, MatchResult, codes, length}
+use Rattle.std.specs.Prelude.{◌≡◌, ◌≢◌, ℕ, ◌<◌, ◌≤◌, All, Contains, slice_index, List, [], ◌∷◌, ◌++◌, Option, Some, None, Ok, Err, Result}
+use Rattle.std.specs.Prelude.{MatchResult, codes, length}
 use Rattle.mp_outside.specs.Outside.{Rose}
 use Rattle.mp_text.specs.declared.refusals.Refusal.{Refusal}
 use Rattle.mp_text.specs.declared.refusals.Refusal.TheVariants as refusals
@@ -13,13 +14,15 @@ use Rattle.ordering.specs.PermFile.{RefusesPerm}
 use Rattle.sp_terms.specs.Postfix.{Denotes}
 use Rattle.sp_terms.specs.Values.{term_of}
 use Rattle.memplan.specs.Commands.{IsReport}
-use Rattle.memplan.specs.Files.{limit_refused, Answer, IsRefused, IsRefusedAs, IsRefusedFile, IsFirstRefusal, IsOrderFrom, IsOrderedMatrix, IsPermFile, IsTreeOf, IsWorkflowFile, AreAccepted}
+use Rattle.memplan.specs.Files.{limit_refused, Answer, IsRefused, IsRefusedAs, IsRefusedFile, IsFirstRefusal, IsOrderFrom, IsOrderedMatrix}
+use Rattle.memplan.specs.Files.{IsPermFile, IsTreeOf, IsWorkflowFile, AreAccepted}
 use Rattle.memplan.specs.Simulate.{IsOwnPriority, priority_or}
 use Rattle.memplan.specs.Segments.{IsNumberedTerm}
 use Rattle.memplan.specs.Clauses.{AreTold, HasFailed}
 use Rattle.memplan.specs.Pages.{answer_of}
 use Rattle.ordering.specs.Kinds.{perm_word}
-use Rattle.memplan.specs.Request.{Ordering, natural, min_degree, perm_named, Input, tree_input, workflow_named, NamedFile, OrderSource, Request, input_files, source_file, files_of}
+use Rattle.memplan.specs.Request.{Ordering, natural, min_degree, perm_named, Input, tree_input, workflow_named, NamedFile, OrderSource}
+use Rattle.memplan.specs.Request.{Request, input_files, source_file, files_of}
 use Rattle.memplan.specs.declared.files.Ranked.{Ranked}
 use Rattle.memplan.specs.declared.files.Ranked.TheVariants.{Vertices, Tasks}
 use Rattle.memplan.specs.declared.inputs.Order.{Order}

@@ -51,8 +51,8 @@ abbrev pub IsReduceOf : List (List ℕ) → Answer → Type 0
 IsReduceOf texts answer =
     (text : List ℕ) × (graph : TaskGraph) × (texts ≡ text ∷ []) × IsGraphFile text graph × IsReduceAnswer graph answer
 
--- a workflow file was printed, and names. The traversals of the workflow's system are those of the graph, by these names, with the same peaks;
--- so they have the same least peak, and what `plan` says of the file holds of the graph. The text is that of the graph's file
+-- a workflow file was printed, and names. The traversals of the workflow's system are those of the graph, by these names, with the same
+-- peaks; so they have the same least peak, and what `plan` says of the file holds of the graph. The text is that of the graph's file
 pub record IsReduced (texts : List (List ℕ)) (printed : List ℕ) : Type 0 where
   pub text : List ℕ
   pub texts_are : texts ≡ text ∷ []
@@ -70,7 +70,8 @@ pub record IsReduced (texts : List (List ℕ)) (printed : List ℕ) : Type 0 whe
       peak_of (system_of graph) (map (name_in names) order) ≡ peak_of (system_of_term term) order
   pub least : (peak : ℕ) → IsLeast (system_of_term term) peak ↔ IsLeast (system_of graph) peak
 
--- no term has the system of the completed graph, and the arcs of an irreducible rest of it were printed. The text is that of the graph's file
+-- no term has the system of the completed graph, and the arcs of an irreducible rest of it were printed. The text is that of the graph's
+-- file
 pub record HasIrreducibleRest (texts : List (List ℕ)) (printed : List ℕ) : Type 0 where
   pub text : List ℕ
   pub texts_are : texts ≡ text ∷ []

@@ -1,6 +1,7 @@
 -- `segments`: how low memory can come within each bound, from the first state on and from the last one back, of the subtree of each node
 -- or of the term at each position.
-use Rattle.std.specs.Prelude.{◌≡◌, ◌==◌, ℕ, ◌+◌, ◌-◌, ◌≤◌, if◌then◌else◌, List, [], ◌∷◌, ◌++◌, length, map, slice_index_or, Contains, Option, option_map, codes, decimal, ◌⊎◌}
+use Rattle.std.specs.Prelude.{◌≡◌, ◌==◌, ℕ, ◌+◌, ◌-◌, ◌≤◌, if◌then◌else◌, List, [], ◌∷◌, ◌++◌, length, map, slice_index_or, Contains}
+use Rattle.std.specs.Prelude.{Option, option_map, codes, decimal, ◌⊎◌}
 use Rattle.std.specs.List.{enumerate_from, flat_map, range_with_len}
 use Rattle.limits.specs.Limits.{most_steps, word_of as limit_word}
 use Rattle.limits.specs.declared.name.LimitName.TheVariants as limits

@@ -1,6 +1,7 @@
 -- `simulate`: the run of an order on several workers within a bound; what is printed speaks of the input, the order and the
 -- run alone, whatever the priority.
-use Rattle.std.specs.Prelude.{◌≡◌, ℕ, ◌<◌, ◌≤◌, List, [], ◌∷◌, ◌++◌, length, map, Option, Some, None, option_map, option_and_then, codes, decimal, ◌⊎◌}
+use Rattle.std.specs.Prelude.{◌≡◌, ℕ, ◌<◌, ◌≤◌, List, [], ◌∷◌, ◌++◌, length, map, Option, Some, None, option_map, option_and_then, codes}
+use Rattle.std.specs.Prelude.{decimal, ◌⊎◌}
 use Rattle.mp_text.specs.Report.{text_of_lines}
 use Rattle.mp_system.specs.declared.system.OrderKind.{OrderKind}
 use Rattle.mp_system.specs.System.{TaskSystem}
@@ -12,7 +13,8 @@ use Rattle.activation.specs.Machine.{Setting, start_state}
 use Rattle.activation.specs.Schedule.{IsSchedule, first_moment, last_time, most_used, most_booked}
 use Rattle.command_line.specs.Words.{Given, value_of}
 use Rattle.limits.specs.Limits.{most_workers}
-use Rattle.memplan.specs.Request.{Request, simulate, Input, OrderSource, order_named, plan_named, Simulation, input_of, source_of, number_up_to, number_given}
+use Rattle.memplan.specs.Request.{Request, simulate, Input, OrderSource, order_named, plan_named, Simulation, input_of, source_of}
+use Rattle.memplan.specs.Request.{number_up_to, number_given}
 use Rattle.memplan.specs.declared.status.Status.TheVariants as status
 use Rattle.activation.specs.Runs.{AreLegal, state_after_all, IsWithinBound, EachOnce}
 use Rattle.activation.specs.declared.events.EventKind.{EventKind}

@@ -1,6 +1,7 @@
 -- `spill`: what must go to disk where an order runs within a bound below its peak. Amounts of the items are printed; what is printed is a
 -- spill plan of which none has a lower volume.
-use Rattle.std.specs.Prelude.{◌≡◌, ℕ, ◌≤◌, nat_lt, List, [], ◌∷◌, ◌++◌, length, map, sum, Option, Some, option_map, option_and_then, codes, decimal, ◌⊎◌}
+use Rattle.std.specs.Prelude.{◌≡◌, ℕ, ◌≤◌, nat_lt, List, [], ◌∷◌, ◌++◌, length, map, sum, Option, Some, option_map, option_and_then, codes}
+use Rattle.std.specs.Prelude.{decimal, ◌⊎◌}
 use Rattle.std.specs.List.{filter, enumerate_from}
 use Rattle.mp_text.specs.Report.{line_text, text_of_lines}
 use Rattle.mp_system.specs.declared.system.OrderKind.{OrderKind}

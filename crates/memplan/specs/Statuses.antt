@@ -1,7 +1,8 @@
 -- How the program ends with a status: its exit code, and the line on standard error.
 use Rattle.std.specs.Prelude.{ℕ, List, Option, Some, None, codes}
 use Rattle.memplan.specs.declared.status.Status.{Status}
-use Rattle.memplan.specs.declared.status.Status.TheVariants.{Done, No, Usage, Format, Limit, Bound, ReadFault, WriteFault, NoMemory, NotSeriesParallel, WorkingSet}
+use Rattle.memplan.specs.declared.status.Status.TheVariants.{Done, No, Usage, Format, Limit, Bound, ReadFault, WriteFault, NoMemory}
+use Rattle.memplan.specs.declared.status.Status.TheVariants.{NotSeriesParallel, WorkingSet}
 
 abbrev pub exit_code_of : Status → ℕ
 exit_code_of Done = 0

@@ -8,8 +8,10 @@ ghost use Rattle.mp_system.specs.Traversal.{IsTraversal};
 ghost use Rattle.plan_text.specs.Plan.{IsPlan};
 ghost use Rattle.memplan.specs.Files.{IsOrderOf, IsMatrixTree, IsTreeOf, IsFirstRefusal};
 ghost use Rattle.memplan.specs.Simulate.{priority_or};
-ghost use Rattle.memplan.specs.Judged.{AreJudged, IsRefusingPage, IsRefusedOrder, IsMatrixRead, IsProblemOf, IsOrderedOf, IsOrderRead, IsRefusedSource, IsPriorityOf, IsRefusedRanking, IsRanking, order_tasks, own_priority};
-ghost use Rattle.memplan.specs.Request.{FileRole, matrix_files, ordered_matrix_files, min_degree, ordering_files, tree_input_files, input_files, source_file, priority_files};
+ghost use Rattle.memplan.specs.Judged.{AreJudged, IsRefusingPage, IsRefusedOrder, IsMatrixRead, IsProblemOf, IsOrderedOf, IsOrderRead};
+ghost use Rattle.memplan.specs.Judged.{IsRefusedSource, IsPriorityOf, IsRefusedRanking, IsRanking, order_tasks, own_priority};
+ghost use Rattle.memplan.specs.Request.{FileRole, matrix_files, ordered_matrix_files, min_degree, ordering_files, tree_input_files};
+ghost use Rattle.memplan.specs.Request.{input_files, source_file, priority_files};
 ghost use Rattle.memplan.specs.RequestViews.{ordering_view, matrix_view, ordered_matrix_view, tree_input_view, input_view, source_view};
 
 use crate::files::{

@@ -1,5 +1,6 @@
 ghost use Rattle.std.specs.Prelude.{◌≡◌, ◌<◌, ◌≤◌, ◌^◌, IfSome, option_map};
-ghost use Rattle.memplan.specs.Request.{is_second, ordering_named, ordering_of, zeros_of, matrix_of, gives_any, tree_input_of, input_of, source_of, number_given, number_up_to, workers_or_one, AreWorkers};
+ghost use Rattle.memplan.specs.Request.{is_second, ordering_named, ordering_of, zeros_of, matrix_of, gives_any, tree_input_of, input_of};
+ghost use Rattle.memplan.specs.Request.{source_of, number_given, number_up_to, workers_or_one, AreWorkers};
 ghost use Rattle.memplan.specs.Table.{matrix_options, tree_names};
 ghost use Rattle.memplan.specs.RequestViews.{ordering_view, matrix_view, tree_input_view, input_view, source_view};
 

@@ -1,6 +1,7 @@
 ghost use Rattle.std.specs.Prelude.{◌≡◌, ◌⊎◌, ◌<◌, ◌≤◌, ℕ, List, length, take};
 ghost use Rattle.mp_outside.specs.Outside.{Rose, Appended};
-ghost use Rattle.memplan.specs.Request.{Input, OrderedMatrix, OrderSource, PlanFormat, Request, Simulation, check, demo, fronts, planning, reduce, segments, simulate, spill, files_of};
+ghost use Rattle.memplan.specs.Request.{Input, OrderedMatrix, OrderSource, PlanFormat, Request, Simulation, check, demo, fronts, planning};
+ghost use Rattle.memplan.specs.Request.{reduce, segments, simulate, spill, files_of};
 ghost use Rattle.memplan.specs.Check.{IsCertified};
 ghost use Rattle.memplan.specs.Demo.{IsShown};
 ghost use Rattle.memplan.specs.Fronts.{IsFactored};
@@ -59,15 +60,15 @@ pub fn run_words<R: Threads + Sync, F: Files, S: Sink, G: Gate>(
         → (texts : List (List ℕ)) → AreTold (F.bytes_of files.old) (files_of (simulate input source s)) texts
         → (printed : List ℕ) × IsSimulated input source s texts printed × Appended (S.written sink.old) (S.written sink.new) printed }
 
-    // where amounts were printed, they are a spill plan of the input's system, the order and the bound, whose volume is the printed one, and
-    // no spill plan of these has a lower one
+    // where amounts were printed, they are a spill plan of the input's system, the order and the bound, whose volume is the printed one,
+    // and no spill plan of these has a lower one
     ensures spilled { result ≡ Status.Done → (input : Input) (source : OrderSource) (bound : ℕ)
         → Asks words.now (spill input source bound)
         → (texts : List (List ℕ)) → AreTold (F.bytes_of files.old) (files_of (spill input source bound)) texts
         → (printed : List ℕ) × IsSpilled input source bound texts printed × Appended (S.written sink.old) (S.written sink.new) printed }
 
-    // where staircases were printed, of every printed pair the level is the memory of a state that is reached within the bound, and none that
-    // is reached within it has a lower one; so it is for every bound
+    // where staircases were printed, of every printed pair the level is the memory of a state that is reached within the bound, and none
+    // that is reached within it has a lower one; so it is for every bound
     ensures reached { result ≡ Status.Done → (input : Input) → Asks words.now (segments input)
         → (texts : List (List ℕ)) → AreTold (F.bytes_of files.old) (files_of (segments input)) texts
         → (printed : List ℕ) × IsReached input texts printed × Appended (S.written sink.old) (S.written sink.new) printed }
@@ -80,14 +81,14 @@ pub fn run_words<R: Threads + Sync, F: Files, S: Sink, G: Gate>(
         → (texts : List (List ℕ)) → AreTold (F.bytes_of files.old) (files_of (fronts m bound workers)) texts
         → (printed : List ℕ) × IsFactored m bound workers texts printed × Appended (S.written sink.old) (S.written sink.new) printed }
 
-    // where a task graph was reduced, a workflow file was printed, with names: the traversals of its system are those of the graph under these
-    // names, with the same peaks, and so are the least peaks
+    // where a task graph was reduced, a workflow file was printed, with names: the traversals of its system are those of the graph under
+    // these names, with the same peaks, and so are the least peaks
     ensures reduced { result ≡ Status.Done → (name : List ℕ) → Asks words.now (reduce name)
         → (texts : List (List ℕ)) → AreTold (F.bytes_of files.old) (files_of (reduce name)) texts
         → (printed : List ℕ) × IsReduced texts printed × Appended (S.written sink.old) (S.written sink.new) printed }
 
-    // where it is told that a task graph is not series-parallel, no term has the system of the completed graph, and the arcs of an irreducible
-    // rest of it were printed
+    // where it is told that a task graph is not series-parallel, no term has the system of the completed graph, and the arcs of an
+    // irreducible rest of it were printed
     ensures irreducible { result ≡ Status.NotSeriesParallel → (name : List ℕ) → Asks words.now (reduce name)
         → (texts : List (List ℕ)) → AreTold (F.bytes_of files.old) (files_of (reduce name)) texts
         → (printed : List ℕ) × HasIrreducibleRest texts printed × Appended (S.written sink.old) (S.written sink.new) printed }

@@ -61,8 +61,8 @@ pub record IsMatrix (m : GivenMatrix) (rows : List (List ℕ)) (order : List ℕ
 abbrev pub fronts_of_columns : AssemblyTree → List ℕ → List ℕ
 fronts_of_columns assembly perm = map (λ v. super_of assembly.nodes (place_of perm v)) (range_with_len 1 (length perm))
 
--- the nodes are the tree of the fronts of a matrix with these rows, eliminated in this order, as the program's `tree` prints it, and the front
--- of each column is that of the supernode in which it lies
+-- the nodes are the tree of the fronts of a matrix with these rows, eliminated in this order, as the program's `tree` prints it, and the
+-- front of each column is that of the supernode in which it lies
 pub record HaveFronts (options : FrontOptions) (rows : List (List ℕ)) (order : List ℕ) (nodes : List Node) (fronts : List ℕ) : Type 0 where
   pub tree : IsFrontTree options rows order nodes
   pub perm : List ℕ

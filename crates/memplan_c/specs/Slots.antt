@@ -1,9 +1,11 @@
 -- A slot for a core, as C holds it: what a call leaves in it, which the answer determines, and what the answer says.
-use Rattle.std.specs.Prelude.{◌≡◌, ◌≢◌, ◌==◌, ◌↔◌, ◌≤◌, ℕ, true, if◌then◌else◌, Option, Some, None, option_map, MatchOption, MatchBool, List}
+use Rattle.std.specs.Prelude.{◌≡◌, ◌≢◌, ◌==◌, ◌↔◌, ◌≤◌, ℕ, true, if◌then◌else◌, Option, Some, None, option_map, MatchOption, MatchBool}
+use Rattle.std.specs.Prelude.{List}
 use Rattle.std.specs.Option.{option_map_or}
 use Rattle.limits.specs.Limits.{most_workers}
 use Rattle.mp_system.specs.System.{TaskSystem}
-use Rattle.activation.specs.Machine.{CoreValue, Setting, IsSetting, MayActivate, MayStart, MayFinish, state_after, start_state, used_memory, booked_memory, is_done}
+use Rattle.activation.specs.Machine.{CoreValue, Setting, IsSetting, MayActivate, MayStart, MayFinish, state_after, start_state, used_memory}
+use Rattle.activation.specs.Machine.{booked_memory, is_done}
 use Rattle.activation.specs.declared.events.EventKind.{EventKind}
 use Rattle.activation.specs.declared.events.EventKind.TheVariants.{Activate}
 use Rattle.memplan_c.specs.declared.faults.Fault.{Fault}

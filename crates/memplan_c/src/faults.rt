@@ -3,7 +3,8 @@
 ghost use Rattle.std.specs.Prelude.{◌≡◌};
 ghost use Rattle.system_input.specs.declared.judged.SystemRefusal.TheVariants as systems;
 ghost use Rattle.tree_input.specs.declared.judged.NodesRefusal.TheVariants as nodes;
-ghost use Rattle.memplan_c.specs.Faults.{answer, answer_of, of_nodes, of_system, of_replay, of_order, of_core, of_spill, of_plan, of_objection, of_columns, of_perm, of_degree};
+ghost use Rattle.memplan_c.specs.Faults.{answer, answer_of, of_nodes, of_system, of_replay, of_order, of_core, of_spill, of_plan};
+ghost use Rattle.memplan_c.specs.Faults.{of_objection, of_columns, of_perm, of_degree};
 
 use crate::kinds;
 use crate::refusal::{PlanFault, Refusal};

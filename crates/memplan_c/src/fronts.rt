@@ -6,7 +6,8 @@ ghost use Rattle.ordering.specs.Perm.{IsPerm};
 ghost use Rattle.symbolic.specs.FrontTree.{relaxed};
 ghost use Rattle.memplan_c.specs.declared.refusal.Refusal.TheVariants as refusals;
 ghost use Rattle.memplan_c.specs.Faults.{IsRefused};
-ghost use Rattle.memplan_c.specs.Fronts.{AreFronts, HaveFronts, IsFrontsRefusal, IsOrderOf, IsOrderRefusal, fronts_of_columns, matrix_given, options_given, shape_given};
+ghost use Rattle.memplan_c.specs.Fronts.{AreFronts, HaveFronts, IsFrontsRefusal, IsOrderOf, IsOrderRefusal, fronts_of_columns};
+ghost use Rattle.memplan_c.specs.Fronts.{matrix_given, options_given, shape_given};
 
 use crate::faults::{Fault, refuse};
 use crate::plans::check_room;

@@ -8,7 +8,8 @@ ghost use Rattle.activation.specs.Machine.{IsSetting};
 ghost use Rattle.activation.specs.declared.events.EventKind.TheVariants.{Start, Finish};
 ghost use Rattle.tree_input.specs.Tree.{IsTree, system_of_nodes};
 ghost use Rattle.memplan_c.specs.Refusals.{IsBeginRefusal, IsSystemBeginRefusal};
-ghost use Rattle.memplan_c.specs.Slots.{empty, setting_of, core_at_start, begun, IsBegun, activated, IsActivated, stepped, IsStarted, IsFinished, IsDone, used_in, booked_in};
+ghost use Rattle.memplan_c.specs.Slots.{empty, setting_of, core_at_start, begun, IsBegun, activated, IsActivated, stepped, IsStarted};
+ghost use Rattle.memplan_c.specs.Slots.{IsFinished, IsDone, used_in, booked_in};
 
 use crate::faults::{Fault, refuse};
 use crate::refusal::Refusal;

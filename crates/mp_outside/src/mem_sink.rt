@@ -1,4 +1,5 @@
-ghost use Rattle.std.specs.Prelude.{◌≡◌, ◌≤◌, ◌<◌, ◌+◌, ◌↔◌, ◌++◌, ◌∷◌, [], ℕ, List, Some, IfOk, IsErr, OnOk, OnErr, length, take, min, vec_len, vec_capacity};
+ghost use Rattle.std.specs.Prelude.{◌≡◌, ◌≤◌, ◌<◌, ◌+◌, ◌↔◌, ◌++◌, ◌∷◌, [], ℕ, List, Some, IfOk, IsErr, OnOk, OnErr, length, take, min};
+ghost use Rattle.std.specs.Prelude.{vec_len, vec_capacity};
 ghost use Rattle.mp_outside.specs.Outside.{Appended, Rose};
 ghost use Rattle.mp_outside.specs.MemSink.{SinkState, empty_sink, WriteFails, after_fault, after_taking};
 

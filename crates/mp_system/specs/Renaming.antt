@@ -1,5 +1,6 @@
 -- Systems that are the same up to the names of their tasks, the order of their items, and items of size 0 that no task produces.
-use Rattle.std.specs.Prelude.{◌≡◌, ◌==◌, ℕ, ◌-◌, Bool, true, false, not, ◌||◌, if◌then◌else◌, Option, Some, None, option_map, List, All, map, count_by, slice_index_or, IsPermutation}
+use Rattle.std.specs.Prelude.{◌≡◌, ◌==◌, ℕ, ◌-◌, Bool, true, false, not, ◌||◌, if◌then◌else◌, Option, Some, None, option_map, List, All}
+use Rattle.std.specs.Prelude.{map, count_by, slice_index_or, IsPermutation}
 use Rattle.std.specs.List.{filter}
 use Rattle.mp_system.specs.declared.system.Item.{Item}
 use Rattle.mp_system.specs.System.{TaskSystem, IsTask, task_at}

@@ -1,6 +1,7 @@
 //! The claims of a plan: a walk from the last position down.
 
-ghost use Rattle.std.specs.Prelude.{◌≡◌, ◌+◌, ◌-◌, ◌<◌, ◌≤◌, ◌++◌, ℕ, pos, ◌≤ℤ◌, ◌+ℤ◌, length, reverse, All, List, Some, IfOk, IfSome, OnOk};
+ghost use Rattle.std.specs.Prelude.{◌≡◌, ◌+◌, ◌-◌, ◌<◌, ◌≤◌, ◌++◌, ℕ, pos, ◌≤ℤ◌, ◌+ℤ◌, length, reverse, All, List, Some, IfOk, IfSome};
+ghost use Rattle.std.specs.Prelude.{OnOk};
 ghost use Rattle.limits.specs.Limits.{most_positions, most_total};
 ghost use Rattle.sp_terms.specs.Values.{term_of};
 ghost use Rattle.claim_rules.specs.Claims.{Claim as RuleClaim};

@@ -1,6 +1,7 @@
 -- Plan files of version 1, and of version 2, which have a priority: what a file reads as, and what it is refused with. They are this
 -- project's own format.
-use Rattle.std.specs.Prelude.{◌≡◌, ◌==◌, ℕ, ◌-◌, Bool, true, false, ◌&&◌, ◌||◌, nat_lt, nat_le, is_some, unwrap_or, ℤ, pos, unsigned_abs, Option, Some, None, List, [], ◌∷◌, ◌++◌, length, map, take, drop, codes, if◌then◌else◌, slice_index_or}
+use Rattle.std.specs.Prelude.{◌≡◌, ◌==◌, ℕ, ◌-◌, Bool, true, false, ◌&&◌, ◌||◌, nat_lt, nat_le, is_some, unwrap_or, ℤ, pos, unsigned_abs}
+use Rattle.std.specs.Prelude.{Option, Some, None, List, [], ◌∷◌, ◌++◌, length, map, take, drop, codes, if◌then◌else◌, slice_index_or}
 use Rattle.std.specs.Option.{option_and_then}
 use Rattle.std.specs.Str.{bytes_eq}
 use Rattle.std.specs.Cmp.Lexicographic.{pointwise}

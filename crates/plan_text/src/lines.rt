@@ -6,7 +6,9 @@ ghost use Rattle.mp_text.specs.Text.{number_of, signed_of};
 ghost use Rattle.mp_text.specs.Ahead.{row};
 ghost use Rattle.mp_text.specs.Reading.{Gives, tested};
 ghost use Rattle.plan_text.specs.Plan.{IsTask};
-ghost use Rattle.plan_text.specs.PlanFile.{is_number_up_to, dir_named, is_bound, header_tests, version_stated, section_form, stated_on, order_section_tests, priority_section_tests, peak_tests, claims_section_tests, task_on, order_tests, priority_tests, last_position, claim_on, claim_form, claim_tests, last_tests};
+ghost use Rattle.plan_text.specs.PlanFile.{is_number_up_to, dir_named, is_bound, header_tests, version_stated, section_form, stated_on};
+ghost use Rattle.plan_text.specs.PlanFile.{order_section_tests, priority_section_tests, peak_tests, claims_section_tests, task_on};
+ghost use Rattle.plan_text.specs.PlanFile.{order_tests, priority_tests, last_position, claim_on, claim_form, claim_tests, last_tests};
 
 use crate::claim::{Claim, Dir, PlanKind};
 use crate::ranking::Ranking;

@@ -2,7 +2,8 @@
 
 ghost use Rattle.std.specs.Prelude.{◌≡◌, ◌++◌, map, length, take, IsTrue, OnOk, OnErr};
 ghost use Rattle.mp_text.specs.Report.{is_line_start, is_token, text_of_lines};
-ghost use Rattle.plan_text.specs.Printed.{task_line, dir_word, claim_line, task_lines, claim_lines, priority_lines, last_lines, text_in, version_for, text_of, text2_of};
+ghost use Rattle.plan_text.specs.Printed.{task_line, dir_word, claim_line, task_lines, claim_lines, priority_lines, last_lines, text_in};
+ghost use Rattle.plan_text.specs.Printed.{version_for, text_of, text2_of};
 
 use crate::NoMemory;
 use crate::claim::{Claim, Dir};

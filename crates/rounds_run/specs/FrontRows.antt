@@ -1,5 +1,5 @@
--- The row list of a front: the structure of the first column of its supernode in the filled graph (crate `ordering`, `Fill`). Duff and Reid,
--- The multifrontal solution of indefinite sparse symmetric linear equations, 1983; Liu, The multifrontal method, 1992.
+-- The row list of a front: the structure of the first column of its supernode in the filled graph (crate `ordering`, `Fill`). Duff and
+-- Reid, The multifrontal solution of indefinite sparse symmetric linear equations, 1983; Liu, The multifrontal method, 1992.
 use Rattle.std.specs.Prelude.{ℕ, ◌-◌, Bool, List, [], filter, slice_index_or}
 use Rattle.std.specs.List.{range_with_len}
 use Rattle.ordering.specs.Fill.{structure_of}

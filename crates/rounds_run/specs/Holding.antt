@@ -1,6 +1,7 @@
 -- No public clause names this.
 -- The fronts as they are made: what a task is given and hands back, and what is held between the rounds.
-use Rattle.std.specs.Prelude.{◌≡◌, ◌↔◌, ℕ, ◌+◌, ◌-◌, ◌<◌, ◌≤◌, Bool, true, false, IsTrue, ◌||◌, nat_eq, List, [], Result, IfOk, length, drop, take, slice_index, slice_index_or}
+use Rattle.std.specs.Prelude.{◌≡◌, ◌↔◌, ℕ, ◌+◌, ◌-◌, ◌<◌, ◌≤◌, Bool, true, false, IsTrue, ◌||◌, nat_eq, List, [], Result, IfOk, length}
+use Rattle.std.specs.Prelude.{drop, take, slice_index, slice_index_or}
 use Rattle.std.specs.List.{list_any, IsDistinct}
 use Rattle.std.specs.declared.alloc.AllocError.{AllocError}
 use Rattle.matrix_market.specs.Pattern.{has}

@@ -1,5 +1,5 @@
--- The making of row lists as a system of tasks, in units of rows. The task of a supernode holds its whole list while it makes it; the rows of
--- the columns are then kept with the factor and counted no more, and the rows past them are left to the parent.
+-- The making of row lists as a system of tasks, in units of rows. The task of a supernode holds its whole list while it makes it; the rows
+-- of the columns are then kept with the factor and counted no more, and the rows past them are left to the parent.
 use Rattle.std.specs.Prelude.{ℕ, List, length, map}
 use Rattle.std.specs.List.{range_with_len}
 use Rattle.mp_system.specs.System.{TaskSystem}

@@ -69,8 +69,8 @@ fn rest_of(alloc: Global, rows: &[u32], columns: u32) -> Result<Vec<u32>, NoMemo
     Vec::from_slice(alloc, &rows[columns as usize..])
 }
 
-/// The rows of a front: its first column, the later neighbours of that, and the rows that its children left to it, each once. Near linear in
-/// what these hold: they are sorted.
+/// The rows of a front: its first column, the later neighbours of that, and the rows that its children left to it, each once. Near linear
+/// in what these hold: they are sorted.
 pub fn make_front(alloc: Global, pattern: &Pattern, perm: &Perm, job: Job) -> Result<Made, NoMemory>
     requires perm { length perm.now ≡ length pattern.now }
     requires job { IsJob (renumbered (is_joined pattern.now) perm.now) (length perm.now) job }

@@ -1,6 +1,7 @@
 //! What is held between the rounds.
 
-ghost use Rattle.std.specs.Prelude.{◌≡◌, ◌==◌, ◌+◌, ◌-◌, ◌≤◌, ◌<◌, ◌^◌, ℕ, Bool, true, false, ◌||◌, ◌++◌, ◌∷◌, [], All, if◌then◌else◌, length, slice_set, slice_index_or, IfOk, OnOk};
+ghost use Rattle.std.specs.Prelude.{◌≡◌, ◌==◌, ◌+◌, ◌-◌, ◌≤◌, ◌<◌, ◌^◌, ℕ, Bool, true, false, ◌||◌, ◌++◌, ◌∷◌, [], All, if◌then◌else◌};
+ghost use Rattle.std.specs.Prelude.{length, slice_set, slice_index_or, IfOk, OnOk};
 ghost use Rattle.matrix_market.specs.Pattern.{has};
 ghost use Rattle.assembly_tree.specs.Assembly.{IsSuper, super_at};
 ghost use Rattle.assembly_tree.specs.Supernodes.{first_of};

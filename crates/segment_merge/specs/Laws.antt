@@ -2,14 +2,17 @@
 use Rattle.std.specs.Prelude.{◌≡◌, ℕ, ◌++◌, true, false, List}
 use Rattle.side_laws.specs.Segments.{IsRising, StartsAbove, last_up}
 use Rattle.side_laws.specs.Appending.{append_segments, cross_hill}
-use Rattle.side_laws.specs.Laws.{LowestBetween, LowestMonotone, LowestAfterAll, LowestIsStuck, TopAboveLevel, TopPasses, StuckByLast, NetOfAppend, NetOfCrossing, CrossingRises, LowestOfCrossing, TopOfCrossing}
-use Rattle.side_laws.specs.Laws.{NetOfInserts, MergeRises, LowestOfMerge, LevelsOfMerge, MovesOfSeries, MovesOfMoreTasks, MovesOfParallel, MovesBounded}
+use Rattle.side_laws.specs.Laws.{LowestBetween, LowestMonotone, LowestAfterAll, LowestIsStuck, TopAboveLevel, TopPasses, StuckByLast}
+use Rattle.side_laws.specs.Laws.{NetOfAppend, NetOfCrossing, CrossingRises, LowestOfCrossing, TopOfCrossing}
+use Rattle.side_laws.specs.Laws.{NetOfInserts, MergeRises, LowestOfMerge, LevelsOfMerge, MovesOfSeries, MovesOfMoreTasks, MovesOfParallel}
+use Rattle.side_laws.specs.Laws.{MovesBounded}
 use Rattle.side_laws.specs.Merging.{insert_segments, merge_segments, AllRising, IsInterleaving}
 use Rattle.hill_valley.specs.Laws.{RunLaws}
 use Rattle.hill_valley.specs.declared.side.Seg.{Seg}
 use Rattle.hill_valley.specs.Ropes.{Extends}
 use Rattle.hill_valley.specs.Side.{Run, run_profile, tasks_of}
-use Rattle.segment_merge.specs.Merging.{insert_runs, merge_runs, move_runs, AreMerged, run_profiles, all_tasks_of, all_runs_of, AllHaveRopes}
+use Rattle.segment_merge.specs.Merging.{insert_runs, merge_runs, move_runs, AreMerged, run_profiles, all_tasks_of, all_runs_of}
+use Rattle.segment_merge.specs.Merging.{AllHaveRopes}
 use Rattle.segment_merge.specs.Crossing.{append_runs, cross_hill_runs}
 
 -- ---- merging

@@ -1,6 +1,8 @@
 //! The laws, each as a clause of a function that does nothing.
 
-ghost use Rattle.segment_merge.specs.Laws.{AllSidesStay, ProfileOfInserts, ProfileOfMerge, MergedAtEachUp, TasksOfMerge, InsertsAssociate, MovedBefore, MovedBehind, AppendsInsert, ProfileOfAppends, TasksOfAppends, ProfileOfCrossing, TasksOfCrossing, SideLaws};
+ghost use Rattle.segment_merge.specs.Laws.{AllSidesStay, ProfileOfInserts, ProfileOfMerge, MergedAtEachUp, TasksOfMerge, InsertsAssociate};
+ghost use Rattle.segment_merge.specs.Laws.{MovedBefore, MovedBehind, AppendsInsert, ProfileOfAppends, TasksOfAppends, ProfileOfCrossing};
+ghost use Rattle.segment_merge.specs.Laws.{TasksOfCrossing, SideLaws};
 
 /// Sides merged, with their tasks.
 pub fn merged_runs()

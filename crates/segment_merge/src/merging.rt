@@ -6,7 +6,8 @@ ghost use Rattle.side_laws.specs.Segments.{net_sum, lowest, top};
 ghost use Rattle.side_laws.specs.Merging.{AreStuckAt, IsLeastTogether, IsInterleaving, merge_segments};
 ghost use Rattle.hill_valley.specs.Ropes.{Extends};
 ghost use Rattle.hill_valley.specs.Side.{profile, IsSide, HaveRopes, runs_of, tasks_of};
-ghost use Rattle.segment_merge.specs.Merging.{insert_runs, merge_runs, all_tasks_of, all_runs_of, profiles, AllHaveRopes, AllSides, net_sum_all, segment_count, longest};
+ghost use Rattle.segment_merge.specs.Merging.{insert_runs, merge_runs, all_tasks_of, all_runs_of, profiles, AllHaveRopes, AllSides};
+ghost use Rattle.segment_merge.specs.Merging.{net_sum_all, segment_count, longest};
 
 use crate::NoMemory;
 use crate::moving::move_all;

@@ -11,7 +11,8 @@ use Rattle.sp_terms.specs.Values.{last_term}
 use Rattle.sp_cuts.specs.declared.notes.PartNote.{PartNote}
 use Rattle.sp_cuts.specs.declared.notes.SeriesNote.{SeriesNote}
 use Rattle.sp_cuts.specs.declared.parts.Part.{Part}
-use Rattle.sp_cuts.specs.Notes.{Noted, both_noted, numbers_of_part, IsSeriesNote, IsPartNote, ArePartNotes, segments_read, all_segments_read, unread, IsNote}
+use Rattle.sp_cuts.specs.Notes.{Noted, both_noted, numbers_of_part, IsSeriesNote, IsPartNote, ArePartNotes, segments_read}
+use Rattle.sp_cuts.specs.Notes.{all_segments_read, unread, IsNote}
 use Rattle.sp_cuts.specs.Stacks.{ArePiled}
 
 -- both sides lead down to the least memory
@@ -36,5 +37,6 @@ NotesParts parts old new = (ns : List PartNote) × ArePartNotes (map numbers_of_
 
 -- those of the term that the position leaves on top of the stack
 abbrev pub NotesPosition : List Part → Position → Noted → Noted → Type 0
-NotesPosition parts position old new = (lists : List (List ℕ)) (st st' : List Term) → ArePiled lists st (reverse parts) → push position st ≡ Some st'
+NotesPosition parts position old new = (lists : List (List ℕ)) (st st' : List Term) → ArePiled lists st (reverse parts) →
+  push position st ≡ Some st'
     → (own : Noted) × IsNote (last_term st') own × (new ≡ both_noted old own)

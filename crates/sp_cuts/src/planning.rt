@@ -13,7 +13,8 @@ ghost use Rattle.cut_laws.specs.Standing.{StandsFor};
 ghost use Rattle.cut_laws.specs.TermCuts.{cut_of_term};
 ghost use Rattle.sp_cuts.specs.Notes.{noted_in, nothing_noted, AreNotesOf};
 ghost use Rattle.sp_cuts.specs.Parts.{cut_of, IsPart};
-ghost use Rattle.sp_cuts.specs.Stacks.{IsPartOf, SeriesReady, SeriesDone, SeriesSteps, ParReady, ParDone, ParSteps, PositionReady, PositionDone, PositionSteps};
+ghost use Rattle.sp_cuts.specs.Stacks.{IsPartOf, SeriesReady, SeriesDone, SeriesSteps, ParReady, ParDone, ParSteps, PositionReady};
+ghost use Rattle.sp_cuts.specs.Stacks.{PositionDone, PositionSteps};
 
 use crate::NoMemory;
 use crate::composing::{parallel_part, series_part, with_peak};

@@ -27,8 +27,10 @@ fn add_arc(arc: Arc, links: &mut Links, forest: &mut Forest) -> Result<(), NoMem
         IsCarried graph rest forest.new.pieces.items links.new.list forest.new.nodes.items) }
     ensures row { IfOk result (λ _. (rest : List (ℕ × ℕ)) →
         LeadsTo (pairs_of links.old.list ++ ends_of arc ∷ rest) (pairs_of links.new.list ++ rest)) }
-    ensures lens { IfOk result (λ _. (vec_len forest.new.nodes ≡ length links.new.list) × (length links.new.list ≤ length links.old.list + 1)) }
-    ensures room { IfOk result (λ _. vec_len forest.new.pieces + link_count links.new.list ≡ vec_len forest.old.pieces + link_count links.old.list + 2) }
+    ensures lens { IfOk result (λ _. (vec_len forest.new.nodes ≡ length links.new.list) ×
+        (length links.new.list ≤ length links.old.list + 1)) }
+    ensures room { IfOk result (λ _. vec_len forest.new.pieces + link_count links.new.list
+        ≡ vec_len forest.old.pieces + link_count links.old.list + 2) }
 {
     let twin = links.twin(arc.from, arc.to);
     forest.plant(arc.size, twin)?;

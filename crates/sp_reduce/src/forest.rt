@@ -37,7 +37,8 @@ impl Forest {
         requires twin { ForSome twin (λ k. k < vec_len self.old.nodes) }
         requires room { vec_len self.old.pieces + 2 ≤ most_pieces }
         ensures carried { IfOk result (λ _. (graph rest : List Item) (links : List Link) (p q : ℕ) →
-            IsCarried graph (record { size = size; from = end_of p; to = end_of q } ∷ rest) self.old.pieces.items links self.old.nodes.items →
+            IsCarried graph (record { size = size; from = end_of p; to = end_of q } ∷ rest)
+                self.old.pieces.items links self.old.nodes.items →
             MatchOption twin
             (IsCarried graph rest self.new.pieces.items (links ++ link p q ∷ []) self.new.nodes.items)
             (λ k. IsLink links k p q → IsCarried graph rest self.new.pieces.items links self.new.nodes.items)) }
@@ -66,7 +67,8 @@ impl Forest {
         requires twin { ForSome taken.twin (λ k. k < vec_len self.old.nodes) }
         requires room { vec_len self.old.pieces + fewer_by taken.twin ≤ most_pieces }
         ensures carried { IfOk result (λ _. (graph : List Item) (old new : List Link) → IsTaken old new task taken →
-            IsCarried graph [] self.old.pieces.items old self.old.nodes.items → IsCarried graph [] self.new.pieces.items new self.new.nodes.items) }
+            IsCarried graph [] self.old.pieces.items old self.old.nodes.items →
+            IsCarried graph [] self.new.pieces.items new self.new.nodes.items) }
         ensures nodes { IfOk result (λ _. vec_len self.new.nodes ≡ vec_len self.old.nodes) }
         ensures pieces { IfOk result (λ _. vec_len self.new.pieces ≡ vec_len self.old.pieces + fewer_by taken.twin) }
     {

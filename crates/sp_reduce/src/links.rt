@@ -4,7 +4,8 @@ ghost use Rattle.std.specs.Prelude.{◌≡◌, ◌≢◌, ◌≤◌, ◌<◌, �
 ghost use Rattle.limits.specs.Limits.{most_arcs, most_tasks};
 ghost use Rattle.sp_reduce.specs.NetGraphs.{IsIrreducible};
 ghost use Rattle.sp_reduce.specs.Reductions.{LeadsTo};
-ghost use Rattle.sp_reduce.specs.Work.{AreRanked, HasNone, IsIdle, IsLink, IsTaken, fewer_by, graph_of, key_of, link, link_count, links_into, links_out_of, pairs_of};
+ghost use Rattle.sp_reduce.specs.Work.{AreRanked, HasNone, IsIdle, IsLink, IsTaken, fewer_by, graph_of, key_of, link, link_count};
+ghost use Rattle.sp_reduce.specs.Work.{links_into, links_out_of, pairs_of};
 
 use crate::NoMemory;
 use crate::link::{Link, Taken};
@@ -35,7 +36,8 @@ impl Model for Links {
 
     ghost view = { λ l. record { tasks = l.tasks; list = l.list.items } };
 
-    ghost invariant = { λ l. AreIndexed l.tasks l.list.items l.ins.items l.outs.items l.in_at.items l.out_at.items (hash.get nat_eq l.by_ends) };
+    ghost invariant = { λ l. AreIndexed l.tasks l.list.items l.ins.items l.outs.items
+        l.in_at.items l.out_at.items (hash.get nat_eq l.by_ends) };
 }
 
 // Both ends in one number, as the table has them.

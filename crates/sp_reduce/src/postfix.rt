@@ -123,7 +123,8 @@ pub fn write_term(
     requires root { root < length pieces.now }
     requires names { All (IsAmong (length tasks.now)) (names (net_at (nets_of pieces.now) root)) }
     requires small { size_of (net_at (nets_of pieces.now) root) ≤ most_positions }
-    ensures positions { IfOk result (λ w. w.positions.items ≡ postfix (term_of_net (task_at tasks.now) (net_at (nets_of pieces.now) root))) }
+    ensures positions { IfOk result (λ w. w.positions.items
+        ≡ postfix (term_of_net (task_at tasks.now) (net_at (nets_of pieces.now) root))) }
     ensures names { IfOk result (λ w. w.names.items ≡ names (net_at (nets_of pieces.now) root)) }
 {
     let counts = part_counts(alloc, pieces)?;

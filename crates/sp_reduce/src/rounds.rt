@@ -36,13 +36,16 @@ fn visit(
     requires lens { vec_len forest.old.nodes ≡ length links.old.list }
     requires room { vec_len forest.old.pieces + link_count links.old.list ≤ most_pieces }
     requires listed { AreTasks links.old.tasks todo.old.items }
-    requires noted { (u : ℕ) → 1 ≤ u → u ≤ links.old.tasks → u ≢ task → links_into u links.old.list ≡ 1 → links_out_of u links.old.list ≡ 1 → stands u todo.old.items ≡ true }
+    requires noted { (u : ℕ) → 1 ≤ u → u ≤ links.old.tasks → u ≢ task →
+        links_into u links.old.list ≡ 1 → links_out_of u links.old.list ≡ 1 → stands u todo.old.items ≡ true }
     ensures tasks { IfOk result (λ _. links.new.tasks ≡ links.old.tasks) }
     ensures row { IfOk result (λ _. LeadsTo (pairs_of links.old.list) (pairs_of links.new.list)) }
-    ensures carried { IfOk result (λ _. (graph : List Item) → IsCarried graph [] forest.old.pieces.items links.old.list forest.old.nodes.items →
+    ensures carried { IfOk result (λ _. (graph : List Item) →
+        IsCarried graph [] forest.old.pieces.items links.old.list forest.old.nodes.items →
         IsCarried graph [] forest.new.pieces.items links.new.list forest.new.nodes.items) }
     ensures lens { IfOk result (λ _. vec_len forest.new.nodes ≡ length links.new.list) }
-    ensures room { IfOk result (λ _. vec_len forest.new.pieces + link_count links.new.list ≤ vec_len forest.old.pieces + link_count links.old.list) }
+    ensures room { IfOk result (λ _. vec_len forest.new.pieces + link_count links.new.list
+        ≤ vec_len forest.old.pieces + link_count links.old.list) }
     ensures listed { IfOk result (λ _. AreTasks links.old.tasks todo.new.items) }
     ensures noted { IfOk result (λ _. AreNoted links.old.tasks links.new.list todo.new.items) }
     ensures fewer { IfOk result (λ _. 3 * link_count links.new.list + vec_len todo.new ≤ 3 * link_count links.old.list + vec_len todo.old) }
@@ -68,7 +71,8 @@ pub fn reduce_links(
     requires listed { AreTasks links.old.tasks todo.old.items }
     requires noted { AreNoted links.old.tasks links.old.list todo.old.items }
     ensures row { IfOk result (λ _. LeadsTo (pairs_of links.old.list) (pairs_of links.new.list)) }
-    ensures carried { IfOk result (λ _. (graph : List Item) → IsCarried graph [] forest.old.pieces.items links.old.list forest.old.nodes.items →
+    ensures carried { IfOk result (λ _. (graph : List Item) →
+        IsCarried graph [] forest.old.pieces.items links.old.list forest.old.nodes.items →
         IsCarried graph [] forest.new.pieces.items links.new.list forest.new.nodes.items) }
     ensures idle { IfOk result (λ _. IsIdle links.new.tasks links.new.list) }
 {

@@ -1,6 +1,7 @@
 -- Workflow files of version 1, and of version 2, whose tasks have a share: what a file reads as, and what it is refused with. They are
 -- this project's own format.
-use Rattle.std.specs.Prelude.{◌≡◌, ◌==◌, ℕ, ◌-◌, Bool, true, false, ◌&&◌, not, nat_le, is_some, unwrap_or, Option, Some, None, List, [], ◌∷◌, ◌++◌, length, map, take, drop, codes, if◌then◌else◌}
+use Rattle.std.specs.Prelude.{◌≡◌, ◌==◌, ℕ, ◌-◌, Bool, true, false, ◌&&◌, not, nat_le, is_some, unwrap_or, Option, Some, None, List, []}
+use Rattle.std.specs.Prelude.{◌∷◌, ◌++◌, length, map, take, drop, codes, if◌then◌else◌}
 use Rattle.std.specs.List.{sum_by, list_any}
 use Rattle.std.specs.Option.{option_and_then, option_map}
 use Rattle.std.specs.Str.{bytes_eq}

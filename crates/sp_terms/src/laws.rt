@@ -57,7 +57,8 @@ pub fn printed_length()
 /// A workflow file with comments after its last line is read as the same workflow. It leaves room for them within the limit of bytes:
 /// 50 bytes for each of as many tasks as there can be.
 pub fn commented_workflow()
-    ensures reads { (positions : List Position) (comments : List (List (List ℕ))) → IsTerms positions → IsTrue (list_all is_comment_line comments) →
+    ensures reads { (positions : List Position) (comments : List (List (List ℕ))) → IsTerms positions →
+        IsTrue (list_all is_comment_line comments) →
         ReadsWorkflow (text_of positions ++ text_of_lines comments) positions }
     ensures room { (positions : List Position) → IsTerms positions → length (text_of positions) + 50 * most_tasks ≤ most_bytes }
 {

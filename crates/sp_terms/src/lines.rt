@@ -8,7 +8,8 @@ ghost use Rattle.mp_text.specs.Reading.{Gives, tested};
 ghost use Rattle.sp_terms.specs.Builder.{IsPosition};
 ghost use Rattle.sp_terms.specs.Postfix.{at_task};
 ghost use Rattle.sp_terms.specs.declared.position.Position.TheVariants.{Par};
-ghost use Rattle.sp_terms.specs.WorkflowFile.{header_tests, version_stated, count_tests, count_stated, only, task_from, position_from, stated_or, stated_tests, is_end, last_tests};
+ghost use Rattle.sp_terms.specs.WorkflowFile.{header_tests, version_stated, count_tests, count_stated, only, task_from, position_from};
+ghost use Rattle.sp_terms.specs.WorkflowFile.{stated_or, stated_tests, is_end, last_tests};
 
 use crate::kind::WorkflowKind;
 use crate::position::Position;

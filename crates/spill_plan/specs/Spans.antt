@@ -1,6 +1,7 @@
 -- No public clause names this.
 -- Items as spans of steps along a traversal, and the amounts that are spilled of them.
-use Rattle.std.specs.Prelude.{◌≡◌, ◌==◌, ℕ, suc, ◌+◌, ◌-◌, ◌<◌, ◌≤◌, ◌&&◌, ◌⊎◌, nat_lt, nat_le, if◌then◌else◌, Bool, true, false, Option, Some, None, List, [], ◌∷◌, length, slice_index, slice_index_or}
+use Rattle.std.specs.Prelude.{◌≡◌, ◌==◌, ℕ, suc, ◌+◌, ◌-◌, ◌<◌, ◌≤◌, ◌&&◌, ◌⊎◌, nat_lt, nat_le, if◌then◌else◌, Bool, true, false, Option}
+use Rattle.std.specs.Prelude.{Some, None, List, [], ◌∷◌, length, slice_index, slice_index_or}
 use Rattle.std.specs.List.{sum_by}
 use Rattle.limits.specs.Limits.{most_tasks, most_positions, most_total}
 use Rattle.mp_system.specs.declared.system.Item.{Item}

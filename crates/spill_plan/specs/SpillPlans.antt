@@ -1,6 +1,7 @@
 -- What goes to disk where an order runs with less memory than its peak (Jacquelin et al. 2011, On optimal tree traversals for sparse matrix
 -- factorization: the I/O volume of a traversal, here of items that are divisible into units).
-use Rattle.std.specs.Prelude.{◌≡◌, ℕ, zero, suc, ◌+◌, ◌-◌, ◌<◌, ◌≤◌, ◌&&◌, max, not, Bool, false, if◌then◌else◌, None, List, [], ◌∷◌, length, take, sum, slice_index, slice_index_or}
+use Rattle.std.specs.Prelude.{◌≡◌, ℕ, zero, suc, ◌+◌, ◌-◌, ◌<◌, ◌≤◌, ◌&&◌, max, not, Bool, false, if◌then◌else◌, None, List, [], ◌∷◌}
+use Rattle.std.specs.Prelude.{length, take, sum, slice_index, slice_index_or}
 use Rattle.mp_system.specs.declared.system.Item.{Item}
 use Rattle.mp_system.specs.System.{TaskSystem, inputs_of, need_of}
 use Rattle.mp_system.specs.Memory.{is_produced, is_consumed, stands_in}

@@ -16,8 +16,8 @@ use Rattle.symbolic.specs.declared.options.FrontOptions.{FrontOptions}
 abbrev pub columns : List (List ℕ) → List ℕ → ℕ → ℕ → Bool
 columns rows order = renumbered (is_joined rows) order
 
--- the columns of a matrix with these rows, eliminated in this order, are renumbered along the postorder of their elimination tree, and cut into
--- fundamental supernodes
+-- the columns of a matrix with these rows, eliminated in this order, are renumbered along the postorder of their elimination tree, and cut
+-- into fundamental supernodes
 pub record IsAnalysis (rows : List (List ℕ)) (order perm : List ℕ) (assembly : AssemblyTree) : Type 0 where
   pub postordered : IsPostordered (is_joined rows) order perm
   pub supernodes : AreSupernodes (parents_of (columns rows perm) (length perm)) (counts_of (columns rows perm) (length perm)) assembly

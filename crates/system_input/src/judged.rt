@@ -9,7 +9,8 @@ ghost use Rattle.system_input.specs.declared.given.GivenItem.{GivenItem};
 ghost use Rattle.system_input.specs.declared.judged.TaskTest.TheVariants as task_tests;
 ghost use Rattle.system_input.specs.declared.judged.ItemTest.TheVariants as item_tests;
 ghost use Rattle.system_input.specs.Given.{system_given};
-ghost use Rattle.system_input.specs.Judged.{ArePlain, AreFew, Each, IsSystemRefusal, ItemPasses, ItemsPass, ItemsPassBefore, TaskPasses, TasksPass, TasksPassBefore, given_item, given_task};
+ghost use Rattle.system_input.specs.Judged.{ArePlain, AreFew, Each, IsSystemRefusal, ItemPasses, ItemsPass, ItemsPassBefore, TaskPasses};
+ghost use Rattle.system_input.specs.Judged.{TasksPass, TasksPassBefore, given_item, given_task};
 
 use crate::NoMemory;
 use crate::given::{GivenItem, GivenTask, items_of, tasks_of};

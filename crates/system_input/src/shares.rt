@@ -1,6 +1,7 @@
 //! Whether the shares of all tasks fit.
 
-ghost use Rattle.std.specs.Prelude.{◌≡◌, ◌≢◌, ◌≤◌, ◌<◌, ◌+◌, ◌-◌, ◌^◌, ◌==◌, ◌↔◌, ℕ, length, if◌then◌else◌, slice_index_or, IfOk, IsTrue, MatchOption, vec_len};
+ghost use Rattle.std.specs.Prelude.{◌≡◌, ◌≢◌, ◌≤◌, ◌<◌, ◌+◌, ◌-◌, ◌^◌, ◌==◌, ◌↔◌, ℕ, length, if◌then◌else◌, slice_index_or, IfOk, IsTrue};
+ghost use Rattle.std.specs.Prelude.{MatchOption, vec_len};
 ghost use Rattle.limits.specs.Limits.{most_total};
 ghost use Rattle.mp_system.specs.System.{HasShare, inputs_of, outputs_of};
 ghost use Rattle.system_input.specs.Given.{system_given};

@@ -1,6 +1,7 @@
 -- Task graphs, as workflow runners have them: tasks, and arcs of data between them. Their systems, which tasks can be ordered, and
 -- the completed graph, in which an arc leads into each task and out of it.
-use Rattle.std.specs.Prelude.{◌≡◌, ◌==◌, ℕ, zero, suc, ◌+◌, ◌-◌, ◌<◌, ◌≤◌, true, if◌then◌else◌, Option, Some, None, All, List, ◌∷◌, ◌++◌, length, map, filter, take, count_by, slice_index_or}
+use Rattle.std.specs.Prelude.{◌≡◌, ◌==◌, ℕ, zero, suc, ◌+◌, ◌-◌, ◌<◌, ◌≤◌, true, if◌then◌else◌, Option, Some, None, All, List, ◌∷◌, ◌++◌}
+use Rattle.std.specs.Prelude.{length, map, filter, take, count_by, slice_index_or}
 use Rattle.std.specs.Prelude.{Bool}
 use Rattle.std.specs.List.{sum_by, range_with_len}
 use Rattle.limits.specs.Limits.{most_tasks, most_arcs, most_size, most_total}

@@ -1,5 +1,6 @@
 -- Graph files: what a file reads as, and what it is refused with. They are this project's own format.
-use Rattle.std.specs.Prelude.{◌≡◌, ◌==◌, ℕ, ◌+◌, ◌<◌, ◌≤◌, Bool, false, ◌&&◌, ◌||◌, not, nat_lt, nat_le, is_some, unwrap_or, Option, Some, None, List, [], ◌∷◌, length, map, take, drop, codes, if◌then◌else◌, slice_index_or, ◌⊎◌}
+use Rattle.std.specs.Prelude.{◌≡◌, ◌==◌, ℕ, ◌+◌, ◌<◌, ◌≤◌, Bool, false, ◌&&◌, ◌||◌, not, nat_lt, nat_le, is_some, unwrap_or, Option, Some}
+use Rattle.std.specs.Prelude.{None, List, [], ◌∷◌, length, map, take, drop, codes, if◌then◌else◌, slice_index_or, ◌⊎◌}
 use Rattle.std.specs.List.{sum_by}
 use Rattle.std.specs.Option.{option_and_then}
 use Rattle.std.specs.Str.{bytes_eq}

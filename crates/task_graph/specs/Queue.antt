@@ -1,7 +1,8 @@
 -- No public clause names this.
 -- The tasks that can be ordered, as the code finds them: a task joins the queue when it waits for no supplier any more, and each task
 -- of the queue in turn is taken from the waits of those that it supplies (Kahn 1962).
-use Rattle.std.specs.Prelude.{◌≡◌, ◌==◌, ℕ, ◌+◌, ◌<◌, ◌≤◌, Bool, true, false, not, ◌&&◌, All, List, ◌∷◌, ◌++◌, length, take, count_by, slice_index, slice_index_or}
+use Rattle.std.specs.Prelude.{◌≡◌, ◌==◌, ℕ, ◌+◌, ◌<◌, ◌≤◌, Bool, true, false, not, ◌&&◌, All, List, ◌∷◌, ◌++◌, length, take, count_by}
+use Rattle.std.specs.Prelude.{slice_index, slice_index_or}
 use Rattle.mp_system.specs.Memory.{stands_in}
 use Rattle.task_graph.specs.declared.arc.Arc.{Arc}
 use Rattle.task_graph.specs.Graph.{IsAmong, IsSupplied, CanBeOrdered}

@@ -12,7 +12,8 @@ use Rattle.task_graph.specs.declared.kind.GraphKind.{GraphKind}
 use Rattle.task_graph.specs.declared.kind.GraphKind.TheVariants as kinds
 use Rattle.task_graph.specs.declared.stage.Stage.{Stage}
 use Rattle.task_graph.specs.declared.stage.Stage.TheVariants as stages
-use Rattle.task_graph.specs.GraphFile.{header_tests, task_count_tests, tasks_stated, arc_count_tests, arcs_stated, task_tests, task_of, extras_of, arc_tests, arc_of, sizes_of, last_tests}
+use Rattle.task_graph.specs.GraphFile.{header_tests, task_count_tests, tasks_stated, arc_count_tests, arcs_stated, task_tests, task_of}
+use Rattle.task_graph.specs.GraphFile.{extras_of, arc_tests, arc_of, sizes_of, last_tests}
 
 -- what the reader keeps: what comes next, the stated numbers of tasks and of arcs, the tasks with the numbers of their lines, the
 -- arcs, and the sum of all extras and sizes

@@ -6,7 +6,8 @@ ghost use Rattle.mp_system.specs.System.{IsSystem};
 ghost use Rattle.mp_system.specs.Memory.{peak_of};
 ghost use Rattle.mp_system.specs.Traversal.{IsTraversal, IsLeast};
 ghost use Rattle.task_graph.specs.declared.kind.GraphKind.{GraphKind};
-ghost use Rattle.task_graph.specs.Graph.{TaskGraph, IsGraph, IsAmong, IsArcWithin, Rises, is_into, is_out_of, completed, system_of, completed_system};
+ghost use Rattle.task_graph.specs.Graph.{TaskGraph, IsGraph, IsAmong, IsArcWithin, Rises, is_into, is_out_of, completed, system_of};
+ghost use Rattle.task_graph.specs.Graph.{completed_system};
 ghost use Rattle.task_graph.specs.GraphFile.{ReadsGraph, RefusesGraph};
 
 use crate::kind::GraphKind;

@@ -7,7 +7,8 @@ ghost use Rattle.limits.specs.Limits.{most_tasks, most_arcs, most_total};
 ghost use Rattle.mp_text.specs.Text.{tokens_of};
 ghost use Rattle.mp_text.specs.Ahead.{row};
 ghost use Rattle.mp_text.specs.Reading.{Gives, tested};
-ghost use Rattle.task_graph.specs.GraphFile.{header_tests, task_count_tests, tasks_stated, arc_count_tests, arcs_stated, task_tests, task_of, arc_tests, arc_of, last_tests};
+ghost use Rattle.task_graph.specs.GraphFile.{header_tests, task_count_tests, tasks_stated, arc_count_tests, arcs_stated, task_tests};
+ghost use Rattle.task_graph.specs.GraphFile.{task_of, arc_tests, arc_of, last_tests};
 
 use crate::arc::Arc;
 use crate::fields::{arc_on_line, task_on_line};

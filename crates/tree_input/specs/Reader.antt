@@ -9,7 +9,8 @@ use Rattle.mp_text.specs.declared.words.Version.TheVariants.{One}
 use Rattle.mp_text.specs.Grammar.{fault, fault_at}
 use Rattle.mp_text.specs.Reading.{tested}
 use Rattle.tree_input.specs.Tree.{node_size}
-use Rattle.tree_input.specs.TreeFile.{header_tests, version_stated, count_tests, count_stated, is_end, node_tests, node_of, total_of, last_tests}
+use Rattle.tree_input.specs.TreeFile.{header_tests, version_stated, count_tests, count_stated, is_end, node_tests, node_of, total_of}
+use Rattle.tree_input.specs.TreeFile.{last_tests}
 use Rattle.tree_input.specs.declared.node.Node.{Node}
 use Rattle.tree_input.specs.declared.node.TreeKind.{TreeKind}
 use Rattle.tree_input.specs.declared.node.TreeKind.TheVariants as kinds

@@ -1,5 +1,6 @@
 -- Trees of nodes (assembly trees: Liu 1986, On the storage requirement in the out-of-core multifrontal method), and the system of a tree.
-use Rattle.std.specs.Prelude.{◌≡◌, ◌==◌, ℕ, zero, suc, ◌+◌, ◌-◌, ◌≤◌, if◌then◌else◌, Some, None, All, List, [], ◌∷◌, length, map, slice_index_or}
+use Rattle.std.specs.Prelude.{◌≡◌, ◌==◌, ℕ, zero, suc, ◌+◌, ◌-◌, ◌≤◌, if◌then◌else◌, Some, None, All, List, [], ◌∷◌, length, map}
+use Rattle.std.specs.Prelude.{slice_index_or}
 use Rattle.std.specs.List.{sum_by}
 use Rattle.limits.specs.Limits.{most_tasks, most_size, most_time, most_total}
 use Rattle.mp_system.specs.declared.system.Task.{Task}

@@ -5,7 +5,8 @@ ghost use Rattle.limits.specs.Limits.{most_tasks, most_total};
 ghost use Rattle.mp_text.specs.Ahead.{row};
 ghost use Rattle.mp_text.specs.Reading.{Gives, tested};
 ghost use Rattle.tree_input.specs.Reader.{refusal_without_fields};
-ghost use Rattle.tree_input.specs.TreeFile.{header_tests, version_stated, count_tests, count_stated, is_end, fields_stated, node_tests, node_of, last_tests};
+ghost use Rattle.tree_input.specs.TreeFile.{header_tests, version_stated, count_tests, count_stated, is_end, fields_stated, node_tests};
+ghost use Rattle.tree_input.specs.TreeFile.{node_of, last_tests};
 
 use crate::fields::{NodeFields, fields_on};
 use crate::node::{Node, TreeKind};

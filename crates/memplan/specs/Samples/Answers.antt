@@ -119,7 +119,8 @@ upgraded_lines = refl
 
 pub objection_lines :
     map (λ o. verdict_answer (No o))
-    (objections.Order (record { place = 5; kind = Unknown }) ∷ objections.Peak 15 11 ∷ objections.Root 13 ∷ objections.Claim 5 shapes.Series ∷ [])
+    (objections.Order (record { place = 5; kind = Unknown }) ∷ objections.Peak 15 11 ∷
+      objections.Root 13 ∷ objections.Claim 5 shapes.Series ∷ [])
     ≡ map (λ text. record { status = status.No; text = text })
     (codes "no order 5 unknown\n" ∷ codes "no peak 15 11\n" ∷ codes "no root 13\n" ∷ codes "no claim 5 series\n" ∷ [])
 unfolding digits
@@ -186,6 +187,7 @@ told name = Some version_3
 pub is_answered : IsAnswered told asked status.Format (Some []) (Some refused.text)
 is_answered [] none = absurd none
 is_answered (text ∷ []) tells =
-    subst (λ text. (answer : Answer) × IsAnswer asked (text ∷ []) answer × ((answer.status ≡ status.Format) × (refused.text ≡ [] ++ answer.text)))
+    subst (λ text. (answer : Answer) × IsAnswer asked (text ∷ []) answer ×
+      ((answer.status ≡ status.Format) × (refused.text ≡ [] ++ answer.text)))
     (ap (λ o. unwrap_or o []) (tells.0)) (refused, is_refused, (refl, refl))
 is_answered (text ∷ more ∷ texts) tells = absurd (tells.1)

@@ -1,6 +1,7 @@
 -- No public clause names this.
 -- Plans of the smallest workflow, one item of data of size 3 and no task: one that is accepted, and objections to others.
-use Rattle.std.specs.Prelude.{◌≡◌, ◌==◌, ℕ, ◌≤◌, pos, Bool, true, false, T, if◌then◌else◌, Some, None, is_none, unwrap_or, List, [], ◌∷◌, ◌++◌, map, codes, refl}
+use Rattle.std.specs.Prelude.{◌≡◌, ◌==◌, ℕ, ◌≤◌, pos, Bool, true, false, T, if◌then◌else◌, Some, None, is_none, unwrap_or, List, [], ◌∷◌}
+use Rattle.std.specs.Prelude.{◌++◌, map, codes, refl}
 use Rattle.std.proofs.Common.{lit≤, subst, sym, ap, eqb→eq, le_trans, not-suc-le-zero}
 use Rattle.std.proofs.lemmas.List.Elements.{All-nil}
 use Rattle.mp_system.specs.declared.system.OrderKind.TheVariants.{Unknown}

@@ -6,7 +6,11 @@ use Rattle.assembly_tree.specs.declared.front.Shape.TheVariants.{Triangle, Squar
 use Rattle.command_line.specs.Words.{Shape}
 use Rattle.memplan.specs.declared.commands.demo.Demo.TheVariants as demos
 use Rattle.memplan.specs.Table.{commands}
-use Rattle.memplan.specs.Request.{Request, Input, tree_input, tree_named, matrix_named, workflow_named, Matrix, natural, min_degree, perm_named, order_named, plan_named, replay, tree, post, check, planning, as_file, as_json, simulate, demo, upgrade, tree_upgrade, plan_upgrade, spill, segments, fronts, reduce, files_of, FileRole, tree_file, workflow_file, graph_file, matrix_file, perm_file, order_file, plan_file, priority_file, plan_priority_file, NamedFile}
+use Rattle.memplan.specs.Request.{Request, Input, tree_input, tree_named, matrix_named, workflow_named, Matrix, natural, min_degree}
+use Rattle.memplan.specs.Request.{perm_named, order_named, plan_named, replay, tree, post, check, planning, as_file, as_json, simulate}
+use Rattle.memplan.specs.Request.{demo, upgrade, tree_upgrade, plan_upgrade, spill, segments, fronts, reduce, files_of, FileRole, tree_file}
+use Rattle.memplan.specs.Request.{workflow_file, graph_file, matrix_file, perm_file, order_file, plan_file, priority_file}
+use Rattle.memplan.specs.Request.{plan_priority_file, NamedFile}
 use Rattle.memplan.specs.Commands.{request_of}
 use Rattle.memplan.specs.Clauses.{AsksNothing}
 
@@ -41,7 +45,8 @@ pub replay_asked : asked (codes "replay --tree t --order o") ∷ asked (codes "r
 unfolding tokens_of
 replay_asked = refl
 
-pub tree_asked : asked (codes "tree --matrix m") ∷ asked (codes "tree --matrix m --perm p --shape square --amalgamate 16 --inplace yes") ∷ []
+pub tree_asked : asked (codes "tree --matrix m") ∷
+  asked (codes "tree --matrix m --perm p --shape square --amalgamate 16 --inplace yes") ∷ []
     ≡ Some (tree a_matrix)
     ∷ Some (tree (record {
       name = codes "m";

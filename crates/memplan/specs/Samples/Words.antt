@@ -1,7 +1,8 @@
 -- No public clause names this.
 -- The words that reports print, as docs/FORMATS.md has them: of limits, and of what is wrong with a file or with an order.
 use Rattle.std.specs.Prelude.{◌≡◌, [], ◌∷◌, map, codes, refl}
-use Rattle.limits.specs.Limits.{most_bytes, most_order, most_entries, most_tasks, most_arcs, most_positions, most_size, most_total, most_time, most_mindeg, most_steps, most_workers}
+use Rattle.limits.specs.Limits.{most_bytes, most_order, most_entries, most_tasks, most_arcs, most_positions, most_size, most_total}
+use Rattle.limits.specs.Limits.{most_time, most_mindeg, most_steps, most_workers}
 use Rattle.limits.specs.Limits.{word_of as limit_word}
 use Rattle.limits.specs.declared.name.LimitName.TheVariants as limits
 use Rattle.mp_system.specs.Refusal.{word_of as order_word}

@@ -4,7 +4,8 @@ ghost use Rattle.std.specs.Prelude.{◌≡◌, ◌≤◌, ◌<◌, ◌*◌, ◌^
 ghost use Rattle.limits.specs.Limits.{most_tasks, most_mindeg};
 ghost use Rattle.least_peak.specs.Problem.{system_of};
 ghost use Rattle.least_peak.specs.declared.problem.Origin.TheVariants as origins;
-ghost use Rattle.memplan.specs.Demo.{seeded_of, sides_of, kind_or_tree, made_of, demo_of, IsGridTree, IsMade, HasPositions, IsPostorderPeak, kind_word, check_word, postorder_lines, demo_lines, IsJudgedSummary, IsDemoOf};
+ghost use Rattle.memplan.specs.Demo.{seeded_of, sides_of, kind_or_tree, made_of, demo_of, IsGridTree, IsMade, HasPositions};
+ghost use Rattle.memplan.specs.Demo.{IsPostorderPeak, kind_word, check_word, postorder_lines, demo_lines, IsJudgedSummary, IsDemoOf};
 ghost use Rattle.memplan.specs.Pages.{answer_of};
 ghost use Rattle.memplan.specs.Request.{IsInRange, IsMakeable};
 ghost use Rattle.memplan.specs.RequestViews.{request_view};
