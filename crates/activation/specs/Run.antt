@@ -72,11 +72,11 @@ pub record IsRun (c : Setting) (st : State) (time : ℕ) (x : RunTables) : Type 
   pub clock_room : x.clock.room ≡ c.workers
   pub clock_long : length x.clock.dues ≡ running_count c st
   pub clock_has : (k : ℕ) → k < length c.order → sum_by (has_place k) x.clock.dues
-    ≡ (if is_running st (slice_index c.order k) then 1 else 0)
+      ≡ (if is_running st (slice_index c.order k) then 1 else 0)
   pub clock_is : All (IsDueOf c.order x.dues) x.clock.dues
   pub ready_long : length x.ready ≡ length c.order
   pub ready_is : (k : ℕ) → k < length c.order → slice_index_or x.ready (slice_index x.ranks k) false
-    ≡ is_startable c st (slice_index c.order k)
+      ≡ is_startable c st (slice_index c.order k)
   pub not_past : (t : ℕ) → phase_in st.phases t ≡ Running → time ≤ task_entry x.dues t
   pub dues_small : (t : ℕ) → phase_in st.phases t ≡ Running → task_entry x.dues t ≤ most_time * event_count c st
   pub time_small : time ≤ most_time * event_count c st

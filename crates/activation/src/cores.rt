@@ -382,12 +382,12 @@ impl Core {
         ensures long { length ready.new ≡ length ready.old }
         ensures consumers { (k : ℕ) → k < length self.now.setting.order →
             0 < count_by (is_edge (slice_index self.now.setting.order place) (slice_index self.now.setting.order k))
-                self.now.setting.system.items →
+            self.now.setting.system.items →
             slice_index_or ready.new (slice_index ranks.now k) false
             ≡ is_startable self.now.setting self.now.state (slice_index self.now.setting.order k) }
         ensures others { (k : ℕ) → k < length self.now.setting.order →
             count_by (is_edge (slice_index self.now.setting.order place) (slice_index self.now.setting.order k))
-                self.now.setting.system.items ≡ 0 →
+            self.now.setting.system.items ≡ 0 →
             slice_index_or ready.new (slice_index ranks.now k) false ≡ slice_index_or ready.old (slice_index ranks.now k) false }
     {
         for consumer in self.consumers.row(place) {

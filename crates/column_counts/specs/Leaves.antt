@@ -120,7 +120,7 @@ HoldLeaves firsts order j taken t =
 -- the columns before j were taken into all of their rows
 abbrev pub AreLeavesBefore : (ℕ → ℕ → Bool) → List ℕ → List ℕ → ℕ → Leaves → Type 0
 AreLeavesBefore joined firsts order j t = (taken : ℕ → ℕ → Bool) ×
-  HoldLeaves firsts order j taken t × AreTaken joined (length firsts) j taken
+    HoldLeaves firsts order j taken t × AreTaken joined (length firsts) j taken
 
 -- column j, with this list of neighbours, may be taken into its rows
 pub record CanTakeColumn (joined : ℕ → ℕ → Bool) (firsts list order : List ℕ) (j : ℕ) (t : Leaves) : Type 0 where

@@ -13,7 +13,7 @@ use Rattle.mp_text.specs.declared.words.Version.{Version}
 use Rattle.mp_text.specs.declared.words.Version.TheVariants.{One, Two}
 use Rattle.mp_text.specs.Ahead.{rows_of_bytes}
 use Rattle.mp_text.specs.Grammar.{test, first_failure, ArePassed, token_at}
-use Rattle.plan_text.specs.Plan.{PlanText, most_number, IsPlan, IsClaimWithin, RiseFrom, IsTask, RanksAll, IsPriority, times}
+use Rattle.plan_text.specs.Plan.{PlanText, most_number, IsPlan, IsClaimWithin, RiseFrom, IsTaskNumber, RanksAll, IsPriority, times}
 use Rattle.plan_text.specs.PlanFile.{Stated, stated, plan_format, staged_tests, is_ended, is_number_up_to, is_bound, bound_of, value_of, task_on, stated_on, claim_on, last_position, claim_tests, order_tests, peak_tests, priority_tests, priority_section_tests, tests_after_order, last_tests, ReadsPlan}
 use Rattle.plan_text.specs.Reader.{staged_next, with_task, with_rank, with_claim, peak_next, ranks_next, after_order_next}
 use Rattle.plan_text.proofs.ReaderLaws.{stated_push}
@@ -41,7 +41,7 @@ hold a b c r s t none =
 order-test : (row : Row) → first_failure (order_tests row) ≡ None → task_on row ≤ most_number
 order-test row passed = up_to most_number (token_at 0 row) (passes _ _ _ (passes _ _ _ passed).1).0
 
-priority-test : (tasks : ℕ) (before : List ℕ) (row : Row) → first_failure (priority_tests tasks before row) ≡ None → IsTask tasks (task_on row) × (times before (task_on row) ≡ 0)
+priority-test : (tasks : ℕ) (before : List ℕ) (row : Row) → first_failure (priority_tests tasks before row) ≡ None → IsTaskNumber tasks (task_on row) × (times before (task_on row) ≡ 0)
 priority-test tasks before row passed =
     let v = task_on row in
     let all = and_parts (leb 1 v && leb v tasks) (eqb (times before v) 0) (hold _ _ _ _ _ _ passed).1 in

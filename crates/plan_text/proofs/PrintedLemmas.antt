@@ -19,8 +19,8 @@ use Rattle.mp_text.specs.Words.{after_word, version_of}
 use Rattle.mp_text.specs.Ahead.{rows_of_bytes, past_of_bytes}
 use Rattle.mp_text.specs.Grammar.{first_failure, ArePassed}
 use Rattle.mp_text.specs.Report.{is_counted, numbered_from, text_of_lines, is_token}
-use Rattle.plan_text.specs.Plan.{PlanText, most_number, IsPlan, IsClaimWithin, RiseFrom, IsTask, IsPriority, times}
-use Rattle.plan_text.specs.PlanFile.{Stated, stated, nothing, plan_format, tests_after, plan_of, end_tests_after, peak_tests, dir_named, last_position, ReadsPlan}
+use Rattle.plan_text.specs.Plan.{PlanText, most_number, IsPlan, IsClaimWithin, RiseFrom, IsTaskNumber, IsPriority, times}
+use Rattle.plan_text.specs.PlanFile.{Stated, stated, nothing, plan_format, tests_after, plan_stated, end_tests_after, peak_tests, dir_named, last_position, ReadsPlan}
 use Rattle.plan_text.specs.Printed.{header_line, section_line, task_line, claim_line, dir_word, end_line, task_lines, claim_lines, priority_lines, last_lines, lines_in, text_in, version_for, text_of, text2_of}
 use Rattle.plan_text.specs.Reader.{next, peak_next}
 use Rattle.plan_text.proofs.ReaderLaws.{stated_push, at_claims, at_peak, at_ranks, at_order}
@@ -98,7 +98,7 @@ unfolding Leads
 ranks-lead laws s all before [] rest t few ranked e more n = subst (λ (ys : List ℕ). Leads (at_ranks s (length all) ys) (numbered_from n rest) t) (e ∙ append-nil before) (more n)
 ranks-lead laws s all before (x ∷ xs) rest t few (inl none) e more n = absurd (omega (arith, ap length none, ap length e, length-append before (x ∷ xs)))
 ranks-lead laws s all before (x ∷ xs) rest t few (inr ranks) e more n =
-    let task = at_place (IsTask s.count) before x xs (subst (All (IsTask s.count)) e ranks.tasks) in
+    let task = at_place (IsTaskNumber s.count) before x xs (subst (All (IsTaskNumber s.count)) e ranks.tasks) in
     let fresh : times before x ≡ 0 = times-before before x xs (ap (λ (ys : List ℕ). times ys x) (sym e) ∙ ranks.once x task) in
     let open_yet : ltb (length before) (length all) ≡ true = lt-ltb _ _ (omega (arith, ap length e, length-append before (x ∷ xs))) in
     let above = task.1 in
@@ -270,7 +270,7 @@ module _ (laws : AreLaws) where
 
 -- ---- the whole file
 
-whole-plan : (v : Version) (plan : PlanText) → (v ≡ One → plan.priority ≡ []) → plan_of (whole v plan) ≡ plan
+whole-plan : (v : Version) (plan : PlanText) → (v ≡ One → plan.priority ≡ []) → plan_stated (whole v plan) ≡ plan
 whole-plan One plan none = ap (λ (xs : List ℕ). record plan { priority = xs }) (sym (none refl))
 whole-plan Two plan none = refl
 
@@ -291,7 +291,7 @@ printed-reads laws v plan is none =
         lines = subst (ArePassed plan_format) (sym read) (leads-passed [] rows (whole v plan) leads);
         end = subst (λ (s : Stated). first_failure (end_tests_after s (past_of_bytes text)) ≡ None) (sym stated_is) (whole-ended v plan (past_of_bytes text));
       };
-      stated = sym (ap plan_of stated_is ∙ whole-plan v plan none);
+      stated = sym (ap plan_stated stated_is ∙ whole-plan v plan none);
     }
 
 -- ---- both versions

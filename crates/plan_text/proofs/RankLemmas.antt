@@ -5,7 +5,7 @@ use Rattle.std.proofs.lemmas.Bool.{and_from, and_parts, cases_eq, eq-eqb, eqb-tr
 use Rattle.std.proofs.lemmas.List.{drop_more, take_more, take-append-drop}
 use Rattle.std.proofs.lemmas.List.Elements.{All-nil, All-head, All-tail, All-push}
 use Rattle.std.proofs.lemmas.List.Sums.{sum_by-cons, sum_by_push, sum_by-append}
-use Rattle.plan_text.specs.Plan.{IsTask, RanksAll, times}
+use Rattle.plan_text.specs.Plan.{IsTaskNumber, RanksAll, times}
 
 times-cons : (x v : ℕ) (xs : List ℕ) → times (x ∷ xs) v ≡ cond (eqb x v) 1 0 + times xs v
 times-cons x v xs = sum_by-cons (λ y. cond (eqb y v) 1 0) x xs
@@ -27,15 +27,15 @@ bit b = cond b 1 0
 -- ---- some of the tasks, none twice
 
 pub record IsPart (n : ℕ) (ranked : List ℕ) : Type 0 where
-  pub tasks : All (IsTask n) ranked
+  pub tasks : All (IsTaskNumber n) ranked
   pub once : (v : ℕ) → times ranked v ≤ 1
 
 pub part-none : (n : ℕ) → IsPart n []
-part-none n = record { tasks = All-nil (IsTask n); once = λ v. omega arith }
+part-none n = record { tasks = All-nil (IsTaskNumber n); once = λ v. omega arith }
 
-pub part-push : (n : ℕ) (ranked : List ℕ) (v : ℕ) → IsPart n ranked → IsTask n v → times ranked v ≡ 0 → IsPart n (ranked ++ v ∷ [])
+pub part-push : (n : ℕ) (ranked : List ℕ) (v : ℕ) → IsPart n ranked → IsTaskNumber n v → times ranked v ≡ 0 → IsPart n (ranked ++ v ∷ [])
 part-push n ranked v part task fresh = record {
-  tasks = All-push (IsTask n) ranked v part.tasks task;
+  tasks = All-push (IsTaskNumber n) ranked v part.tasks task;
   once = λ w.
       let more = sum_by_push (λ x. bit (eqb x w)) ranked v in
       let most = part.once w in
@@ -62,7 +62,7 @@ unfolding total
 total-beyond zero x xs lt = refl
 total-beyond (suc n) x xs lt = omega (arith, total-beyond n x xs (omega arith), times-beyond x (suc n) xs (λ e. absurd (omega arith)))
 
-total-within : (n x : ℕ) (xs : List ℕ) → IsTask n x → total n (x ∷ xs) ≡ 1 + total n xs
+total-within : (n x : ℕ) (xs : List ℕ) → IsTaskNumber n x → total n (x ∷ xs) ≡ 1 + total n xs
 unfolding total
 total-within zero x xs task = absurd (let some = task.0 in let small = task.1 in omega arith)
 total-within (suc n) x xs task =
@@ -73,17 +73,17 @@ total-within (suc n) x xs task =
       | inr e ↦ omega (arith, total-within n x xs (some, omega arith), times-beyond x (suc n) xs e)
     ]
 
-total-length : (n : ℕ) (xs : List ℕ) → All (IsTask n) xs → total n xs ≡ length xs
+total-length : (n : ℕ) (xs : List ℕ) → All (IsTaskNumber n) xs → total n xs ≡ length xs
 total-length n [] tasks = total-none n
 total-length n (x ∷ xs) tasks =
-    omega (arith, total-within n x xs (All-head (IsTask n) x xs tasks), total-length n xs (All-tail (IsTask n) x xs tasks))
+    omega (arith, total-within n x xs (All-head (IsTaskNumber n) x xs tasks), total-length n xs (All-tail (IsTaskNumber n) x xs tasks))
 
 total-le : (n : ℕ) (xs : List ℕ) → ((v : ℕ) → times xs v ≤ 1) → total n xs ≤ n
 unfolding total
 total-le zero xs once = omega arith
 total-le (suc n) xs once = omega (arith, total-le n xs once, once (suc n))
 
-total-full : (n : ℕ) (xs : List ℕ) → ((v : ℕ) → times xs v ≤ 1) → total n xs ≡ n → (v : ℕ) → IsTask n v → times xs v ≡ 1
+total-full : (n : ℕ) (xs : List ℕ) → ((v : ℕ) → times xs v ≤ 1) → total n xs ≡ n → (v : ℕ) → IsTaskNumber n v → times xs v ≡ 1
 unfolding total
 total-full zero xs once full v task = absurd (let some = task.0 in let small = task.1 in omega arith)
 total-full (suc n) xs once full v task =

@@ -51,14 +51,14 @@ RiseFrom n (c ∷ cs) = (n < c.position) × RiseFrom c.position cs
 abbrev pub times : List ℕ → ℕ → ℕ
 times tasks v = count_by (λ x. x == v) tasks
 
-abbrev pub IsTask : ℕ → ℕ → Type 0
-IsTask n v = (1 ≤ v) × (v ≤ n)
+abbrev pub IsTaskNumber : ℕ → ℕ → Type 0
+IsTaskNumber n v = (1 ≤ v) × (v ≤ n)
 
 -- the list holds each of 1 to n once, and nothing else
 pub record RanksAll (n : ℕ) (priority : List ℕ) : Type 0 where
   pub len : length priority ≡ n
-  pub tasks : All (IsTask n) priority
-  pub once : (v : ℕ) → IsTask n v → times priority v ≡ 1
+  pub tasks : All (IsTaskNumber n) priority
+  pub once : (v : ℕ) → IsTaskNumber n v → times priority v ≡ 1
 
 -- a priority of n tasks, which a plan may leave out
 abbrev pub IsPriority : ℕ → List ℕ → Type 0

@@ -229,13 +229,13 @@ plan_format = record {
 
 -- ---- the whole file
 
-abbrev pub plan_of : Stated → PlanText
-plan_of s = record { order = s.order; peak = s.peak; claims = s.claims; priority = s.priority }
+abbrev pub plan_stated : Stated → PlanText
+plan_stated s = record { order = s.order; peak = s.peak; claims = s.claims; priority = s.priority }
 
 -- every line passes, and the plan is the one stated
 pub record ReadsPlan (bytes : List ℕ) (plan : PlanText) : Type 0 where
   pub form : IsWellFormed plan_format (rows_of_bytes Commented bytes) (past_of_bytes bytes)
-  pub stated : plan ≡ plan_of (stated (rows_of_bytes Commented bytes))
+  pub stated : plan ≡ plan_stated (stated (rows_of_bytes Commented bytes))
 
 abbrev pub RefusesPlan : List ℕ → Refusal PlanKind → Type 0
 RefusesPlan bytes refusal = Refuses plan_format (rows_of_bytes Commented bytes) (past_of_bytes bytes) refusal

@@ -12,7 +12,7 @@ use Rattle.mp_text.specs.Words.{after_word, version_of}
 use Rattle.mp_text.specs.Grammar.{fault_at, first_failure, tests_of_all}
 use Rattle.sp_terms.specs.Term.{backward}
 use Rattle.plan_text.specs.Plan.{PlanText, claim_at}
-use Rattle.plan_text.specs.PlanFile.{dir_named, stated, plan_of, plan_format}
+use Rattle.plan_text.specs.PlanFile.{dir_named, stated, plan_stated, plan_format}
 use Rattle.plan_text.specs.Printed.{text_of, text2_of}
 use Rattle.plan_text.specs.Json.{json_of}
 use Rattle.plan_text.specs.declared.claim.Claim.{Claim}
@@ -55,7 +55,7 @@ as_json = refl
 
 -- ---- reading
 
-pub stated_plan : plan_of (stated (rows_of_bytes Commented
+pub stated_plan : plan_stated (stated (rows_of_bytes Commented
     (codes "# two tasks\nplan 2\norder 2\n1\n2\n\npriority 2\n2\n01\npeak 6\nclaims 1\n1 F -1 0\nend"))) ≡ ranked
 unfolding lines_of tokens_of number_of number_from signed_of rows_from after_word version_of dir_named stated
 stated_plan = refl

@@ -5,7 +5,7 @@ ghost use Rattle.limits.specs.Limits.{most_tasks, most_positions, most_total};
 ghost use Rattle.mp_text.specs.Text.{number_of, signed_of};
 ghost use Rattle.mp_text.specs.Ahead.{row};
 ghost use Rattle.mp_text.specs.Reading.{Gives, tested};
-ghost use Rattle.plan_text.specs.Plan.{IsTask};
+ghost use Rattle.plan_text.specs.Plan.{IsTaskNumber};
 ghost use Rattle.plan_text.specs.PlanFile.{is_number_up_to, dir_named, is_bound, header_tests, version_stated, section_form, stated_on};
 ghost use Rattle.plan_text.specs.PlanFile.{order_section_tests, priority_section_tests, peak_tests, claims_section_tests, task_on};
 ghost use Rattle.plan_text.specs.PlanFile.{order_tests, priority_tests, last_position, claim_on, claim_form, claim_tests, last_tests};
@@ -130,7 +130,7 @@ pub fn order_on(line: Line<'_>) -> Result<u32, Refusal<PlanKind>>
 pub fn priority_on(ranking: &Ranking, line: Line<'_>) -> Result<u32, Refusal<PlanKind>>
     ensures judged { let r = row line.entry.number line.entry.text.now in
         Gives (tested (priority_tests ranking.now.tasks ranking.now.ranked r) (task_on r)) result }
-    ensures task { IfOk result (IsTask ranking.now.tasks) }
+    ensures task { IfOk result (IsTaskNumber ranking.now.tasks) }
 {
     let token = tokens(line.text)
         .one()

@@ -1,5 +1,5 @@
 ghost use Rattle.std.specs.Prelude.{◌≡◌, ◌==◌, ◌&&◌, [], ◌∷◌, ◌++◌, ◌≤◌, length, nat_le, IsTrue, OnOk};
-ghost use Rattle.plan_text.specs.Plan.{IsTask, most_number, times};
+ghost use Rattle.plan_text.specs.Plan.{IsTaskNumber, most_number, times};
 ghost use Rattle.plan_text.specs.Ranking.{RankingState, AreMarks};
 
 use crate::NoMemory;
@@ -56,7 +56,7 @@ impl Ranking {
 
     /// Ranks a task.
     pub fn push(&mut self, task: u32) -> Result<(), NoMemory>
-        requires { IsTask self.old.tasks task }
+        requires { IsTaskNumber self.old.tasks task }
         ensures { OnOk result (self.new ≡ record { tasks = self.old.tasks; ranked = self.old.ranked ++ task ∷ [] }) }
     {
         self.ranked.push(task)?;

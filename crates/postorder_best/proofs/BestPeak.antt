@@ -1,6 +1,6 @@
 -- The listing by rows reaches the best peak and no more.
 use Rattle.std.proofs.Common.{◌≡◌, ◌↔◌, inl, inr, sym, ap, subst, ℕ, ◌+◌, ◌<◌, ◌≤◌, max, List, [], ◌∷◌, ◌++◌, arith, refl, append_assoc}
-use Rattle.postorder_best.specs.BestPostorder.{row_peak, subtrees_of, Listed, node, ListedAll, none, more}
+use Rattle.postorder_best.specs.BestPostorder.{children_peak, subtrees_of, Listed, node, ListedAll, none, more}
 use Rattle.postorder_best.specs.Postorder.{Member, IsUnder, self, step}
 use Rattle.postorder_best.specs.Rows.{Once, sum_out}
 use Rattle.postorder_best.proofs.Forest.{IsNode, IsForest, IsPostorder, memory, peak_from, IsBestAt}
@@ -49,7 +49,7 @@ peak_right n parent out need done (x ∷ xs) ys =
     let e = ap (λ v. peak_from n parent out need v ys) (append_assoc done (x ∷ []) xs) in
     omega arith
 
-pub row_above : (need : ℕ) (best out : ℕ → ℕ) (cs : List ℕ) → need + sum_out out cs ≤ row_peak need (subtrees_of best out cs)
+pub row_above : (need : ℕ) (best out : ℕ → ℕ) (cs : List ℕ) → need + sum_out out cs ≤ children_peak need (subtrees_of best out cs)
 row_above need best out [] = omega arith
 row_above need best out (c ∷ cs) = let r = row_above need best out cs in omega arith
 
@@ -117,12 +117,12 @@ module _ (n : ℕ) (parent out need best : ℕ → ℕ) (kids : ℕ → List ℕ
         let e = ap (memory n parent out) (append_assoc done p (x' ∷ [])) in
         let m = q.1 in (
           within_join n parent out need (memory n parent out done + best x') done p (x' ∷ [])
-              (within_more n parent out need (memory n parent out done + row_peak (need x') (subtrees_of best out (kids x'))) (memory n parent out done + best x') done p (omega arith) q.0) (omega arith, tt),
+              (within_more n parent out need (memory n parent out done + children_peak (need x') (subtrees_of best out (kids x'))) (memory n parent out done + best x') done p (omega arith) q.0) (omega arith, tt),
           omega arith,
         )
 
     all_peak : (x : ℕ) (cs o done : List ℕ) → ListedAll kids cs o → x < n → Fits x cs → Closed done → ((y : ℕ) → y < n → Upper y cs → Member y done → ⊥)
-        → Within n parent out need (memory n parent out done + row_peak (need x) (subtrees_of best out cs)) done o × (memory n parent out (done ++ o) ≡ memory n parent out done + sum_out out cs)
+        → Within n parent out need (memory n parent out done + children_peak (need x) (subtrees_of best out cs)) done o × (memory n parent out (done ++ o) ≡ memory n parent out done + sum_out out cs)
     all_peak x cs o done none l r closed fresh = (tt, let e = ap (memory n parent out) (nil_right done) in omega arith)
     all_peak x cs o done (more {c = c} {cs = ds} {o = p} {os = q} first others) l r closed fresh =
         let nc = (r.0 c (inl refl)).0 in
@@ -135,10 +135,10 @@ module _ (n : ℕ) (parent out need best : ℕ → ℕ) (kids : ℕ → List ℕ
         let a = one.1 in
         let b = rest.1 in
         let e = ap (memory n parent out) (append_assoc done p q) in
-        let row : ℕ = row_peak (need x) (subtrees_of best out ds) in (
-          within_join n parent out need (memory n parent out done + row_peak (need x) (subtrees_of best out (c ∷ ds))) done p q
-              (within_more n parent out need (memory n parent out done + best c) (memory n parent out done + row_peak (need x) (subtrees_of best out (c ∷ ds))) done p (omega arith) one.0)
-              (within_more n parent out need (memory n parent out (done ++ p) + row_peak (need x) (subtrees_of best out ds)) (memory n parent out done + row_peak (need x) (subtrees_of best out (c ∷ ds))) (done ++ p) q (omega arith) rest.0),
+        let row : ℕ = children_peak (need x) (subtrees_of best out ds) in (
+          within_join n parent out need (memory n parent out done + children_peak (need x) (subtrees_of best out (c ∷ ds))) done p q
+              (within_more n parent out need (memory n parent out done + best c) (memory n parent out done + children_peak (need x) (subtrees_of best out (c ∷ ds))) done p (omega arith) one.0)
+              (within_more n parent out need (memory n parent out (done ++ p) + children_peak (need x) (subtrees_of best out ds)) (memory n parent out done + children_peak (need x) (subtrees_of best out (c ∷ ds))) (done ++ p) q (omega arith) rest.0),
           omega arith,
         )
 
@@ -156,7 +156,7 @@ module _ (n : ℕ) (parent out need best : ℕ → ℕ) (kids : ℕ → List ℕ
       let above = row_above (need 0) best out (kids 0) in
       let last = r.1 in
       peak_within n parent out need (best 0) [] order
-      (within_more n parent out need (memory n parent out [] + row_peak (need 0) (subtrees_of best out (kids 0))) (best 0) [] order (omega arith) r.0) (omega arith)
+      (within_more n parent out need (memory n parent out [] + children_peak (need 0) (subtrees_of best out (kids 0))) (best 0) [] order (omega arith) r.0) (omega arith)
 
   -- the listing is a postorder with the best peak, and no postorder has a lower one
   pub best_theorem : (order : List ℕ) → need 0 ≡ 0 → ListedAll kids (kids 0) order
@@ -183,7 +183,7 @@ module _ (n : ℕ) (parent out need best : ℕ → ℕ) (kids : ℕ → List ℕ
         omega arith
 
     all_reach : (x : ℕ) (cs o done : List ℕ) → ListedAll kids cs o → x < n → Fits x cs → Closed done → ((y : ℕ) → y < n → Upper y cs → Member y done → ⊥)
-        → memory n parent out done + row_peak (need x) (subtrees_of best out cs) ≤ max (peak_from n parent out need done o) (memory n parent out (done ++ o) + need x)
+        → memory n parent out done + children_peak (need x) (subtrees_of best out cs) ≤ max (peak_from n parent out need done o) (memory n parent out (done ++ o) + need x)
     all_reach x cs o done none l r closed fresh = let e = ap (memory n parent out) (nil_right done) in omega arith
     all_reach x cs o done (more {c = c} {cs = ds} {o = p} {os = q} first others) l r closed fresh =
         let nc = (r.0 c (inl refl)).0 in
@@ -198,7 +198,7 @@ module _ (n : ℕ) (parent out need best : ℕ → ℕ) (kids : ℕ → List ℕ
         let e = ap (memory n parent out) (append_assoc done p q) in
         let left = peak_left n parent out need done p q in
         let right = peak_right n parent out need done p q in
-        let row : ℕ = row_peak (need x) (subtrees_of best out ds) in
+        let row : ℕ = children_peak (need x) (subtrees_of best out ds) in
         let first_peak : ℕ = peak_from n parent out need done p in
         let rest_peak : ℕ = peak_from n parent out need (done ++ p) q in
         let whole : ℕ = peak_from n parent out need done (p ++ q) in

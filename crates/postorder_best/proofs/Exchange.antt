@@ -1,16 +1,16 @@
 use Rattle.std.proofs.Common.{subst, ◌+◌, ℕ, ◌≤◌, List, [], ◌∷◌, ◌++◌, arith}
-use Rattle.postorder_best.specs.BestPostorder.{Child, row_peak}
+use Rattle.postorder_best.specs.BestPostorder.{Child, children_peak}
 use Rattle.postorder_best.proofs.Forest.{MayPrecede, LeadsAll, IsFalling, Rearranged}
 
 -- two neighbours in the better order
-exchange : (need : ℕ) (a b : Child) (cs : List Child) → MayPrecede a b → row_peak need (a ∷ (b ∷ cs)) ≤ row_peak need (b ∷ (a ∷ cs))
+exchange : (need : ℕ) (a b : Child) (cs : List Child) → MayPrecede a b → children_peak need (a ∷ (b ∷ cs)) ≤ children_peak need (b ∷ (a ∷ cs))
 exchange need a b cs h = let h' : b.peak + a.out ≤ a.peak + b.out = h in omega arith
 
-mono : (need : ℕ) (a : Child) (xs ys : List Child) → row_peak need xs ≤ row_peak need ys → row_peak need (a ∷ xs) ≤ row_peak need (a ∷ ys)
+mono : (need : ℕ) (a : Child) (xs ys : List Child) → children_peak need xs ≤ children_peak need ys → children_peak need (a ∷ xs) ≤ children_peak need (a ∷ ys)
 mono need a xs ys h = omega arith
 
 -- whoever stands behind those that may precede it gains nothing by going first
-to_front : (need : ℕ) (c : Child) (before after : List Child) → IsFalling (before ++ (c ∷ after)) → row_peak need (before ++ (c ∷ after)) ≤ row_peak need (c ∷ (before ++ after))
+to_front : (need : ℕ) (c : Child) (before after : List Child) → IsFalling (before ++ (c ∷ after)) → children_peak need (before ++ (c ∷ after)) ≤ children_peak need (c ∷ (before ++ after))
 to_front need c [] after h = omega arith
 to_front need c (a ∷ before) after h =
     let ih = to_front need c before after h.1 in
@@ -31,7 +31,7 @@ drop_one (a ∷ before) c after h = (leads a before c after h.0, drop_one before
     leads a (b ∷ before) c after h = (h.0, leads a before c after h.1)
 
 -- no order of the subtrees has a lower peak than the falling one
-pub falling_least : (need : ℕ) (ys xs : List Child) → IsFalling xs → Rearranged ys xs → row_peak need xs ≤ row_peak need ys
+pub falling_least : (need : ℕ) (ys xs : List Child) → IsFalling xs → Rearranged ys xs → children_peak need xs ≤ children_peak need ys
 falling_least need [] xs f r = rw r (omega arith)
 falling_least need (y ∷ ys) xs f r =
     let f' = subst IsFalling r.2 f in

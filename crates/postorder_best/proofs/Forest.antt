@@ -2,7 +2,7 @@
 use Rattle.std.specs.Prelude.{◌≡◌, ◌↔◌, ℕ, zero, suc, ◌+◌, ◌<◌, ◌≤◌, max, Bool, ◌&&◌, not, nat_eq, if◌then◌else◌, List, [], ◌∷◌, ◌++◌, length, slice_index}
 use Rattle.std.specs.List.{list_any}
 use Rattle.postorder_best.specs.Postorder.{Member, StandsTogether}
-use Rattle.postorder_best.specs.BestPostorder.{Child, row_peak, subtrees_of}
+use Rattle.postorder_best.specs.BestPostorder.{Child, children_peak, subtrees_of}
 use Rattle.postorder_best.specs.Rows.{Once}
 
 -- the nodes have the numbers from 1 to n - 1
@@ -73,4 +73,4 @@ pub record IsBestAt (n : ℕ) (parent out need best : ℕ → ℕ) (kids : ℕ �
   pub once : Once (kids x)
   pub exact : (c : ℕ) → Member c (kids x) ↔ (IsNode n c × (parent c ≡ x))
   pub falling : IsFalling (subtrees_of best out (kids x))
-  pub peak : best x ≡ row_peak (need x) (subtrees_of best out (kids x))
+  pub peak : best x ≡ children_peak (need x) (subtrees_of best out (kids x))

@@ -2,7 +2,7 @@
 use Rattle.std.proofs.Common.{sym, ◌∙◌, subst, ap, ◌+◌, ◌-◌, ◌≡◌, ◌≢◌, ◌↔◌, inl, inr, ℕ, zero, suc, ◌<◌, ◌≤◌, arith, refl, Bool, true, false, ◌||◌, eqb, eq-eqb, eqb-true, List, [], ◌∷◌, ◌++◌, length, get_or, take, append_assoc}
 use Rattle.std.proofs.lemmas.Bool.{cases_eq, cases_lt, ne_eqb}
 use Rattle.std.proofs.lemmas.List.{length-append, take_more, take-append-le}
-use Rattle.postorder_best.specs.BestPostorder.{row_peak, subtrees_of}
+use Rattle.postorder_best.specs.BestPostorder.{children_peak, subtrees_of}
 use Rattle.postorder_best.specs.Postorder.{Member, IsUnder, self, step, StandsTogether}
 use Rattle.postorder_best.specs.Rows.{Once, sum_out}
 use Rattle.postorder_best.proofs.Forest.{IsNode, IsForest, IsPostorder, stands, total, bit, memory, peak_from, IsBestAt}
@@ -215,7 +215,7 @@ module _ (n : ℕ) (parent out need best : ℕ → ℕ) (kids : ℕ → List ℕ
       let m = ap (memory n parent out) more in
       omega arith
 
-  least : (x : ℕ) (cs : List ℕ) → x < n → Once cs → ((d : ℕ) → Member d cs ↔ (IsNode n d × (parent d ≡ x))) → best x ≤ row_peak (need x) (subtrees_of best out cs)
+  least : (x : ℕ) (cs : List ℕ) → x < n → Once cs → ((d : ℕ) → Member d cs ↔ (IsNode n d × (parent d ≡ x))) → best x ≤ children_peak (need x) (subtrees_of best out cs)
   least x cs l o exact =
       let b = best_at x l in
       let r = rearranged (λ c. record { peak = best c; out = out c }) cs (kids x) o b.once (λ d m. (b.exact d).1 ((exact d).0 m)) (λ d m. (exact d).1 ((b.exact d).0 m)) in

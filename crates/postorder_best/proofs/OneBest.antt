@@ -3,7 +3,7 @@ use Rattle.std.proofs.Common.{◌≡◌, ◌∙◌, ◌⊎◌, ◌↔◌, inl, i
 use Rattle.tree_input.specs.declared.node.Node.{Node}
 use Rattle.tree_input.specs.Tree.{IsTree, parent_of}
 use Rattle.postorder_best.specs.Postorder.{Member}
-use Rattle.postorder_best.specs.BestPostorder.{Child, out_at, need_at, row_peak, subtrees_of, ComesBefore, ComesBeforeAll, IsBestRow, Listed, node, ListedAll, none, more, IsBestAt, IsBestPostorder}
+use Rattle.postorder_best.specs.BestPostorder.{Child, out_at, need_at, children_peak, subtrees_of, ComesBefore, ComesBeforeAll, IsBestRow, Listed, node, ListedAll, none, more, IsBestAt, IsBestPostorder}
 use Rattle.postorder_best.proofs.Forest.{IsNode}
 use Rattle.postorder_best.proofs.Exists.{weight, lighter}
 use Rattle.postorder_best.proofs.TreeLinks.{forest_of}
@@ -98,7 +98,7 @@ module _ (nodes : List Node) (tree : IsTree nodes) (p q : ℕ → ℕ) (row othe
       let rows : row x ≡ other x = same_row q (out_at nodes) (row x) (other x) (row_along p q (out_at nodes) (row x) below a.in_order) b.in_order
       (λ c k. (b.children c).1 ((a.children c).0 k)) (λ c k. (a.children c).1 ((b.children c).0 k)) in (
         rows,
-        a.reaches ∙ ap (row_peak (need_at nodes x)) (same_children p q (out_at nodes) (row x) below ∙ ap (subtrees_of q (out_at nodes)) rows) ∙ sym b.reaches,
+        a.reaches ∙ ap (children_peak (need_at nodes x)) (same_children p q (out_at nodes) (row x) below ∙ ap (subtrees_of q (out_at nodes)) rows) ∙ sym b.reaches,
       )
 
   same_rows : (x : ℕ) → x ≤ length nodes → row x ≡ other x

@@ -2,7 +2,7 @@
 use Rattle.std.proofs.Common.{sym, ◌∙◌, subst, ap, ◌+◌, ◌-◌, ◌≡◌, ◌≢◌, ◌↔◌, ◌⊎◌, inl, inr, ℕ, zero, suc, ◌<◌, ◌≤◌, arith, refl, List, [], ◌∷◌, length, get_or}
 use Rattle.std.proofs.lemmas.List.{length-append}
 use Rattle.std.proofs.lemmas.Bool.{cases_eq, cases_lt}
-use Rattle.postorder_best.specs.BestPostorder.{row_peak, subtrees_of}
+use Rattle.postorder_best.specs.BestPostorder.{children_peak, subtrees_of}
 use Rattle.postorder_best.specs.Postorder.{Member, IsUnder, self, step, StandsTogether}
 use Rattle.postorder_best.specs.Rows.{Once, sum_out}
 use Rattle.postorder_best.proofs.Forest.{Rooted, top, raise, IsNode}
@@ -271,13 +271,13 @@ module _ (n : ℕ) (parent : ℕ → ℕ) (order : List ℕ)
   -- ---- with memory mem k before the place k, and the need and the out of each task
   module _ (mem need out best : ℕ → ℕ)
       (settles : (x : ℕ) (cs : List ℕ) → x < n → Once cs → ((d : ℕ) → Member d cs ↔ (IsNode n d × (parent d ≡ x))) → mem (hi x) + sum_out out cs ≡ mem (hi x - 1) + out x)
-      (least : (x : ℕ) (cs : List ℕ) → x < n → Once cs → ((d : ℕ) → Member d cs ↔ (IsNode n d × (parent d ≡ x))) → best x ≤ row_peak (need x) (subtrees_of best out cs)) where
+      (least : (x : ℕ) (cs : List ℕ) → x < n → Once cs → ((d : ℕ) → Member d cs ↔ (IsNode n d × (parent d ≡ x))) → best x ≤ children_peak (need x) (subtrees_of best out cs)) where
     -- a block leaves its root's out, and reaches its best peak
     abbrev pub Block : ℕ → Type 0
     Block x = (mem (hi x) ≡ mem (lo x) + out x) × ((k : ℕ) × (lo x ≤ k) × (k < hi x) × (mem (lo x) + best x ≤ mem k + need (task k)))
 
     along : (x e p : ℕ) (cs : List ℕ) → Chain n parent lo hi x e p cs → task e ≡ x → ((c : ℕ) → IsNode n c → parent c ≡ x → Block c)
-        → (mem e ≡ mem p + sum_out out cs) × ((k : ℕ) × (p ≤ k) × (k ≤ e) × (mem p + row_peak (need x) (subtrees_of best out cs) ≤ mem k + need (task k))) × (p ≤ e)
+        → (mem e ≡ mem p + sum_out out cs) × ((k : ℕ) × (p ≤ k) × (k ≤ e) × (mem p + children_peak (need x) (subtrees_of best out cs) ≤ mem k + need (task k))) × (p ≤ e)
     along x e p cs done t each = (omega arith, (e, omega arith, omega arith, rw t (omega arith)), omega arith)
     along x e p cs (block {c = c} {cs = cs'} pc ec q) t each =
         let r = along x e (hi c) cs' q t each in
@@ -288,9 +288,9 @@ module _ (n : ℕ) (parent : ℕ → ℕ) (order : List ℕ)
         let a = b.0 in
         let a' = r.0 in
         let le = r.2 in
-        let rest : ℕ = row_peak (need x) (subtrees_of best out cs') in (
+        let rest : ℕ = children_peak (need x) (subtrees_of best out cs') in (
           omega arith,
-          elim (cases_lt (best c) (out c + row_peak (need x) (subtrees_of best out cs'))) [
+          elim (cases_lt (best c) (out c + children_peak (need x) (subtrees_of best out cs'))) [
             | inl l ↦ let u = k2.1 in let v = k2.3 in (k2.0, omega arith, k2.2, omega arith)
             | inr l ↦ let u = k1.2 in let v = k1.3 in (k1.0, k1.1, omega arith, omega arith)
           ],

@@ -21,9 +21,9 @@ pub record Child : Type 0 where
   pub out : ℕ
 
 -- the peak of subtrees that run one after the other, with `need` on top of all that they leave at the end
-abbrev pub row_peak : ℕ → List Child → ℕ
-row_peak need [] = need
-row_peak need (c ∷ cs) = max (c.peak) (c.out + row_peak need cs)
+abbrev pub children_peak : ℕ → List Child → ℕ
+children_peak need [] = need
+children_peak need (c ∷ cs) = max (c.peak) (c.out + children_peak need cs)
 
 -- the subtrees of these children
 abbrev pub subtrees_of : (ℕ → ℕ) → (ℕ → ℕ) → List ℕ → List Child
@@ -48,7 +48,7 @@ IsBestRow peak out (a ∷ cs) = ComesBeforeAll peak out a cs × IsBestRow peak o
 pub record IsBestAt (nodes : List Node) (peak : ℕ → ℕ) (row : ℕ → List ℕ) (x : ℕ) : Type 0 where
   pub children : (c : ℕ) → Member c (row x) ↔ (IsNode nodes c × (parent_of nodes c ≡ x))
   pub in_order : IsBestRow peak (out_at nodes) (row x)
-  pub reaches : peak x ≡ row_peak (need_at nodes x) (subtrees_of peak (out_at nodes) (row x))
+  pub reaches : peak x ≡ children_peak (need_at nodes x) (subtrees_of peak (out_at nodes) (row x))
 
 -- what rows of children list: the subtree of each in turn, and after its children a node
 mutual

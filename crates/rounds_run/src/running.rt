@@ -86,8 +86,11 @@ fn run_rounds<R: Threads + Sync, G: Gate>(
     gate: &G,
 ) -> Result<Vec<NumberList>, NoMemory>
     requires perm { length perm.now ≡ length pattern.now }
-    requires supers { IsFactor (record { joined = renumbered (is_joined pattern.now) perm.now;
-        order = length perm.now; supers = supers.now }) }
+    requires supers { IsFactor (record {
+      joined = renumbered (is_joined pattern.now) perm.now;
+      order = length perm.now;
+      supers = supers.now;
+    }) }
     requires few { (length perm.now ≤ most_order) × (last_of supers.now (length supers.now) ≤ most_order) }
     requires parents { All (λ x. x.parent ≤ length supers.now) supers.now }
     requires rounds { AreOrderly supers.now rounds.now }

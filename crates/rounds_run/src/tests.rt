@@ -70,7 +70,8 @@ const GRID_ROWS: &[&[u32]] = &[
 // One front after another: the four corners, and the middle rows after the corners that they join.
 #[rattlefmt::skip]
 const GRID_ALONE: &[&[u32]] = &[
-    &[1], &[2], &[3], &[4], &[5], &[6], &[7], &[8], &[9], &[10], &[11], &[12], &[13], &[14], &[15], &[16], &[17], &[18], &[19], &[20], &[21],
+    &[1], &[2], &[3], &[4], &[5], &[6], &[7], &[8], &[9], &[10], &[11],
+    &[12], &[13], &[14], &[15], &[16], &[17], &[18], &[19], &[20], &[21],
 ];
 
 // The four corners side by side.

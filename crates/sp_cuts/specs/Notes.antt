@@ -133,7 +133,7 @@ unread (n ∷ ns) = (if n.read then 0 else 1) + unread ns
 abbrev pub IsNote : Term → Noted → Type 0
 IsNote (hold size) own = own ≡ nothing_noted
 IsNote (series a v b) own = (n : SeriesNote) × (own.series ≡ n ∷ []) ×
-  (own.parts ≡ []) × IsSeriesNote (numbers_at a) (numbers_at b) n own.gone
+    (own.parts ≡ []) × IsSeriesNote (numbers_at a) (numbers_at b) n own.gone
 IsNote (par ts) own =
     (own.series ≡ []) × ArePartNotes (map numbers_at (list_of_parts ts)) own.parts × (unread own.parts ≤ 1)
     × (own.gone ≡ all_segments_read (map numbers_at (list_of_parts ts)) own.parts)
@@ -142,4 +142,4 @@ IsNote (par ts) own =
 abbrev pub AreNotesOf : List Position → ℕ → Noted → Type 0
 AreNotesOf ps zero notes = notes ≡ nothing_noted
 AreNotesOf ps (suc k) notes = (before : Noted) × (own : Noted) × AreNotesOf ps k before ×
-  IsNote (term_at ps k) own × (notes ≡ both_noted before own)
+    IsNote (term_at ps k) own × (notes ≡ both_noted before own)

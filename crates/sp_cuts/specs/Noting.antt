@@ -38,5 +38,5 @@ NotesParts parts old new = (ns : List PartNote) × ArePartNotes (map numbers_of_
 -- those of the term that the position leaves on top of the stack
 abbrev pub NotesPosition : List Part → Position → Noted → Noted → Type 0
 NotesPosition parts position old new = (lists : List (List ℕ)) (st st' : List Term) → ArePiled lists st (reverse parts) →
-  push position st ≡ Some st'
+    push position st ≡ Some st'
     → (own : Noted) × IsNote (last_term st') own × (new ≡ both_noted old own)

@@ -40,7 +40,7 @@ links_out_of v links = sum_links (λ p q. hit p v) links
 -- each link leads from a task to one of a higher rank, so that the links have no cycle
 abbrev pub AreRanked : (ℕ → ℕ) → List Link → Type 0
 AreRanked rank links = (x : ℕ) → x < length links → (link_at links x).alive ≡ true →
-  1 ≤ (link_at links x).from → 1 ≤ (link_at links x).to → rank (link_at links x).from < rank (link_at links x).to
+    1 ≤ (link_at links x).from → 1 ≤ (link_at links x).to → rank (link_at links x).from < rank (link_at links x).to
 
 -- the links' graph
 abbrev pub graph_of : List Link → List Item
@@ -60,11 +60,13 @@ pub record IsWork (n : ℕ) (rank : ℕ → ℕ) (links : List Link) (ins outs i
   pub ins_are : (v : ℕ) → v ≤ n → slice_index ins v ≡ links_into v links
   pub outs_are : (v : ℕ) → v ≤ n → slice_index outs v ≡ links_out_of v links
   pub in_at_is : (v : ℕ) → v ≤ n → 1 ≤ slice_index ins v →
-    (slice_index in_at v < length links) × ((link_at links (slice_index in_at v)).alive ≡ true) × ((link_at links (slice_index in_at v)).to ≡ v)
+      (slice_index in_at v < length links) × ((link_at links (slice_index in_at v)).alive ≡ true)
+      × ((link_at links (slice_index in_at v)).to ≡ v)
   pub out_at_is : (v : ℕ) → v ≤ n → 1 ≤ slice_index outs v →
-    (slice_index out_at v < length links) × ((link_at links (slice_index out_at v)).alive ≡ true) × ((link_at links (slice_index out_at v)).from ≡ v)
+      (slice_index out_at v < length links) × ((link_at links (slice_index out_at v)).alive ≡ true)
+      × ((link_at links (slice_index out_at v)).from ≡ v)
   pub keyed : (x : ℕ) → x < length links → (link_at links x).alive ≡ true →
-    table (key_of (link_at links x).from (link_at links x).to) ≡ Some x
+      table (key_of (link_at links x).from (link_at links x).to) ≡ Some x
 
 -- what contracts see of the links: how many tasks there are, and the links, those that are dead among them
 pub record LinksValue : Type 0 where

@@ -38,7 +38,7 @@ impl Forest {
         requires room { vec_len self.old.pieces + 2 ≤ most_pieces }
         ensures carried { IfOk result (λ _. (graph rest : List Item) (links : List Link) (p q : ℕ) →
             IsCarried graph (record { size = size; from = end_of p; to = end_of q } ∷ rest)
-                self.old.pieces.items links self.old.nodes.items →
+            self.old.pieces.items links self.old.nodes.items →
             MatchOption twin
             (IsCarried graph rest self.new.pieces.items (links ++ link p q ∷ []) self.new.nodes.items)
             (λ k. IsLink links k p q → IsCarried graph rest self.new.pieces.items links self.new.nodes.items)) }

@@ -96,80 +96,21 @@ fn volumes_and_amounts(rt: HostRuntime) -> Result<(), Fail> {
 }
 
 #[test]
+#[rattlefmt::skip]
 fn refusals(rt: HostRuntime) -> Result<(), Fail> {
     let alloc = rt.alloc();
     let (tree, stocked, still) = (tree(alloc)?, stocked(alloc)?, still(alloc)?);
     let rows: [(&System, &[u32], u64, SpillRefusal, &str); 10] = [
-        (
-            &tree,
-            &[1, 2, 3, 4, 5],
-            9,
-            working_set(1, 10, 9),
-            "working-set 1 10 9",
-        ),
-        (
-            &tree,
-            &[1, 3, 2, 4, 5],
-            0,
-            working_set(1, 10, 0),
-            "working-set 1 10 0",
-        ),
-        (
-            &stocked,
-            &[1, 2],
-            14,
-            working_set(1, 15, 14),
-            "working-set 1 15 14",
-        ),
-        (
-            &still,
-            &[1, 2],
-            6,
-            working_set(2, 7, 6),
-            "working-set 2 7 6",
-        ),
-        (
-            &still,
-            &[1, 2],
-            1,
-            working_set(1, 2, 1),
-            "working-set 1 2 1",
-        ),
-        (
-            &tree,
-            &[1, 1],
-            0,
-            order_fault(2, OrderKind::Repeated),
-            "repeated at place 2",
-        ),
-        (
-            &tree,
-            &[2, 1, 3, 4, 5],
-            0,
-            order_fault(1, OrderKind::TooEarly),
-            "too-early at place 1",
-        ),
-        (
-            &tree,
-            &[1, 2, 3, 4],
-            0,
-            order_fault(5, OrderKind::Missing),
-            "missing at place 5",
-        ),
-        (
-            &tree,
-            &[9],
-            99,
-            order_fault(1, OrderKind::Unknown),
-            "unknown at place 1",
-        ),
-        (
-            &still,
-            &[],
-            0,
-            order_fault(1, OrderKind::Missing),
-            "missing at place 1",
-        ),
+        (&tree, &[1, 2, 3, 4, 5], 9, working_set(1, 10, 9), "working-set 1 10 9"),
+        (&tree, &[1, 3, 2, 4, 5], 0, working_set(1, 10, 0), "working-set 1 10 0"),
+        (&stocked, &[1, 2], 14, working_set(1, 15, 14), "working-set 1 15 14"),
+        (&still, &[1, 2], 6, working_set(2, 7, 6), "working-set 2 7 6"),
+        (&still, &[1, 2], 1, working_set(1, 2, 1), "working-set 1 2 1"),
+        (&tree, &[1, 1], 0, order_fault(2, OrderKind::Repeated), "repeated at place 2"),
+        (&tree, &[2, 1, 3, 4, 5], 0, order_fault(1, OrderKind::TooEarly), "too-early at place 1"),
+        (&tree, &[1, 2, 3, 4], 0, order_fault(5, OrderKind::Missing), "missing at place 5"),
+        (&tree, &[9], 99, order_fault(1, OrderKind::Unknown), "unknown at place 1"),
+        (&still, &[], 0, order_fault(1, OrderKind::Missing), "missing at place 1"),
     ];
     for (system, order, bound, refusal, text) in rows {
         assert_eq!(rt; spill(alloc, system, order, bound).err(), Some(refusal));

@@ -53,52 +53,18 @@ fn refused<R: Abort>(
 }
 
 #[test]
+#[rattlefmt::skip]
 fn refused_arrays(rt: HostRuntime) {
     let of_task = |test, task| SystemRefusal::Task { test, task };
     let of_item = |test, item| SystemRefusal::Item { test, item };
     for (first, second, one, refusal) in [
-        (
-            task(MOST + 1, 0, 1),
-            task(0, 0, 0),
-            item(1, 3, 0),
-            of_task(TaskTest::Time, 2),
-        ),
-        (
-            task(0, 0, MOST + 1),
-            task(MOST + 1, 0, 1),
-            item(1, 3, 0),
-            of_task(TaskTest::Size, 2),
-        ),
-        (
-            task(0, 0, MOST + 1),
-            task(0, 0, 1),
-            item(1, 3, 0),
-            of_task(TaskTest::LongTime, 1),
-        ),
-        (
-            task(0, 0, 1),
-            task(0, 0, 1),
-            item(1, 3, 0),
-            of_item(ItemTest::Ends, 1),
-        ),
-        (
-            task(0, 0, 1),
-            task(0, 0, 1),
-            item(MOST + 1, 0, 2),
-            of_item(ItemTest::Size, 1),
-        ),
-        (
-            task(9, 0, 1),
-            task(9, 5, 1),
-            item(4, 1, 2),
-            SystemRefusal::Share(2),
-        ),
-        (
-            task(1, 2, 1),
-            task(9, 4, 1),
-            item(4, 1, 2),
-            SystemRefusal::Share(1),
-        ),
+        (task(MOST + 1, 0, 1), task(0, 0, 0), item(1, 3, 0), of_task(TaskTest::Time, 2)),
+        (task(0, 0, MOST + 1), task(MOST + 1, 0, 1), item(1, 3, 0), of_task(TaskTest::Size, 2)),
+        (task(0, 0, MOST + 1), task(0, 0, 1), item(1, 3, 0), of_task(TaskTest::LongTime, 1)),
+        (task(0, 0, 1), task(0, 0, 1), item(1, 3, 0), of_item(ItemTest::Ends, 1)),
+        (task(0, 0, 1), task(0, 0, 1), item(MOST + 1, 0, 2), of_item(ItemTest::Size, 1)),
+        (task(9, 0, 1), task(9, 5, 1), item(4, 1, 2), SystemRefusal::Share(2)),
+        (task(1, 2, 1), task(9, 4, 1), item(4, 1, 2), SystemRefusal::Share(1)),
     ] {
         refused(&rt, rt.alloc(), &[first, second], &[one], refusal);
     }

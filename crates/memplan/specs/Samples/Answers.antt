@@ -120,7 +120,7 @@ upgraded_lines = refl
 pub objection_lines :
     map (λ o. verdict_answer (No o))
     (objections.Order (record { place = 5; kind = Unknown }) ∷ objections.Peak 15 11 ∷
-      objections.Root 13 ∷ objections.Claim 5 shapes.Series ∷ [])
+    objections.Root 13 ∷ objections.Claim 5 shapes.Series ∷ [])
     ≡ map (λ text. record { status = status.No; text = text })
     (codes "no order 5 unknown\n" ∷ codes "no peak 15 11\n" ∷ codes "no root 13\n" ∷ codes "no claim 5 series\n" ∷ [])
 unfolding digits
@@ -188,6 +188,6 @@ pub is_answered : IsAnswered told asked status.Format (Some []) (Some refused.te
 is_answered [] none = absurd none
 is_answered (text ∷ []) tells =
     subst (λ text. (answer : Answer) × IsAnswer asked (text ∷ []) answer ×
-      ((answer.status ≡ status.Format) × (refused.text ≡ [] ++ answer.text)))
+    ((answer.status ≡ status.Format) × (refused.text ≡ [] ++ answer.text)))
     (ap (λ o. unwrap_or o []) (tells.0)) (refused, is_refused, (refl, refl))
 is_answered (text ∷ more ∷ texts) tells = absurd (tells.1)

@@ -56,7 +56,7 @@ rows_of_columns = refl
 
 -- the third supernode has the columns 3 and 4; a fourth has no list
 pub lists_of_supernodes : map (list_of ((1 ∷ 3 ∷ []) ∷ (2 ∷ 3 ∷ []) ∷ (3 ∷ 4 ∷ []) ∷ [])) (1 ∷ 3 ∷ 4 ∷ [])
-  ≡ (1 ∷ 3 ∷ []) ∷ (3 ∷ 4 ∷ []) ∷ [] ∷ []
+    ≡ (1 ∷ 3 ∷ []) ∷ (3 ∷ 4 ∷ []) ∷ [] ∷ []
 lists_of_supernodes = refl
 
 -- ---- the making of rows, as a system

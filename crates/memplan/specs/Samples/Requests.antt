@@ -46,7 +46,7 @@ unfolding tokens_of
 replay_asked = refl
 
 pub tree_asked : asked (codes "tree --matrix m") ∷
-  asked (codes "tree --matrix m --perm p --shape square --amalgamate 16 --inplace yes") ∷ []
+    asked (codes "tree --matrix m --perm p --shape square --amalgamate 16 --inplace yes") ∷ []
     ≡ Some (tree a_matrix)
     ∷ Some (tree (record {
       name = codes "m";

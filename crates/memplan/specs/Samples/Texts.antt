@@ -79,7 +79,7 @@ workflow_refusals = refl
 -- a task wants two terms, two parts side by side want two, and data none
 pub too_few_terms :
     is_short 1 (at.Task 2 0 1) ∷ is_short 2 (at.Task 2 0 1) ∷ is_short 1 (Par 2) ∷ is_short 0 (Hold 7) ∷ []
-      ≡ true ∷ false ∷ true ∷ false ∷ []
+    ≡ true ∷ false ∷ true ∷ false ∷ []
 too_few_terms = refl
 
 pub size_limit : limit_of [] (Hold 1099511627776) ∷ limit_of [] (Hold 1099511627777) ∷ [] ≡ None ∷ Some limits.Size ∷ []
@@ -87,7 +87,7 @@ size_limit = refl
 
 -- between 4 that are taken up and 5 that are left, a task may take over 4
 pub shares : is_overshared (at.Task 0 4 1) (hold 5 ∷ hold 4 ∷ []) ∷
-  is_overshared (at.Task 0 5 1) (hold 5 ∷ hold 4 ∷ []) ∷ [] ≡ false ∷ true ∷ []
+    is_overshared (at.Task 0 5 1) (hold 5 ∷ hold 4 ∷ []) ∷ [] ≡ false ∷ true ∷ []
 shares = refl
 
 -- ---- task graphs

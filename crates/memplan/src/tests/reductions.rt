@@ -15,13 +15,15 @@ pub const GRAPH: &str =
 
 // Tasks with one arc in and one out are taken out from the last one on: here 3, then 2, beside it, then 4 and 1.
 pub const WORKFLOW: &str =
-    "workflow 1\ntasks 4\ndata 0\ndata 6\ndata 2\ntask 3 1\ndata 5\ndata 1\ntask 2 1\npar 2\ndata 0\ntask 0 1\ntask 0 1\nend\n# 1 3\n# 2 2\n# 3 4\n# 4 1\n";
+    "workflow 1\ntasks 4\ndata 0\ndata 6\ndata 2\ntask 3 1\ndata 5\ndata 1\ntask 2 1\npar 2\ndata 0\ntask 0 1\ntask 0 1\nend\n\
+    # 1 3\n# 2 2\n# 3 4\n# 4 1\n";
 
 #[rattlefmt::skip]
 const TERMS: &[Case] = &[
     (&["reduce --graph g", "reduce --graph=g"], &[("g", GRAPH)], Done, WORKFLOW),
     // the order of the arcs does not matter here
-    (&["reduce --graph g"], &[("g", "graph 1\ntasks 4\n0 0 1\n2 0 1\n3 0 1\n0 0 1\narcs 4\n3 4 2\n2 4 1\n1 3 6\n1 2 5\nend\n")], Done, WORKFLOW),
+    (&["reduce --graph g"],
+        &[("g", "graph 1\ntasks 4\n0 0 1\n2 0 1\n3 0 1\n0 0 1\narcs 4\n3 4 2\n2 4 1\n1 3 6\n1 2 5\nend\n")], Done, WORKFLOW),
     // one task alone; a share makes a file of version 2
     (&["reduce --graph g"], &[("g", "graph 1\ntasks 1\n5 0 3\narcs 0\nend\n")], Done,
         "workflow 1\ntasks 1\ndata 0\ndata 0\ntask 5 3\nend\n# 1 1\n"),
