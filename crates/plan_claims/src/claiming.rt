@@ -49,7 +49,7 @@ pub fn claims_of(
         (λ claims. (c : RuleClaim) × (claim_at claims.items (length terms.now) ≡ Some c) × (pos part.now.peak ≤ℤ (c.bound +ℤ pos 1))) }
 {
     below();
-    let _positions = terms.len();
+    terms.keeps();
     let root = want_whole(part);
     claims_from(alloc, terms, notes, root)
 }
@@ -112,7 +112,7 @@ fn claim_at_position(
         → IsRight terms.now (position - 1) root todo.new.items (reverse claims.new.items)) }
 {
     below();
-    let _positions = terms.len();
+    terms.keeps();
     let Some(wanted) = todo.pop() else {
         unreachable!()
     };

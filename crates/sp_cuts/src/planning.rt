@@ -72,7 +72,7 @@ pub fn plan_terms<L: Ledger>(
     cut_laws::laws::stands_law();
     cut_laws::laws::number_law();
     term_laws::terms_law();
-    let _positions = terms.len();
+    terms.keeps();
     let mut ropes = Ropes::new(alloc);
     let mut notes = Notes::new(alloc);
     let rough = part_of(alloc, terms, &mut ropes, &mut notes, steps)?;

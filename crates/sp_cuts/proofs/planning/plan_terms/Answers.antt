@@ -31,7 +31,7 @@ returns-clause-order g c =
     ∙ ap order_of (sym (stays g c).1)
 
 pub returns-clause-stands : goal.returns-clause-stands
-returns-clause-stands g c = plan_stands (term_of c.args.terms.now) _ (c.number_law.ensures.numbers (term_of c.args.terms.now) 1) (returns-clause-cut g c) (c.stands_law.ensures (term_of c.args.terms.now) (numbered 1 (term_of c.args.terms.now)) (c.terms_law.ensures.allowed _ c.len-positions.ensures.terms))
+returns-clause-stands g c = plan_stands (term_of c.args.terms.now) _ (c.number_law.ensures.numbers (term_of c.args.terms.now) 1) (returns-clause-cut g c) (c.stands_law.ensures (term_of c.args.terms.now) (numbered 1 (term_of c.args.terms.now)) (c.terms_law.ensures.allowed _ c.keeps.ensures))
 
 pub returns-clause-traversal : goal.returns-clause-traversal
 returns-clause-traversal g c = plan_leads c.number_law.ensures.order (term_of c.args.terms.now) _ _ _ (returns-clause-stands g c) (returns-clause-order g c) (returns-clause-part g c).peak
