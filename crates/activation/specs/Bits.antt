@@ -1,6 +1,6 @@
 -- No public clause names this.
--- Rows of bits, 64 to a word, and sets of ranks as three such rows: each row above the first tells which words of the row below it hold
--- any.
+-- Rows of bits, 64 to a word, and sets of ranks as three such rows: in each row above
+-- the first a bit tells that a word of the row below it is not 0.
 use Rattle.std.specs.Prelude.{◌≡◌, ◌≢◌, ◌==◌, ℕ, ◌+◌, ◌/◌, ◌%◌, ◌^◌, ◌<◌, ◌≤◌, Bool, true, false, not, List, length, map, slice_index}
 use Rattle.std.specs.Prelude.{slice_index_or}
 use Rattle.std.specs.List.{range_with_len}

@@ -23,8 +23,7 @@ pub record IsEdgeWithin (count : ℕ) (edge : Edge) : Type 0 where
   pub from : edge.from < count
   pub to : edge.to < count
 
--- the row of a task's place has the place of each task that consumes an output of it, once for each item that goes from the one to the
--- other
+-- the row of a task's place has the place of each task that consumes an output of it, once for each item between the two
 pub record AreConsumersOf (system : TaskSystem) (places : List ℕ) (rows : List (List ℕ)) : Type 0 where
   pub long : length rows ≡ length system.tasks
   pub within : (k : ℕ) → k < length rows → All (λ p. p < length system.tasks) (row_at rows k)

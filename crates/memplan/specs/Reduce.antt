@@ -70,8 +70,8 @@ pub record IsReduced (texts : List (List ℕ)) (printed : List ℕ) : Type 0 whe
       peak_of (system_of graph) (map (name_in names) order) ≡ peak_of (system_of_term term) order
   pub least : (peak : ℕ) → IsLeast (system_of_term term) peak ↔ IsLeast (system_of graph) peak
 
--- no term has the system of the completed graph, and the arcs of an irreducible rest of it were printed. The text is that of the graph's
--- file
+-- no term has the system of the completed graph, and the arcs of an irreducible rest of it were printed. The text is that of
+-- the graph's file
 pub record HasIrreducibleRest (texts : List (List ℕ)) (printed : List ℕ) : Type 0 where
   pub text : List ℕ
   pub texts_are : texts ≡ text ∷ []

@@ -1,5 +1,5 @@
-//! Fronts of the arrow, worked by hand: column 1 is joined to all others. Eliminated third, it leaves two fronts of one column, and one of
-//! two.
+//! Fronts of the arrow, worked by hand: column 1 is joined to all others. Eliminated third, it leaves
+//! two fronts of one column, and one of two.
 
 ghost use Rattle.std.specs.Prelude.{◌<◌};
 

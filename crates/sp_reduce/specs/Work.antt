@@ -1,6 +1,5 @@
 -- No public clause names this.
--- What the reduction keeps: links with numbered ends, 0 for none, counts, one link at hand for each end, and a table of links by their
--- ends.
+-- What the reduction keeps: links with numbered ends, 0 for none, counts, a link at hand for each end, and a table of links by ends.
 use Rattle.std.specs.Prelude.{◌≡◌, ◌≢◌, ℕ, suc, ◌+◌, ◌*◌, ◌^◌, ◌<◌, ◌≤◌, nat_eq, cond, Bool, true, false, List, [], ◌∷◌, length}
 use Rattle.std.specs.Prelude.{slice_index, slice_index_or, slice_set, Option, Some, None}
 use Rattle.std.specs.List.{sum_by, list_any}
