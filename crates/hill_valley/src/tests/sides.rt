@@ -9,42 +9,68 @@ use std::alloc::Global;
 use std::process::Abort;
 use std::test::Fail;
 
-// The first six segments, which are taken out: `up`, `net` and the tasks of each.
+// A segment in words: `up`, `net` and the tasks.
+fn text_of(alloc: Global, seg: &PlainSeg) -> Result<String, NoMemory> {
+    format!(in alloc; "{} {} {:?} ", seg.up, seg.net, seg.tasks)
+}
+
+// The first six segments, which are taken out.
 fn segments_of(alloc: Global, mut side: RopedSide) -> Result<String, Fail> {
     let mut text = String::new(alloc);
     for _ in 0..6 {
-        if let Some(PlainSeg { up, net, tasks }) = side.take_first(alloc)? {
-            text.push_str(format!(in alloc; "{up} {net} {tasks:?} ")?.as_str())?;
+        if let Some(seg) = side.take_first(alloc)? {
+            text.push_str(text_of(alloc, &seg)?.as_str())?;
         }
     }
     Ok(text)
 }
 
 #[test]
-fn a_side_is_appended_to(rt: HostRuntime) -> Result<(), Fail> {
+fn a_new_side_has_no_segment(rt: HostRuntime) -> Result<(), Fail> {
     let alloc = rt.alloc();
     let mut side = RopedSide::new(alloc);
     assert_eq!(rt; side.len(), 0);
     assert!(rt; side.take_first(alloc)?.is_none());
-    side.append(5, 2, 1)?;
-    side.append(3, 1, 2)?;
-    side.append(5, 0, 3)?;
-    side.append(9, 4, 4)?;
+    Ok(())
+}
+
+// Two segments: the first three that are appended make one.
+fn two_segments(alloc: Global) -> Result<RopedSide, NoMemory> {
+    let mut side = RopedSide::new(alloc);
+    for (up, net, task) in [(5, 2, 1), (3, 1, 2), (5, 0, 3), (9, 4, 4)] {
+        side.append(up, net, task)?;
+    }
+    Ok(side)
+}
+
+#[test]
+fn a_side_of_two_segments(rt: HostRuntime) -> Result<(), Fail> {
+    let alloc = rt.alloc();
+    let side = two_segments(alloc)?;
     assert_eq!(rt; side.len(), 2);
     // from level 10 over 15 down to 7, and over 16 down to 3
     assert_eq!(rt; side.top(3), 16);
-    assert_eq!(rt;
-        side.steps(alloc, 3)?.as_slice(),
-        [(15, 7), (16, 3)].as_slice()
-    );
     for (bound, level) in [(-1, 10), (9, 10), (14, 10), (15, 7), (16, 3), (100, 3)] {
         assert_eq!(rt; side.lowest(3, bound), level);
     }
-    assert_eq!(rt; side.tasks(alloc)?.as_slice(), [1, 2, 3, 4].as_slice());
-    assert_eq!(rt;
-        segments_of(alloc, side)?.as_str(),
-        "5 3 [1, 2, 3] 9 4 [4] "
-    );
+    Ok(())
+}
+
+#[test]
+fn the_steps_of_two_segments(rt: HostRuntime) -> Result<(), Fail> {
+    let alloc = rt.alloc();
+    let steps = two_segments(alloc)?.steps(alloc, 3)?;
+    assert_eq!(rt; steps.as_slice(), [(15, 7), (16, 3)].as_slice());
+    Ok(())
+}
+
+#[test]
+fn the_tasks_of_two_segments(rt: HostRuntime) -> Result<(), Fail> {
+    let alloc = rt.alloc();
+    let tasks = two_segments(alloc)?.tasks(alloc)?;
+    assert_eq!(rt; tasks.as_slice(), [1, 2, 3, 4].as_slice());
+    let segments = segments_of(alloc, two_segments(alloc)?)?;
+    assert_eq!(rt; segments.as_str(), "5 3 [1, 2, 3] 9 4 [4] ");
     Ok(())
 }
 
@@ -108,39 +134,72 @@ fn put(
     plain::insert(plain, plain::one(alloc, up, net, task)?, before)
 }
 
+// Appends a segment of one task to both sides.
+fn append(
+    alloc: Global,
+    (up, net, task): One,
+    side: &mut RopedSide,
+    plain: &mut PlainSide,
+) -> Result<(), NoMemory> {
+    side.append(up, net, task)?;
+    plain::append(plain, plain::one(alloc, up, net, task)?)
+}
+
 // A segment at each even `up` to 1,200, of the task of the same number, and then three inside and one at each end.
 fn long_sides(alloc: Global) -> Result<(RopedSide, PlainSide), NoMemory> {
     let mut side = RopedSide::new(alloc);
     let mut plain = PlainSide::new(alloc);
     for half in 1..601u32 {
-        side.append(u64::from(half) * 2, 1, half * 2)?;
-        plain::append(
+        append(
+            alloc,
+            (u64::from(half) * 2, 1, half * 2),
+            &mut side,
             &mut plain,
-            plain::one(alloc, u64::from(half) * 2, 1, half * 2)?,
         )?;
     }
-    put(alloc, (601, 1, 601), true, &mut side, &mut plain)?;
-    put(alloc, (600, 2, 7), true, &mut side, &mut plain)?;
-    put(alloc, (602, 2, 8), false, &mut side, &mut plain)?;
-    put(alloc, (1, 1, 1), true, &mut side, &mut plain)?;
-    put(alloc, (1201, 1, 1201), false, &mut side, &mut plain)?;
+    for (up, net, task, before) in [
+        (601, 1, 601, true),
+        (600, 2, 7, true),
+        (602, 2, 8, false),
+        (1, 1, 1, true),
+        (1201, 1, 1201, false),
+    ] {
+        put(alloc, (up, net, task), before, &mut side, &mut plain)?;
+    }
     Ok((side, plain))
+}
+
+// The segments of the one side are those of the plain one.
+fn take_all(
+    rt: &impl Abort,
+    alloc: Global,
+    mut side: RopedSide,
+    plain: PlainSide,
+) -> Result<(), Fail> {
+    for seg in plain {
+        assert_eq!(rt; side.take_first(alloc)?, Some(seg));
+    }
+    assert!(rt; side.take_first(alloc)?.is_none());
+    Ok(())
 }
 
 #[test]
 fn a_long_side_takes_in_segments_anywhere(rt: HostRuntime) -> Result<(), Fail> {
     let alloc = rt.alloc();
-    let (mut side, plain) = long_sides(alloc)?;
+    let (side, plain) = long_sides(alloc)?;
     // 600 segments, one between two of them, and one at each end
     assert_eq!(rt; side.len(), 603);
+    take_all(&rt, alloc, side, plain)
+}
+
+#[test]
+fn the_levels_of_a_long_side(rt: HostRuntime) -> Result<(), Fail> {
+    let alloc = rt.alloc();
+    let (mut side, _plain) = long_sides(alloc)?;
     // from level 607, of which the last segment starts one above the end
     assert_eq!(rt; side.top(0), 1202);
     assert_eq!(rt; side.lowest(0, 608), 605);
     assert_eq!(rt; side.tasks(alloc)?.len(), 605);
-    for seg in plain {
-        assert_eq!(rt; side.take_first(alloc)?, Some(seg));
-    }
-    assert!(rt; side.take_first(alloc)?.is_none());
     Ok(())
 }
 
@@ -154,21 +213,34 @@ fn ones_from(alloc: Global, first: u32, count: u32) -> Result<Vec<One>, NoMemory
     Ok(ones)
 }
 
+// A long side, with a segment merged into each of its first ten.
+fn merged_with_few(alloc: Global) -> Result<RopedSide, NoMemory> {
+    let few = ones_from(alloc, 2, 10)?;
+    let (side, _plain) = long_sides(alloc)?;
+    side.merge(alloc, &few, true)
+}
+
+// .. and with 300 more, of which the last joins the segment at 601.
+fn merged_with_many(alloc: Global) -> Result<RopedSide, NoMemory> {
+    let many = ones_from(alloc, 3, 300)?;
+    merged_with_few(alloc)?.merge(alloc, &many, false)
+}
+
 #[test]
 fn a_long_side_is_merged_with_few_segments_and_with_many(rt: HostRuntime) -> Result<(), Fail> {
     let alloc = rt.alloc();
-    // each of ten segments of the long side is joined with one
-    let few = ones_from(alloc, 2, 10)?;
-    let (side, _plain) = long_sides(alloc)?;
-    let side = side.merge(alloc, &few, true)?;
-    assert_eq!(rt; side.len(), 603);
-    // of 300, the last is joined with the segment at 601
-    let many = ones_from(alloc, 3, 300)?;
-    let mut side = side.merge(alloc, &many, false)?;
-    assert_eq!(rt; side.len(), 902);
-    assert_eq!(rt; side.tasks(alloc)?.len(), 915);
+    assert_eq!(rt; merged_with_few(alloc)?.len(), 603);
+    assert_eq!(rt; merged_with_many(alloc)?.len(), 902);
+    assert_eq!(rt; merged_with_many(alloc)?.tasks(alloc)?.len(), 915);
+    Ok(())
+}
+
+#[test]
+fn the_first_segments_of_a_merged_side(rt: HostRuntime) -> Result<(), Fail> {
+    let alloc = rt.alloc();
+    let segments = segments_of(alloc, merged_with_many(alloc)?)?;
     assert_eq!(rt;
-        segments_of(alloc, side)?.as_str(),
+        segments.as_str(),
         "1 1 [1] 2 2 [2002, 2] 3 1 [2003] 4 2 [2004, 4] 5 1 [2005] 6 2 [2006, 6] "
     );
     Ok(())
@@ -272,9 +344,8 @@ fn append_all(
     side: &mut RopedSide,
     plain: &mut PlainSide,
 ) -> Result<(), NoMemory> {
-    for &(up, net, task) in ones {
-        side.append(up, net, task)?;
-        plain::append(plain, plain::one(alloc, up, net, task)?)?;
+    for one in ones {
+        append(alloc, *one, side, plain)?;
     }
     Ok(())
 }
@@ -308,13 +379,10 @@ fn compare_merged(
     let own = random_ones(alloc, dice, 30)?;
     append_all(alloc, &own, &mut side, &mut plain)?;
     let ones = random_ones(alloc, dice, 10)?;
-    let mut side = side.merge(alloc, &ones, before)?;
+    let side = side.merge(alloc, &ones, before)?;
     merge_plainly(alloc, &ones, &mut plain, before)?;
     compare(rt, alloc, next(dice, 5), &side, &plain)?;
-    for seg in plain {
-        assert_eq!(rt; side.take_first(alloc)?, Some(seg));
-    }
-    Ok(())
+    take_all(rt, alloc, side, plain)
 }
 
 #[test]
