@@ -7,15 +7,32 @@ use crate::{NoMemory, Rope, Ropes};
 use std::test::Fail;
 
 #[test]
-fn ropes_are_joined_and_flipped(rt: HostRuntime) -> Result<(), Fail> {
+fn the_empty_rope_lists_nothing(rt: HostRuntime) -> Result<(), Fail> {
+    let alloc = rt.alloc();
+    let mut ropes = Ropes::new(alloc);
+    let none = ropes.empty();
+    assert!(rt; ropes.list(alloc, none)?.is_empty());
+    Ok(())
+}
+
+#[test]
+fn a_rope_joined_with_the_empty_one_lists_the_same(rt: HostRuntime) -> Result<(), Fail> {
     let alloc = rt.alloc();
     let mut ropes = Ropes::new(alloc);
     let one = ropes.one(7);
     let none = ropes.empty();
-    assert!(rt; ropes.list(alloc, none)?.is_empty());
-    let pair = ropes.join(one, none)?;
+    let both = ropes.join(one, none)?;
+    assert_eq!(rt; ropes.list(alloc, both)?.as_slice(), [7].as_slice());
+    Ok(())
+}
+
+#[test]
+fn ropes_are_joined_and_flipped(rt: HostRuntime) -> Result<(), Fail> {
+    let alloc = rt.alloc();
+    let mut ropes = Ropes::new(alloc);
+    let one = ropes.one(7);
     let two = ropes.one(8);
-    let both = ropes.join(pair, two)?;
+    let both = ropes.join(one, two)?;
     let back = ropes.flip(both);
     let all = ropes.join(back, both)?;
     assert_eq!(rt; ropes.list(alloc, all)?.as_slice(), [8, 7, 7, 8].as_slice());
