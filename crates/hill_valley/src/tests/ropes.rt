@@ -11,7 +11,8 @@ fn the_empty_rope_lists_nothing(rt: HostRuntime) -> Result<(), Fail> {
     let alloc = rt.alloc();
     let mut ropes = Ropes::new(alloc);
     let none = ropes.empty();
-    assert!(rt; ropes.list(alloc, none)?.is_empty());
+    let list = ropes.list(alloc, none)?;
+    assert!(rt; list.is_empty());
     Ok(())
 }
 
@@ -22,7 +23,8 @@ fn a_rope_joined_with_the_empty_one_lists_the_same(rt: HostRuntime) -> Result<()
     let one = ropes.one(7);
     let none = ropes.empty();
     let both = ropes.join(one, none)?;
-    assert_eq!(rt; ropes.list(alloc, both)?.as_slice(), [7].as_slice());
+    let list = ropes.list(alloc, both)?;
+    assert_eq!(rt; list.as_slice(), [7].as_slice());
     Ok(())
 }
 
@@ -35,7 +37,8 @@ fn ropes_are_joined_and_flipped(rt: HostRuntime) -> Result<(), Fail> {
     let both = ropes.join(one, two)?;
     let back = ropes.flip(both);
     let all = ropes.join(back, both)?;
-    assert_eq!(rt; ropes.list(alloc, all)?.as_slice(), [8, 7, 7, 8].as_slice());
+    let list = ropes.list(alloc, all)?;
+    assert_eq!(rt; list.as_slice(), [8, 7, 7, 8].as_slice());
     Ok(())
 }
 

@@ -30,7 +30,8 @@ fn a_new_side_has_no_segment(rt: HostRuntime) -> Result<(), Fail> {
     let alloc = rt.alloc();
     let mut side = RopedSide::new(alloc);
     assert_eq!(rt; side.len(), 0);
-    assert!(rt; side.take_first(alloc)?.is_none());
+    let first = side.take_first(alloc)?;
+    assert!(rt; first.is_none());
     Ok(())
 }
 
@@ -90,7 +91,8 @@ fn a_side_of_three_segments(rt: HostRuntime) -> Result<(), Fail> {
     assert_eq!(rt; side.len(), 3);
     // from level 10 over 15 down to 7, over 14 down to 6, and over 15 down to 2
     assert_eq!(rt; side.top(2), 15);
-    assert_eq!(rt; side.steps(alloc, 2)?.as_slice(), [(15, 2)].as_slice());
+    let steps = side.steps(alloc, 2)?;
+    assert_eq!(rt; steps.as_slice(), [(15, 2)].as_slice());
     assert_eq!(rt; side.lowest(2, 14), 10);
     assert_eq!(rt; side.lowest(2, 15), 2);
     Ok(())
@@ -101,12 +103,11 @@ fn the_first_segments_are_those_above_a_level(rt: HostRuntime) -> Result<(), Fai
     let alloc = rt.alloc();
     let side = three_segments(alloc)?;
     // they start at 10, 7 and 6
-    assert_eq!(rt;
-        side.numbers(alloc, 2, 0)?.as_slice(),
-        [(5, 3), (7, 1), (9, 4)].as_slice()
-    );
+    let all = side.numbers(alloc, 2, 0)?;
+    assert_eq!(rt; all.as_slice(), [(5, 3), (7, 1), (9, 4)].as_slice());
     for (stop, many) in [(6, 3), (7, 2), (8, 1), (10, 1), (11, 0)] {
-        assert_eq!(rt; side.numbers(alloc, 2, stop)?.len(), many);
+        let numbers = side.numbers(alloc, 2, stop)?;
+        assert_eq!(rt; numbers.len(), many);
     }
     Ok(())
 }
@@ -177,9 +178,11 @@ fn take_all(
     plain: PlainSide,
 ) -> Result<(), Fail> {
     for seg in plain {
-        assert_eq!(rt; side.take_first(alloc)?, Some(seg));
+        let first = side.take_first(alloc)?;
+        assert_eq!(rt; first, Some(seg));
     }
-    assert!(rt; side.take_first(alloc)?.is_none());
+    let last = side.take_first(alloc)?;
+    assert!(rt; last.is_none());
     Ok(())
 }
 
@@ -199,7 +202,8 @@ fn the_levels_of_a_long_side(rt: HostRuntime) -> Result<(), Fail> {
     // from level 607, of which the last segment starts one above the end
     assert_eq!(rt; side.top(0), 1202);
     assert_eq!(rt; side.lowest(0, 608), 605);
-    assert_eq!(rt; side.tasks(alloc)?.len(), 605);
+    let tasks = side.tasks(alloc)?;
+    assert_eq!(rt; tasks.len(), 605);
     Ok(())
 }
 
@@ -229,9 +233,12 @@ fn merged_with_many(alloc: Global) -> Result<RopedSide, NoMemory> {
 #[test]
 fn a_long_side_is_merged_with_few_segments_and_with_many(rt: HostRuntime) -> Result<(), Fail> {
     let alloc = rt.alloc();
-    assert_eq!(rt; merged_with_few(alloc)?.len(), 603);
-    assert_eq!(rt; merged_with_many(alloc)?.len(), 902);
-    assert_eq!(rt; merged_with_many(alloc)?.tasks(alloc)?.len(), 915);
+    let few = merged_with_few(alloc)?;
+    assert_eq!(rt; few.len(), 603);
+    let mut many = merged_with_many(alloc)?;
+    assert_eq!(rt; many.len(), 902);
+    let tasks = many.tasks(alloc)?;
+    assert_eq!(rt; tasks.len(), 915);
     Ok(())
 }
 
@@ -272,7 +279,8 @@ fn compare(
             at = low;
         }
     }
-    assert_eq!(rt; side.steps(alloc, more)?.as_slice(), steps.as_slice());
+    let made = side.steps(alloc, more)?;
+    assert_eq!(rt; made.as_slice(), steps.as_slice());
     Ok(())
 }
 
@@ -289,7 +297,8 @@ fn change(
     let run = plain::one(alloc, up, net, task)?;
     let kind = next(dice, 6);
     if kind == 0 {
-        assert_eq!(rt; side.take_first(alloc)?, plain.pop_front());
+        let first = side.take_first(alloc)?;
+        assert_eq!(rt; first, plain.pop_front());
     } else if kind < 3 {
         side.insert(up, net, task, kind == 1)?;
         plain::insert(plain, run, kind == 1)?;
@@ -309,7 +318,8 @@ fn compare_one(rt: &impl Abort, alloc: Global, dice: &mut Pcg32) -> Result<(), F
         compare(rt, alloc, next(dice, 5), &side, &plain)?;
     }
     for _ in 0..20 {
-        assert_eq!(rt; side.take_first(alloc)?, plain.pop_front());
+        let first = side.take_first(alloc)?;
+        assert_eq!(rt; first, plain.pop_front());
     }
     Ok(())
 }
