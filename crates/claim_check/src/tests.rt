@@ -39,14 +39,30 @@ fn certificate() -> [Claim; 4] {
     ]
 }
 
+fn claim_at(position: u32) -> Claim {
+    claim(position, Dir::F, 0, 0)
+}
+
 #[test]
 fn claims_stand_at_rising_positions_from_1(rt: HostRuntime) {
-    let at = |position| claim(position, Dir::F, 0, 0);
     assert!(rt; are_claims(&[]));
-    assert!(rt; are_claims(&[at(1), at(2), at(4_294_967_295)]));
-    assert!(rt; !are_claims(&[at(0), at(1)]));
-    assert!(rt; !are_claims(&[at(2), at(2)]));
-    assert!(rt; !are_claims(&[at(3), at(2)]));
+    assert!(rt; are_claims(&[claim_at(1), claim_at(2), claim_at(4_294_967_295)]));
+}
+
+#[test]
+fn claims_at_0_or_that_do_not_rise_are_refused(rt: HostRuntime) {
+    for (first, second) in [(0, 1), (2, 2), (3, 2)] {
+        assert!(rt; !are_claims(&[claim_at(first), claim_at(second)]));
+    }
+}
+
+// Of the positions to 100, something is said of 99 alone.
+fn check_outside(rt: &impl Abort, view: &View<'_>) {
+    for position in 0..99 {
+        assert!(rt; check_at(view, position).is_none());
+    }
+    assert_eq!(rt; check_at(view, 99), Some(Shape::Outside));
+    assert_eq!(rt; check_at(view, 100), None);
 }
 
 #[test]
@@ -57,11 +73,7 @@ fn a_claim_past_the_last_position_is_outside(rt: HostRuntime) -> Result<(), Fail
     assert!(rt; are_claims(&claims));
     let view = View::new(rt.alloc(), &terms, &claims)?;
     assert_eq!(rt; view.len(), 13);
-    for position in 0..99 {
-        assert!(rt; check_at(&view, position).is_none());
-    }
-    assert_eq!(rt; check_at(&view, 99), Some(Shape::Outside));
-    assert_eq!(rt; check_at(&view, 100), None);
+    check_outside(&rt, &view);
     Ok(())
 }
 

@@ -2,6 +2,8 @@ use crate::{
     Claim, Dir, PlanFile, PlanKind, is_plan, laws, plan_json, print_plan, print_plan_2, read_plan,
 };
 use mp_text::{Report, fault};
+use std::alloc::Global;
+use std::process::Abort;
 use std::test::Fail;
 
 const FIVE: &[u8] =
@@ -35,25 +37,48 @@ fn claim(position: u32, dir: Dir, bound: i64, rest: u64) -> Claim {
 }
 
 #[test]
-fn reads_and_prints(rt: HostRuntime) -> Result<(), Fail> {
-    let alloc = rt.alloc();
+fn each_law_can_be_called(_rt: HostRuntime) {
     laws::exactly_one();
     laws::read_law();
     laws::printed_plan();
     laws::printed_length();
-    for (text, printed, printed_2) in [
+}
+
+fn printed(alloc: Global, plan: &PlanFile) -> Result<Report, Fail> {
+    let mut report = Report::new(alloc);
+    print_plan(plan, &mut report)?;
+    Ok(report)
+}
+
+fn printed_2(alloc: Global, plan: &PlanFile) -> Result<Report, Fail> {
+    let mut report = Report::new(alloc);
+    print_plan_2(plan, &mut report)?;
+    Ok(report)
+}
+
+// The text of a plan in the lowest version that it has, and in version 2.
+fn check_file(
+    rt: &impl Abort,
+    alloc: Global,
+    text: &[u8],
+    one: &[u8],
+    two: &[u8],
+) -> Result<(), Fail> {
+    let plan = read_plan(alloc, text)?;
+    assert_eq!(rt; printed(alloc, &plan)?.bytes(), one);
+    assert_eq!(rt; printed_2(alloc, &plan)?.bytes(), two);
+    Ok(())
+}
+
+#[test]
+fn reads_and_prints(rt: HostRuntime) -> Result<(), Fail> {
+    for (text, one, two) in [
         (FIVE, FIVE, FIVE_2),
         (FIVE_2, FIVE, FIVE_2),
         (RANKED, RANKED, RANKED),
         (LEAST, LEAST, LEAST_2),
     ] {
-        let plan = read_plan(alloc, text)?;
-        let mut report = Report::new(alloc);
-        print_plan(&plan, &mut report)?;
-        assert_eq!(rt; report.bytes(), printed);
-        let mut report = Report::new(alloc);
-        print_plan_2(&plan, &mut report)?;
-        assert_eq!(rt; report.bytes(), printed_2);
+        check_file(&rt, rt.alloc(), text, one, two)?;
     }
     Ok(())
 }
@@ -89,51 +114,67 @@ fn writes_json(rt: HostRuntime) -> Result<(), Fail> {
     Ok(())
 }
 
+fn check_tasks(rt: &impl Abort, plan: &PlanFile, order: &[u32], priority: &[u32]) {
+    assert_eq!(rt; plan.order(), order);
+    assert_eq!(rt; plan.priority(), priority);
+}
+
+fn check_claims(rt: &impl Abort, plan: &PlanFile, peak: u64, claims: &[Claim]) {
+    assert_eq!(rt; plan.peak(), peak);
+    assert_eq!(rt; plan.claims(), claims);
+}
+
 #[test]
 fn gives_the_parts(rt: HostRuntime) -> Result<(), Fail> {
-    let alloc = rt.alloc();
-    let rows: [(&[u8], &[u32], u64, &[Claim], &[u32]); 4] = [
-        (
-            FIVE,
-            &[1, 3, 2, 4, 5],
-            11,
-            &[
-                claim(5, Dir::R, 5, 5),
-                claim(10, Dir::R, 5, 5),
-                claim(11, Dir::R, 10, 10),
-                claim(13, Dir::R, 10, 0),
-            ],
-            &[],
-        ),
-        (RANKED, &[1, 2, 3, 4], 6, &[], &[4, 3, 2, 1]),
-        (
-            LEAST,
-            &[],
-            MOST,
-            &[
-                claim(1, Dir::F, -1, 0),
-                claim(4_294_967_295, Dir::F, LEAST_BOUND, MOST),
-            ],
-            &[],
-        ),
-        (
-            b"# a\r\nplan  1 \r\n\n\torder 01\r\n%\n007\npeak 00\nclaims 1\n1\tF  -0 0\n end",
-            &[7],
-            0,
-            &[claim(1, Dir::F, 0, 0)],
-            &[],
-        ),
+    let plan = read_plan(rt.alloc(), FIVE)?;
+    let claims = [
+        claim(5, Dir::R, 5, 5),
+        claim(10, Dir::R, 5, 5),
+        claim(11, Dir::R, 10, 10),
+        claim(13, Dir::R, 10, 0),
     ];
-    for (text, order, peak, claims, priority) in rows {
-        let plan = read_plan(alloc, text)?;
-        assert_eq!(rt; plan.order(), order);
-        assert_eq!(rt; plan.peak(), peak);
-        assert_eq!(rt; plan.claims(), claims);
-        assert_eq!(rt; plan.priority(), priority);
-    }
+    check_tasks(&rt, &plan, &[1, 3, 2, 4, 5], &[]);
+    check_claims(&rt, &plan, 11, &claims);
+    Ok(())
+}
+
+#[test]
+fn gives_a_priority(rt: HostRuntime) -> Result<(), Fail> {
+    let plan = read_plan(rt.alloc(), RANKED)?;
+    check_tasks(&rt, &plan, &[1, 2, 3, 4], &[4, 3, 2, 1]);
+    check_claims(&rt, &plan, 6, &[]);
+    Ok(())
+}
+
+#[test]
+fn gives_claims_at_the_limits(rt: HostRuntime) -> Result<(), Fail> {
+    let plan = read_plan(rt.alloc(), LEAST)?;
+    let claims = [
+        claim(1, Dir::F, -1, 0),
+        claim(4_294_967_295, Dir::F, LEAST_BOUND, MOST),
+    ];
+    check_tasks(&rt, &plan, &[], &[]);
+    check_claims(&rt, &plan, MOST, &claims);
+    Ok(())
+}
+
+// Comments, blank lines, other spaces and zeros before a number.
+const LOOSE: &[u8] =
+    b"# a\r\nplan  1 \r\n\n\torder 01\r\n%\n007\npeak 00\nclaims 1\n1\tF  -0 0\n end";
+
+#[test]
+fn passes_over_what_says_nothing(rt: HostRuntime) -> Result<(), Fail> {
+    let plan = read_plan(rt.alloc(), LOOSE)?;
+    check_tasks(&rt, &plan, &[7], &[]);
+    check_claims(&rt, &plan, 0, &[claim(1, Dir::F, 0, 0)]);
+    Ok(())
+}
+
+#[test]
+fn a_plan_of_no_tasks(rt: HostRuntime) {
+    let alloc = rt.alloc();
     let plan = PlanFile::new(Vec::new(alloc), 0, Vec::new(alloc), Vec::new(alloc));
     assert!(rt; plan.order().is_empty());
-    Ok(())
 }
 
 #[test]
@@ -246,14 +287,19 @@ const REFUSED: [(&str, &[(&str, &str)]); 4] = [
     ),
 ];
 
+// Why a text of two parts is refused, in words.
+fn refusal_of(alloc: Global, start: &str, rest: &'static str) -> Result<String, Fail> {
+    let text = format!(in alloc; "{start}{rest}")?;
+    let refusal = read_plan(alloc, text.as_bytes()).err().ok_or(rest)?;
+    Ok(format!(in alloc; "{refusal}")?)
+}
+
 #[test]
 fn refuses_with_the_kind_and_the_line(rt: HostRuntime) -> Result<(), Fail> {
-    let alloc = rt.alloc();
     for (start, rows) in REFUSED {
         for (rest, said) in rows {
-            let text = format!(in alloc; "{start}{rest}")?;
-            let refusal = read_plan(alloc, text.as_bytes()).err().ok_or(*rest)?;
-            assert_eq!(rt; format!(in alloc; "{refusal}")?.as_str(), *said, "{text}");
+            let words = refusal_of(rt.alloc(), start, rest)?;
+            assert_eq!(rt; words.as_str(), *said, "{start}{rest}");
         }
     }
     Ok(())

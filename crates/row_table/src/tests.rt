@@ -1,4 +1,5 @@
 use crate::RowTable;
+use std::process::Abort;
 use std::test::Fail;
 
 // The keys of 5, 6, .. and the rows of these numbers.
@@ -9,17 +10,21 @@ const ROWS: [(&[u32], [&[u32]; 4]); 4] = [
     (&[3, 2, 1, 0], [&[8], &[7], &[6], &[5]]),
 ];
 
+fn check_rows(rt: &impl Abort, table: &RowTable, rows: &[&[u32]; 4]) {
+    assert_eq!(rt; table.len(), 4);
+    for (k, row) in rows.iter().enumerate() {
+        assert!(rt; k < 4);
+        assert_eq!(rt; table.row(k as u32), *row);
+    }
+}
+
 #[test]
 fn rows_by_keys(rt: HostRuntime) -> Result<(), Fail> {
     for (keys, rows) in ROWS {
         assert!(rt; keys.iter().all(|key| *key < 4));
         assert!(rt; keys.len() < 10);
         let table = RowTable::group(rt.alloc(), keys, 4, 5)?;
-        assert_eq!(rt; table.len(), 4);
-        for (k, row) in rows.iter().enumerate() {
-            assert!(rt; k < 4);
-            assert_eq!(rt; table.row(k as u32), *row);
-        }
+        check_rows(&rt, &table, &rows);
     }
     Ok(())
 }

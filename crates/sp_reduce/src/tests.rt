@@ -1,7 +1,7 @@
 //! Graphs as terms, and the rests of those that have none.
 
 use crate::{NoMemory, ReduceRefusal, Reduced, print_reduced, reduce};
-use mp_system::Item;
+use mp_system::{Item, System, Task};
 use mp_text::Report;
 use sp_terms::{print_workflow, read_workflow, system_of};
 use std::alloc::Global;
@@ -55,22 +55,46 @@ fn rows_of(alloc: Global, items: &[Item], names: &[u32]) -> Result<Vec<(u32, u32
     Ok(rows)
 }
 
+// The names of tasks that keep their own: 1, 2, ..
+fn own_names(alloc: Global, count: u32) -> Result<Vec<u32>, NoMemory> {
+    let mut own = Vec::new(alloc);
+    for task in 0..count {
+        own.push(task.saturating_add(1))?;
+    }
+    Ok(own)
+}
+
+// Whether each task is the one of its name.
+fn has_tasks(tasks: &[Task], names: &[u32], whole: &[Task]) -> bool {
+    for (k, name) in names.iter().enumerate() {
+        if tasks.get(k) != whole.get(name.saturating_sub(1) as usize) {
+            return false;
+        }
+    }
+    true
+}
+
+// Whether the items under these names are those of the whole.
+fn has_items(
+    alloc: Global,
+    items: &[Item],
+    names: &[u32],
+    whole: &System,
+) -> Result<bool, NoMemory> {
+    let own = own_names(alloc, whole.tasks().len() as u32)?;
+    let rows = rows_of(alloc, items, names)?;
+    let wanted = rows_of(alloc, whole.items(), &own)?;
+    Ok(rows.as_slice() == wanted.as_slice())
+}
+
 // Whether the term has the tasks and the items of the graph's completed system, under its names.
 fn has_its_system(alloc: Global, graph: &Graph, reduced: &Reduced) -> Result<bool, NoMemory> {
     let whole = system_of_graph(alloc, graph)?;
     let system = system_of(alloc, &reduced.terms)?;
-    let mut own = Vec::new(alloc);
-    for task in 0..whole.tasks().len() as u32 {
-        own.push(task.saturating_add(1))?;
+    if !has_tasks(system.tasks(), &reduced.names, whole.tasks()) {
+        return Ok(false);
     }
-    for (k, name) in reduced.names.iter().enumerate() {
-        if system.tasks().get(k) != whole.tasks().get(name.saturating_sub(1) as usize) {
-            return Ok(false);
-        }
-    }
-    let rows = rows_of(alloc, system.items(), &reduced.names)?;
-    let wanted = rows_of(alloc, whole.items(), &own)?;
-    Ok(rows.as_slice() == wanted.as_slice())
+    has_items(alloc, system.items(), &reduced.names, &whole)
 }
 
 // Tasks with one arc in and one out are taken out from the last one on: 3, then 2 beside it, then 4 and 1.
@@ -79,18 +103,47 @@ const WORKFLOW: &str =
 
 const NAMES: &str = "# 1 3\n# 2 2\n# 3 4\n# 4 1\n";
 
+// The term of the four tasks, and its names.
+fn reduced_four(alloc: Global) -> Result<Reduced, Fail> {
+    reduced(alloc, &read(alloc, FOUR)?)
+}
+
+fn printed(alloc: Global, reduced: &Reduced) -> Result<Report, Fail> {
+    let mut report = Report::new(alloc);
+    print_reduced(reduced, &mut report)?;
+    Ok(report)
+}
+
+#[test]
+fn prints_a_term_and_its_names(rt: HostRuntime) -> Result<(), Fail> {
+    let alloc = rt.alloc();
+    let report = printed(alloc, &reduced_four(alloc)?)?;
+    let text = format!(in alloc; "{WORKFLOW}{NAMES}")?;
+    assert_eq!(rt; report.bytes(), text.as_bytes());
+    Ok(())
+}
+
+// A workflow file, printed anew.
+fn printed_again(alloc: Global, text: &[u8]) -> Result<Report, Fail> {
+    let mut report = Report::new(alloc);
+    print_workflow(&read_workflow(alloc, text)?, &mut report)?;
+    Ok(report)
+}
+
+#[test]
+fn a_term_with_names_is_a_workflow_file(rt: HostRuntime) -> Result<(), Fail> {
+    let alloc = rt.alloc();
+    let report = printed(alloc, &reduced_four(alloc)?)?;
+    let again = printed_again(alloc, report.bytes())?;
+    assert_eq!(rt; again.bytes(), WORKFLOW.as_bytes());
+    Ok(())
+}
+
 #[test]
 fn a_term_and_its_names(rt: HostRuntime) -> Result<(), Fail> {
     let alloc = rt.alloc();
     let graph = read(alloc, FOUR)?;
     let reduced = reduced(alloc, &graph)?;
-    let mut report = Report::new(alloc);
-    print_reduced(&reduced, &mut report)?;
-    let text = format!(in alloc; "{WORKFLOW}{NAMES}")?;
-    assert_eq!(rt; report.bytes(), text.as_bytes());
-    let mut again = Report::new(alloc);
-    print_workflow(&read_workflow(alloc, report.bytes())?, &mut again)?;
-    assert_eq!(rt; again.bytes(), WORKFLOW.as_bytes());
     assert_eq!(rt; reduced.names.as_slice(), [3, 2, 4, 1].as_slice());
     assert!(rt; has_its_system(alloc, &graph, &reduced)?);
     Ok(())
@@ -141,20 +194,41 @@ fn a_rest_in_rising_order(rt: HostRuntime) -> Result<(), Fail> {
     Ok(())
 }
 
-#[test]
-fn a_fork_of_a_thousand_branches(rt: HostRuntime) -> Result<(), Fail> {
-    let alloc = rt.alloc();
-    let mut text = String::new(alloc);
-    text.push_str("graph 1\ntasks 1002\n")?;
-    for _ in 0..1002 {
+fn add_tasks(text: &mut String, count: u32) -> Result<(), Fail> {
+    for _ in 0..count {
         text.push_str("1 0 1\n")?;
     }
-    text.push_str("arcs 2000\n")?;
+    Ok(())
+}
+
+// Arcs into each branch and out of it.
+fn add_branches(alloc: Global, text: &mut String) -> Result<(), Fail> {
     for branch in 2..1002 {
         text.push_str(&format!(in alloc; "1 {branch} 3\n{branch} 1002 4\n")?)?;
     }
+    Ok(())
+}
+
+// The file of a graph with a thousand tasks between the first and the last.
+fn fork(alloc: Global) -> Result<String, Fail> {
+    let mut text = String::new(alloc);
+    text.push_str("graph 1\ntasks 1002\n")?;
+    add_tasks(&mut text, 1002)?;
+    text.push_str("arcs 2000\n")?;
+    add_branches(alloc, &mut text)?;
     text.push_str("end\n")?;
-    let graph = read(alloc, &text)?;
+    Ok(text)
+}
+
+fn graph_of_a_fork(alloc: Global) -> Result<Graph, Fail> {
+    let text = fork(alloc)?;
+    read(alloc, &text)
+}
+
+#[test]
+fn a_fork_of_a_thousand_branches(rt: HostRuntime) -> Result<(), Fail> {
+    let alloc = rt.alloc();
+    let graph = graph_of_a_fork(alloc)?;
     let reduced = reduced(alloc, &graph)?;
     assert!(rt; has_its_system(alloc, &graph, &reduced)?);
     Ok(())

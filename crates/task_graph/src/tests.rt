@@ -1,8 +1,9 @@
 //! Graph files, and what their graphs are as systems.
 
 use crate::{Arc, Graph, read_graph, system_of_graph};
-use mp_system::{Item, Task};
+use mp_system::{Item, System, Task};
 use std::alloc::Global;
+use std::process::Abort;
 use std::test::Fail;
 
 // Two tasks between a first and a last one.
@@ -59,8 +60,7 @@ fn passes_over_what_says_nothing(rt: HostRuntime) -> Result<(), Fail> {
 
 #[test]
 fn an_arc_leads_into_each_task_and_out_of_it(rt: HostRuntime) -> Result<(), Fail> {
-    let alloc = rt.alloc();
-    let graph = read(alloc, FOUR)?;
+    let graph = read(rt.alloc(), FOUR)?;
     let all = [
         arc(1, 2, 5),
         arc(1, 3, 6),
@@ -70,21 +70,36 @@ fn an_arc_leads_into_each_task_and_out_of_it(rt: HostRuntime) -> Result<(), Fail
         arc(4, 0, 0),
     ];
     assert_eq!(rt; graph.completed_arcs(), all.as_slice());
-    let alone = read(
-        alloc,
-        "graph 1\ntasks 2\n0 0 1\n0 0 1\narcs 1\n0 2 3\nend\n",
-    )?;
+    Ok(())
+}
+
+const APART: &str = "graph 1\ntasks 2\n0 0 1\n0 0 1\narcs 1\n0 2 3\nend\n";
+
+#[test]
+fn arcs_lead_into_and_out_of_tasks_that_stand_apart(rt: HostRuntime) -> Result<(), Fail> {
+    let graph = read(rt.alloc(), APART)?;
     let all = [arc(0, 2, 3), arc(0, 1, 0), arc(1, 0, 0), arc(2, 0, 0)];
-    assert_eq!(rt; alone.completed_arcs(), all.as_slice());
+    assert_eq!(rt; graph.completed_arcs(), all.as_slice());
+    Ok(())
+}
+
+// Two arcs from the second task to the first, and one that has no task.
+const BACK: &str = "graph 1\ntasks 2\n3 2 1\n0 0 1\narcs 3\n2 1 4\n0 0 7\n2 1 0\nend\n";
+
+fn system_of_back(alloc: Global) -> Result<System, Fail> {
+    Ok(system_of_graph(alloc, &read(alloc, BACK)?)?)
+}
+
+#[test]
+fn the_tasks_of_a_graph_are_those_of_its_system(rt: HostRuntime) -> Result<(), Fail> {
+    let system = system_of_back(rt.alloc())?;
+    assert_eq!(rt; system.tasks(), [task(3, 2), task(0, 0)].as_slice());
     Ok(())
 }
 
 #[test]
 fn each_arc_is_an_item(rt: HostRuntime) -> Result<(), Fail> {
-    let alloc = rt.alloc();
-    let text = "graph 1\ntasks 2\n3 2 1\n0 0 1\narcs 3\n2 1 4\n0 0 7\n2 1 0\nend\n";
-    let system = system_of_graph(alloc, &read(alloc, text)?)?;
-    assert_eq!(rt; system.tasks(), [task(3, 2), task(0, 0)].as_slice());
+    let system = system_of_back(rt.alloc())?;
     let items = [
         item(4, Some(2), Some(1)),
         item(7, None, None),
@@ -158,13 +173,18 @@ fn refuses_with_the_kind_and_the_line(rt: HostRuntime) -> Result<(), Fail> {
     Ok(())
 }
 
+// The start of a file, which ends after so many lines.
+fn check_start(rt: &impl Abort, alloc: Global, start: &str, before: usize) -> Result<(), Fail> {
+    let words = format!(in alloc; "no-end at line {}", before.saturating_add(1))?;
+    assert_eq!(rt; refusal_of(alloc, start)?.as_str(), words.as_str());
+    Ok(())
+}
+
 #[test]
 fn a_file_that_ends_early_has_no_end(rt: HostRuntime) -> Result<(), Fail> {
-    let alloc = rt.alloc();
-    let mut text = String::new(alloc);
+    let mut text = String::new(rt.alloc());
     for (before, line) in FOUR.split_inclusive('\n').enumerate() {
-        let words = format!(in alloc; "no-end at line {}", before.saturating_add(1))?;
-        assert_eq!(rt; refusal_of(alloc, &text)?.as_str(), words.as_str());
+        check_start(&rt, rt.alloc(), &text, before)?;
         text.push_str(line)?;
     }
     assert_eq!(rt; text.as_str(), FOUR);

@@ -1,8 +1,9 @@
 use super::{BRANCHES, read};
-use crate::{print_workflow, print_workflow_2, read_workflow, system_of};
+use crate::{Terms, print_workflow, print_workflow_2, read_workflow, system_of};
 use mp_system::replay;
 use mp_text::Report;
 use std::alloc::Global;
+use std::process::Abort;
 use std::test::Fail;
 
 const BRANCHES_2: &str =
@@ -12,42 +13,69 @@ const NO_TASKS: &str = "workflow 1\ntasks 0\ndata 10\ndata 10\npar 2\nend\n";
 
 const SHARED: &str = "workflow 2\ntasks 1\ndata 4\ndata 3\ntask 2 4 1\nend\n";
 
+// The peak of an order of the tasks of a file.
+fn peak_of(alloc: Global, text: &str, order: &[u32]) -> Result<u64, Fail> {
+    let system = system_of(alloc, &read(alloc, text)?)?;
+    Ok(replay(alloc, &system, order)?)
+}
+
+const PEAKS: &[(&str, &[u32], u64)] = &[
+    (BRANCHES, &[1, 3, 2, 4], 13),
+    (BRANCHES, &[1, 2, 3, 4], 14),
+    (NO_TASKS, &[], 20),
+    (SHARED, &[1], 5),
+];
+
 #[test]
 fn replays(rt: HostRuntime) -> Result<(), Fail> {
-    let alloc = rt.alloc();
-    let peaks: [(&str, &[u32], u64); 4] = [
-        (BRANCHES, &[1, 3, 2, 4], 13),
-        (BRANCHES, &[1, 2, 3, 4], 14),
-        (NO_TASKS, &[], 20),
-        (SHARED, &[1], 5),
-    ];
-    for (text, order, peak) in peaks {
-        let system = system_of(alloc, &read(alloc, text)?)?;
-        assert_eq!(rt; replay(alloc, &system, order)?, peak);
+    for (text, order, peak) in PEAKS {
+        assert_eq!(rt; peak_of(rt.alloc(), text, order)?, *peak);
     }
     Ok(())
 }
 
+fn printed(alloc: Global, terms: &Terms) -> Result<Report, Fail> {
+    let mut report = Report::new(alloc);
+    print_workflow(terms, &mut report)?;
+    Ok(report)
+}
+
+fn printed_2(alloc: Global, terms: &Terms) -> Result<Report, Fail> {
+    let mut report = Report::new(alloc);
+    print_workflow_2(terms, &mut report)?;
+    Ok(report)
+}
+
+// The text of a file in the lowest version that it has, and in version 2.
+fn check_file(
+    rt: &impl Abort,
+    alloc: Global,
+    text: &str,
+    one: &str,
+    two: &str,
+) -> Result<(), Fail> {
+    let terms = read(alloc, text)?;
+    assert_eq!(rt; printed(alloc, &terms)?.bytes(), one.as_bytes());
+    assert_eq!(rt; printed_2(alloc, &terms)?.bytes(), two.as_bytes());
+    Ok(())
+}
+
+// Files, and the texts that are printed of them in each version.
+const FILES: &[(&str, &str, &str)] = &[
+    (BRANCHES, BRANCHES, BRANCHES_2),
+    (BRANCHES_2, BRANCHES, BRANCHES_2),
+    (SHARED, SHARED, SHARED),
+    (
+        "# a\nworkflow 1\r\n\ttasks 01\n\ndata 4\n% b\ndata 3 \ntask 2 1\nend",
+        "workflow 1\ntasks 1\ndata 4\ndata 3\ntask 2 1\nend\n",
+        "workflow 2\ntasks 1\ndata 4\ndata 3\ntask 2 0 1\nend\n",
+    ),
+];
+
 #[test]
 fn reads_and_prints(rt: HostRuntime) -> Result<(), Fail> {
-    let alloc = rt.alloc();
-    for (text, printed, printed_2) in [
-        (BRANCHES, BRANCHES, BRANCHES_2),
-        (BRANCHES_2, BRANCHES, BRANCHES_2),
-        (SHARED, SHARED, SHARED),
-        (
-            "# a\nworkflow 1\r\n\ttasks 01\n\ndata 4\n% b\ndata 3 \ntask 2 1\nend",
-            "workflow 1\ntasks 1\ndata 4\ndata 3\ntask 2 1\nend\n",
-            "workflow 2\ntasks 1\ndata 4\ndata 3\ntask 2 0 1\nend\n",
-        ),
-    ] {
-        let terms = read(alloc, text)?;
-        let mut report = Report::new(alloc);
-        print_workflow(&terms, &mut report)?;
-        assert_eq!(rt; report.bytes(), printed.as_bytes());
-        let mut report = Report::new(alloc);
-        print_workflow_2(&terms, &mut report)?;
-        assert_eq!(rt; report.bytes(), printed_2.as_bytes());
+    for (text, one, two) in FILES {
+        check_file(&rt, rt.alloc(), text, one, two)?;
     }
     Ok(())
 }
@@ -106,13 +134,18 @@ fn refuses_with_the_kind_and_the_line(rt: HostRuntime) -> Result<(), Fail> {
     Ok(())
 }
 
+// The start of a file, which ends after so many lines.
+fn check_start(rt: &impl Abort, alloc: Global, start: &str, before: usize) -> Result<(), Fail> {
+    let words = format!(in alloc; "no-end at line {}", before.saturating_add(1))?;
+    assert_eq!(rt; refusal_of(alloc, start)?.as_str(), words.as_str());
+    Ok(())
+}
+
 #[test]
 fn a_file_that_ends_early_has_no_end(rt: HostRuntime) -> Result<(), Fail> {
-    let alloc = rt.alloc();
-    let mut text = String::new(alloc);
+    let mut text = String::new(rt.alloc());
     for (before, line) in BRANCHES.split_inclusive('\n').enumerate() {
-        let words = format!(in alloc; "no-end at line {}", before.saturating_add(1))?;
-        assert_eq!(rt; refusal_of(alloc, &text)?.as_str(), words.as_str());
+        check_start(&rt, rt.alloc(), &text, before)?;
         text.push_str(line)?;
     }
     assert_eq!(rt; text.as_str(), BRANCHES);

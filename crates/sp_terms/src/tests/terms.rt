@@ -1,9 +1,13 @@
 ghost use Rattle.sp_terms.specs.Builder.{IsPosition};
 
 use super::{BRANCHES, read};
-use crate::{Position, PushRefusal, TermBuilder, Values, hill, system_of, values, values_at};
+use crate::{
+    Position, PushRefusal, TermBuilder, Terms, Values, hill, system_of, values, values_at,
+};
 use limits::{LimitName, MOST_SIZE, MOST_TIME};
-use mp_system::{Item, Task};
+use mp_system::{Item, System, Task};
+use std::alloc::Global;
+use std::process::Abort;
 use std::test::Fail;
 
 fn task(extra: u64, share: u64) -> Position
@@ -16,22 +20,48 @@ fn task(extra: u64, share: u64) -> Position
     }
 }
 
+const FIRST_TASK: Position = Position::Task {
+    extra: 0,
+    share: 0,
+    time: 1,
+};
+
+const SECOND_TASK: Position = Position::Task {
+    extra: 6,
+    share: 0,
+    time: 1,
+};
+
+// The positions of the two branches.
+const POSITIONS: &[(u32, Position)] = &[
+    (1, Position::Hold(4)),
+    (2, Position::Hold(1)),
+    (3, FIRST_TASK),
+    (4, Position::Hold(3)),
+    (5, SECOND_TASK),
+    (6, Position::Hold(4)),
+    (7, Position::Hold(1)),
+    (8, FIRST_TASK),
+    (9, Position::Hold(3)),
+    (10, SECOND_TASK),
+    (11, Position::Par(2)),
+];
+
+fn position_at(terms: &Terms, place: u32) -> Option<Position> {
+    if 1 <= place && place <= terms.len() {
+        Some(terms.at(place))
+    } else {
+        None
+    }
+}
+
 #[test]
 fn positions_of_a_file(rt: HostRuntime) -> Result<(), Fail> {
     let terms = read(rt.alloc(), BRANCHES)?;
-    let half = [
-        Position::Hold(4),
-        Position::Hold(1),
-        task(0, 0),
-        Position::Hold(3),
-        task(6, 0),
-    ];
     assert_eq!(rt; terms.len(), 11);
-    for (place, position) in half.iter().enumerate() {
-        assert_eq!(rt; terms.at(place as u32 + 1), *position);
-        assert_eq!(rt; terms.at(place as u32 + 6), *position);
+    for (place, position) in POSITIONS {
+        assert_eq!(rt; position_at(&terms, *place), Some(*position));
     }
-    assert_eq!(rt; terms.at(11), Position::Par(2));
     Ok(())
 }
 
@@ -58,10 +88,13 @@ fn values_of_a_half_and_the_whole(rt: HostRuntime) -> Result<(), Fail> {
     Ok(())
 }
 
+fn system_of_branches(alloc: Global) -> Result<System, Fail> {
+    Ok(system_of(alloc, &read(alloc, BRANCHES)?)?)
+}
+
 #[test]
-fn items_and_tasks_of_the_system(rt: HostRuntime) -> Result<(), Fail> {
-    let alloc = rt.alloc();
-    let system = system_of(alloc, &read(alloc, BRANCHES)?)?;
+fn items_of_the_system(rt: HostRuntime) -> Result<(), Fail> {
+    let system = system_of_branches(rt.alloc())?;
     let items = [
         (4, None, Some(1)),
         (1, Some(1), Some(2)),
@@ -72,6 +105,12 @@ fn items_and_tasks_of_the_system(rt: HostRuntime) -> Result<(), Fail> {
     ]
     .map(|(size, from, to)| Item { size, from, to });
     assert_eq!(rt; system.items(), items.as_slice());
+    Ok(())
+}
+
+#[test]
+fn tasks_of_the_system(rt: HostRuntime) -> Result<(), Fail> {
+    let system = system_of_branches(rt.alloc())?;
     let tasks = [0, 6, 0, 6].map(|extra| Task {
         extra,
         share: 0,
@@ -81,14 +120,16 @@ fn items_and_tasks_of_the_system(rt: HostRuntime) -> Result<(), Fail> {
     Ok(())
 }
 
-#[test]
-fn a_builder_takes_or_refuses(rt: HostRuntime) {
-    let alloc = rt.alloc();
-    let mut builder = TermBuilder::new(alloc);
+// Takes data of 4 and 3, and refuses what has too few parts before.
+fn check_parts(rt: &impl Abort, builder: &mut TermBuilder) {
     assert_eq!(rt; builder.push(task(0, 0)), Err(PushRefusal::Short));
     assert_eq!(rt; builder.push(Position::Hold(4)), Ok(()));
     assert_eq!(rt; builder.push(Position::Par(2)), Err(PushRefusal::Short));
     assert_eq!(rt; builder.push(Position::Hold(3)), Ok(()));
+}
+
+// .. and then sizes and times past the limits.
+fn check_limits(rt: &impl Abort, builder: &mut TermBuilder) {
     let size = Err(PushRefusal::Limit(LimitName::Size));
     assert_eq!(rt; builder.push(Position::Hold(MOST_SIZE + 1)), size);
     assert_eq!(rt; builder.push(task(MOST_SIZE + 1, 9)), size);
@@ -99,15 +140,37 @@ fn a_builder_takes_or_refuses(rt: HostRuntime) {
     };
     let time = Err(PushRefusal::Limit(LimitName::Time));
     assert_eq!(rt; builder.push(slow), time);
+}
+
+// .. and shares that are greater than the 4, or than the extra and the 3.
+fn check_shares(rt: &impl Abort, builder: &mut TermBuilder) {
     assert_eq!(rt; builder.push(task(2, 5)), Err(PushRefusal::Share));
     assert_eq!(rt; builder.push(task(0, 4)), Err(PushRefusal::Share));
-    let back = builder.finish().err();
-    assert!(rt; back.is_some());
-    if let Some(mut builder) = back {
-        assert_eq!(rt; builder.push(task(2, 4)), Ok(()));
-        let terms = builder.finish().ok();
-        assert_eq!(rt; terms.map(|terms| terms.len()), Some(3));
+}
+
+// The builder, which holds two terms.
+fn handed_back(builder: TermBuilder) -> Result<TermBuilder, Fail> {
+    match builder.finish() {
+        Ok(_) => Err(Fail::new("these positions make one term")),
+        Err(back) => Ok(back),
     }
+}
+
+// How many positions the one term has.
+fn length_of(builder: TermBuilder) -> Option<u32> {
+    builder.finish().ok().map(|terms| terms.len())
+}
+
+#[test]
+fn a_builder_takes_or_refuses(rt: HostRuntime) -> Result<(), Fail> {
+    let mut builder = TermBuilder::new(rt.alloc());
+    check_parts(&rt, &mut builder);
+    check_limits(&rt, &mut builder);
+    check_shares(&rt, &mut builder);
+    let mut back = handed_back(builder)?;
+    assert_eq!(rt; back.push(task(2, 4)), Ok(()));
+    assert_eq!(rt; length_of(back), Some(3));
+    Ok(())
 }
 
 fn fill(builder: &mut TermBuilder, times: u32, size: u64) -> Result<(), Fail> {
@@ -133,21 +196,30 @@ fn a_builder_keeps_to_positions_and_the_total(rt: HostRuntime) -> Result<(), Fai
     Ok(())
 }
 
+// A task and a data item, so many times.
+fn add_tasks(builder: &mut TermBuilder, times: u32) -> Result<(), Fail> {
+    for _ in 0..times {
+        builder.push(task(0, 0))?;
+        fill(builder, 1, 0)?;
+    }
+    Ok(())
+}
+
+// A million tasks, which leave two terms.
+fn full_of_tasks(alloc: Global) -> Result<TermBuilder, Fail> {
+    let mut builder = TermBuilder::new(alloc);
+    fill(&mut builder, 2, 0)?;
+    add_tasks(&mut builder, 1_000_000)?;
+    Ok(builder)
+}
+
 #[test]
 fn a_builder_keeps_to_a_million_tasks(rt: HostRuntime) -> Result<(), Fail> {
-    let mut builder = TermBuilder::new(rt.alloc());
-    fill(&mut builder, 2, 0)?;
-    for _ in 0..1_000_000u32 {
-        builder.push(task(0, 0))?;
-        fill(&mut builder, 1, 0)?;
-    }
+    let mut builder = full_of_tasks(rt.alloc())?;
     let refused = Err(PushRefusal::Limit(LimitName::Tasks));
     assert_eq!(rt; builder.push(task(0, 0)), refused);
     assert_eq!(rt; builder.push(Position::Par(2)), Ok(()));
-    assert_eq!(rt;
-        builder.finish().ok().map(|terms| terms.len()),
-        Some(2_000_003)
-    );
+    assert_eq!(rt; length_of(builder), Some(2_000_003));
     Ok(())
 }
 

@@ -1,8 +1,9 @@
 use super::{FIVE, SHARED, read};
-use crate::{Node, print_tree, print_tree_2, read_tree, system_of_tree};
-use mp_system::{Item, Task};
+use crate::{Node, Tree, print_tree, print_tree_2, read_tree, system_of_tree};
+use mp_system::{Item, System, Task};
 use mp_text::Report;
 use std::alloc::Global;
+use std::process::Abort;
 use std::test::Fail;
 
 const FIVE_2: &str =
@@ -18,32 +19,64 @@ fn node(parent: u32, out: u64, extra: u64, share: u64) -> Node {
     }
 }
 
+fn printed(alloc: Global, tree: &Tree) -> Result<Report, Fail> {
+    let mut report = Report::new(alloc);
+    print_tree(tree, &mut report)?;
+    Ok(report)
+}
+
+fn printed_2(alloc: Global, tree: &Tree) -> Result<Report, Fail> {
+    let mut report = Report::new(alloc);
+    print_tree_2(tree, &mut report)?;
+    Ok(report)
+}
+
+// The text of a tree in the lowest version that it has, and in version 2.
+fn check_texts(
+    rt: &impl Abort,
+    alloc: Global,
+    tree: &Tree,
+    one: &str,
+    two: &str,
+) -> Result<(), Fail> {
+    assert_eq!(rt; printed(alloc, tree)?.bytes(), one.as_bytes());
+    assert_eq!(rt; printed_2(alloc, tree)?.bytes(), two.as_bytes());
+    Ok(())
+}
+
+// .. and its nodes.
+fn check_file(
+    rt: &impl Abort,
+    alloc: Global,
+    text: &str,
+    nodes: &[Node],
+    one: &str,
+    two: &str,
+) -> Result<(), Fail> {
+    let tree = read(alloc, text)?;
+    assert_eq!(rt; tree.nodes(), nodes);
+    check_texts(rt, alloc, &tree, one, two)
+}
+
 #[test]
 fn reads_and_prints(rt: HostRuntime) -> Result<(), Fail> {
-    let alloc = rt.alloc();
-    let five = [
+    let nodes = [
         node(2, 1, 9, 0),
         node(5, 5, 0, 0),
         node(4, 1, 9, 0),
         node(5, 5, 0, 0),
         node(0, 0, 0, 0),
     ];
-    let shared = [node(2, 4, 0, 0), node(0, 3, 2, 4)];
-    for (text, nodes, printed, printed_2) in [
-        (FIVE, five.as_slice(), FIVE, FIVE_2),
-        (FIVE_2, five.as_slice(), FIVE, FIVE_2),
-        (SHARED, shared.as_slice(), SHARED, SHARED),
-    ] {
-        let tree = read(alloc, text)?;
-        assert_eq!(rt; tree.nodes(), nodes);
-        let mut report = Report::new(alloc);
-        print_tree(&tree, &mut report)?;
-        assert_eq!(rt; report.bytes(), printed.as_bytes());
-        let mut report = Report::new(alloc);
-        print_tree_2(&tree, &mut report)?;
-        assert_eq!(rt; report.bytes(), printed_2.as_bytes());
+    for text in [FIVE, FIVE_2] {
+        check_file(&rt, rt.alloc(), text, &nodes, FIVE, FIVE_2)?;
     }
     Ok(())
+}
+
+#[test]
+fn a_share_is_printed_in_version_2(rt: HostRuntime) -> Result<(), Fail> {
+    let nodes = [node(2, 4, 0, 0), node(0, 3, 2, 4)];
+    check_file(&rt, rt.alloc(), SHARED, &nodes, SHARED, SHARED)
 }
 
 #[test]
@@ -63,16 +96,25 @@ fn passes_over_what_says_nothing(rt: HostRuntime) -> Result<(), Fail> {
     Ok(())
 }
 
+fn system_of_five(alloc: Global) -> Result<System, Fail> {
+    Ok(system_of_tree(alloc, &read(alloc, FIVE)?)?)
+}
+
 #[test]
-fn each_node_is_a_task_and_an_item(rt: HostRuntime) -> Result<(), Fail> {
-    let alloc = rt.alloc();
-    let system = system_of_tree(alloc, &read(alloc, FIVE)?)?;
+fn each_node_is_a_task(rt: HostRuntime) -> Result<(), Fail> {
+    let system = system_of_five(rt.alloc())?;
     let tasks = [9, 0, 9, 0, 0].map(|extra| Task {
         extra,
         share: 0,
         time: 1,
     });
     assert_eq!(rt; system.tasks(), tasks.as_slice());
+    Ok(())
+}
+
+#[test]
+fn each_node_is_an_item(rt: HostRuntime) -> Result<(), Fail> {
+    let system = system_of_five(rt.alloc())?;
     let items = [
         (1, 1, Some(2)),
         (5, 2, Some(5)),
@@ -144,13 +186,18 @@ fn refuses_with_the_kind_and_the_line(rt: HostRuntime) -> Result<(), Fail> {
     Ok(())
 }
 
+// The start of a file, which ends after so many lines.
+fn check_start(rt: &impl Abort, alloc: Global, start: &str, before: usize) -> Result<(), Fail> {
+    let words = format!(in alloc; "no-end at line {}", before.saturating_add(1))?;
+    assert_eq!(rt; refusal_of(alloc, start)?.as_str(), words.as_str());
+    Ok(())
+}
+
 #[test]
 fn a_file_that_ends_early_has_no_end(rt: HostRuntime) -> Result<(), Fail> {
-    let alloc = rt.alloc();
-    let mut text = String::new(alloc);
+    let mut text = String::new(rt.alloc());
     for (before, line) in FIVE.split_inclusive('\n').enumerate() {
-        let words = format!(in alloc; "no-end at line {}", before.saturating_add(1))?;
-        assert_eq!(rt; refusal_of(alloc, &text)?.as_str(), words.as_str());
+        check_start(&rt, rt.alloc(), &text, before)?;
         text.push_str(line)?;
     }
     assert_eq!(rt; text.as_str(), FIVE);

@@ -41,45 +41,54 @@ fn nodes_in_any_order(rt: HostRuntime) {
     }
 }
 
+// Three nodes, one of which fails a test.
+fn check_failed(rt: &impl Abort, alloc: Global, nodes: &[Node; 3], test: NodeTest, node: u32) {
+    refused(rt, alloc, nodes, NodesRefusal::Node { test, node });
+}
+
 #[test]
-fn refused_nodes(rt: HostRuntime) {
-    let alloc = rt.alloc();
-    let failed = |test, node| NodesRefusal::Node { test, node };
-    refused(&rt, alloc, &[], NodesRefusal::NoNode);
-    for (first, second, third, refusal) in [
-        (plain(4), plain(0), plain(9), failed(NodeTest::Parent, 1)),
-        (
-            plain(0),
-            node(0, MOST + 1, 1, 0, 0),
-            plain(4),
-            failed(NodeTest::Parent, 3),
-        ),
-        (
-            plain(0),
-            node(0, MOST + 1, 1, 0, 1),
-            node(0, 1, 1, 0, 0),
-            failed(NodeTest::Time, 3),
-        ),
-        (
-            plain(0),
-            node(0, 1, MOST + 1, 0, MOST + 1),
-            plain(0),
-            failed(NodeTest::Size, 2),
-        ),
-        (
-            plain(0),
-            plain(0),
-            node(0, 1, 1, 0, MOST + 1),
-            failed(NodeTest::LongTime, 3),
-        ),
-        (plain(0), plain(3), plain(2), NodesRefusal::Cycle(2)),
-        (
-            node(2, 1, 1, 0, 1),
-            node(0, 0, 3, 2, 1),
-            plain(0),
-            NodesRefusal::Share(2),
-        ),
-    ] {
-        refused(&rt, alloc, &[first, second, third], refusal);
-    }
+fn no_node_is_refused(rt: HostRuntime) {
+    refused(&rt, rt.alloc(), &[], NodesRefusal::NoNode);
+}
+
+#[test]
+fn a_parent_that_is_no_node(rt: HostRuntime) {
+    let nodes = [plain(4), plain(0), plain(9)];
+    check_failed(&rt, rt.alloc(), &nodes, NodeTest::Parent, 1);
+}
+
+#[test]
+fn a_parent_is_refused_before_a_size_and_a_time(rt: HostRuntime) {
+    let nodes = [plain(0), node(0, MOST + 1, 1, 0, 0), plain(4)];
+    check_failed(&rt, rt.alloc(), &nodes, NodeTest::Parent, 3);
+}
+
+#[test]
+fn a_time_of_0_is_refused_before_a_size(rt: HostRuntime) {
+    let nodes = [plain(0), node(0, MOST + 1, 1, 0, 1), node(0, 1, 1, 0, 0)];
+    check_failed(&rt, rt.alloc(), &nodes, NodeTest::Time, 3);
+}
+
+#[test]
+fn a_size_is_refused_before_a_long_time(rt: HostRuntime) {
+    let nodes = [plain(0), node(0, 1, MOST + 1, 0, MOST + 1), plain(0)];
+    check_failed(&rt, rt.alloc(), &nodes, NodeTest::Size, 2);
+}
+
+#[test]
+fn a_time_past_the_limit(rt: HostRuntime) {
+    let nodes = [plain(0), plain(0), node(0, 1, 1, 0, MOST + 1)];
+    check_failed(&rt, rt.alloc(), &nodes, NodeTest::LongTime, 3);
+}
+
+#[test]
+fn nodes_that_are_a_cycle(rt: HostRuntime) {
+    let nodes = [plain(0), plain(3), plain(2)];
+    refused(&rt, rt.alloc(), &nodes, NodesRefusal::Cycle(2));
+}
+
+#[test]
+fn a_share_that_does_not_fit(rt: HostRuntime) {
+    let nodes = [node(2, 1, 1, 0, 1), node(0, 0, 3, 2, 1), plain(0)];
+    refused(&rt, rt.alloc(), &nodes, NodesRefusal::Share(2));
 }

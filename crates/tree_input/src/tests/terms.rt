@@ -1,8 +1,9 @@
 use super::{FIVE, SHARED, read};
-use crate::{Names, system_of_tree, terms_of_tree};
+use crate::{Named, Names, Tree, system_of_tree, terms_of_tree};
 use mp_system::replay;
-use sp_terms::{read_workflow, system_of};
+use sp_terms::{Terms, read_workflow, system_of};
 use std::alloc::Global;
+use std::process::Abort;
 use std::test::Fail;
 
 const ROOTS: &str = "tree 1\nnodes 2\n0 3 0 1\n0 4 1 2\nend\n";
@@ -45,23 +46,51 @@ const CASES: &[Case] = &[
         par 2\nend\n" },
 ];
 
+fn named(alloc: Global, text: &str) -> Result<Named, Fail> {
+    Ok(terms_of_tree(alloc, &read(alloc, text)?)?)
+}
+
+fn names_of(alloc: Global, text: &str) -> Result<Names, Fail> {
+    let Named { names, .. } = named(alloc, text)?;
+    Ok(names)
+}
+
+fn check_positions(rt: &impl Abort, found: &Terms, wanted: &Terms, tree: &str) {
+    assert_eq!(rt; found.len(), wanted.len(), "{tree}");
+    for k in 1..=wanted.len() {
+        assert_eq!(rt; found.at(k), wanted.at(k), "{tree}, at {k}");
+    }
+}
+
+fn check_terms(rt: &impl Abort, alloc: Global, case: &Case) -> Result<(), Fail> {
+    let found = named(alloc, case.tree)?;
+    let wanted = read_workflow(alloc, case.workflow.as_bytes())?;
+    check_positions(rt, &found.terms, &wanted, case.tree);
+    Ok(())
+}
+
 #[test]
-fn terms_and_names(rt: HostRuntime) -> Result<(), Fail> {
-    let alloc = rt.alloc();
+fn terms_of_trees(rt: HostRuntime) -> Result<(), Fail> {
     for case in CASES {
-        let named = terms_of_tree(alloc, &read(alloc, case.tree)?)?;
-        let terms = read_workflow(alloc, case.workflow.as_bytes())?;
-        assert_eq!(rt; named.terms.len(), terms.len(), "{}", case.tree);
-        for k in 1..=terms.len() {
-            assert_eq!(rt; named.terms.at(k), terms.at(k), "{}, at {k}", case.tree);
-        }
-        assert_eq!(rt; named.names.as_slice(), case.names, "{}", case.tree);
-        assert_eq!(rt;
-            named.names.into_vec().as_slice(),
-            case.names,
-            "{}",
-            case.tree
-        );
+        check_terms(&rt, rt.alloc(), case)?;
+    }
+    Ok(())
+}
+
+#[test]
+fn names_of_the_tasks(rt: HostRuntime) -> Result<(), Fail> {
+    for case in CASES {
+        let names = names_of(rt.alloc(), case.tree)?;
+        assert_eq!(rt; names.as_slice(), case.names, "{}", case.tree);
+    }
+    Ok(())
+}
+
+#[test]
+fn names_as_a_vector(rt: HostRuntime) -> Result<(), Fail> {
+    for case in CASES {
+        let names = names_of(rt.alloc(), case.tree)?.into_vec();
+        assert_eq!(rt; names.as_slice(), case.names, "{}", case.tree);
     }
     Ok(())
 }
@@ -89,17 +118,37 @@ fn renamed(alloc: Global, names: &Names, order: &[u32]) -> Result<Vec<u32>, Fail
     Ok(found)
 }
 
+// The peak of an order of the tasks of a tree's term.
+fn peak_of_tasks(alloc: Global, text: &str, order: &[u32]) -> Result<u64, Fail> {
+    let named = named(alloc, text)?;
+    let system = system_of(alloc, &named.terms)?;
+    Ok(replay(alloc, &system, order)?)
+}
+
+fn peak_of_nodes(alloc: Global, tree: &Tree, order: &[u32]) -> Result<u64, Fail> {
+    let system = system_of_tree(alloc, tree)?;
+    Ok(replay(alloc, &system, order)?)
+}
+
+// The peak of the nodes that the tasks of an order are.
+fn peak_of_renamed(alloc: Global, text: &str, order: &[u32]) -> Result<u64, Fail> {
+    let names = names_of(alloc, text)?;
+    let nodes = renamed(alloc, &names, order)?;
+    peak_of_nodes(alloc, &read(alloc, text)?, &nodes)
+}
+
 #[test]
-fn peaks_under_both_names(rt: HostRuntime) -> Result<(), Fail> {
-    let alloc = rt.alloc();
+fn peaks_of_tasks(rt: HostRuntime) -> Result<(), Fail> {
     for (text, order, peak) in PEAKS {
-        let tree = read(alloc, text)?;
-        let named = terms_of_tree(alloc, &tree)?;
-        let nodes = renamed(alloc, &named.names, order)?;
-        let of_term = system_of(alloc, &named.terms)?;
-        assert_eq!(rt; replay(alloc, &of_term, order)?, *peak, "{text}");
-        let of_tree = system_of_tree(alloc, &tree)?;
-        assert_eq!(rt; replay(alloc, &of_tree, &nodes)?, *peak, "{text}");
+        assert_eq!(rt; peak_of_tasks(rt.alloc(), text, order)?, *peak, "{text}");
+    }
+    Ok(())
+}
+
+#[test]
+fn peaks_of_the_nodes_that_tasks_are(rt: HostRuntime) -> Result<(), Fail> {
+    for (text, order, peak) in PEAKS {
+        assert_eq!(rt; peak_of_renamed(rt.alloc(), text, order)?, *peak, "{text}");
     }
     Ok(())
 }
@@ -115,16 +164,22 @@ fn large(alloc: Global, count: u64, chain: bool) -> Result<String, Fail> {
     Ok(text)
 }
 
+fn large_named(alloc: Global, chain: bool) -> Result<Named, Fail> {
+    let text = large(alloc, 10_000, chain)?;
+    named(alloc, &text)
+}
+
+fn check_ends(rt: &impl Abort, names: &[u32]) {
+    assert_eq!(rt; names.first(), Some(&1));
+    assert_eq!(rt; names.last(), Some(&10_000));
+}
+
 #[test]
 fn large_trees(rt: HostRuntime) -> Result<(), Fail> {
-    let alloc = rt.alloc();
     for (chain, positions) in [(true, 20_001), (false, 30_000)] {
-        let tree = read(alloc, &large(alloc, 10_000, chain)?)?;
-        let named = terms_of_tree(alloc, &tree)?;
+        let named = large_named(rt.alloc(), chain)?;
         assert_eq!(rt; named.terms.len(), positions);
-        let names = named.names.as_slice();
-        assert_eq!(rt; names.first(), Some(&1));
-        assert_eq!(rt; names.last(), Some(&10_000));
+        check_ends(&rt, named.names.as_slice());
     }
     Ok(())
 }
