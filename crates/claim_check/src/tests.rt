@@ -406,7 +406,8 @@ fn shapes_have_their_words(rt: HostRuntime) -> Result<(), Fail> {
         (Shape::Outside, "outside"),
     ] {
         assert_eq!(rt; shape.word(), word);
-        assert_eq!(rt; format!(in rt.alloc(); "{shape}")?.as_str(), word);
+        let text = format!(in rt.alloc(); "{shape}")?;
+        assert_eq!(rt; text.as_str(), word);
     }
     Ok(())
 }

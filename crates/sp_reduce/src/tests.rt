@@ -189,7 +189,8 @@ const RESTS: &[(&str, &[(u32, u32)])] = &[
 fn a_rest_in_rising_order(rt: HostRuntime) -> Result<(), Fail> {
     let alloc = rt.alloc();
     for (text, arcs) in RESTS {
-        assert_eq!(rt; rest_of(alloc, text)?.as_slice(), *arcs, "at {text:?}");
+        let found = rest_of(alloc, text)?;
+        assert_eq!(rt; found.as_slice(), *arcs, "at {text:?}");
     }
     Ok(())
 }

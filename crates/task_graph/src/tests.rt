@@ -166,17 +166,20 @@ const REFUSALS: &[(&str, &str)] = &[
 fn refuses_with_the_kind_and_the_line(rt: HostRuntime) -> Result<(), Fail> {
     let alloc = rt.alloc();
     for (text, words) in REFUSALS {
-        assert_eq!(rt; refusal_of(alloc, text)?.as_str(), *words, "at {text:?}");
+        let found = refusal_of(alloc, text)?;
+        assert_eq!(rt; found.as_str(), *words, "at {text:?}");
     }
     let most = "graph 1\ntasks 1\n1099511627776 5 1099511627776\narcs 1\n0 1 1099511627776\nend\n";
-    assert_eq!(rt; read(alloc, most)?.tasks().len(), 1);
+    let graph = read(alloc, most)?;
+    assert_eq!(rt; graph.tasks().len(), 1);
     Ok(())
 }
 
 // The start of a file, which ends after so many lines.
 fn check_start(rt: &impl Abort, alloc: Global, start: &str, before: usize) -> Result<(), Fail> {
     let words = format!(in alloc; "no-end at line {}", before.saturating_add(1))?;
-    assert_eq!(rt; refusal_of(alloc, start)?.as_str(), words.as_str());
+    let found = refusal_of(alloc, start)?;
+    assert_eq!(rt; found.as_str(), words.as_str());
     Ok(())
 }
 
@@ -194,6 +197,7 @@ fn a_file_that_ends_early_has_no_end(rt: HostRuntime) -> Result<(), Fail> {
 #[test]
 fn a_share_that_just_fits(rt: HostRuntime) -> Result<(), Fail> {
     let text = "graph 1\ntasks 2\n0 0 1\n3 4 1\narcs 2\n1 2 4\n2 0 1\nend\n";
-    assert_eq!(rt; read(rt.alloc(), text)?.tasks().len(), 2);
+    let graph = read(rt.alloc(), text)?;
+    assert_eq!(rt; graph.tasks().len(), 2);
     Ok(())
 }

@@ -55,8 +55,10 @@ fn check_file(
     two: &str,
 ) -> Result<(), Fail> {
     let terms = read(alloc, text)?;
-    assert_eq!(rt; printed(alloc, &terms)?.bytes(), one.as_bytes());
-    assert_eq!(rt; printed_2(alloc, &terms)?.bytes(), two.as_bytes());
+    let report = printed(alloc, &terms)?;
+    assert_eq!(rt; report.bytes(), one.as_bytes());
+    let report_2 = printed_2(alloc, &terms)?;
+    assert_eq!(rt; report_2.bytes(), two.as_bytes());
     Ok(())
 }
 
@@ -129,7 +131,8 @@ const REFUSALS: &[(&str, &str)] = &[
 fn refuses_with_the_kind_and_the_line(rt: HostRuntime) -> Result<(), Fail> {
     let alloc = rt.alloc();
     for (text, words) in REFUSALS {
-        assert_eq!(rt; refusal_of(alloc, text)?.as_str(), *words, "at {text:?}");
+        let found = refusal_of(alloc, text)?;
+        assert_eq!(rt; found.as_str(), *words, "at {text:?}");
     }
     Ok(())
 }
@@ -137,7 +140,8 @@ fn refuses_with_the_kind_and_the_line(rt: HostRuntime) -> Result<(), Fail> {
 // The start of a file, which ends after so many lines.
 fn check_start(rt: &impl Abort, alloc: Global, start: &str, before: usize) -> Result<(), Fail> {
     let words = format!(in alloc; "no-end at line {}", before.saturating_add(1))?;
-    assert_eq!(rt; refusal_of(alloc, start)?.as_str(), words.as_str());
+    let found = refusal_of(alloc, start)?;
+    assert_eq!(rt; found.as_str(), words.as_str());
     Ok(())
 }
 

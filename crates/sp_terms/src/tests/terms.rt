@@ -231,7 +231,8 @@ fn refusals_have_their_words(rt: HostRuntime) -> Result<(), Fail> {
         (PushRefusal::Share, "share"),
         (PushRefusal::NoMemory, "no memory"),
     ] {
-        assert_eq!(rt; format!(in rt.alloc(); "{refusal}")?.as_str(), words);
+        let text = format!(in rt.alloc(); "{refusal}")?;
+        assert_eq!(rt; text.as_str(), words);
     }
     Ok(())
 }

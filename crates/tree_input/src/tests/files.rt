@@ -39,8 +39,10 @@ fn check_texts(
     one: &str,
     two: &str,
 ) -> Result<(), Fail> {
-    assert_eq!(rt; printed(alloc, tree)?.bytes(), one.as_bytes());
-    assert_eq!(rt; printed_2(alloc, tree)?.bytes(), two.as_bytes());
+    let report = printed(alloc, tree)?;
+    assert_eq!(rt; report.bytes(), one.as_bytes());
+    let report_2 = printed_2(alloc, tree)?;
+    assert_eq!(rt; report_2.bytes(), two.as_bytes());
     Ok(())
 }
 
@@ -179,17 +181,20 @@ const REFUSALS: &[(&str, &str)] = &[
 fn refuses_with_the_kind_and_the_line(rt: HostRuntime) -> Result<(), Fail> {
     let alloc = rt.alloc();
     for (text, words) in REFUSALS {
-        assert_eq!(rt; refusal_of(alloc, text)?.as_str(), *words, "at {text:?}");
+        let found = refusal_of(alloc, text)?;
+        assert_eq!(rt; found.as_str(), *words, "at {text:?}");
     }
     let most = "tree 1\nnodes 1\n0 1099511627776 1099511627776 1099511627776\nend\n";
-    assert_eq!(rt; read(alloc, most)?.nodes().len(), 1);
+    let tree = read(alloc, most)?;
+    assert_eq!(rt; tree.nodes().len(), 1);
     Ok(())
 }
 
 // The start of a file, which ends after so many lines.
 fn check_start(rt: &impl Abort, alloc: Global, start: &str, before: usize) -> Result<(), Fail> {
     let words = format!(in alloc; "no-end at line {}", before.saturating_add(1))?;
-    assert_eq!(rt; refusal_of(alloc, start)?.as_str(), words.as_str());
+    let found = refusal_of(alloc, start)?;
+    assert_eq!(rt; found.as_str(), words.as_str());
     Ok(())
 }
 
