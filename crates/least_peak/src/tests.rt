@@ -3,6 +3,7 @@
 use crate::Problem;
 use claim_check::Verdict;
 use mp_outside::NoGate;
+use plan_text::PlanFile;
 use sp_terms::read_workflow;
 use std::alloc::Global;
 use std::process::Abort;
@@ -17,8 +18,41 @@ const FIVE: &[u8] = b"tree 1\nnodes 5\n2 1 9 1\n5 5 0 1\n4 1 9 1\n5 5 0 1\n0 0 0
 const BRANCHES: &[u8] =
     b"workflow 1\ntasks 4\ndata 4\ndata 1\ntask 0 1\ndata 3\ntask 6 1\ndata 4\ndata 1\ntask 0 1\ndata 3\ntask 6 1\npar 2\nend\n";
 
-// There are so many tasks. The plan has this peak, `check` accepts it, also without a thread, and its order replays to it; so has the
-// plan for which the problem is given up.
+// There are so many tasks.
+fn check_count(rt: &impl Abort, alloc: Global, problem: &Problem, tasks: u32) -> Result<(), Fail> {
+    assert_eq!(rt; problem.task_count(), tasks);
+    assert_eq!(rt; problem.system(alloc)?.tasks().len(), tasks as usize);
+    Ok(())
+}
+
+// The plan has this peak, and its order replays to it.
+fn check_peak(
+    rt: &impl Abort,
+    alloc: Global,
+    problem: &Problem,
+    plan: &PlanFile,
+    peak: u64,
+) -> Result<(), Fail> {
+    assert_eq!(rt; plan.peak(), peak);
+    assert_eq!(rt; problem.replay(alloc, plan.order())?, peak);
+    Ok(())
+}
+
+// `check` accepts the plan with this peak, also without a thread.
+fn check_accepted<R: Abort + Threads + Sync>(
+    rt: &R,
+    alloc: Global,
+    problem: &Problem,
+    plan: &PlanFile,
+    peak: u64,
+) -> Result<(), Fail> {
+    let verdict = problem.check(rt, alloc, plan, 2, &NoGate)?;
+    assert_eq!(rt; verdict, Verdict::Yes(peak));
+    assert_eq!(rt; problem.check_alone(alloc, plan)?, Verdict::Yes(peak));
+    Ok(())
+}
+
+// There are so many tasks, and the plan has this peak; so has the plan for which the problem is given up.
 fn check_plan<R: Abort + Threads + Sync>(
     rt: &R,
     alloc: Global,
@@ -26,23 +60,24 @@ fn check_plan<R: Abort + Threads + Sync>(
     tasks: u32,
     peak: u64,
 ) -> Result<(), Fail> {
-    assert_eq!(rt; problem.task_count(), tasks);
-    assert_eq!(rt; problem.system(alloc)?.tasks().len(), tasks as usize);
+    check_count(rt, alloc, &problem, tasks)?;
     let plan = problem.plan(alloc)?;
-    assert_eq!(rt; plan.peak(), peak);
-    let verdict = problem.check(rt, alloc, &plan, 2, &NoGate)?;
-    assert_eq!(rt; verdict, Verdict::Yes(peak));
-    assert_eq!(rt; problem.check_alone(alloc, &plan)?, Verdict::Yes(peak));
-    assert_eq!(rt; problem.replay(alloc, plan.order())?, peak);
+    check_peak(rt, alloc, &problem, &plan, peak)?;
+    check_accepted(rt, alloc, &problem, &plan, peak)?;
     assert_eq!(rt; problem.into_plan(alloc)?.peak(), peak);
     Ok(())
 }
 
 #[test]
-fn plans(rt: HostRuntime) -> Result<(), Fail> {
+fn a_plan_of_a_tree(rt: HostRuntime) -> Result<(), Fail> {
     let alloc = rt.alloc();
     let tree = read_tree(alloc, FIVE)?;
-    check_plan(&rt, alloc, Problem::of_tree(tree), 5, 11)?;
+    check_plan(&rt, alloc, Problem::of_tree(tree), 5, 11)
+}
+
+#[test]
+fn a_plan_of_a_workflow(rt: HostRuntime) -> Result<(), Fail> {
+    let alloc = rt.alloc();
     let terms = read_workflow(alloc, BRANCHES)?;
     check_plan(&rt, alloc, Problem::of_workflow(terms), 4, 13)
 }

@@ -18,24 +18,40 @@ fn check_put(rt: &impl Abort, ranks: &mut RankSet, rank: usize, is_in: bool, fir
     assert_eq!(rt; ranks.first(), first);
 }
 
+// Puts ranks in, most of them below all others.
+fn check_put_in(rt: &impl Abort, ranks: &mut RankSet)
+    requires { length ranks.old ≡ 300000 }
+    ensures { length ranks.new ≡ 300000 }
+{
+    check_put(rt, ranks, 299999, true, Some(299999));
+    check_put(rt, ranks, 262144, true, Some(262144));
+    check_put(rt, ranks, 4096, true, Some(4096));
+    check_put(rt, ranks, 4097, true, Some(4096));
+    check_put(rt, ranks, 64, true, Some(64));
+    check_put(rt, ranks, 63, true, Some(63));
+    check_put(rt, ranks, 63, true, Some(63));
+}
+
+// Takes the same ranks out, from the first one up, and one that isn't in.
+fn check_take_out(rt: &impl Abort, ranks: &mut RankSet)
+    requires { length ranks.old ≡ 300000 }
+    ensures { length ranks.new ≡ 300000 }
+{
+    check_put(rt, ranks, 63, false, Some(64));
+    check_put(rt, ranks, 64, false, Some(4096));
+    check_put(rt, ranks, 4096, false, Some(4097));
+    check_put(rt, ranks, 0, false, Some(4097));
+    check_put(rt, ranks, 4097, false, Some(262144));
+    check_put(rt, ranks, 262144, false, Some(299999));
+    check_put(rt, ranks, 299999, false, None);
+}
+
 #[test]
 fn first_rank_after_each_change(rt: HostRuntime) -> Result<(), Fail> {
     let mut ranks = RankSet::new(rt.alloc(), 300000)?;
     assert_eq!(rt; ranks.first(), None);
-    check_put(&rt, &mut ranks, 299999, true, Some(299999));
-    check_put(&rt, &mut ranks, 262144, true, Some(262144));
-    check_put(&rt, &mut ranks, 4096, true, Some(4096));
-    check_put(&rt, &mut ranks, 4097, true, Some(4096));
-    check_put(&rt, &mut ranks, 64, true, Some(64));
-    check_put(&rt, &mut ranks, 63, true, Some(63));
-    check_put(&rt, &mut ranks, 63, true, Some(63));
-    check_put(&rt, &mut ranks, 63, false, Some(64));
-    check_put(&rt, &mut ranks, 64, false, Some(4096));
-    check_put(&rt, &mut ranks, 4096, false, Some(4097));
-    check_put(&rt, &mut ranks, 0, false, Some(4097));
-    check_put(&rt, &mut ranks, 4097, false, Some(262144));
-    check_put(&rt, &mut ranks, 262144, false, Some(299999));
-    check_put(&rt, &mut ranks, 299999, false, None);
+    check_put_in(&rt, &mut ranks);
+    check_take_out(&rt, &mut ranks);
     Ok(())
 }
 

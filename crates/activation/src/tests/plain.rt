@@ -105,25 +105,73 @@ impl PlainRun {
             && (self.running.len() as u64) < u64::from(given.workers)
     }
 
-    // What happens next at this moment, and to which task; none where nothing does.
-    fn step(&mut self, alloc: Global, given: Given) -> Result<Option<(EventKind, u32)>, NoMemory> {
-        if let Some(task) = self.next_due(given) {
+    fn finish_next(&mut self, given: Given) -> Result<Option<u32>, NoMemory> {
+        let next = self.next_due(given);
+        if let Some(task) = next {
             self.running.retain(|it| it.0 != task);
             self.done.push(task)?;
+        }
+        Ok(next)
+    }
+
+    fn activate_next(&mut self, alloc: Global, given: Given) -> Result<Option<u32>, NoMemory> {
+        let next = self.next_fitting(alloc, given)?;
+        if let Some(task) = next {
+            self.activated.push(task)?;
+        }
+        Ok(next)
+    }
+
+    fn start_next(&mut self, given: Given) -> Result<Option<u32>, NoMemory> {
+        let mut priority = given.priority.iter().copied();
+        let next = priority.find(|task| self.may_start(given, *task));
+        if let Some(task) = next {
+            let time = task_of(given.system, task).map_or(0, |it| it.time);
+            self.running.push((task, self.time.saturating_add(time)))?;
+        }
+        Ok(next)
+    }
+
+    // What happens next at this moment, and to which task; none where nothing does.
+    fn step(&mut self, alloc: Global, given: Given) -> Result<Option<(EventKind, u32)>, NoMemory> {
+        if let Some(task) = self.finish_next(given)? {
             return Ok(Some((EventKind::Finish, task)));
         }
-        if let Some(task) = self.next_fitting(alloc, given)? {
-            self.activated.push(task)?;
+        if let Some(task) = self.activate_next(alloc, given)? {
             return Ok(Some((EventKind::Activate, task)));
         }
-        for task in given.priority {
-            if self.may_start(given, *task) {
-                let time = task_of(given.system, *task).map_or(0, |it| it.time);
-                self.running.push((*task, self.time.saturating_add(time)))?;
-                return Ok(Some((EventKind::Start, *task)));
-            }
-        }
-        Ok(None)
+        let started = self.start_next(given)?;
+        Ok(started.map(|task| (EventKind::Start, task)))
+    }
+
+    // Notes the memory of this moment.
+    fn note(&self, alloc: Global, system: &System, trace: &mut Trace) -> Result<(), NoMemory> {
+        trace.used = trace.used.max(self.used(alloc, system)?);
+        trace.booked = trace.booked.max(self.booked(alloc, system)?);
+        Ok(())
+    }
+
+    // Goes on to the moment at which a task is due next; whether there is one.
+    fn wait(&mut self) -> bool {
+        let due = self.running.iter().map(|it| it.1).min();
+        self.time = due.unwrap_or(self.time);
+        due.is_some()
+    }
+
+    // Goes on by an event or to the next moment; false at the end.
+    fn advance(
+        &mut self,
+        alloc: Global,
+        given: Given,
+        trace: &mut Trace,
+    ) -> Result<bool, NoMemory> {
+        let Some((kind, task)) = self.step(alloc, given)? else {
+            return Ok(self.wait());
+        };
+        let time = self.time;
+        trace.events.push(Event { time, kind, task })?;
+        self.note(alloc, given.system, trace)?;
+        Ok(true)
     }
 }
 
@@ -135,25 +183,18 @@ pub fn plain_run(alloc: Global, given: Given) -> Result<Trace, NoMemory> {
         running: Vec::new(alloc),
         done: Vec::new(alloc),
     };
-    let mut events = Vec::new(alloc);
-    let mut used = run.used(alloc, given.system)?;
-    let mut booked = run.booked(alloc, given.system)?;
+    let mut trace = Trace {
+        makespan: 0,
+        used: 0,
+        booked: 0,
+        events: Vec::new(alloc),
+    };
+    run.note(alloc, given.system, &mut trace)?;
     for _ in 0..100 {
-        if let Some((kind, task)) = run.step(alloc, given)? {
-            let time = run.time;
-            events.push(Event { time, kind, task })?;
-            used = used.max(run.used(alloc, given.system)?);
-            booked = booked.max(run.booked(alloc, given.system)?);
-        } else if let Some(due) = run.running.iter().map(|it| it.1).min() {
-            run.time = due;
-        } else {
+        if !run.advance(alloc, given, &mut trace)? {
             break;
         }
     }
-    Ok(Trace {
-        makespan: run.time,
-        used,
-        booked,
-        events,
-    })
+    trace.makespan = run.time;
+    Ok(trace)
 }

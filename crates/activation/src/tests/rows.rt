@@ -83,12 +83,26 @@ fn runs_of_a_tree(rt: HostRuntime) -> Result<(), Fail> {
     let alloc = rt.alloc();
     let tree = tree(alloc)?;
     let order = [1, 3, 2, 4, 5];
-    check_run(&rt, alloc, along(&tree, &order, 11, 2), TIGHT)?;
-    check_run(&rt, alloc, along(&tree, &order, 22, 2), WIDE)?;
-    check_run(&rt, alloc, along(&tree, &order, u64::MAX, 2), ENDLESS)?;
-    let alone = compare(&rt, alloc, along(&tree, &order, 22, 1))?;
+    for (bound, wanted) in [(11, TIGHT), (22, WIDE), (u64::MAX, ENDLESS)] {
+        check_run(&rt, alloc, along(&tree, &order, bound, 2), wanted)?;
+    }
+    Ok(())
+}
+
+#[test]
+fn a_tree_on_one_worker(rt: HostRuntime) -> Result<(), Fail> {
+    let alloc = rt.alloc();
+    let tree = tree(alloc)?;
+    let alone = compare(&rt, alloc, along(&tree, &[1, 3, 2, 4, 5], 22, 1))?;
     assert_eq!(rt; alone.makespan, 5);
-    let crowded = compare(&rt, alloc, along(&tree, &order, 22, 4096))?;
+    Ok(())
+}
+
+#[test]
+fn a_tree_on_as_many_workers_as_there_may_be(rt: HostRuntime) -> Result<(), Fail> {
+    let alloc = rt.alloc();
+    let tree = tree(alloc)?;
+    let crowded = compare(&rt, alloc, along(&tree, &[1, 3, 2, 4, 5], 22, 4096))?;
     assert_eq!(rt; crowded.makespan, 3);
     Ok(())
 }
@@ -155,41 +169,69 @@ fn refusals_are_told(rt: HostRuntime) -> Result<(), Fail> {
     Ok(())
 }
 
+// The tree along an order, in the least memory for it.
+fn tree_core(alloc: Global) -> Result<Core, Fail> {
+    Ok(Core::new(alloc, &tree(alloc)?, &[1, 3, 2, 4, 5], 11, 1)?)
+}
+
+// Used and booked memory, and how many tasks are activated.
+fn sums(core: &Core) -> (u64, u64, u32) {
+    (core.used(), core.booked(), core.activated())
+}
+
+#[test]
+fn a_core_activates_what_fits(rt: HostRuntime) -> Result<(), Fail> {
+    let mut core = tree_core(rt.alloc())?;
+    assert_eq!(rt; (core.activate(), core.activate()), (Some(1), None));
+    assert_eq!(rt; sums(&core), (0, 10, 1));
+    Ok(())
+}
+
+// Whether a task starts, how many run then, whether it finishes, and whether it is done.
+fn tried(core: &mut Core, task: u32) -> (bool, usize, bool, bool) {
+    let starts = core.start(task);
+    let running = core.running().len();
+    let finishes = core.finish(task);
+    (starts, running, finishes, core.is_done(task))
+}
+
+// A task, whether it starts and finishes, and then used, booked and activated.
+const EVENTS: [(u32, bool, (u64, u64, u32)); 6] = [
+    (0, false, (0, 10, 1)),
+    (6, false, (0, 10, 1)),
+    (3, false, (0, 10, 1)),
+    (1, true, (1, 1, 1)),
+    (2, false, (1, 1, 1)),
+    (u32::MAX, false, (1, 1, 1)),
+];
+
 #[test]
 fn a_core_event_by_event(rt: HostRuntime) -> Result<(), Fail> {
-    let alloc = rt.alloc();
-    let mut core = Core::new(alloc, &tree(alloc)?, &[1, 3, 2, 4, 5], 11, 1)?;
-    assert_eq!(rt; core.activate(), Some(1));
-    assert_eq!(rt; core.activate(), None);
-    assert_eq!(rt; (core.used(), core.booked(), core.activated()), (0, 10, 1));
-    // a task, whether it starts, whether it finishes, and then used, booked and activated
-    let rows = [
-        (0, false, false, (0, 10, 1)),
-        (6, false, false, (0, 10, 1)),
-        (3, false, false, (0, 10, 1)),
-        (1, true, true, (1, 1, 1)),
-        (2, false, false, (1, 1, 1)),
-        (u32::MAX, false, false, (1, 1, 1)),
-    ];
-    for (task, starts, finishes, memory) in rows {
-        assert_eq!(rt; core.start(task), starts);
-        assert_eq!(rt; core.running().len(), usize::from(starts));
-        assert_eq!(rt; core.finish(task), finishes);
-        assert_eq!(rt; core.is_done(task), finishes);
-        assert_eq!(rt; (core.used(), core.booked(), core.activated()), memory);
+    let mut core = tree_core(rt.alloc())?;
+    assert_eq!(rt; (core.activate(), core.activate()), (Some(1), None));
+    for (task, runs, memory) in EVENTS {
+        let wanted = (runs, usize::from(runs), runs, runs);
+        assert_eq!(rt; (tried(&mut core, task), sums(&core)), (wanted, memory));
     }
     Ok(())
 }
+
+// Priorities, and whether each holds each of five tasks once.
+const PRIORITIES: [(&[u32], bool); 6] = [
+    (&[1, 2, 3, 4, 5], true),
+    (&[5, 3, 1, 4, 2], true),
+    (&[1, 2, 3, 4], false),
+    (&[1, 2, 3, 4, 4], false),
+    (&[0, 1, 2, 3, 4, 5], false),
+    (&[1, 2, 3, 4, 5, 6], false),
+];
 
 #[test]
 fn priorities_that_hold_each_task_once(rt: HostRuntime) -> Result<(), Fail> {
     let alloc = rt.alloc();
     let tree = tree(alloc)?;
-    assert!(rt; holds_each(alloc, &tree, &[1, 2, 3, 4, 5])?);
-    assert!(rt; holds_each(alloc, &tree, &[5, 3, 1, 4, 2])?);
-    assert!(rt; !holds_each(alloc, &tree, &[1, 2, 3, 4])?);
-    assert!(rt; !holds_each(alloc, &tree, &[1, 2, 3, 4, 4])?);
-    assert!(rt; !holds_each(alloc, &tree, &[0, 1, 2, 3, 4, 5])?);
-    assert!(rt; !holds_each(alloc, &tree, &[1, 2, 3, 4, 5, 6])?);
+    for (priority, holds) in PRIORITIES {
+        assert_eq!(rt; holds_each(alloc, &tree, priority)?, holds);
+    }
     Ok(())
 }
