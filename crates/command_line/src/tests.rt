@@ -22,21 +22,32 @@ fn words_of(alloc: Global, text: &str) -> Result<Vec<String>, NoMemory> {
     Ok(words)
 }
 
+// Lines, and the tree that each gives.
+const TREES: &[(&str, &str)] = &[
+    ("post --tree=a", "a"),
+    ("post --tree a", "a"),
+    ("post --tree=a=b", "a=b"),
+    ("post --tree =a", "=a"),
+    ("post --matrix tree --tree=a-", "a-"),
+    ("post --tree help --matrix m", "help"),
+];
+
 #[test]
 fn words_that_give_a_tree(rt: HostRuntime) -> Result<(), Fail> {
-    let alloc = rt.alloc();
-    for (text, tree) in [
-        ("post --tree=a", "a"),
-        ("post --tree a", "a"),
-        ("post --tree=a=b", "a=b"),
-        ("post --tree =a", "=a"),
-        ("post --matrix tree --tree=a-", "a-"),
-        ("post --tree help --matrix m", "help"),
-    ] {
-        let words = words_of(alloc, text)?;
-        let line = read_words(alloc, &SHAPES, &words)?.ok_or(text)?;
-        assert_eq!(rt; line.command(), "post", "{text}");
+    for &(text, tree) in TREES {
+        let words = words_of(rt.alloc(), text)?;
+        let line = read_words(rt.alloc(), &SHAPES, &words)?.ok_or(text)?;
         assert_eq!(rt; line.value("tree"), Some(tree), "{text}");
+    }
+    Ok(())
+}
+
+#[test]
+fn a_line_has_its_command_and_no_other_option(rt: HostRuntime) -> Result<(), Fail> {
+    for &(text, _tree) in TREES {
+        let words = words_of(rt.alloc(), text)?;
+        let line = read_words(rt.alloc(), &SHAPES, &words)?.ok_or(text)?;
+        assert_eq!(rt; line.command(), "post", "{text}");
         assert!(rt; line.value("seed").is_none(), "{text}");
     }
     Ok(())

@@ -121,28 +121,35 @@ mod tests {
     use super::*;
     use std::test::Fail;
 
-    #[test]
-    fn loads_give_pieces_and_fail_where_told(rt: HostRuntime) -> Result<(), Fail> {
-        let mut files = MemFiles::new(rt.alloc())?;
+    // A file of letters and an empty one, in pieces of 3 bytes, of which the third load fails.
+    fn letters(alloc: Global) -> Result<MemFiles, NoMemory> {
+        let mut files = MemFiles::new(alloc)?;
         files.put("letters", b"abcdefg")?;
         files.put("empty", b"")?;
         files.piece(3);
         files.fail_at(3)?;
+        Ok(files)
+    }
+
+    // The name, the place, the room in the buffer, and the bytes given.
+    const LOADS: &[(&str, u64, usize, Option<&[u8]>)] = &[
+        ("letters", 0, 8, Some(b"abc")),
+        ("letters", 3, 2, Some(b"de")),
+        ("letters", 5, 8, None),
+        ("letters", 5, 8, Some(b"fg")),
+        ("letters", 7, 8, Some(b"")),
+        ("letters", u64::MAX, 8, Some(b"")),
+        ("letters", 0, 0, Some(b"")),
+        ("empty", 0, 8, Some(b"")),
+        ("other", 0, 8, None),
+        ("", 0, 8, None),
+    ];
+
+    #[test]
+    fn loads_give_pieces_and_fail_where_told(rt: HostRuntime) -> Result<(), Fail> {
+        let mut files = letters(rt.alloc())?;
         let mut buf = [0u8; 8];
-        // the name, the place, the room in the buffer, and the bytes given
-        let loads: [(&str, u64, usize, Option<&[u8]>); 10] = [
-            ("letters", 0, 8, Some(b"abc")),
-            ("letters", 3, 2, Some(b"de")),
-            ("letters", 5, 8, None),
-            ("letters", 5, 8, Some(b"fg")),
-            ("letters", 7, 8, Some(b"")),
-            ("letters", u64::MAX, 8, Some(b"")),
-            ("letters", 0, 0, Some(b"")),
-            ("empty", 0, 8, Some(b"")),
-            ("other", 0, 8, None),
-            ("", 0, 8, None),
-        ];
-        for (name, place, room, want) in loads {
+        for &(name, place, room, want) in LOADS {
             let given = match files.load(name, place, &mut buf[..room.min(8)]) {
                 Ok(count) => Some(&buf[..count as usize]),
                 Err(Failed) => None,
@@ -152,14 +159,19 @@ mod tests {
         Ok(())
     }
 
+    // The file `a` is put before another and after it.
+    fn put_again(files: &mut MemFiles) -> Result<(), NoMemory> {
+        files.put("a", b"one")?;
+        files.put("b", b"other")?;
+        files.put("a", b"two")
+    }
+
     #[test]
     fn the_last_put_counts(rt: HostRuntime) -> Result<(), Fail> {
         let mut files = MemFiles::new(rt.alloc())?;
         let mut buf = [0u8; 8];
         assert_eq!(rt; files.load("a", 0, &mut buf), Err(Failed));
-        files.put("a", b"one")?;
-        files.put("b", b"other")?;
-        files.put("a", b"two")?;
+        put_again(&mut files)?;
         assert_eq!(rt; files.load("a", 0, &mut buf), Ok(3));
         assert_eq!(rt; buf, *b"two\0\0\0\0\0");
         Ok(())

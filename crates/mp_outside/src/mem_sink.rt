@@ -113,24 +113,32 @@ mod tests {
     use super::*;
     use std::test::Fail;
 
-    #[test]
-    fn writes_take_pieces_and_fail_where_told(rt: HostRuntime) -> Result<(), Fail> {
-        let mut sink = MemSink::new(rt.alloc(), 5)?;
+    // A sink of 5 bytes in pieces of 2, of which the second write and the eighth fail.
+    fn failing(alloc: Global) -> Result<MemSink, NoMemory> {
+        let mut sink = MemSink::new(alloc, 5)?;
         sink.piece(2);
         sink.fail_at(2)?;
         sink.fail_at(8)?;
-        let writes: [(&[u8], Result<u64, Failed>); 8] = [
-            (b"abcde", Ok(2)),
-            (b"cde", Err(Failed)),
-            (b"cde", Ok(2)),
-            (b"", Ok(0)),
-            (b"ef", Ok(1)),
-            (b"f", Err(Failed)),
-            (b"", Ok(0)),
-            (b"", Err(Failed)),
-        ];
-        for (piece, want) in writes {
-            assert_eq!(rt; sink.write(piece), want, "{piece:?}");
+        Ok(sink)
+    }
+
+    // What is written, and the number of bytes taken.
+    const WRITES: &[(&[u8], Result<u64, Failed>)] = &[
+        (b"abcde", Ok(2)),
+        (b"cde", Err(Failed)),
+        (b"cde", Ok(2)),
+        (b"", Ok(0)),
+        (b"ef", Ok(1)),
+        (b"f", Err(Failed)),
+        (b"", Ok(0)),
+        (b"", Err(Failed)),
+    ];
+
+    #[test]
+    fn writes_take_pieces_and_fail_where_told(rt: HostRuntime) -> Result<(), Fail> {
+        let mut sink = failing(rt.alloc())?;
+        for (piece, want) in WRITES {
+            assert_eq!(rt; sink.write(piece), *want, "{piece:?}");
         }
         assert_eq!(rt; sink.written(), b"abcde".as_slice());
         Ok(())

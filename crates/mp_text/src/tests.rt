@@ -43,20 +43,30 @@ impl Reader for Few {
     }
 }
 
+// A line's number and tokens.
+fn list_line(report: &mut Report, line: Line<'_>) -> Result<(), NoMemory> {
+    report.num(line.number)?;
+    for token in tokens(line.text) {
+        report.word(str::from_utf8(token).unwrap_or("?"))?;
+    }
+    report.end_line()
+}
+
+// The number past the last line.
+fn list_past(report: &mut Report, past: u64) -> Result<(), NoMemory> {
+    report.word("past")?;
+    report.num(past)?;
+    report.end_line()
+}
+
 // The lines that count, as a report: number and tokens of each.
 fn listed(alloc: Global, text: &[u8], layout: Layout) -> Result<Report, NoMemory> {
     let mut report = Report::new(alloc);
     let mut lines = Lines::new(text, layout);
     while let Some(line) = lines.next_line() {
-        report.num(line.number)?;
-        for token in tokens(line.text) {
-            report.word(str::from_utf8(token).unwrap_or("?"))?;
-        }
-        report.end_line()?;
+        list_line(&mut report, line)?;
     }
-    report.word("past")?;
-    report.num(lines.past())?;
-    report.end_line()?;
+    list_past(&mut report, lines.past())?;
     Ok(report)
 }
 
@@ -145,32 +155,40 @@ fn reads_a_format(rt: HostRuntime) -> Result<(), Fail> {
     Ok(())
 }
 
+// A line, whether it is one, two or four tokens, and its two numbers.
+#[rattlefmt::skip]
+const TOKENS: &[(&str, bool, bool, bool, Option<[u64; 2]>)] = &[
+    ("", false, false, false, None),
+    (" 7 ", true, false, false, None),
+    ("7 8", false, true, false, Some([7, 8])),
+    ("007\t18446744073709551615\r", false, true, false, Some([7, u64::MAX])),
+    ("7 18446744073709551616", false, true, false, None),
+    ("-7 8", false, true, false, None),
+    ("7 8 9", false, false, false, None),
+    ("1 2 3 4", false, false, true, None),
+    ("1 2 3 4 5", false, false, false, None),
+];
+
 #[test]
 fn counts_tokens(rt: HostRuntime) {
-    // a line, whether it is one, two or four tokens, and its two numbers
-    for (text, one, two, four, numbers) in [
-        ("", false, false, false, None),
-        (" 7 ", true, false, false, None),
-        ("7 8", false, true, false, Some([7, 8])),
-        (
-            "007\t18446744073709551615\r",
-            false,
-            true,
-            false,
-            Some([7, u64::MAX]),
-        ),
-        ("7 18446744073709551616", false, true, false, None),
-        ("-7 8", false, true, false, None),
-        ("7 8 9", false, false, false, None),
-        ("1 2 3 4", false, false, true, None),
-        ("1 2 3 4 5", false, false, false, None),
-    ] {
+    for (text, one, two, four, _numbers) in TOKENS {
         let line = text.as_bytes();
-        assert_eq!(rt; tokens(line).one().is_some(), one, "at {text:?}");
-        assert_eq!(rt; tokens(line).two().is_some(), two, "at {text:?}");
-        assert_eq!(rt; tokens(line).four().is_some(), four, "at {text:?}");
-        assert_eq!(rt; tokens(line).numbers::<2>(), numbers, "at {text:?}");
+        assert_eq!(rt; tokens(line).one().is_some(), *one, "at {text:?}");
+        assert_eq!(rt; tokens(line).two().is_some(), *two, "at {text:?}");
+        assert_eq!(rt; tokens(line).four().is_some(), *four, "at {text:?}");
     }
+}
+
+#[test]
+fn gives_two_numbers(rt: HostRuntime) {
+    for (text, _one, _two, _four, numbers) in TOKENS {
+        let found = tokens(text.as_bytes()).numbers::<2>();
+        assert_eq!(rt; found, *numbers, "at {text:?}");
+    }
+}
+
+#[test]
+fn gives_numbers_one_after_another(rt: HostRuntime) {
     let mut words = tokens(b"3 x 5");
     assert_eq!(rt; words.next_number(), Some(3));
     assert_eq!(rt; words.next_number(), None);
@@ -200,8 +218,23 @@ fn reads_words(rt: HostRuntime) {
 }
 
 #[test]
-fn prints(rt: HostRuntime) -> Result<(), Fail> {
+fn prints_lines(rt: HostRuntime) -> Result<(), Fail> {
     let mut report = Report::new(rt.alloc());
+    report.line(&[Token::Word("tree"), Token::Word(Version::Two.word())])?;
+    report.line(&[])?;
+    report.line(&[
+        Token::Number(u64::MAX),
+        Token::Word("F"),
+        Token::Signed(i64::MIN),
+    ])?;
+    let lines = "tree 2\n\n18446744073709551615 F -9223372036854775808\n";
+    assert_eq!(rt; report.bytes(), lines.as_bytes());
+    Ok(())
+}
+
+// Two lines, after which a third is cut off.
+fn cut_back(alloc: Global) -> Result<Report, NoMemory> {
+    let mut report = Report::new(alloc);
     report.line(&[Token::Word("tree"), Token::Word(Version::Two.word())])?;
     report.line(&[])?;
     let start = report.len();
@@ -210,14 +243,23 @@ fn prints(rt: HostRuntime) -> Result<(), Fail> {
         Token::Word("F"),
         Token::Signed(i64::MIN),
     ])?;
-    let lines = "tree 2\n\n18446744073709551615 F -9223372036854775808\n";
-    assert_eq!(rt; report.bytes(), lines.as_bytes());
     report.cut(start);
+    Ok(report)
+}
+
+// A line of a word and a number, and two numbers of the next.
+fn print_words(report: &mut Report) -> Result<(), NoMemory> {
     report.word("peak")?;
     report.num(u64::MAX)?;
     report.end_line()?;
     report.int(i64::MIN)?;
-    report.int(7)?;
+    report.int(7)
+}
+
+#[test]
+fn prints_words_after_a_cut(rt: HostRuntime) -> Result<(), Fail> {
+    let mut report = cut_back(rt.alloc())?;
+    print_words(&mut report)?;
     let words = "tree 2\n\npeak 18446744073709551615\n-9223372036854775808 7";
     assert_eq!(rt; report.bytes(), words.as_bytes());
     Ok(())

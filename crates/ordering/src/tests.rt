@@ -128,14 +128,17 @@ fn minimum_degree_orders(rt: HostRuntime) -> Result<(), Fail> {
 }
 
 #[test]
-fn the_most_vertices_are_ordered_and_no_more(rt: HostRuntime) -> Result<(), Fail> {
+fn the_most_vertices_are_ordered(rt: HostRuntime) -> Result<(), Fail> {
     let most = pattern_of(rt.alloc(), "50000 50000 0\n")?;
     let order = min_degree(rt.alloc(), &most)?;
     assert_eq!(rt; order.len(), 50_000);
+    Ok(())
+}
+
+#[test]
+fn more_vertices_are_not_ordered(rt: HostRuntime) -> Result<(), Fail> {
     let more = pattern_of(rt.alloc(), "50001 50001 0\n")?;
-    assert_eq!(rt;
-        min_degree(rt.alloc(), &more).err(),
-        Some(MindegRefusal::Limit)
-    );
+    let refusal = min_degree(rt.alloc(), &more).err();
+    assert_eq!(rt; refusal, Some(MindegRefusal::Limit));
     Ok(())
 }

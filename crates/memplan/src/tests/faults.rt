@@ -33,6 +33,29 @@ const FRONTS: &str = "fronts --matrix m --perm q --bound 4 --workers 2";
 
 const REDUCE: &str = "reduce --graph g";
 
+// Loads in pieces of 3 bytes: the tree has 59 bytes, the order and the priority 10 each, and each file ends with a load that gives nothing.
+const OF_TREE: u64 = 20 + 1;
+
+const OF_NUMBERS: u64 = 4 + 1;
+
+// Of the matrix there are 69 bytes, of its permutation 8, and of the graph 75.
+const OF_MATRIX: u64 = 23 + 1;
+
+const OF_PERM: u64 = 3 + 1;
+
+const OF_GRAPH: u64 = 25 + 1;
+
+// Runs, the loads of each, and all that it prints.
+#[rattlefmt::skip]
+const RUNS: &[(&str, u64, &str)] = &[
+    (REPLAY, OF_TREE + OF_NUMBERS, "peak 11\n"),
+    (SIMULATE, OF_TREE + OF_NUMBERS + OF_NUMBERS, TIGHT),
+    (SPILL, OF_TREE + OF_NUMBERS, BOTH),
+    (SEGMENTS, OF_TREE, OF_FIVE),
+    (FRONTS, OF_MATRIX + OF_PERM, ABREAST),
+    (REDUCE, OF_GRAPH, WORKFLOW),
+];
+
 // What a run without faults prints. A plan may be any of least peak: whether it is one is tested elsewhere.
 fn printed(
     rt: &(impl Threads + Sync + Abort),
@@ -72,20 +95,17 @@ fn check_loads<R: Threads + Sync + Abort>(
 
 #[test]
 fn each_load_fails_in_turn(rt: HostRuntime) -> Result<(), Fail> {
-    // the tree has 59 bytes, the order and the priority 10 each, and each file ends with a load that gives nothing
-    let (alloc, tree, numbers) = (rt.alloc(), 20 + 1, 4 + 1);
-    check_loads(&rt, alloc, REPLAY, tree + numbers, "peak 11\n")?;
-    let plan = printed(&rt, alloc, PLANNING)?;
+    for (run, loads, text) in RUNS {
+        check_loads(&rt, rt.alloc(), run, *loads, text)?;
+    }
+    Ok(())
+}
+
+#[test]
+fn each_load_for_a_plan_fails_in_turn(rt: HostRuntime) -> Result<(), Fail> {
+    let plan = printed(&rt, rt.alloc(), PLANNING)?;
     let text = str::from_utf8(plan.written()).expect(&rt, "a plan is text");
-    check_loads(&rt, alloc, PLANNING, tree, text)?;
-    check_loads(&rt, alloc, SIMULATE, tree + numbers + numbers, TIGHT)?;
-    check_loads(&rt, alloc, SPILL, tree + numbers, BOTH)?;
-    check_loads(&rt, alloc, SEGMENTS, tree, OF_FIVE)?;
-    // the matrix has 69 bytes and its permutation 8
-    let (matrix, order) = (23 + 1, 3 + 1);
-    check_loads(&rt, alloc, FRONTS, matrix + order, ABREAST)?;
-    // the graph has 75
-    check_loads(&rt, alloc, REDUCE, 25 + 1, WORKFLOW)?;
+    check_loads(&rt, rt.alloc(), PLANNING, OF_TREE, text)?;
     Ok(())
 }
 
@@ -128,6 +148,35 @@ fn files_that_are_not_held(rt: HostRuntime) -> Result<(), Fail> {
 
 // ---- writes
 
+// A sink takes so many bytes of what a run prints, which ends well where these are all of it.
+fn check_taken<R: Threads + Sync + Abort>(
+    rt: &R,
+    alloc: Global,
+    run: &str,
+    mut sink: MemSink,
+    text: &[u8],
+    taken: usize,
+) -> Result<(), AllocError> {
+    let mut files = files_of(alloc, FILES)?;
+    let status = if taken < text.len() { WriteFault } else { Done };
+    let ended = run_into(rt, alloc, run, &mut files, &mut sink)?;
+    assert_eq!(rt; ended, status, "{run}: {taken} bytes");
+    assert_eq!(rt;
+        Some(sink.written()),
+        text.get(..taken),
+        "{run}: {taken} bytes"
+    );
+    Ok(())
+}
+
+// A sink that takes pieces of so many bytes, and whose write of this number fails.
+fn failing(alloc: Global, piece: usize, write: usize) -> Result<MemSink, AllocError> {
+    let mut sink = MemSink::new(alloc, 1000)?;
+    sink.piece(piece.max(1) as u64);
+    sink.fail_at(write as u64)?;
+    Ok(sink)
+}
+
 // Each write of a text, in pieces of so many bytes, fails in turn; a write after them is never made.
 fn check_writes<R: Threads + Sync + Abort>(
     rt: &R,
@@ -138,18 +187,8 @@ fn check_writes<R: Threads + Sync + Abort>(
 ) -> Result<(), AllocError> {
     let mut taken = 0usize;
     for write in 1..=text.len().div_ceil(piece.max(1)).saturating_add(1) {
-        let mut files = files_of(alloc, FILES)?;
-        let mut sink = MemSink::new(alloc, 1000)?;
-        sink.piece(piece.max(1) as u64);
-        sink.fail_at(write as u64)?;
-        let status = if taken < text.len() { WriteFault } else { Done };
-        let ended = run_into(rt, alloc, run, &mut files, &mut sink)?;
-        assert_eq!(rt; ended, status, "{run}: write {write}");
-        assert_eq!(rt;
-            Some(sink.written()),
-            text.get(..taken),
-            "{run}: write {write}"
-        );
+        let sink = failing(alloc, piece, write)?;
+        check_taken(rt, alloc, run, sink, text, taken)?;
         taken = taken.saturating_add(piece).min(text.len());
     }
     Ok(())
@@ -164,38 +203,43 @@ fn check_rooms<R: Threads + Sync + Abort>(
     text: &[u8],
 ) -> Result<(), AllocError> {
     for room in 0..=text.len() {
-        let mut files = files_of(alloc, FILES)?;
         let mut sink = MemSink::new(alloc, room as u64)?;
         sink.piece(piece.max(1));
-        let status = if room < text.len() { WriteFault } else { Done };
-        let ended = run_into(rt, alloc, run, &mut files, &mut sink)?;
-        assert_eq!(rt; ended, status, "{run}: room {room}");
-        assert_eq!(rt;
-            Some(sink.written()),
-            text.get(..room),
-            "{run}: room {room}"
-        );
+        check_taken(rt, alloc, run, sink, text, room)?;
     }
     Ok(())
 }
 
 #[test]
-fn sinks_that_fail_and_that_are_full(rt: HostRuntime) -> Result<(), Fail> {
-    let plan = printed(&rt, rt.alloc(), PLANNING)?;
-    let texts = [
-        (REPLAY, b"peak 11\n".as_slice()),
-        (PLANNING, plan.written()),
-        (SIMULATE, TIGHT.as_bytes()),
-        (SPILL, BOTH.as_bytes()),
-        (SEGMENTS, OF_FIVE.as_bytes()),
-        (FRONTS, ABREAST.as_bytes()),
-        (REDUCE, WORKFLOW.as_bytes()),
-    ];
-    for (run, text) in texts {
-        check_writes(&rt, rt.alloc(), run, 1, text)?;
-        check_writes(&rt, rt.alloc(), run, 5, text)?;
-        check_rooms(&rt, rt.alloc(), run, 1000, text)?;
-        check_rooms(&rt, rt.alloc(), run, 3, text)?;
+fn sinks_that_fail(rt: HostRuntime) -> Result<(), Fail> {
+    for (run, _loads, text) in RUNS {
+        check_writes(&rt, rt.alloc(), run, 1, text.as_bytes())?;
+        check_writes(&rt, rt.alloc(), run, 5, text.as_bytes())?;
     }
+    Ok(())
+}
+
+#[test]
+fn sinks_that_are_full(rt: HostRuntime) -> Result<(), Fail> {
+    for (run, _loads, text) in RUNS {
+        check_rooms(&rt, rt.alloc(), run, 1000, text.as_bytes())?;
+        check_rooms(&rt, rt.alloc(), run, 3, text.as_bytes())?;
+    }
+    Ok(())
+}
+
+#[test]
+fn sinks_of_a_plan_that_fail(rt: HostRuntime) -> Result<(), Fail> {
+    let plan = printed(&rt, rt.alloc(), PLANNING)?;
+    check_writes(&rt, rt.alloc(), PLANNING, 1, plan.written())?;
+    check_writes(&rt, rt.alloc(), PLANNING, 5, plan.written())?;
+    Ok(())
+}
+
+#[test]
+fn sinks_of_a_plan_that_are_full(rt: HostRuntime) -> Result<(), Fail> {
+    let plan = printed(&rt, rt.alloc(), PLANNING)?;
+    check_rooms(&rt, rt.alloc(), PLANNING, 1000, plan.written())?;
+    check_rooms(&rt, rt.alloc(), PLANNING, 3, plan.written())?;
     Ok(())
 }

@@ -41,12 +41,18 @@ struct Lines {
     tail: &'static str,
 }
 
+// What a line begins with.
+fn number_of(alloc: Global, lines: &Lines, place: u64) -> Result<String, AllocError> {
+    match lines.first {
+        Some(first) => format!(in alloc; "{}", first.saturating_add(place)),
+        None => Ok(String::new(alloc)),
+    }
+}
+
 fn text_of(alloc: Global, lines: &Lines) -> Result<String, AllocError> {
     let mut text = String::from_str(alloc, lines.head)?;
     for place in 0..lines.count {
-        if let Some(first) = lines.first {
-            text.push_str(&format!(in alloc; "{}", first.saturating_add(place))?)?;
-        }
+        text.push_str(&number_of(alloc, lines, place)?)?;
         text.push_str(lines.line)?;
     }
     text.push_str(lines.tail)?;

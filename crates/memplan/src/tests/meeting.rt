@@ -36,6 +36,38 @@ impl Gate for Meeting {
     }
 }
 
+// Where none has come yet.
+fn awaited() -> Meeting {
+    Meeting {
+        first: AtomicBool::new(false),
+        second: AtomicBool::new(false),
+        gave_up: AtomicBool::new(false),
+    }
+}
+
+// What a run prints that passes this gate.
+fn printed<R: Threads + Sync + Abort>(
+    rt: &R,
+    alloc: Global,
+    run: &str,
+    texts: &[(&str, &str)],
+    gate: &Meeting,
+) -> Result<MemSink, Fail> {
+    let mut files = files_of(alloc, texts)?;
+    let words = words_of(alloc, run)?;
+    let mut sink = MemSink::new(alloc, 100)?;
+    let status = run_words(rt, alloc, &words, &mut files, &mut sink, gate);
+    assert_eq!(rt; status, Status::Done);
+    Ok(sink)
+}
+
+// Both have come, and neither gave up.
+fn check_met(rt: &impl Abort, gate: &Meeting) {
+    assert!(rt; gate.first.load(Ordering::SeqCst));
+    assert!(rt; gate.second.load(Ordering::SeqCst));
+    assert!(rt; !gate.gave_up.load(Ordering::SeqCst));
+}
+
 // Both come, neither gives up, and the run prints this text.
 fn check_meeting<R: Threads + Sync + Abort>(
     rt: &R,
@@ -44,20 +76,10 @@ fn check_meeting<R: Threads + Sync + Abort>(
     texts: &[(&str, &str)],
     text: &str,
 ) -> Result<(), Fail> {
-    let gate = Meeting {
-        first: AtomicBool::new(false),
-        second: AtomicBool::new(false),
-        gave_up: AtomicBool::new(false),
-    };
-    let mut files = files_of(alloc, texts)?;
-    let words = words_of(alloc, run)?;
-    let mut sink = MemSink::new(alloc, 100)?;
-    let status = run_words(rt, alloc, &words, &mut files, &mut sink, &gate);
-    assert_eq!(rt; status, Status::Done);
+    let gate = awaited();
+    let sink = printed(rt, alloc, run, texts, &gate)?;
     assert_eq!(rt; sink.written(), text.as_bytes());
-    assert!(rt; gate.first.load(Ordering::SeqCst));
-    assert!(rt; gate.second.load(Ordering::SeqCst));
-    assert!(rt; !gate.gave_up.load(Ordering::SeqCst));
+    check_met(rt, &gate);
     Ok(())
 }
 

@@ -23,6 +23,47 @@ fn peak_of(plan: &[u8]) -> Option<&str> {
     Some(peak)
 }
 
+// The plan of an input, of so many bytes at most.
+fn plan_of<R: Threads + Sync + Abort>(
+    rt: &R,
+    alloc: Global,
+    input: &str,
+    files: &mut MemFiles,
+    most: u64,
+) -> Result<MemSink, AllocError> {
+    let run = format!(in alloc; "plan {input}")?;
+    let mut plan = MemSink::new(alloc, most)?;
+    let ended = run_into(rt, alloc, &run, files, &mut plan)?;
+    assert_eq!(rt; ended, Done, "{input}");
+    Ok(plan)
+}
+
+// The plan `made` of an input is accepted, with this peak.
+fn check_accepted<R: Threads + Sync + Abort>(
+    rt: &R,
+    alloc: Global,
+    input: &str,
+    files: &mut MemFiles,
+    peak: &str,
+) -> Result<(), AllocError> {
+    let run = format!(in alloc; "check {input} --plan made")?;
+    let text = format!(in alloc; "yes {peak}\n")?;
+    check_run(rt, alloc, &run, files, Done, &text)
+}
+
+// Its order has this peak.
+fn check_replayed<R: Threads + Sync + Abort>(
+    rt: &R,
+    alloc: Global,
+    input: &str,
+    files: &mut MemFiles,
+    peak: &str,
+) -> Result<(), AllocError> {
+    let run = format!(in alloc; "replay {input} --plan made")?;
+    let text = format!(in alloc; "peak {peak}\n")?;
+    check_run(rt, alloc, &run, files, Done, &text)
+}
+
 // The plan of an input, of so many bytes at most, is accepted, and its order has the peak that it states: this one, where one is given.
 pub fn check_plan<R: Threads + Sync + Abort>(
     rt: &R,
@@ -32,19 +73,12 @@ pub fn check_plan<R: Threads + Sync + Abort>(
     most: u64,
     expected: Option<&str>,
 ) -> Result<(), AllocError> {
-    let run = format!(in alloc; "plan {input}")?;
-    let mut plan = MemSink::new(alloc, most)?;
-    let ended = run_into(rt, alloc, &run, files, &mut plan)?;
-    assert_eq!(rt; ended, Done, "{input}");
+    let plan = plan_of(rt, alloc, input, files, most)?;
     let peak = peak_of(plan.written()).expect(rt, "a plan states its peak");
     assert_eq!(rt; expected.unwrap_or(peak), peak, "{input}");
     files.put("made", plan.written())?;
-    let run = format!(in alloc; "check {input} --plan made")?;
-    let text = format!(in alloc; "yes {peak}\n")?;
-    check_run(rt, alloc, &run, files, Done, &text)?;
-    let run = format!(in alloc; "replay {input} --plan made")?;
-    let text = format!(in alloc; "peak {peak}\n")?;
-    check_run(rt, alloc, &run, files, Done, &text)
+    check_accepted(rt, alloc, input, files, peak)?;
+    check_replayed(rt, alloc, input, files, peak)
 }
 
 // The most bytes of a plan of these inputs.
@@ -102,15 +136,23 @@ fn plans_as_files_and_as_json(rt: HostRuntime) -> Result<(), Fail> {
 
 // ---- random inputs
 
+fn made_tree(alloc: Global, seed: u64) -> Result<Report, Fail> {
+    let mut text = Report::new(alloc);
+    print_tree(&gen_tree(alloc, seed, 300)?, &mut text)?;
+    Ok(text)
+}
+
+fn made_workflow(alloc: Global, seed: u64) -> Result<Report, Fail> {
+    let mut text = Report::new(alloc);
+    print_workflow(&gen_workflow(alloc, seed, 300)?, &mut text)?;
+    Ok(text)
+}
+
 // Files of a tree and a workflow that a seed makes.
 fn made_files(alloc: Global, seed: u64) -> Result<MemFiles, Fail> {
     let mut files = MemFiles::new(alloc)?;
-    let mut text = Report::new(alloc);
-    print_tree(&gen_tree(alloc, seed, 300)?, &mut text)?;
-    files.put("t", text.bytes())?;
-    let mut text = Report::new(alloc);
-    print_workflow(&gen_workflow(alloc, seed, 300)?, &mut text)?;
-    files.put("w", text.bytes())?;
+    files.put("t", made_tree(alloc, seed)?.bytes())?;
+    files.put("w", made_workflow(alloc, seed)?.bytes())?;
     Ok(files)
 }
 

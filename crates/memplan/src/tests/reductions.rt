@@ -90,18 +90,28 @@ fn check_least<R: Threads + Sync + Abort>(
 // A chain of three.
 const CHAIN: &str = "graph 1\ntasks 3\n1 0 1\n2 0 1\n3 0 1\narcs 2\n1 2 5\n2 3 6\nend\n";
 
-// 1,000 tasks between a first and a last one, each of which takes up 3 and gives 4.
-fn fork(alloc: Global) -> Result<String, AllocError> {
-    let mut text = String::from_str(alloc, "graph 1\ntasks 1002\n")?;
+// 1,002 tasks that need nothing of their own.
+fn tasks_of_fork(alloc: Global) -> Result<String, AllocError> {
+    let mut text = String::from_str(alloc, "tasks 1002\n")?;
     for _ in 0..1002 {
         text.push_str("0 0 1\n")?;
     }
-    text.push_str("arcs 2000\n")?;
+    Ok(text)
+}
+
+// The arcs from the first task to each between, and on to the last.
+fn arcs_of_fork(alloc: Global) -> Result<String, AllocError> {
+    let mut text = String::from_str(alloc, "arcs 2000\n")?;
     for branch in 2..1002 {
         text.push_str(&format!(in alloc; "1 {branch} 3\n{branch} 1002 4\n")?)?;
     }
-    text.push_str("end\n")?;
     Ok(text)
+}
+
+// 1,000 tasks between a first and a last one, each of which takes up 3 and gives 4.
+fn fork(alloc: Global) -> Result<String, AllocError> {
+    let (tasks, arcs) = (tasks_of_fork(alloc)?, arcs_of_fork(alloc)?);
+    format!(in alloc; "graph 1\n{tasks}{arcs}end\n")
 }
 
 #[test]

@@ -99,23 +99,26 @@ fn chain_of_terms(alloc: Global) -> Result<String, AllocError> {
     Ok(text)
 }
 
-#[test]
-fn too_many_steps(rt: HostRuntime) -> Result<(), Fail> {
-    let alloc = rt.alloc();
-    // 4,500 * 4,501 / 2 is 10,127,250
+// A file of one name.
+fn file_of(alloc: Global, name: &str, text: &str) -> Result<MemFiles, AllocError> {
     let mut files = MemFiles::new(alloc)?;
-    files.put("t", chain(alloc)?.as_bytes())?;
-    files.put("w", chain_of_terms(alloc)?.as_bytes())?;
-    let refused = "refused limit tree steps\n";
-    check_run(&rt, alloc, "segments --tree t", &mut files, Limit, refused)?;
-    let refused = "refused limit workflow steps\n";
-    check_run(
-        &rt,
-        alloc,
-        "segments --workflow w",
-        &mut files,
-        Limit,
-        refused,
-    )?;
+    files.put(name, text.as_bytes())?;
+    Ok(files)
+}
+
+// 4,500 * 4,501 / 2 is 10,127,250
+#[test]
+fn too_many_steps_of_a_tree(rt: HostRuntime) -> Result<(), Fail> {
+    let (run, text) = ("segments --tree t", "refused limit tree steps\n");
+    let mut files = file_of(rt.alloc(), "t", &chain(rt.alloc())?)?;
+    check_run(&rt, rt.alloc(), run, &mut files, Limit, text)?;
+    Ok(())
+}
+
+#[test]
+fn too_many_steps_of_a_workflow(rt: HostRuntime) -> Result<(), Fail> {
+    let (run, text) = ("segments --workflow w", "refused limit workflow steps\n");
+    let mut files = file_of(rt.alloc(), "w", &chain_of_terms(rt.alloc())?)?;
+    check_run(&rt, rt.alloc(), run, &mut files, Limit, text)?;
     Ok(())
 }
