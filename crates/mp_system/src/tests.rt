@@ -110,31 +110,58 @@ fn memory_step_by_step(rt: HostRuntime) -> Result<(), Fail> {
 }
 
 #[test]
+fn items_that_are_there_at_the_start(rt: HostRuntime) -> Result<(), Fail> {
+    let system = stocked(rt.alloc())?;
+    assert_eq!(rt; Replay::new(rt.alloc(), &system)?.memory(), 9);
+    Ok(())
+}
+
+#[test]
 fn items_that_no_task_produces(rt: HostRuntime) -> Result<(), Fail> {
     let system = stocked(rt.alloc())?;
     let mut replay = Replay::new(rt.alloc(), &system)?;
-    assert_eq!(rt; replay.memory(), 9);
     assert_eq!(rt; (replay.step(&system, 1), replay.memory()), (Ok(13), 5));
     assert_eq!(rt; (replay.step(&system, 2), replay.memory()), (Ok(5), 2));
     Ok(())
 }
 
+// A kind of fault, its word, and a fault of it at place 3 in words.
+const WORDS: [(OrderKind, &str, &str); 4] = [
+    (OrderKind::Unknown, "unknown", "unknown at place 3"),
+    (OrderKind::Repeated, "repeated", "repeated at place 3"),
+    (OrderKind::TooEarly, "too-early", "too-early at place 3"),
+    (OrderKind::Missing, "missing", "missing at place 3"),
+];
+
 #[test]
-fn words_of_refusals(rt: HostRuntime) -> Result<(), Fail> {
-    let rows = [
-        (OrderKind::Unknown, "unknown", "unknown at place 3"),
-        (OrderKind::Repeated, "repeated", "repeated at place 3"),
-        (OrderKind::TooEarly, "too-early", "too-early at place 3"),
-        (OrderKind::Missing, "missing", "missing at place 3"),
-    ];
-    for (kind, word, text) in rows {
+fn words_of_kinds(rt: HostRuntime) -> Result<(), Fail> {
+    for (kind, word, _) in WORDS {
         assert_eq!(rt; kind.word(), word);
         assert_eq!(rt; format!(in rt.alloc(); "{kind}")?.as_str(), word);
+    }
+    Ok(())
+}
+
+#[test]
+fn words_of_faults(rt: HostRuntime) -> Result<(), Fail> {
+    for (kind, _, text) in WORDS {
         let fault = OrderFault { place: 3, kind };
         assert_eq!(rt; format!(in rt.alloc(); "{fault}")?.as_str(), text);
-        let refusal = ReplayRefusal::Order(fault);
+    }
+    Ok(())
+}
+
+#[test]
+fn words_of_refusals(rt: HostRuntime) -> Result<(), Fail> {
+    for (kind, _, text) in WORDS {
+        let refusal = ReplayRefusal::Order(OrderFault { place: 3, kind });
         assert_eq!(rt; format!(in rt.alloc(); "{refusal}")?.as_str(), text);
     }
+    Ok(())
+}
+
+#[test]
+fn words_of_want_of_memory(rt: HostRuntime) -> Result<(), Fail> {
     let refusal = ReplayRefusal::NoMemory;
     assert_eq!(rt; format!(in rt.alloc(); "{refusal}")?.as_str(), "no memory");
     Ok(())

@@ -127,6 +127,24 @@ const CASES: &[Case] = &[
     Case { matrix: GRID, order: CORNERS_FIRST, bound: 1000, workers: 4096, rows: GRID_ROWS, rounds: GRID_BY_FOUR, used: 32 },
 ];
 
+// The rows of each front.
+fn check_rows(rt: &impl Abort, made: &Fronts, wanted: &[&[u32]]) {
+    assert_eq!(rt; made.len() as usize, wanted.len());
+    for (s, rows) in wanted.iter().enumerate() {
+        assert!(rt; s < made.len() as usize);
+        assert_eq!(rt; made.rows(s as u32 + 1), *rows);
+    }
+}
+
+// The fronts of each round.
+fn check_rounds(rt: &impl Abort, made: &Fronts, wanted: &[&[u32]]) {
+    assert_eq!(rt; made.rounds() as usize, wanted.len());
+    for (r, round) in wanted.iter().enumerate() {
+        assert!(rt; r < made.rounds() as usize);
+        assert_eq!(rt; made.round(r as u32 + 1), *round);
+    }
+}
+
 fn check_case<R: Threads + Sync + Abort>(rt: &R, alloc: Global, case: &Case) -> Result<(), Fail> {
     assert!(rt; 1 <= case.workers && case.workers <= 4096);
     let made = fronts(
@@ -138,17 +156,9 @@ fn check_case<R: Threads + Sync + Abort>(rt: &R, alloc: Global, case: &Case) -> 
         case.workers,
         &NoGate,
     )??;
-    assert_eq!(rt; made.len() as usize, case.rows.len());
-    assert_eq!(rt; made.rounds() as usize, case.rounds.len());
+    check_rows(rt, &made, case.rows);
+    check_rounds(rt, &made, case.rounds);
     assert_eq!(rt; made.used(), case.used);
-    for (s, rows) in case.rows.iter().enumerate() {
-        assert!(rt; s < made.len() as usize);
-        assert_eq!(rt; made.rows(s as u32 + 1), *rows);
-    }
-    for (r, round) in case.rounds.iter().enumerate() {
-        assert!(rt; r < made.rounds() as usize);
-        assert_eq!(rt; made.round(r as u32 + 1), *round);
-    }
     Ok(())
 }
 

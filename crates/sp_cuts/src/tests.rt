@@ -111,13 +111,19 @@ fn least_peak(alloc: Global, system: &System) -> Result<u64, NoMemory> {
     Ok(best.last().copied().unwrap_or(0))
 }
 
-// The plan's peak, which is that of its order, and no traversal has a lower one.
-fn checked_peak(rt: &impl Abort, alloc: Global, terms: &Terms) -> Result<u64, Fail> {
-    let plan = planned(alloc, terms)?;
-    assert_eq!(rt; plan.part.peak, plan.peak);
+// The plan's peak is that of its order, and no traversal has a lower one.
+fn check_order(rt: &impl Abort, alloc: Global, terms: &Terms, plan: &Plan) -> Result<(), Fail> {
     let system = system_of(alloc, terms)?;
     assert_eq!(rt; replay(alloc, &system, &plan.order)?, plan.peak);
     assert_eq!(rt; least_peak(alloc, &system)?, plan.peak);
+    Ok(())
+}
+
+// The plan's peak, which is checked.
+fn checked_peak(rt: &impl Abort, alloc: Global, terms: &Terms) -> Result<u64, Fail> {
+    let plan = planned(alloc, terms)?;
+    assert_eq!(rt; plan.part.peak, plan.peak);
+    check_order(rt, alloc, terms, &plan)?;
     Ok(plan.peak)
 }
 

@@ -5,6 +5,7 @@ mod plain;
 use crate::{NoMemory, SpillRefusal, spill};
 use mp_system::{Item, OrderFault, OrderKind, System, Task};
 use std::alloc::Global;
+use std::process::Abort;
 use std::rt::HostRuntime;
 use std::test::Fail;
 
@@ -57,14 +58,6 @@ fn still(alloc: Global) -> Result<System, NoMemory> {
     Ok(System::new(tasks, items))
 }
 
-fn working_set(step: u64, need: u64, bound: u64) -> SpillRefusal {
-    SpillRefusal::WorkingSet { step, need, bound }
-}
-
-fn order_fault(place: u64, kind: OrderKind) -> SpillRefusal {
-    SpillRefusal::Order(OrderFault { place, kind })
-}
-
 #[test]
 fn volumes_and_amounts(rt: HostRuntime) -> Result<(), Fail> {
     let alloc = rt.alloc();
@@ -95,30 +88,65 @@ fn volumes_and_amounts(rt: HostRuntime) -> Result<(), Fail> {
     Ok(())
 }
 
-#[test]
+// An order, a bound, and how the two are refused, also in words.
+type Refused = (&'static [u32], u64, SpillRefusal, &'static str);
+
 #[rattlefmt::skip]
-fn refusals(rt: HostRuntime) -> Result<(), Fail> {
-    let alloc = rt.alloc();
-    let (tree, stocked, still) = (tree(alloc)?, stocked(alloc)?, still(alloc)?);
-    let rows: [(&System, &[u32], u64, SpillRefusal, &str); 10] = [
-        (&tree, &[1, 2, 3, 4, 5], 9, working_set(1, 10, 9), "working-set 1 10 9"),
-        (&tree, &[1, 3, 2, 4, 5], 0, working_set(1, 10, 0), "working-set 1 10 0"),
-        (&stocked, &[1, 2], 14, working_set(1, 15, 14), "working-set 1 15 14"),
-        (&still, &[1, 2], 6, working_set(2, 7, 6), "working-set 2 7 6"),
-        (&still, &[1, 2], 1, working_set(1, 2, 1), "working-set 1 2 1"),
-        (&tree, &[1, 1], 0, order_fault(2, OrderKind::Repeated), "repeated at place 2"),
-        (&tree, &[2, 1, 3, 4, 5], 0, order_fault(1, OrderKind::TooEarly), "too-early at place 1"),
-        (&tree, &[1, 2, 3, 4], 0, order_fault(5, OrderKind::Missing), "missing at place 5"),
-        (&tree, &[9], 99, order_fault(1, OrderKind::Unknown), "unknown at place 1"),
-        (&still, &[], 0, order_fault(1, OrderKind::Missing), "missing at place 1"),
-    ];
-    for (system, order, bound, refusal, text) in rows {
+const REFUSED_OF_TREE: &[Refused] = &[
+    (&[1, 2, 3, 4, 5], 9, SpillRefusal::WorkingSet { step: 1, need: 10, bound: 9 }, "working-set 1 10 9"),
+    (&[1, 3, 2, 4, 5], 0, SpillRefusal::WorkingSet { step: 1, need: 10, bound: 0 }, "working-set 1 10 0"),
+    (&[1, 1], 0, SpillRefusal::Order(OrderFault { place: 2, kind: OrderKind::Repeated }), "repeated at place 2"),
+    (&[2, 1, 3, 4, 5], 0, SpillRefusal::Order(OrderFault { place: 1, kind: OrderKind::TooEarly }), "too-early at place 1"),
+    (&[1, 2, 3, 4], 0, SpillRefusal::Order(OrderFault { place: 5, kind: OrderKind::Missing }), "missing at place 5"),
+    (&[9], 99, SpillRefusal::Order(OrderFault { place: 1, kind: OrderKind::Unknown }), "unknown at place 1"),
+];
+
+#[rattlefmt::skip]
+const REFUSED_OF_STOCKED: &[Refused] = &[
+    (&[1, 2], 14, SpillRefusal::WorkingSet { step: 1, need: 15, bound: 14 }, "working-set 1 15 14"),
+];
+
+#[rattlefmt::skip]
+const REFUSED_OF_STILL: &[Refused] = &[
+    (&[1, 2], 6, SpillRefusal::WorkingSet { step: 2, need: 7, bound: 6 }, "working-set 2 7 6"),
+    (&[1, 2], 1, SpillRefusal::WorkingSet { step: 1, need: 2, bound: 1 }, "working-set 1 2 1"),
+    (&[], 0, SpillRefusal::Order(OrderFault { place: 1, kind: OrderKind::Missing }), "missing at place 1"),
+];
+
+fn check_refused(
+    rt: &impl Abort,
+    alloc: Global,
+    system: &System,
+    rows: &[Refused],
+) -> Result<(), Fail> {
+    for &(order, bound, refusal, text) in rows {
         assert_eq!(rt; spill(alloc, system, order, bound).err(), Some(refusal));
         assert_eq!(rt; format!(in alloc; "{refusal}")?.as_str(), text);
     }
-    assert_eq!(rt;
-        format!(in alloc; "{}", SpillRefusal::NoMemory)?.as_str(),
-        "no memory"
-    );
+    Ok(())
+}
+
+#[test]
+fn refusals_of_a_tree(rt: HostRuntime) -> Result<(), Fail> {
+    let system = tree(rt.alloc())?;
+    check_refused(&rt, rt.alloc(), &system, REFUSED_OF_TREE)
+}
+
+#[test]
+fn refusals_where_items_are_there_from_the_start(rt: HostRuntime) -> Result<(), Fail> {
+    let system = stocked(rt.alloc())?;
+    check_refused(&rt, rt.alloc(), &system, REFUSED_OF_STOCKED)
+}
+
+#[test]
+fn refusals_where_an_item_stays(rt: HostRuntime) -> Result<(), Fail> {
+    let system = still(rt.alloc())?;
+    check_refused(&rt, rt.alloc(), &system, REFUSED_OF_STILL)
+}
+
+#[test]
+fn want_of_memory_is_told(rt: HostRuntime) -> Result<(), Fail> {
+    let refusal = SpillRefusal::NoMemory;
+    assert_eq!(rt; format!(in rt.alloc(); "{refusal}")?.as_str(), "no memory");
     Ok(())
 }

@@ -5,11 +5,11 @@ ghost use Rattle.std.specs.Prelude.{◌≡◌, ◌≤◌, ◌<◌, length};
 
 use super::{is_ready, memory, put, put_task, random_tree, small};
 use crate::tests::TWO_CHAINS;
-use crate::{Stairs, StairsRefusal, staircases};
+use crate::{NoMemory, Stairs, StairsRefusal, staircases};
 use hill_valley::Step;
 use mp_gen::gen_workflow;
 use mp_system::System;
-use sp_terms::{Position, TermBuilder, Terms, read_workflow, system_of, values};
+use sp_terms::{Position, TermBuilder, Terms, Values, read_workflow, system_of, values};
 use std::alloc::Global;
 use std::marker::Brand;
 use std::process::Abort;
@@ -113,22 +113,31 @@ fn total(found: &[Stairs]) -> u64 {
 }
 
 #[test]
-fn too_many_steps_pass_the_limit(rt: HostRuntime) -> Result<(), Fail> {
+fn as_many_steps_as_the_limit_lets_through(rt: HostRuntime) -> Result<(), Fail> {
     let alloc = rt.alloc();
     // 4,471 * 4,472 / 2
     let found = walked(alloc, &chain(alloc, 4_471)?)?;
     assert_eq!(rt; total(&found), 9_997_156);
+    Ok(())
+}
+
+#[test]
+fn too_many_steps_pass_the_limit(rt: HostRuntime) -> Result<(), Fail> {
+    let alloc = rt.alloc();
     // 4,472 * 4,473 / 2 is 10,001,628
     let refused = walked(alloc, &chain(alloc, 4_472)?).err();
     assert_eq!(rt; refused, Some(StairsRefusal::Limit));
-    assert_eq!(rt;
-        format!(in alloc; "{}", StairsRefusal::Limit)?.as_str(),
-        "limit steps"
-    );
-    assert_eq!(rt;
-        format!(in alloc; "{}", StairsRefusal::NoMemory)?.as_str(),
-        "no memory"
-    );
+    Ok(())
+}
+
+#[test]
+fn refusals_are_told(rt: HostRuntime) -> Result<(), Fail> {
+    for (refusal, words) in [
+        (StairsRefusal::Limit, "limit steps"),
+        (StairsRefusal::NoMemory, "no memory"),
+    ] {
+        assert_eq!(rt; format!(in rt.alloc(); "{refusal}")?.as_str(), words);
+    }
     Ok(())
 }
 
@@ -184,30 +193,58 @@ fn backwards(system: &System, back: &[u64], all: usize, set: usize) -> u64 {
     least.max(memory(system, set, set))
 }
 
-// Those of a system of at most twelve tasks. The sets before a set have smaller numbers, and those
-// behind it have smaller complements.
-fn search(alloc: Global, system: &System) -> Result<Reached, Fail> {
-    let all = (1usize << system.tasks().len().min(12)) - 1;
-    let mut found = Reached {
-        memory: Vec::new(alloc),
-        front: Vec::new(alloc),
-        back: Vec::new(alloc),
-    };
-    let mut behind = Vec::new(alloc);
-    for set in 0..=all {
-        let front = forwards(system, &found.front, set);
-        found.front.push(front)?;
-        found.memory.push(memory(system, set, set))?;
-        let back = backwards(system, &behind, all, all - set);
-        behind.push(back)?;
-    }
-    // a set that no traversal passes is not reached from behind either
-    for (back, front) in behind.iter().rev().zip(&found.front) {
-        found
-            .back
-            .push(if *front == u64::MAX { u64::MAX } else { *back })?;
+// The set of all tasks, of which there are at most twelve.
+fn all_tasks(system: &System) -> usize {
+    (1usize << system.tasks().len().min(12)) - 1
+}
+
+// The memory of each set.
+fn memories(alloc: Global, system: &System) -> Result<Vec<u64>, NoMemory> {
+    let mut found = Vec::new(alloc);
+    for set in 0..=all_tasks(system) {
+        found.push(memory(system, set, set))?;
     }
     Ok(found)
+}
+
+// Each set from the first state on. The sets before a set have smaller numbers.
+fn fronts(alloc: Global, system: &System) -> Result<Vec<u64>, NoMemory> {
+    let mut found = Vec::new(alloc);
+    for set in 0..=all_tasks(system) {
+        let front = forwards(system, &found, set);
+        found.push(front)?;
+    }
+    Ok(found)
+}
+
+// Each set from the last state back, that of all tasks first. The sets behind a set have smaller complements.
+fn falling_backs(alloc: Global, system: &System) -> Result<Vec<u64>, NoMemory> {
+    let all = all_tasks(system);
+    let mut found = Vec::new(alloc);
+    for set in 0..=all {
+        let back = backwards(system, &found, all, all - set);
+        found.push(back)?;
+    }
+    Ok(found)
+}
+
+// A set that no traversal passes is not reached from behind either.
+fn backs(alloc: Global, falling: &[u64], fronts: &[u64]) -> Result<Vec<u64>, NoMemory> {
+    let mut found = Vec::new(alloc);
+    for (back, front) in falling.iter().rev().zip(fronts) {
+        found.push(if *front == u64::MAX { u64::MAX } else { *back })?;
+    }
+    Ok(found)
+}
+
+fn search(alloc: Global, system: &System) -> Result<Reached, NoMemory> {
+    let front = fronts(alloc, system)?;
+    let falling = falling_backs(alloc, system)?;
+    Ok(Reached {
+        memory: memories(alloc, system)?,
+        back: backs(alloc, &falling, &front)?,
+        front,
+    })
 }
 
 // The least memory of a set that is reached within a bound.
@@ -264,6 +301,25 @@ fn term_at(alloc: Global, terms: &Terms, position: u32, width: u32) -> Result<Te
     Ok(builder.finish().ok().ok_or("one term")?)
 }
 
+// The staircases of this whole term are those that the search finds.
+fn check_whole(
+    rt: &impl Abort,
+    alloc: Global,
+    term: &Terms,
+    own: Values,
+    stairs: &Stairs,
+) -> Result<(), Fail> {
+    let system = system_of(alloc, term)?;
+    let Reached {
+        memory,
+        front,
+        back,
+    } = search(alloc, &system)?;
+    assert_staircase(rt, &stairs.front, own.initial, &memory, &front);
+    assert_staircase(rt, &stairs.back, own.fin, &memory, &back);
+    Ok(())
+}
+
 // All staircases of a term, whose numbers are small, are those that the search finds.
 fn check_stairs(rt: &impl Abort, alloc: Global, terms: &Terms) -> Result<(), Fail> {
     let found = walked(alloc, terms)?;
@@ -274,16 +330,7 @@ fn check_stairs(rt: &impl Abort, alloc: Global, terms: &Terms) -> Result<(), Fai
         let own = values[i];
         let position = terms.len().min(i as u32 + 1);
         let term = term_at(alloc, terms, position, own.width)?;
-        let system = system_of(alloc, &term)?;
-        let reached = search(alloc, &system)?;
-        assert_staircase(
-            rt,
-            &stairs.front,
-            own.initial,
-            &reached.memory,
-            &reached.front,
-        );
-        assert_staircase(rt, &stairs.back, own.fin, &reached.memory, &reached.back);
+        check_whole(rt, alloc, &term, own, stairs)?;
     }
     Ok(())
 }
