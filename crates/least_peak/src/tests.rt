@@ -21,7 +21,8 @@ const BRANCHES: &[u8] =
 // There are so many tasks.
 fn check_count(rt: &impl Abort, alloc: Global, problem: &Problem, tasks: u32) -> Result<(), Fail> {
     assert_eq!(rt; problem.task_count(), tasks);
-    assert_eq!(rt; problem.system(alloc)?.tasks().len(), tasks as usize);
+    let system = problem.system(alloc)?;
+    assert_eq!(rt; system.tasks().len(), tasks as usize);
     Ok(())
 }
 
@@ -64,7 +65,8 @@ fn check_plan<R: Abort + Threads + Sync>(
     let plan = problem.plan(alloc)?;
     check_peak(rt, alloc, &problem, &plan, peak)?;
     check_accepted(rt, alloc, &problem, &plan, peak)?;
-    assert_eq!(rt; problem.into_plan(alloc)?.peak(), peak);
+    let plan = problem.into_plan(alloc)?;
+    assert_eq!(rt; plan.peak(), peak);
     Ok(())
 }
 

@@ -54,14 +54,16 @@ fn a_tree_is_read_as_it_was_printed(rt: HostRuntime) -> Result<(), Fail> {
     let tree = gen_tree(alloc, 7, 100)?;
     let mut report = Report::new(alloc);
     print_tree(&tree, &mut report)?;
-    assert_eq!(rt; read_tree(alloc, report.bytes())?.nodes(), tree.nodes());
+    let again = read_tree(alloc, report.bytes())?;
+    assert_eq!(rt; again.nodes(), tree.nodes());
     Ok(())
 }
 
 #[test]
 fn a_seed_has_its_workflow(rt: HostRuntime) -> Result<(), Fail> {
     let alloc = rt.alloc();
-    assert_eq!(rt; gen_workflow(alloc, 1, 1)?.len(), 3);
+    let least = gen_workflow(alloc, 1, 1)?;
+    assert_eq!(rt; least.len(), 3);
     // the last task takes two terms that stand, as its word is even
     let four =
         "workflow 1\ntasks 4\ndata 765\ndata 656\ntask 427 7\ndata 900\ndata 875\ntask 43 10\ndata 866\ndata 997\ntask 720 13\n\

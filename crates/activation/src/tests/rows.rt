@@ -55,7 +55,8 @@ fn check_run(rt: &impl Abort, alloc: Global, given: Given, wanted: &str) -> Resu
     requires { (1 ≤ given.workers) × (given.workers ≤ most_workers) }
 {
     let trace = compare(rt, alloc, given)?;
-    assert_eq!(rt; line_of(alloc, &trace)?.as_str(), wanted);
+    let found = line_of(alloc, &trace)?;
+    assert_eq!(rt; found.as_str(), wanted);
     Ok(())
 }
 
