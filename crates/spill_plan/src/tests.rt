@@ -58,34 +58,64 @@ fn still(alloc: Global) -> Result<System, NoMemory> {
     Ok(System::new(tasks, items))
 }
 
-#[test]
-fn volumes_and_amounts(rt: HostRuntime) -> Result<(), Fail> {
-    let alloc = rt.alloc();
-    let (tree, stocked, still) = (tree(alloc)?, stocked(alloc)?, still(alloc)?);
-    let rows: [(&System, &[u32], u64, u64, &[u64]); 15] = [
-        (&tree, &[1, 2, 3, 4, 5], 15, 0, &[0, 0, 0, 0, 0]),
-        (&tree, &[1, 2, 3, 4, 5], 11, 4, &[0, 4, 0, 0, 0]),
-        (&tree, &[1, 2, 3, 4, 5], 10, 5, &[0, 5, 0, 0, 0]),
-        (&tree, &[1, 3, 2, 4, 5], 11, 0, &[0, 0, 0, 0, 0]),
-        (&tree, &[1, 3, 2, 4, 5], 10, 2, &[1, 1, 0, 0, 0]),
-        (&tree, &[1, 2, 3, 4, 5], u64::MAX, 0, &[0, 0, 0, 0, 0]),
-        // at its first step 15 and the 7 and 2 that are there, at its second 14 and 2 and 8
-        (&stocked, &[1, 2], 24, 0, &[0, 0, 0, 0]),
-        (&stocked, &[1, 2], 23, 1, &[0, 0, 1, 0]),
-        (&stocked, &[1, 2], 22, 2, &[0, 0, 2, 0]),
-        (&stocked, &[1, 2], 21, 4, &[0, 1, 2, 1]),
-        (&stocked, &[1, 2], 15, 16, &[0, 7, 2, 7]),
-        (&still, &[1, 2], 10, 0, &[0, 0]),
-        (&still, &[1, 2], 9, 1, &[0, 1]),
-        (&still, &[1, 2], 7, 3, &[0, 3]),
-        (&still, &[1, 2], u64::MAX, 0, &[0, 0]),
-    ];
-    for (system, order, bound, volume, amounts) in rows {
-        let found = spill(alloc, system, order, bound)?;
-        assert_eq!(rt; found.volume, volume, "{order:?} {bound}");
-        assert_eq!(rt; found.amounts.as_slice(), amounts, "{order:?} {bound}");
+// An order, a bound, the least volume, and the amounts.
+type Spilled = (&'static [u32], u64, u64, &'static [u64]);
+
+const OF_TREE: &[Spilled] = &[
+    (&[1, 2, 3, 4, 5], 15, 0, &[0, 0, 0, 0, 0]),
+    (&[1, 2, 3, 4, 5], 11, 4, &[0, 4, 0, 0, 0]),
+    (&[1, 2, 3, 4, 5], 10, 5, &[0, 5, 0, 0, 0]),
+    (&[1, 3, 2, 4, 5], 11, 0, &[0, 0, 0, 0, 0]),
+    (&[1, 3, 2, 4, 5], 10, 2, &[1, 1, 0, 0, 0]),
+    (&[1, 2, 3, 4, 5], u64::MAX, 0, &[0, 0, 0, 0, 0]),
+];
+
+// At the first step there are 15 and the 7 and 2 that are there, at the second 14 and 2 and 8.
+const OF_STOCKED: &[Spilled] = &[
+    (&[1, 2], 24, 0, &[0, 0, 0, 0]),
+    (&[1, 2], 23, 1, &[0, 0, 1, 0]),
+    (&[1, 2], 22, 2, &[0, 0, 2, 0]),
+    (&[1, 2], 21, 4, &[0, 1, 2, 1]),
+    (&[1, 2], 15, 16, &[0, 7, 2, 7]),
+];
+
+const OF_STILL: &[Spilled] = &[
+    (&[1, 2], 10, 0, &[0, 0]),
+    (&[1, 2], 9, 1, &[0, 1]),
+    (&[1, 2], 7, 3, &[0, 3]),
+    (&[1, 2], u64::MAX, 0, &[0, 0]),
+];
+
+fn check_spilled(
+    rt: &impl Abort,
+    alloc: Global,
+    system: &System,
+    rows: &[Spilled],
+) -> Result<(), Fail> {
+    for (order, bound, volume, amounts) in rows {
+        let found = spill(alloc, system, order, *bound)?;
+        assert_eq!(rt; found.volume, *volume, "{order:?} {bound}");
+        assert_eq!(rt; found.amounts.as_slice(), *amounts, "{order:?} {bound}");
     }
     Ok(())
+}
+
+#[test]
+fn volumes_and_amounts_of_a_tree(rt: HostRuntime) -> Result<(), Fail> {
+    let system = tree(rt.alloc())?;
+    check_spilled(&rt, rt.alloc(), &system, OF_TREE)
+}
+
+#[test]
+fn volumes_where_items_are_there_from_the_start(rt: HostRuntime) -> Result<(), Fail> {
+    let system = stocked(rt.alloc())?;
+    check_spilled(&rt, rt.alloc(), &system, OF_STOCKED)
+}
+
+#[test]
+fn volumes_where_an_item_stays(rt: HostRuntime) -> Result<(), Fail> {
+    let system = still(rt.alloc())?;
+    check_spilled(&rt, rt.alloc(), &system, OF_STILL)
 }
 
 // An order, a bound, and how the two are refused, also in words.

@@ -113,16 +113,25 @@ const RANKED: &str = "4 6 6 0a1 0a2 0a3 0a4 0s3 1f3 1s2 2f2 2s1 3f1 3s4 4f4";
 const IN_PLACE: &str = "4 4 4 0a1 0s1 1f1 1a2 1s2 2f2 2a3 2s3 4f3";
 
 #[test]
-fn runs_of_other_systems(rt: HostRuntime) -> Result<(), Fail> {
-    let alloc = rt.alloc();
-    let (star, arrow, still) = (star(alloc)?, arrow(alloc)?, still(alloc)?);
+fn a_star_by_a_priority(rt: HostRuntime) -> Result<(), Fail> {
+    let star = star(rt.alloc())?;
     let ranked = Given {
         priority: &[3, 2, 1, 4],
         ..along(&star, &[1, 2, 3, 4], 6, 1)
     };
-    check_run(&rt, alloc, ranked, RANKED)?;
-    check_run(&rt, alloc, along(&arrow, &[1, 2, 3], 4, 2), IN_PLACE)?;
-    check_run(&rt, alloc, along(&still, &[], 20, 1), "0 20 20")
+    check_run(&rt, rt.alloc(), ranked, RANKED)
+}
+
+#[test]
+fn items_taken_over_in_place(rt: HostRuntime) -> Result<(), Fail> {
+    let arrow = arrow(rt.alloc())?;
+    check_run(&rt, rt.alloc(), along(&arrow, &[1, 2, 3], 4, 2), IN_PLACE)
+}
+
+#[test]
+fn items_without_a_task(rt: HostRuntime) -> Result<(), Fail> {
+    let still = still(rt.alloc())?;
+    check_run(&rt, rt.alloc(), along(&still, &[], 20, 1), "0 20 20")
 }
 
 fn no_traversal(place: u64, kind: OrderKind) -> CoreRefusal {
@@ -133,27 +142,50 @@ fn below(bound: u64, peak: u64) -> CoreRefusal {
     CoreRefusal::BoundBelow { bound, peak }
 }
 
+// Why there is no core of two workers for an order and a bound.
+fn refusal_of(alloc: Global, system: &System, order: &[u32], bound: u64) -> Option<CoreRefusal> {
+    Core::new(alloc, system, order, bound, 2).err()
+}
+
+// Orders of the tree, bounds, and the peak where that is above the bound.
+const BOUNDS: &[([u32; 5], u64, Option<u64>)] = &[
+    ([1, 3, 2, 4, 5], 11, None),
+    ([1, 3, 2, 4, 5], 10, Some(11)),
+    ([1, 2, 3, 4, 5], 11, Some(15)),
+];
+
 #[test]
-fn orders_and_bounds_that_are_refused(rt: HostRuntime) -> Result<(), Fail> {
-    let alloc = rt.alloc();
-    let (tree, arrow) = (tree(alloc)?, arrow(alloc)?);
-    let unknown = no_traversal(1, OrderKind::Unknown);
-    let early = no_traversal(1, OrderKind::TooEarly);
-    let repeated = no_traversal(2, OrderKind::Repeated);
-    let missing = no_traversal(5, OrderKind::Missing);
-    let rows: [(&System, &[u32], u64, Option<CoreRefusal>); 8] = [
-        (&tree, &[1, 3, 2, 4, 5], 11, None),
-        (&tree, &[1, 3, 2, 4, 5], 10, Some(below(10, 11))),
-        (&tree, &[1, 2, 3, 4, 5], 11, Some(below(11, 15))),
-        (&tree, &[1, 1], 0, Some(repeated)),
-        (&tree, &[9], 99, Some(unknown)),
-        (&tree, &[1, 2, 3, 4], 99, Some(missing)),
-        (&tree, &[2, 1, 3, 4, 5], 99, Some(early)),
-        (&arrow, &[1, 2, 3], 3, Some(below(3, 4))),
-    ];
-    for (system, order, bound, answer) in rows {
-        let core = Core::new(alloc, system, order, bound, 2);
-        assert_eq!(rt; core.err(), answer);
+fn bounds_that_are_refused(rt: HostRuntime) -> Result<(), Fail> {
+    let tree = tree(rt.alloc())?;
+    for (order, bound, peak) in BOUNDS {
+        let refusal = peak.map(|peak| below(*bound, peak));
+        assert_eq!(rt; refusal_of(rt.alloc(), &tree, order, *bound), refusal);
+    }
+    Ok(())
+}
+
+#[test]
+fn a_bound_below_the_peak_in_place(rt: HostRuntime) -> Result<(), Fail> {
+    let arrow = arrow(rt.alloc())?;
+    let refusal = refusal_of(rt.alloc(), &arrow, &[1, 2, 3], 3);
+    assert_eq!(rt; refusal, Some(below(3, 4)));
+    Ok(())
+}
+
+// Orders that are no traversal of the tree, with bounds, and the first place that is wrong.
+const NO_TRAVERSALS: &[(&[u32], u64, u64, OrderKind)] = &[
+    (&[1, 1], 0, 2, OrderKind::Repeated),
+    (&[9], 99, 1, OrderKind::Unknown),
+    (&[1, 2, 3, 4], 99, 5, OrderKind::Missing),
+    (&[2, 1, 3, 4, 5], 99, 1, OrderKind::TooEarly),
+];
+
+#[test]
+fn orders_that_are_refused(rt: HostRuntime) -> Result<(), Fail> {
+    let tree = tree(rt.alloc())?;
+    for &(order, bound, place, kind) in NO_TRAVERSALS {
+        let refusal = refusal_of(rt.alloc(), &tree, order, bound);
+        assert_eq!(rt; refusal, Some(no_traversal(place, kind)));
     }
     Ok(())
 }
@@ -180,12 +212,10 @@ fn sums(core: &Core) -> (u64, u64, u32) {
     (core.used(), core.booked(), core.activated())
 }
 
-#[test]
-fn a_core_activates_what_fits(rt: HostRuntime) -> Result<(), Fail> {
-    let mut core = tree_core(rt.alloc())?;
+// Only task 1 fits at first.
+fn activate_one(rt: &impl Abort, core: &mut Core) {
     assert_eq!(rt; (core.activate(), core.activate()), (Some(1), None));
-    assert_eq!(rt; sums(&core), (0, 10, 1));
-    Ok(())
+    assert_eq!(rt; sums(core), (0, 10, 1));
 }
 
 // Whether a task starts, how many run then, whether it finishes, and whether it is done.
@@ -197,7 +227,14 @@ fn tried(core: &mut Core, task: u32) -> (bool, usize, bool, bool) {
 }
 
 // A task, whether it starts and finishes, and then used, booked and activated.
-const EVENTS: [(u32, bool, (u64, u64, u32)); 6] = [
+type Tried = (u32, bool, (u64, u64, u32));
+
+fn check_event(rt: &impl Abort, core: &mut Core, (task, runs, memory): Tried) {
+    assert_eq!(rt; tried(core, task), (runs, usize::from(runs), runs, runs));
+    assert_eq!(rt; sums(core), memory);
+}
+
+const EVENTS: [Tried; 6] = [
     (0, false, (0, 10, 1)),
     (6, false, (0, 10, 1)),
     (3, false, (0, 10, 1)),
@@ -209,10 +246,9 @@ const EVENTS: [(u32, bool, (u64, u64, u32)); 6] = [
 #[test]
 fn a_core_event_by_event(rt: HostRuntime) -> Result<(), Fail> {
     let mut core = tree_core(rt.alloc())?;
-    assert_eq!(rt; (core.activate(), core.activate()), (Some(1), None));
-    for (task, runs, memory) in EVENTS {
-        let wanted = (runs, usize::from(runs), runs, runs);
-        assert_eq!(rt; (tried(&mut core, task), sums(&core)), (wanted, memory));
+    activate_one(&rt, &mut core);
+    for event in EVENTS {
+        check_event(&rt, &mut core, event);
     }
     Ok(())
 }
