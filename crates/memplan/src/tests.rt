@@ -109,12 +109,6 @@ fn run_into<R: Threads + Sync, F: Files>(
     Ok(run_words(rt, alloc, &words, files, sink, &NoGate))
 }
 
-// The status of a run and what it wrote are these.
-fn check_end(rt: &impl Abort, run: &str, ended: (Status, &[u8]), wanted: (Status, &str)) {
-    assert_eq!(rt; ended.0, wanted.0, "{run}: {}", wanted.1);
-    assert_eq!(rt; ended.1, wanted.1.as_bytes(), "{run}: {}", wanted.1);
-}
-
 // Whether a run over these files ends with this status, and writes this text and no more.
 fn check_run<R: Threads + Sync + Abort, F: Files>(
     rt: &R,
@@ -126,7 +120,8 @@ fn check_run<R: Threads + Sync + Abort, F: Files>(
 ) -> Result<(), AllocError> {
     let mut sink = MemSink::new(alloc, 1000)?;
     let ended = run_into(rt, alloc, run, files, &mut sink)?;
-    check_end(rt, run, (ended, sink.written()), (status, text));
+    assert_eq!(rt; ended, status, "{run}: {text}");
+    assert_eq!(rt; sink.written(), text.as_bytes(), "{run}: {text}");
     Ok(())
 }
 
