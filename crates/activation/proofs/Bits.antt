@@ -6,7 +6,7 @@ use Rattle.std.proofs.lemmas.List.{get_or_past, get_or-set_same, get_or-set_othe
 use Rattle.std.proofs.lemmas.Nat.Bits.{bit_at-zero, bit_at_set_same, bit_at_set_other, bit_at_clear_same, bit_at_clear_other, bit_at-trailing_zeros}
 use Rattle.std.proofs.lemmas.List.{same_lists, length-set}
 use Rattle.std.proofs.lemmas.List.FromFn.{get_or-map-range_with_len, length-map-range_with_len}
-use Rattle.activation.specs.Bits.{bit_in, IsFirstWord, IsEmptyRow, IsFirstWith, IsSummary, ranks_in, IsFirstRank, AreBitRows}
+use Rattle.activation.specs.Bits.{bit_in, IsFirstWord, IsEmptyRow, IsFirstWith, IsUpperRow, ranks_in, IsFirstRank, AreRankBits}
 
 -- whether a word has the bit at a place
 abbrev word_has : ℕ → ℕ → Bool
@@ -83,7 +83,7 @@ first_in_word row k first fits =
 
 -- ---- rows that tell of another
 
-module _ {low high : List ℕ} (s : IsSummary low high) where
+module _ {low high : List ℕ} (s : IsUpperRow low high) where
   word_none : (k : ℕ) → bit_in high k ≡ false → get_or low k 0 ≡ 0
   word_none k e = elim (cases_eq (get_or low k 0) 0) [
     | inl z ↦ z
@@ -104,8 +104,8 @@ module _ {low high : List ℕ} (s : IsSummary low high) where
   none_below empty = record { none = λ k. word_none k (bit_of_none high k (empty.none (k / 64))) }
 
 -- one word is written anew, and the row above tells of it
-pub summary_kept : (low high low' high' : List ℕ) (k : ℕ) → IsSummary low high → ((j : ℕ) → j ≢ k → get_or low' j 0 ≡ get_or low j 0) →
-    bit_in high' k ≡ not (eqb (get_or low' k 0) 0) → ((j : ℕ) → j ≢ k → bit_in high' j ≡ bit_in high j) → IsSummary low' high'
+pub summary_kept : (low high low' high' : List ℕ) (k : ℕ) → IsUpperRow low high → ((j : ℕ) → j ≢ k → get_or low' j 0 ≡ get_or low j 0) →
+    bit_in high' k ≡ not (eqb (get_or low' k 0) 0) → ((j : ℕ) → j ≢ k → bit_in high' j ≡ bit_in high j) → IsUpperRow low' high'
 summary_kept low high low' high' k s same here others = record {
   bits = λ j. elim (cases_eq j k) [
     | inl e ↦ ap (bit_in high') e ∙ here ∙ ap (λ z. not (eqb (get_or low' z 0) 0)) (sym e)
@@ -113,7 +113,7 @@ summary_kept low high low' high' k s same here others = record {
   ];
 }
 
-pub summary_start : (m n : ℕ) → IsSummary (replicate m 0) (replicate n 0)
+pub summary_start : (m n : ℕ) → IsUpperRow (replicate m 0) (replicate n 0)
 summary_start m n = record {
   bits = λ k. bit_zeros n k ∙ ap (λ z. not (eqb z 0)) (sym (word_zeros m k));
 }
@@ -148,7 +148,7 @@ ranks_none count n =
     let within : k < count = omega arith in
     get_or-map-range_with_len (bit_in (replicate n 0)) 0 count k k d within (omega arith) ∙ bit_zeros n k ∙ sym (get_or-replicate count k false d within))
 
-module _ {count : ℕ} {words groups tops : List ℕ} (a : AreBitRows count words groups tops) where
+module _ {count : ℕ} {words groups tops : List ℕ} (a : AreRankBits count words groups tops) where
   -- the bit that is found is that of the first rank
   pub first_rank : (r : ℕ) → IsFirstWith (bit_in words) r → IsFirstRank (ranks_in count words) r
   first_rank r first =
@@ -171,7 +171,7 @@ module _ {count : ℕ} {words groups tops : List ℕ} (a : AreBitRows count word
       bit_in groups' (rank / 64) ≡ not (eqb (get_or words' (rank / 64) 0) 0) → ((y : ℕ) → y ≢ rank / 64 → bit_in groups' y ≡ bit_in groups y) →
       ((k : ℕ) → k ≢ rank / 64 / 64 → get_or groups' k 0 ≡ get_or groups k 0) →
       bit_in tops' (rank / 64 / 64) ≡ not (eqb (get_or groups' (rank / 64 / 64) 0) 0) → ((y : ℕ) → y ≢ rank / 64 / 64 → bit_in tops' y ≡ bit_in tops y) →
-      AreBitRows count words' groups' tops'
+      AreRankBits count words' groups' tops'
   rows_put rank words' groups' tops' lt lw lg lt' others same gh go gs th to = record {
     small = a.small;
     words_long = lw ∙ a.words_long;

@@ -26,7 +26,7 @@ pub record IsFirstWith (has : ℕ → Bool) (x : ℕ) : Type 0 where
   pub first : (y : ℕ) → y < x → has y ≡ false
 
 -- the upper row has the bits of the words of the lower one that are not 0
-pub record IsSummary (low high : List ℕ) : Type 0 where
+pub record IsUpperRow (low high : List ℕ) : Type 0 where
   pub bits : (k : ℕ) → bit_in high k ≡ not (slice_index low k == 0)
 
 -- a set of ranks as contracts see it: for each rank whether it is in
@@ -40,11 +40,11 @@ pub record IsFirstRank (ranks : List Bool) (r : ℕ) : Type 0 where
   pub first : (q : ℕ) → q < r → slice_index_or ranks q false ≡ false
 
 -- the rows of a set of ranks below `count`
-pub record AreBitRows (count : ℕ) (words groups tops : List ℕ) : Type 0 where
+pub record AreRankBits (count : ℕ) (words groups tops : List ℕ) : Type 0 where
   pub small : count ≤ 2 ^ 32
   pub words_long : length words ≡ count / 64 + 1
   pub groups_long : length groups ≡ count / 64 / 64 + 1
   pub tops_long : length tops ≡ count / 64 / 64 / 64 + 1
-  pub groups_are : IsSummary words groups
-  pub tops_are : IsSummary groups tops
+  pub groups_are : IsUpperRow words groups
+  pub tops_are : IsUpperRow groups tops
   pub within : (x : ℕ) → count ≤ x → bit_in words x ≡ false

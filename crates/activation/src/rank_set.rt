@@ -18,13 +18,13 @@ pub struct RankSet {
 
 impl Model for RankSet {
     ghost use Rattle.std.specs.Prelude.{List, Bool};
-    ghost use Rattle.activation.specs.Bits.{ranks_in, AreBitRows};
+    ghost use Rattle.activation.specs.Bits.{ranks_in, AreRankBits};
 
     ghost Value = { List Bool };
 
     ghost view = { λ s. ranks_in s.count s.words.items };
 
-    ghost invariant = { λ s. AreBitRows s.count s.words.items s.groups.items s.tops.items };
+    ghost invariant = { λ s. AreRankBits s.count s.words.items s.groups.items s.tops.items };
 }
 
 // Puts the bit of x into a row, or takes it out.

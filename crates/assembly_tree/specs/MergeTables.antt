@@ -62,6 +62,6 @@ AreNewNumbers supers numbers = (name : ℕ → ℕ) → AreNames supers name →
     (s : ℕ) → s ≤ length supers → slice_index numbers s ≡ new_number supers (name s)
 
 -- the numbers of the supernodes that are left, by old number; from above `done` on, merged ones have the number of where they stand
-pub record AreNumbers (supers : List Super) (numbers : List ℕ) (name : ℕ → ℕ) (done : ℕ) : Type 0 where
+pub record AreNumbersSoFar (supers : List Super) (numbers : List ℕ) (name : ℕ → ℕ) (done : ℕ) : Type 0 where
   pub earlier : (s : ℕ) → s ≤ done → slice_index numbers s ≡ new_number supers s
   pub later : (s : ℕ) → done < s → s ≤ length supers → slice_index numbers s ≡ new_number supers (name s)

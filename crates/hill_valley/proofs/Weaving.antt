@@ -7,7 +7,7 @@ use Rattle.hill_valley.specs.declared.side.Seg.{Seg}
 use Rattle.hill_valley.specs.Ropes.{IsRope, Extends}
 use Rattle.hill_valley.specs.Side.{profile, AllUpsWithin, IsSide, HaveRopes, Run, run_of, runs_of, run_numbers, run_profile, join_runs, insert_run, move_runs}
 use Rattle.hill_valley.specs.Descents.{first_up}
-use Rattle.hill_valley.specs.Merging.{IsNext}
+use Rattle.hill_valley.specs.Merging.{IsNextMoved}
 use Rattle.hill_valley.proofs.Kept.{runs_kept, ropes_kept, extends_on, extends_self}
 use Rattle.hill_valley.proofs.Profiles.{profile_runs, profile_insert}
 use Rattle.hill_valley.proofs.Inserting.{side_after}
@@ -45,14 +45,14 @@ runs_above : (lists : List (List ℕ)) (u : ℕ) (ss : List Seg) → StartsAbove
 runs_above lists u ss h = rw (profile_runs lists ss) h
 
 pub from_other : (lists : List (List ℕ)) (before : Bool) (other own other' : List Seg) (o : Option Seg) → IsRising (profile other) → None ≡ first_up own
-    → MatchOption o ((other ≡ []) × (other' ≡ [])) (λ s. other ≡ s ∷ other') → IsNext before lists lists other own other' own o
+    → MatchOption o ((other ≡ []) × (other' ≡ [])) (λ s. other ≡ s ∷ other') → IsNextMoved before lists lists other own other' own o
 from_other lists before other [] other' None h none m = rw m.0 refl
 from_other lists before other [] other' (Some s) h none m =
     rw m (other_first before (run_of lists s) (runs_of lists other') [] tt (runs_rise lists (s ∷ other') (rw m at h)))
 from_other lists before other (r ∷ own) other' o h none m = absurd (cc)
 
 pub from_own : (lists : List (List ℕ)) (before : Bool) (other own other' own' : List Seg) (up : ℕ) (o : Option Seg) → IsRising (profile other) → Some up ≡ first_up own
-    → (other' ≡ other) × StartsAbove up (profile other) → MatchOption o ((own ≡ []) × (own' ≡ [])) (λ s. own ≡ s ∷ own') → IsNext before lists lists other own other' own' o
+    → (other' ≡ other) × StartsAbove up (profile other) → MatchOption o ((own ≡ []) × (own' ≡ [])) (λ s. own ≡ s ∷ own') → IsNextMoved before lists lists other own other' own' o
 from_own lists before other own other' own' up None h first skipped m = absurd (none own up first m.0)
   where
     none : (ss : List Seg) (u : ℕ) → Some u ≡ first_up ss → ss ≡ [] → ⊥
@@ -68,13 +68,13 @@ own_above lists u up [] h lt = tt
 own_above lists u up (r ∷ own) h lt = let e : up ≡ r.up = cc in omega arith
 
 pub lesser_of_other : (lists : List (List ℕ)) (before : Bool) (other own other' : List Seg) (up : ℕ) (s : Seg) → IsRising (profile other) → Some up ≡ first_up own → other ≡ s ∷ other' → s.up < up
-    → IsNext before lists lists other own other' own (Some s)
+    → IsNextMoved before lists lists other own other' own (Some s)
 lesser_of_other lists before other own other' up s h first m lt =
     rw m (other_first before (run_of lists s) (runs_of lists other') (runs_of lists own) (own_above lists s.up up own first lt) (runs_rise lists (s ∷ other') (rw m at h)))
 
 pub of_both : (old new : List (List ℕ)) (before : Bool) (other own other' own' : List Seg) (up : ℕ) (s first whole : Seg) → Extends old new → HaveRopes old other → HaveRopes old own
     → IsRising (profile other) → Some up ≡ first_up own → other ≡ s ∷ other' → own ≡ first ∷ own' → s.up ≡ up → run_of new whole ≡ join_runs before (run_of old s) (run_of old first)
-    → IsNext before old new other own other' own' (Some whole)
+    → IsNextMoved before old new other own other' own' (Some whole)
 of_both old new before other own other' own' up s first whole kept ropes own_ropes h is m n e run =
     let r = rw m at ropes in
     let q = rw n at own_ropes in
@@ -148,7 +148,7 @@ woven_side net rises before lists other own h k room =
     moved_side net rises before (runs_of lists other) (runs_of lists own) (rw a h.1) (rw b k) (rw (a, b) room)
 
 module _ (before : Bool) (ropes0 ropes ropes' : List (List ℕ)) (other0 own0 other own other' own' row : List Seg) (w : Weaving before ropes0 ropes other0 own0 other own row) (kept : Extends ropes ropes') where
-  module _ (s : Seg) (next : IsNext before ropes ropes' other own other' own' (Some s)) where
+  module _ (s : Seg) (next : IsNextMoved before ropes ropes' other own other' own' (Some s)) where
     put : runs_of ropes' (row ++ s ∷ []) ++ move_runs before (runs_of ropes' other') (runs_of ropes' own') ≡ move_runs before (runs_of ropes0 other0) (runs_of ropes0 own0)
     put =
         ap (λ (l : List Run). l ++ move_runs before (runs_of ropes' other') (runs_of ropes' own')) (runs_behind ropes' row (s ∷ []))
@@ -174,7 +174,7 @@ module _ (before : Bool) (ropes0 ropes ropes' : List (List ℕ)) (other0 own0 ot
       net = omega arith;
     })
 
-  pub weaving_ends : IsNext before ropes ropes' other own other' own' None → runs_of ropes' row ≡ move_runs before (runs_of ropes0 other0) (runs_of ropes0 own0)
+  pub weaving_ends : IsNextMoved before ropes ropes' other own other' own' None → runs_of ropes' row ≡ move_runs before (runs_of ropes0 other0) (runs_of ropes0 own0)
   weaving_ends none =
       runs_kept ropes ropes' row w.row_ropes kept ∙ sym (nothing_behind (runs_of ropes row)) ∙ ap (λ (l : List Run). runs_of ropes row ++ l) (sym none) ∙ w.told
     where

@@ -11,7 +11,7 @@ ghost use Rattle.hill_valley.specs.Side.{append_run};
 ghost use Rattle.hill_valley.specs.Numbers.{segments_of, first_down_to};
 ghost use Rattle.hill_valley.specs.Staircase.{AreSteps};
 ghost use Rattle.hill_valley.specs.Descents.{first_up};
-ghost use Rattle.hill_valley.specs.Merging.{IsNext};
+ghost use Rattle.hill_valley.specs.Merging.{IsNextMoved};
 
 use crate::NoMemory;
 use crate::numbers::Numbers;
@@ -414,7 +414,7 @@ fn take_lesser(
     requires other { HaveRopes ropes.old other.old }
     requires own { HaveRopes ropes.old own.old }
     requires net { net_sum (profile other.old) + net_sum (profile own.old) ≤ most_total }
-    ensures next { IfOk result (IsNext before ropes.old ropes.new other.old own.old other.new own.new) }
+    ensures next { IfOk result (IsNextMoved before ropes.old ropes.new other.old own.old other.new own.new) }
     ensures rope { IfOk result (λ next. IfSome next (λ s. IsRope ropes.new s.tasks)) }
     ensures fewer { IfOk result (λ next. IfSome next (λ _. length other.new + length own.new < length other.old + length own.old)) }
     ensures net { net_sum (profile other.new) + net_sum (profile own.new) ≤ net_sum (profile other.old) + net_sum (profile own.old) }

@@ -8,7 +8,7 @@ use Rattle.std.proofs.lemmas.List.Folds.{flat_map-map}
 use Rattle.std.proofs.lemmas.List.FromFn.{map-range_with_len_more}
 use Rattle.std.proofs.lemmas.Grind.{flat_map-append}
 use Rattle.matrix_market.specs.Pattern.{IsPairWithin}
-use Rattle.matrix_input.specs.Numbers.{IsNumber, from_one}
+use Rattle.matrix_input.specs.Numbers.{IsNumberFrom, from_one}
 
 same : {X : Type 0} (f : ℕ → List X) (xs : List ℕ) → flat_map f (map (λ x. x) xs) ≡ flat_map f xs
 same f xs = flat_map-map f (λ x. x) xs
@@ -29,16 +29,16 @@ one_more f k some =
 abbrev pub paired : ℕ → ℕ → ℕ → ℕ × ℕ
 paired base j row = (from_one base row, j)
 
-pub pairs_within : (base count j : ℕ) (rows : List ℕ) → 1 ≤ j → j ≤ count → All (IsNumber base count) rows
+pub pairs_within : (base count j : ℕ) (rows : List ℕ) → 1 ≤ j → j ≤ count → All (IsNumberFrom base count) rows
     → All (IsPairWithin count) (map (paired base j) rows)
 pairs_within base count j rows some inside are =
     All-map (IsPairWithin count) (paired base j) rows
     (All-from_get_or (λ (row : ℕ). IsPairWithin count (paired base j row)) rows 0 (λ i there.
-    let is = All-get_or (IsNumber base count) rows i 0 there are in
+    let is = All-get_or (IsNumberFrom base count) rows i 0 there are in
     ((omega (arith, is.0), omega (arith, is.0, is.1)), (some, inside))))
 
 -- the pairs of one column more are those of columns that are there too
 pub one_column_more : (base count j : ℕ) (pairs : List (ℕ × ℕ)) (rows : List ℕ) → 1 ≤ j → j ≤ count → All (IsPairWithin count) pairs
-    → All (IsNumber base count) rows → All (IsPairWithin count) (pairs ++ map (paired base j) rows)
+    → All (IsNumberFrom base count) rows → All (IsPairWithin count) (pairs ++ map (paired base j) rows)
 one_column_more base count j pairs rows some inside before are =
     All-append (IsPairWithin count) pairs (map (paired base j) rows) before (pairs_within base count j rows some inside are)

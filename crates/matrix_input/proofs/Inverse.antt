@@ -9,15 +9,15 @@ use Rattle.std.proofs.lemmas.List.Folds.{Any-from_list_any}
 use Rattle.std.proofs.lemmas.Map.Keys.{IsDistinct-from_apart}
 use Rattle.std.proofs.lemmas.Map.Steps.{length-le_from_distinct_below}
 use Rattle.ordering.specs.Perm.{AreInverse}
-use Rattle.matrix_input.specs.Numbers.{IsNumber, from_one, number_at}
+use Rattle.matrix_input.specs.Numbers.{IsNumberFrom, from_one, number_at}
 use Rattle.matrix_input.specs.Order.{order_given}
 use Rattle.matrix_input.specs.PlaceTables.{ArePlaced}
 
-pub all_numbers : (base n : ℕ) (numbers places : List ℕ) → length numbers ≡ n → ArePlaced base n numbers places n → All (IsNumber base n) numbers
+pub all_numbers : (base n : ℕ) (numbers places : List ℕ) → length numbers ≡ n → ArePlaced base n numbers places n → All (IsNumberFrom base n) numbers
 all_numbers base n numbers places len placed =
-    All-from_get_or (IsNumber base n) numbers 0 (λ i inside.
+    All-from_get_or (IsNumberFrom base n) numbers 0 (λ i inside.
     let at : i + 1 - 1 ≡ i = omega arith in
-    subst (λ (k : ℕ). IsNumber base n (get_or numbers k 0)) at (placed.fit (i + 1) (omega arith) (omega (arith, inside, len))).number)
+    subst (λ (k : ℕ). IsNumberFrom base n (get_or numbers k 0)) at (placed.fit (i + 1) (omega arith) (omega (arith, inside, len))).number)
 
 -- numbers up to n at n + 1 places, whose places another table tells, are all of them
 module _ (n : ℕ) (vertices places : List ℕ) (len : length vertices ≡ n + 1)

@@ -2,7 +2,7 @@
 use Rattle.std.proofs.Common.{◌≡◌, ℕ, zero, suc, ◌+◌, ◌-◌, ◌<◌, ◌≤◌, All, List, length, take, drop, get_or, subst, arith}
 use Rattle.std.proofs.lemmas.List.Elements.{All-from_get_or, All-take, All-drop}
 use Rattle.matrix_input.specs.Columns.{AreColumns, StartsFit, columns_in}
-use Rattle.matrix_input.specs.Numbers.{IsNumber, number_at}
+use Rattle.matrix_input.specs.Numbers.{IsNumberFrom, number_at}
 
 -- so many places on, a start is no lower
 rises_by : (base : ℕ) (starts : List ℕ) → StartsFit base starts → (j k : ℕ) → 1 ≤ j → j + k ≤ length starts
@@ -48,15 +48,15 @@ span base starts rows are j some inside =
       subst (λ (i : ℕ). get_or starts i 0 ≤ base + length rows) at end,
     )
 
-pub all_rows : (base : ℕ) (starts rows : List ℕ) → AreColumns base starts rows → All (IsNumber base (columns_in starts)) rows
+pub all_rows : (base : ℕ) (starts rows : List ℕ) → AreColumns base starts rows → All (IsNumberFrom base (columns_in starts)) rows
 all_rows base starts rows are =
-    All-from_get_or (IsNumber base (columns_in starts)) rows 0 (λ i inside.
+    All-from_get_or (IsNumberFrom base (columns_in starts)) rows 0 (λ i inside.
     let at : i + 1 - 1 ≡ i = omega arith in
-    subst (λ (k : ℕ). IsNumber base (columns_in starts) (get_or rows k 0)) at (are.rows_fit (i + 1) (omega arith, omega arith)))
+    subst (λ (k : ℕ). IsNumberFrom base (columns_in starts) (get_or rows k 0)) at (are.rows_fit (i + 1) (omega arith, omega arith)))
 
 -- the rows of a part of the entries
 pub part_rows : (base : ℕ) (starts rows : List ℕ) → AreColumns base starts rows → (from many : ℕ)
-    → All (IsNumber base (columns_in starts)) (take many (drop from rows))
+    → All (IsNumberFrom base (columns_in starts)) (take many (drop from rows))
 part_rows base starts rows are from many =
-    let P = IsNumber base (columns_in starts) in
+    let P = IsNumberFrom base (columns_in starts) in
     All-take P many (drop from rows) (All-drop P from rows (all_rows base starts rows are))

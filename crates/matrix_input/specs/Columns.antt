@@ -6,7 +6,7 @@
 use Rattle.std.specs.Prelude.{◌≡◌, ◌≢◌, ℕ, ◌+◌, ◌-◌, ◌<◌, ◌≤◌, List, length, map, slice_range}
 use Rattle.std.specs.List.{flat_map, range_with_len}
 use Rattle.limits.specs.Limits.{most_order, most_entries}
-use Rattle.matrix_input.specs.Numbers.{Each, IsFirstWithout, IsNumber, from_one, number_at}
+use Rattle.matrix_input.specs.Numbers.{Each, IsFirstWithout, IsNumberFrom, from_one, number_at}
 use Rattle.matrix_input.specs.declared.columns.ColumnsRefusal.{ColumnsRefusal}
 use Rattle.matrix_input.specs.declared.columns.ColumnsRefusal.TheVariants as refusals
 
@@ -53,7 +53,7 @@ EndTogether base starts rows = number_at starts (length starts) ≡ base + lengt
 
 -- the row of entry k is one
 abbrev pub RowFits : ℕ → List ℕ → List ℕ → ℕ → Type 0
-RowFits base starts rows k = IsNumber base (columns_in starts) (number_at rows k)
+RowFits base starts rows k = IsNumberFrom base (columns_in starts) (number_at rows k)
 
 pub record AreColumns (base : ℕ) (starts rows : List ℕ) : Type 0 where
   pub counted : AreCounted base starts rows

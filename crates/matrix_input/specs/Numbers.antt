@@ -11,8 +11,8 @@ abbrev pub from_one : ℕ → ℕ → ℕ
 from_one base number = number + 1 - base
 
 -- a number, counted from a base, of one of so many
-abbrev pub IsNumber : ℕ → ℕ → ℕ → Type 0
-IsNumber base count number = (base ≤ number) × (number < base + count)
+abbrev pub IsNumberFrom : ℕ → ℕ → ℕ → Type 0
+IsNumberFrom base count number = (base ≤ number) × (number < base + count)
 
 -- one of so many places
 abbrev pub IsPlace : ℕ → ℕ → Type 0

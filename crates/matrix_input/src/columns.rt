@@ -4,7 +4,7 @@ ghost use Rattle.std.specs.Prelude.{◌≡◌, ◌<◌, ◌+◌, ◌-◌, ◌↔
 ghost use Rattle.matrix_market.specs.Pattern.{IsPatternOf};
 ghost use Rattle.matrix_input.specs.Columns.{AreColumns, AreCounted, IsColumnsRefusal, StartFits, StartsFit, EndTogether, RowFits};
 ghost use Rattle.matrix_input.specs.Columns.{columns_in, pairs_given};
-ghost use Rattle.matrix_input.specs.Numbers.{Each, IsNumber};
+ghost use Rattle.matrix_input.specs.Numbers.{Each, IsNumberFrom};
 
 use crate::NoMemory;
 use crate::pairs::pairs_of;
@@ -102,7 +102,7 @@ fn judge_end(base: u32, starts: &[u32], rows: &[u32]) -> Result<(), ColumnsRefus
 
 // Whether the row of an entry is one of so many, counted from a base.
 fn row_fits(base: u32, columns: usize, row: u32) -> bool
-    ensures { IsTrue result ↔ IsNumber base columns row }
+    ensures { IsTrue result ↔ IsNumberFrom base columns row }
 {
     base <= row && ((row - base) as usize) < columns
 }

@@ -4,7 +4,7 @@ ghost use Rattle.std.specs.Prelude.{◌≡◌, ◌≤◌, ◌<◌, ◌-◌, ◌+
 ghost use Rattle.limits.specs.Limits.{most_order, most_entries};
 ghost use Rattle.matrix_market.specs.Pattern.{IsPairWithin};
 ghost use Rattle.matrix_input.specs.Columns.{AreColumns, columns_in, pairs_given, rows_in};
-ghost use Rattle.matrix_input.specs.Numbers.{IsNumber, from_one};
+ghost use Rattle.matrix_input.specs.Numbers.{IsNumberFrom, from_one};
 
 use crate::NoMemory;
 use std::alloc::Global;
@@ -16,7 +16,7 @@ fn push_column(
     rows: &[u32],
     column: u32,
 ) -> Result<(), NoMemory>
-    requires { All (IsNumber base most_order) rows.now }
+    requires { All (IsNumberFrom base most_order) rows.now }
     ensures { OnOk result (pairs.new.items ≡ pairs.old.items ++ map (λ row. (from_one base row, column)) rows.now) }
 {
     for row in rows {
@@ -31,7 +31,7 @@ fn rows_of<'a>(base: u32, starts: &[u32], rows: &'a [u32], column: usize) -> &'a
     requires column { (1 ≤ column) × (column < length starts.now) }
     ensures rows { result.now ≡ rows_in base starts.now rows.now column }
     ensures len { length result.now ≡ slice_index starts.now column - slice_index starts.now (column - 1) }
-    ensures numbers { All (IsNumber base (columns_in starts.now)) result.now }
+    ensures numbers { All (IsNumberFrom base (columns_in starts.now)) result.now }
 {
     let first = (starts[column - 1] - base) as usize;
     let end = (starts[column] - base) as usize;

@@ -4,7 +4,7 @@ ghost use Rattle.std.specs.Prelude.{◌≡◌, ◌≤◌, ◌<◌, ◌+◌, ◌�
 ghost use Rattle.ordering.specs.Perm.{IsPerm};
 ghost use Rattle.matrix_input.specs.Order.{IsPermRefusal, PlaceFits, order_given};
 ghost use Rattle.matrix_input.specs.PlaceTables.{ArePlaced};
-ghost use Rattle.matrix_input.specs.Numbers.{IsNumber, from_one, number_at};
+ghost use Rattle.matrix_input.specs.Numbers.{IsNumberFrom, from_one, number_at};
 
 use crate::NoMemory;
 use ordering::Perm;
@@ -35,8 +35,8 @@ impl From<NoMemory> for PermRefusal {
 
 // The vertex that a number names, of n that are counted from a base.
 fn vertex_of(base: u32, n: u32, number: u32) -> Option<u32>
-    ensures { MatchOption result (IsNumber base n number → ⊥)
-        (λ v. IsNumber base n number × (v ≡ from_one base number) × (1 ≤ v) × (v ≤ n)) }
+    ensures { MatchOption result (IsNumberFrom base n number → ⊥)
+        (λ v. IsNumberFrom base n number × (v ≡ from_one base number) × (1 ≤ v) × (v ≤ n)) }
 {
     if base <= number && number - base < n {
         Some(number - base + 1)
@@ -87,7 +87,7 @@ fn places_of(alloc: Global, base: u32, numbers: &[u32], n: u32) -> Result<Vec<u3
 // The vertex at each place, with 0 at 0.
 fn vertices_of(alloc: Global, base: u32, numbers: &[u32], n: u32) -> Result<Vec<u32>, NoMemory>
     requires len { length numbers.now ≡ n }
-    requires numbers { All (IsNumber base n) numbers.now }
+    requires numbers { All (IsNumberFrom base n) numbers.now }
     ensures { IfOk result (λ vertices. vertices.items ≡ 0 ∷ order_given base numbers.now) }
 {
     let mut vertices: Vec<u32> = Vec::with_capacity(alloc, n as usize + 1)?;

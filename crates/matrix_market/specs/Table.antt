@@ -26,7 +26,7 @@ rooms_in starts ends flat = record {
 }
 
 -- each list ends within its room, and all rooms lie in the table
-pub record IsTable (starts ends flat : List ℕ) : Type 0 where
+pub record IsRoomTable (starts ends flat : List ℕ) : Type 0 where
   pub starts_len : length starts ≡ length ends + 1
   pub each : (v : ℕ) → v < length ends → (slice_index starts v ≤ slice_index ends v) × (slice_index ends v ≤ slice_index starts (v + 1))
   pub all : slice_index starts (length ends) ≤ length flat

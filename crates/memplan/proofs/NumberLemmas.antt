@@ -14,7 +14,7 @@ use Rattle.sp_terms.specs.declared.position.Position.TheVariants as at
 use Rattle.tree_input.specs.declared.node.Node.{Node}
 use Rattle.tree_input.specs.Forest.{Forest, no_trees, tree, roots_of, all_numbers}
 use Rattle.tree_input.specs.TreeTerm.{beside_positions, own_positions, tree_positions, forest_positions}
-use Rattle.memplan.specs.Judged.{AreNames, AreWithin}
+use Rattle.memplan.specs.Judged.{IsNaming, AreWithin}
 use Rattle.memplan.specs.Segments.{task_positions, position_of, node_positions}
 
 -- ---- the positions of tasks
@@ -118,7 +118,7 @@ range_within n i d h =
     (omega (arith, value), omega (arith, value, h, few))
 
 -- a permutation of the numbers from 1 on holds each of them once
-pub names_of : (names : List ℕ) (n : ℕ) → IsPermutation names (range_with_len 1 n) → AreNames names
+pub names_of : (names : List ℕ) (n : ℕ) → IsPermutation names (range_with_len 1 n) → IsNaming names
 names_of names n is =
     let back = IsPermutation-sym names (range_with_len 1 n) is in
     let long : length names ≡ n = omega (arith, length_permutation names (range_with_len 1 n) is, length-range_with_len 1 n) in
@@ -148,7 +148,7 @@ position_at v (suc i) (name ∷ names) (k ∷ ks) many more is first =
     rw (ne_eqb name v (first 0 (omega arith)))
     (position_at v i names ks (omega (arith, many)) (omega (arith, more)) is (λ j h. first (suc j) (omega (arith, h))))
 
-module _ (names ks : List ℕ) (are : AreNames names) (many : length ks ≡ length names) where
+module _ (names ks : List ℕ) (are : IsNaming names) (many : length ks ≡ length names) where
   -- a name is at one place
   pub one_place : (i j : ℕ) → i < length names → j < length names → get_or names i 0 ≡ get_or names j 0 → i ≡ j
   one_place i j hi hj e = elim (cases_lt i j) [
@@ -189,7 +189,7 @@ module _ (names ks : List ℕ) (are : AreNames names) (many : length ks ≡ leng
       ∙ sym (get_or-map-range_with_len (λ v. position_of v names ks) 1 (length names) q (q + 1) d (omega (arith, h, few)) (omega arith)) in
       subst (λ (k : ℕ). (1 ≤ k) × (k ≤ most)) value (within i 0 (omega (arith, found.1, many)))
 
-pub nodes_within : (names : List ℕ) (ps : List Position) → AreNames names → length (task_positions 1 ps) ≡ length names → AreWithin (length ps) (node_positions names ps)
+pub nodes_within : (names : List ℕ) (ps : List Position) → IsNaming names → length (task_positions 1 ps) ≡ length names → AreWithin (length ps) (node_positions names ps)
 nodes_within names ps are many = named_within names (task_positions 1 ps) are many (length ps) (tasks_within ps)
 
 -- those of the nodes of a forest

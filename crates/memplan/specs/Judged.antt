@@ -171,7 +171,7 @@ abbrev pub AreWithin : ℕ → List ℕ → Type 0
 AreWithin most = All (λ k. (1 ≤ k) × (k ≤ most))
 
 -- each of the numbers from 1 to as many as there are names is one of them, once
-pub record AreNames (names : List ℕ) : Type 0 where
+pub record IsNaming (names : List ℕ) : Type 0 where
   pub within : AreWithin (length names) names
   pub once : (i j : ℕ) → i < j → j < length names → slice_index names i ≢ slice_index names j
   pub each : (v : ℕ) → 1 ≤ v → v ≤ length names → Contains names v

@@ -5,7 +5,7 @@ ghost use Rattle.std.specs.List.{range_with_len};
 ghost use Rattle.tree_input.specs.Forest.{Forest, IsForestOf, all_numbers};
 ghost use Rattle.tree_input.specs.TreeTerm.{forest_positions};
 ghost use Rattle.memplan.specs.Files.{IsFirstRefusal};
-ghost use Rattle.memplan.specs.Judged.{AreJudged, IsNumbered, AreNames, AreWithin};
+ghost use Rattle.memplan.specs.Judged.{AreJudged, IsNumbered, IsNaming, AreWithin};
 ghost use Rattle.memplan.specs.Segments.{node_positions, position_of, task_positions};
 ghost use Rattle.memplan.specs.Request.{input_files};
 ghost use Rattle.memplan.specs.RequestViews.{input_view};
@@ -43,7 +43,7 @@ fn task_positions(alloc: Global, terms: &Terms) -> Result<Vec<u32>, AllocError>
 
 // The positions of the tasks by their names, where each of 1, 2, .. names one.
 fn by_name(alloc: Global, names: &[u32], positions: &[u32]) -> Result<Vec<u32>, AllocError>
-    requires names { AreNames names.now }
+    requires names { IsNaming names.now }
     requires many { length positions.now ≡ length names.now }
     ensures { IfOk result (λ named. named.items
         ≡ map (λ v. position_of v names.now positions.now) (range_with_len 1 (length names.now))) }

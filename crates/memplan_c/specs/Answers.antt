@@ -41,7 +41,7 @@ pub record IsReplayed (nodes : List Node) (order : List ℕ) (peak : ℕ) : Type
   pub peak_is : peak ≡ peak_of (system_of_nodes nodes) order
 
 -- the amounts of the blocks are a spill plan, and none has a lower volume
-pub record IsSpilled (nodes : List Node) (order : List ℕ) (bound : ℕ) (amounts : List ℕ) (volume : ℕ) : Type 0 where
+pub record IsTreeSpilled (nodes : List Node) (order : List ℕ) (bound : ℕ) (amounts : List ℕ) (volume : ℕ) : Type 0 where
   pub tree : IsTree nodes
   pub traversal : IsTraversal (system_of_nodes nodes) order
   pub least : IsLeastSpill (system_of_nodes nodes) order bound amounts volume
@@ -68,7 +68,7 @@ pub record IsCertificate (nodes : List Node) (plan : PlanText) : Type 0 where
   pub accepted : IsAccepted (system_of_nodes nodes) positions plan
 
 -- a traversal of least peak, with the claims that certify it, within the limits of a plan
-pub record IsCertified (nodes : List Node) (order : List ℕ) (peak : ℕ) (claims : List Claim) : Type 0 where
+pub record IsTreeCertified (nodes : List Node) (order : List ℕ) (peak : ℕ) (claims : List Claim) : Type 0 where
   pub tree : IsTree nodes
   pub plan : IsPlan (plan_given order peak claims)
   pub best : IsBestTraversal (system_of_nodes nodes) order peak

@@ -46,15 +46,15 @@ options_given options = record {
 -- ---- what is answered
 
 -- the order in which a matrix of these rows is eliminated: the one that is given, or where none is, that of minimum degree
-abbrev pub IsOrderOf : ℕ → List ℕ → List (List ℕ) → List ℕ → Type 0
-IsOrderOf base [] rows order = IsMinimumDegreeOrder (is_joined rows) (length rows) order
-IsOrderOf base (number ∷ numbers) rows order = order ≡ order_given base (number ∷ numbers)
+abbrev pub IsMatrixOrder : ℕ → List ℕ → List (List ℕ) → List ℕ → Type 0
+IsMatrixOrder base [] rows order = IsMinimumDegreeOrder (is_joined rows) (length rows) order
+IsMatrixOrder base (number ∷ numbers) rows order = order ≡ order_given base (number ∷ numbers)
 
 -- the matrix has these rows, and is eliminated in this order
 pub record IsMatrix (m : GivenMatrix) (rows : List (List ℕ)) (order : List ℕ) : Type 0 where
   pub columns : AreColumns m.base m.starts m.rows
   pub pattern : IsPatternOf (columns_in m.starts) (pairs_given m.base m.starts m.rows) rows
-  pub order_is : IsOrderOf m.base m.order rows order
+  pub order_is : IsMatrixOrder m.base m.order rows order
   pub perm : IsPerm (length rows) order
 
 -- the supernode in which each vertex lies, by number
@@ -90,21 +90,21 @@ pub record IsNodeRoomRefused (m : GivenMatrix) (options : FrontOptions) (room ne
   pub few : needed ≤ columns_in m.starts
 
 -- numbers, counted from a base, that are no order of n columns; or none, and there is no order of minimum degree
-abbrev pub IsOrderRefusal : ℕ → List ℕ → ℕ → Refusal → Type 0
-IsOrderRefusal base numbers n (refusals.Perm refusal) = IsPermRefusal base n numbers refusal
-IsOrderRefusal base numbers n (refusals.Degree refusal) = (numbers ≡ []) × IsMindegRefusal n refusal
-IsOrderRefusal base numbers n refusals.NoMemory = Unit {0}
-IsOrderRefusal base numbers n other = ⊥
+abbrev pub IsMatrixOrderRefusal : ℕ → List ℕ → ℕ → Refusal → Type 0
+IsMatrixOrderRefusal base numbers n (refusals.Perm refusal) = IsPermRefusal base n numbers refusal
+IsMatrixOrderRefusal base numbers n (refusals.Degree refusal) = (numbers ≡ []) × IsMindegRefusal n refusal
+IsMatrixOrderRefusal base numbers n refusals.NoMemory = Unit {0}
+IsMatrixOrderRefusal base numbers n other = ⊥
 
 -- with room for so many nodes, and for the fronts of so many columns
-abbrev pub IsFrontsRefusal : GivenMatrix → GivenOptions → ℕ → ℕ → Refusal → Type 0
-IsFrontsRefusal m options room columns refusals.Shape = 1 < options.shape
-IsFrontsRefusal m options room columns (refusals.Room needed) = IsRoomRefused (columns_in m.starts) columns needed
-IsFrontsRefusal m options room columns (refusals.Columns refusal) = IsColumnsRefusal m.base m.starts m.rows refusal
-IsFrontsRefusal m options room columns (refusals.Perm refusal) =
-    AreColumns m.base m.starts m.rows × IsOrderRefusal m.base m.order (columns_in m.starts) (refusals.Perm refusal)
-IsFrontsRefusal m options room columns (refusals.Degree refusal) =
-    AreColumns m.base m.starts m.rows × IsOrderRefusal m.base m.order (columns_in m.starts) (refusals.Degree refusal)
-IsFrontsRefusal m options room columns (refusals.NodeRoom needed) = IsNodeRoomRefused m (options_given options) room needed
-IsFrontsRefusal m options room columns refusals.NoMemory = Unit {0}
-IsFrontsRefusal m options room columns other = ⊥
+abbrev pub IsMatrixFrontsRefusal : GivenMatrix → GivenOptions → ℕ → ℕ → Refusal → Type 0
+IsMatrixFrontsRefusal m options room columns refusals.Shape = 1 < options.shape
+IsMatrixFrontsRefusal m options room columns (refusals.Room needed) = IsRoomRefused (columns_in m.starts) columns needed
+IsMatrixFrontsRefusal m options room columns (refusals.Columns refusal) = IsColumnsRefusal m.base m.starts m.rows refusal
+IsMatrixFrontsRefusal m options room columns (refusals.Perm refusal) =
+    AreColumns m.base m.starts m.rows × IsMatrixOrderRefusal m.base m.order (columns_in m.starts) (refusals.Perm refusal)
+IsMatrixFrontsRefusal m options room columns (refusals.Degree refusal) =
+    AreColumns m.base m.starts m.rows × IsMatrixOrderRefusal m.base m.order (columns_in m.starts) (refusals.Degree refusal)
+IsMatrixFrontsRefusal m options room columns (refusals.NodeRoom needed) = IsNodeRoomRefused m (options_given options) room needed
+IsMatrixFrontsRefusal m options room columns refusals.NoMemory = Unit {0}
+IsMatrixFrontsRefusal m options room columns other = ⊥

@@ -30,11 +30,11 @@ abbrev pub IsRoomRefused : ℕ → ℕ → ℕ → Type 0
 IsRoomRefused wanted room needed = (room ≢ wanted) × (needed ≡ wanted)
 
 -- a plan of nodes, or their best postorder, with room for an order
-abbrev pub IsPlanRefusal : List Node → ℕ → Refusal → Type 0
-IsPlanRefusal nodes room (refusals.Room needed) = IsRoomRefused (length nodes) room needed
-IsPlanRefusal nodes room (refusals.Nodes refusal) = IsNodesRefusal nodes refusal
-IsPlanRefusal nodes room refusals.NoMemory = Unit {0}
-IsPlanRefusal nodes room other = ⊥
+abbrev pub IsPlanningRefusal : List Node → ℕ → Refusal → Type 0
+IsPlanningRefusal nodes room (refusals.Room needed) = IsRoomRefused (length nodes) room needed
+IsPlanningRefusal nodes room (refusals.Nodes refusal) = IsNodesRefusal nodes refusal
+IsPlanningRefusal nodes room refusals.NoMemory = Unit {0}
+IsPlanningRefusal nodes room other = ⊥
 
 -- the replay of an order
 abbrev pub IsReplayRefusal : List Node → List ℕ → Refusal → Type 0

@@ -30,7 +30,7 @@ begun s setting answer = if answer == 0 then record { core = Some (core_at_start
 
 -- 0: what is given is what it must be, the order is a traversal of its system, the bound is at least its peak, and there are 1 to 4,096
 -- workers; else there is a cause why there is no core
-pub record IsBegun (given : Type 0) (cause : Refusal → Type 0) (setting : Setting) (answer : ℕ) (before after : Fault) : Type 0 where
+pub record IsCoreBegun (given : Type 0) (cause : Refusal → Type 0) (setting : Setting) (answer : ℕ) (before after : Fault) : Type 0 where
   pub is_given : answer ≡ 0 → given
   pub is_setting : answer ≡ 0 → IsSetting setting
   pub few_workers : answer ≡ 0 → setting.workers ≤ most_workers

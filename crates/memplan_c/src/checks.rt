@@ -2,7 +2,7 @@
 
 ghost use Rattle.std.specs.Prelude.{◌≡◌, ◌≢◌, ◌≤◌, [], length, take, drop, IfOk, IfErr, OnOk};
 ghost use Rattle.plan_text.specs.Plan.{IsPlan};
-ghost use Rattle.memplan_c.specs.Answers.{IsCertified, IsBestOrder, IsCertificate};
+ghost use Rattle.memplan_c.specs.Answers.{IsTreeCertified, IsBestOrder, IsCertificate};
 ghost use Rattle.memplan_c.specs.Faults.{IsRefused};
 ghost use Rattle.memplan_c.specs.Refusals.{IsCertifyRefusal, IsCheckRefusal};
 
@@ -24,7 +24,7 @@ fn check_plan(
     peak: u64,
     claims: &[Claim],
 ) -> Result<(), Refusal>
-    ensures certified { OnOk result (IsCertified nodes.now order.now peak claims.now) }
+    ensures certified { OnOk result (IsTreeCertified nodes.now order.now peak claims.now) }
     ensures refused { IfErr result (IsCheckRefusal nodes.now order.now peak claims.now) }
 {
     let tree = tree_of_nodes(alloc, nodes)?;
@@ -48,7 +48,7 @@ pub extern "C" fn memplan_check_tree(
     fault: &mut Fault,
 ) -> u32
     // 0: the order is a traversal of the tree's system, with this peak, none has a lower one, and the claims certify it
-    ensures certified { result ≡ 0 → IsCertified nodes.now order.now peak claims.now }
+    ensures certified { result ≡ 0 → IsTreeCertified nodes.now order.now peak claims.now }
     ensures refused { result ≢ 0 → IsRefused (IsCheckRefusal nodes.now order.now peak claims.now) result fault.new }
     ensures no_fault { result ≡ 0 → fault.new ≡ fault.old }
 {
@@ -98,7 +98,7 @@ pub extern "C" fn memplan_certify_tree(
     fault: &mut Fault,
 ) -> u32
     // 0: the order is a traversal of the tree's system, with this peak, none has a lower one, and the first claims certify it
-    ensures certified { result ≡ 0 → IsCertified nodes.now order.new peak.new (take count.new claims.new) }
+    ensures certified { result ≡ 0 → IsTreeCertified nodes.now order.new peak.new (take count.new claims.new) }
     ensures counted { result ≡ 0 → count.new ≤ length claims.new }
     ensures past { result ≡ 0 → drop count.new claims.new ≡ drop count.new claims.old }
     ensures refused { result ≢ 0 → IsRefused (IsCertifyRefusal nodes.now (length order.old) (length claims.old)) result fault.new }

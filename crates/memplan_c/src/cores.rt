@@ -8,7 +8,7 @@ ghost use Rattle.mp_system.specs.System.{IsSystem};
 ghost use Rattle.system_input.specs.Given.{system_given};
 ghost use Rattle.tree_input.specs.Tree.{IsTree, system_of_nodes};
 ghost use Rattle.memplan_c.specs.Refusals.{IsBeginRefusal, IsSystemBeginRefusal};
-ghost use Rattle.memplan_c.specs.Slots.{SlotValue, empty, setting_of, begun, IsBegun, activated, IsActivated, stepped, IsStarted};
+ghost use Rattle.memplan_c.specs.Slots.{SlotValue, empty, setting_of, begun, IsCoreBegun, activated, IsActivated, stepped, IsStarted};
 ghost use Rattle.memplan_c.specs.Slots.{IsFinished, IsDone, used_in, booked_in};
 ghost use Rattle.memplan_c.specs.contracts.slot.Slot.{the_row};
 ghost use prog.Memory.{size, capped};
@@ -70,7 +70,7 @@ pub unsafe extern "C" fn memplan_core_begin(
     ghost held: { SlotValue }
     requires* { sem 𝓛 (lies_at the_row full_share slot held) }
     ensures* { sem 𝓛 (lies_at the_row full_share slot (begun held (setting_of (system_of_nodes nodes.now) order.now bound workers) result))
-        ∗ ⌜ IsBegun (IsTree nodes.now) (IsBeginRefusal nodes.now order.now bound workers)
+        ∗ ⌜ IsCoreBegun (IsTree nodes.now) (IsBeginRefusal nodes.now order.now bound workers)
         (setting_of (system_of_nodes nodes.now) order.now bound workers) result fault.old fault.new ⌝ }
 {
     begin(
@@ -98,7 +98,7 @@ pub unsafe extern "C" fn memplan_core_begin_system(
     requires* { sem 𝓛 (lies_at the_row full_share slot held) }
     ensures* { sem 𝓛 (lies_at the_row full_share slot
         (begun held (setting_of (system_given tasks.now items.now) order.now bound workers) result))
-        ∗ ⌜ IsBegun (IsSystem (system_given tasks.now items.now)) (IsSystemBeginRefusal tasks.now items.now order.now bound workers)
+        ∗ ⌜ IsCoreBegun (IsSystem (system_given tasks.now items.now)) (IsSystemBeginRefusal tasks.now items.now order.now bound workers)
         (setting_of (system_given tasks.now items.now) order.now bound workers) result fault.old fault.new ⌝ }
 {
     begin_system(

@@ -6,8 +6,8 @@ ghost use Rattle.ordering.specs.Perm.{IsPerm};
 ghost use Rattle.symbolic.specs.FrontTree.{relaxed};
 ghost use Rattle.memplan_c.specs.declared.refusal.Refusal.TheVariants as refusals;
 ghost use Rattle.memplan_c.specs.Faults.{IsRefused};
-ghost use Rattle.memplan_c.specs.Fronts.{AreFronts, HaveFronts, IsFrontsRefusal, IsOrderOf, IsOrderRefusal, fronts_of_columns};
-ghost use Rattle.memplan_c.specs.Fronts.{matrix_given, options_given, shape_given};
+ghost use Rattle.memplan_c.specs.Fronts.{AreFronts, HaveFronts, IsMatrixFrontsRefusal, IsMatrixOrder, IsMatrixOrderRefusal};
+ghost use Rattle.memplan_c.specs.Fronts.{fronts_of_columns, matrix_given, options_given, shape_given};
 
 use crate::faults::{Fault, refuse};
 use crate::plans::check_room;
@@ -61,9 +61,9 @@ fn options_of(given: GivenOptions) -> Result<FrontOptions, Refusal>
 
 // The order in which a matrix is eliminated, whose columns these numbers tell, or none.
 fn order_of(alloc: Global, base: u32, numbers: &[u32], pattern: &Pattern) -> Result<Perm, Refusal>
-    ensures order { IfOk result (IsOrderOf base numbers.now pattern.now) }
+    ensures order { IfOk result (IsMatrixOrder base numbers.now pattern.now) }
     ensures perm { IfOk result (λ order. IsPerm (length pattern.now) order) }
-    ensures refused { IfErr result (IsOrderRefusal base numbers.now (length pattern.now)) }
+    ensures refused { IfErr result (IsMatrixOrderRefusal base numbers.now (length pattern.now)) }
 {
     if numbers.is_empty() {
         let order = min_degree(alloc, pattern)?;
@@ -139,7 +139,7 @@ fn fronts_of_arrays(
     ensures fits { IfOk result (λ made. length made.tree ≤ room) }
     ensures len { IfOk result (λ made. length made.of_columns.items ≡ columns) }
     ensures few { IfOk result (λ made. length made.tree ≤ columns) }
-    ensures refused { IfErr result (IsFrontsRefusal (matrix_given base starts.now rows.now numbers.now) given room columns) }
+    ensures refused { IfErr result (IsMatrixFrontsRefusal (matrix_given base starts.now rows.now numbers.now) given room columns) }
 {
     let options = options_of(given)?;
     check_room(starts.len().saturating_sub(1), columns)?;
@@ -190,7 +190,7 @@ pub extern "C" fn memplan_fronts(
     ensures few { result ≡ 0 → count.new ≤ length front_of.new }
     ensures past { result ≡ 0 → drop count.new nodes.new ≡ drop count.new nodes.old }
     ensures refused { result ≢ 0 → IsRefused
-        (IsFrontsRefusal (matrix_given base starts.now rows.now order.now) options.now (length nodes.old) (length front_of.old))
+        (IsMatrixFrontsRefusal (matrix_given base starts.now rows.now order.now) options.now (length nodes.old) (length front_of.old))
         result fault.new }
     ensures unchanged { result ≢ 0 → (nodes.new ≡ nodes.old) × (count.new ≡ count.old) × (front_of.new ≡ front_of.old) }
     ensures no_fault { result ≡ 0 → fault.new ≡ fault.old }

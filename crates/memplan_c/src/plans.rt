@@ -3,7 +3,7 @@
 ghost use Rattle.std.specs.Prelude.{◌≡◌, ◌≢◌, length, IfOk, IfErr, OnOk};
 ghost use Rattle.memplan_c.specs.Answers.{IsBestOrder, IsBestPost};
 ghost use Rattle.memplan_c.specs.Faults.{IsRefused};
-ghost use Rattle.memplan_c.specs.Refusals.{IsPlanRefusal};
+ghost use Rattle.memplan_c.specs.Refusals.{IsPlanningRefusal};
 
 use crate::faults::{Fault, refuse};
 use crate::refusal::Refusal;
@@ -30,7 +30,7 @@ pub fn check_room(needed: usize, room: usize) -> Result<(), Refusal>
 fn plan_of(alloc: Global, nodes: &[Node], room: usize) -> Result<PlanFile, Refusal>
     ensures best { IfOk result (λ plan. IsBestOrder nodes.now plan.order plan.peak) }
     ensures long { IfOk result (λ plan. length plan.order ≡ room) }
-    ensures refused { IfErr result (IsPlanRefusal nodes.now room) }
+    ensures refused { IfErr result (IsPlanningRefusal nodes.now room) }
 {
     traversal_law();
     check_room(nodes.len(), room)?;
@@ -52,7 +52,7 @@ pub extern "C" fn memplan_plan_tree(
     // 0: the order is a traversal of the tree's system, with this peak, and none has a lower one
     ensures planned { result ≡ 0 → IsBestOrder nodes.now order.new peak.new }
     // else the nodes are refused, or the room, or memory is wanting
-    ensures refused { result ≢ 0 → IsRefused (IsPlanRefusal nodes.now (length order.old)) result fault.new }
+    ensures refused { result ≢ 0 → IsRefused (IsPlanningRefusal nodes.now (length order.old)) result fault.new }
     ensures unchanged { result ≢ 0 → (order.new ≡ order.old) × (peak.new ≡ peak.old) }
     ensures no_fault { result ≡ 0 → fault.new ≡ fault.old }
 {
@@ -69,7 +69,7 @@ pub extern "C" fn memplan_plan_tree(
 fn post_of(alloc: Global, nodes: &[Node], room: usize) -> Result<Post, Refusal>
     ensures best { IfOk result (λ post. IsBestPost nodes.now post.order.items post.peak) }
     ensures long { IfOk result (λ post. length post.order.items ≡ room) }
-    ensures refused { IfErr result (IsPlanRefusal nodes.now room) }
+    ensures refused { IfErr result (IsPlanningRefusal nodes.now room) }
 {
     traversal_law();
     check_room(nodes.len(), room)?;
@@ -89,7 +89,7 @@ pub extern "C" fn memplan_best_postorder(
 ) -> u32
     // 0: the order is the best postorder, with this peak, and no postorder has a lower one
     ensures best { result ≡ 0 → IsBestPost nodes.now order.new peak.new }
-    ensures refused { result ≢ 0 → IsRefused (IsPlanRefusal nodes.now (length order.old)) result fault.new }
+    ensures refused { result ≢ 0 → IsRefused (IsPlanningRefusal nodes.now (length order.old)) result fault.new }
     ensures unchanged { result ≢ 0 → (order.new ≡ order.old) × (peak.new ≡ peak.old) }
     ensures no_fault { result ≡ 0 → fault.new ≡ fault.old }
 {

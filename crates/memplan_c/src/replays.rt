@@ -3,7 +3,7 @@
 ghost use Rattle.std.specs.Prelude.{◌≡◌, ◌≢◌, length, IfOk, IfErr};
 ghost use Rattle.tree_input.specs.Tree.{IsTree, system_of_nodes};
 ghost use Rattle.tree_input.specs.Judged.{IsNodesRefusal};
-ghost use Rattle.memplan_c.specs.Answers.{IsReplayed, IsSpilled, IsSystemReplayed};
+ghost use Rattle.memplan_c.specs.Answers.{IsReplayed, IsTreeSpilled, IsSystemReplayed};
 ghost use Rattle.memplan_c.specs.Faults.{IsRefused};
 ghost use Rattle.memplan_c.specs.Refusals.{IsReplayRefusal, IsSpillCallRefusal, IsSystemReplayRefusal};
 
@@ -67,7 +67,7 @@ fn spill_of(
     bound: u64,
     room: usize,
 ) -> Result<Spill, Refusal>
-    ensures spilled { IfOk result (λ spill. IsSpilled nodes.now order.now bound spill.amounts.items spill.volume) }
+    ensures spilled { IfOk result (λ spill. IsTreeSpilled nodes.now order.now bound spill.amounts.items spill.volume) }
     ensures long { IfOk result (λ spill. length spill.amounts.items ≡ room) }
     ensures refused { IfErr result (IsSpillCallRefusal nodes.now order.now bound room) }
 {
@@ -90,7 +90,7 @@ pub extern "C" fn memplan_spill_tree(
     fault: &mut Fault,
 ) -> u32
     // 0: the amounts are a spill plan of the order, and no spill plan has a lower volume
-    ensures spilled { result ≡ 0 → IsSpilled nodes.now order.now bound amounts.new volume.new }
+    ensures spilled { result ≡ 0 → IsTreeSpilled nodes.now order.now bound amounts.new volume.new }
     ensures refused { result ≢ 0 → IsRefused (IsSpillCallRefusal nodes.now order.now bound (length amounts.old)) result fault.new }
     ensures unchanged { result ≢ 0 → (amounts.new ≡ amounts.old) × (volume.new ≡ volume.old) }
     ensures no_fault { result ≡ 0 → fault.new ≡ fault.old }

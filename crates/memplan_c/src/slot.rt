@@ -8,7 +8,7 @@ ghost use Rattle.activation.specs.Machine.{IsSetting};
 ghost use Rattle.activation.specs.declared.events.EventKind.TheVariants.{Start, Finish};
 ghost use Rattle.tree_input.specs.Tree.{IsTree, system_of_nodes};
 ghost use Rattle.memplan_c.specs.Refusals.{IsBeginRefusal, IsSystemBeginRefusal};
-ghost use Rattle.memplan_c.specs.Slots.{empty, setting_of, core_at_start, begun, IsBegun, activated, IsActivated, stepped, IsStarted};
+ghost use Rattle.memplan_c.specs.Slots.{empty, setting_of, core_at_start, begun, IsCoreBegun, activated, IsActivated, stepped, IsStarted};
 ghost use Rattle.memplan_c.specs.Slots.{IsFinished, IsDone, used_in, booked_in};
 
 use crate::faults::{Fault, refuse};
@@ -84,7 +84,7 @@ pub fn begin(
     fault: &mut Fault,
 ) -> u32
     ensures { (slot.new ≡ begun slot.old (setting_of (system_of_nodes nodes.now) order.now bound workers) result)
-        × IsBegun (IsTree nodes.now) (IsBeginRefusal nodes.now order.now bound workers)
+        × IsCoreBegun (IsTree nodes.now) (IsBeginRefusal nodes.now order.now bound workers)
         (setting_of (system_of_nodes nodes.now) order.now bound workers) result fault.old fault.new }
 {
     match core_of_tree(slot.alloc, nodes, order, bound, workers) {
@@ -129,7 +129,7 @@ pub fn begin_system(
     fault: &mut Fault,
 ) -> u32
     ensures { (slot.new ≡ begun slot.old (setting_of (system_given tasks.now items.now) order.now bound workers) result)
-        × IsBegun (IsSystem (system_given tasks.now items.now)) (IsSystemBeginRefusal tasks.now items.now order.now bound workers)
+        × IsCoreBegun (IsSystem (system_given tasks.now items.now)) (IsSystemBeginRefusal tasks.now items.now order.now bound workers)
         (setting_of (system_given tasks.now items.now) order.now bound workers) result fault.old fault.new }
 {
     match core_of_system(slot.alloc, tasks, items, order, bound, workers) {

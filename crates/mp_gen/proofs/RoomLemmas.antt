@@ -16,7 +16,7 @@ use Rattle.sp_terms.specs.Values.{stack_from, stack_of, last_term, added_tasks, 
 use Rattle.sp_terms.specs.Builder.{IsOneTerm}
 use Rattle.mp_gen.specs.Dice.{dice_of, draw}
 use Rattle.mp_gen.specs.RandomWorkflow.{height_of, with_hold, with_data, with_task, with_par, with_one, with_tasks, closed, workflow_of}
-use Rattle.mp_gen.specs.Room.{HasRoom}
+use Rattle.mp_gen.specs.Room.{HasRoomFor}
 use Rattle.mp_gen.proofs.DrawLemmas.{draw-below}
 
 -- ---- the stack after a position
@@ -79,10 +79,10 @@ takes-par k stack le two all =
 
 -- ---- room
 
-height-is : (ps : List Position) (a t s : ℕ) (room : HasRoom ps a t s) → height_of ps ≡ length room.stack
+height-is : (ps : List Position) (a t s : ℕ) (room : HasRoomFor ps a t s) → height_of ps ≡ length room.stack
 height-is ps a t s room = ap (λ (o : Option (List Term)). length (stack_from o)) room.leaves.is
 
-pub less : (ps : List Position) (a t s a' t' s' : ℕ) → HasRoom ps a t s → a' ≤ a → t' ≤ t → s' ≤ s → HasRoom ps a' t' s'
+pub less : (ps : List Position) (a t s a' t' s' : ℕ) → HasRoomFor ps a t s → a' ≤ a → t' ≤ t → s' ≤ s → HasRoomFor ps a' t' s'
 less ps a t s a' t' s' room less_a less_t less_s = record {
   stack = room.stack;
   leaves = room.leaves;
@@ -93,17 +93,17 @@ less ps a t s a' t' s' room less_a less_t less_s = record {
 
 -- room, and how many terms stand
 pub record Stands (ps : List Position) (a t s height : ℕ) : Type 0 where
-  pub room : HasRoom ps a t s
+  pub room : HasRoomFor ps a t s
   pub height_is : height_of ps ≡ height
 
 -- one position more
-more : (ps : List Position) (p : Position) (a t s height : ℕ) (room : HasRoom ps (suc a) (t + added_tasks p) (s + added_size p))
+more : (ps : List Position) (p : Position) (a t s height : ℕ) (room : HasRoomFor ps (suc a) (t + added_tasks p) (s + added_size p))
     → IsWithinLimits p → Takes p room.stack height → Stands (ps ++ p ∷ []) a t s height
 more ps p a t s height room small takes =
     let len = length-append ps (p ∷ []) in
     let tasks = sum_by_push added_tasks ps p in
     let size = sum_by_push added_size ps p in
-    let after : HasRoom (ps ++ p ∷ []) a t s = record {
+    let after : HasRoomFor (ps ++ p ∷ []) a t s = record {
       stack = takes.out;
       leaves = record {
         is = pushed ps p [] room.stack takes.out room.leaves.is takes.is;
@@ -119,7 +119,7 @@ more ps p a t s height room small takes =
     } in
     record { room = after; height_is = height-is (ps ++ p ∷ []) a t s after ∙ takes.len }
 
-hold-more : (ps : List Position) (size a t s : ℕ) → HasRoom ps (suc a) t (s + 1000) → size ≤ 1000
+hold-more : (ps : List Position) (size a t s : ℕ) → HasRoomFor ps (suc a) t (s + 1000) → size ≤ 1000
     → Stands (ps ++ Hold size ∷ []) a t s (height_of ps + 1)
 hold-more ps size a t s room small =
     let enough = less ps _ _ _ (suc a) (t + 0) (s + size) room (omega arith) (omega arith) (omega arith) in
@@ -130,7 +130,7 @@ hold-more ps size a t s room small =
       allowed = (tt, enough.leaves.allowed);
     })
 
-task-more : (ps : List Position) (extra time a t s : ℕ) → HasRoom ps (suc a) (suc t) (s + 1000) → extra ≤ 1000 → 1 ≤ time → time ≤ 16
+task-more : (ps : List Position) (extra time a t s : ℕ) → HasRoomFor ps (suc a) (suc t) (s + 1000) → extra ≤ 1000 → 1 ≤ time → time ≤ 16
     → 2 ≤ height_of ps → Stands (ps ++ at.Task extra 0 time ∷ []) a t s (height_of ps - 1)
 task-more ps extra time a t s room small some short two =
     let enough = less ps _ _ _ (suc a) (t + 1) (s + extra) room (omega arith) (omega arith) (omega arith) in
@@ -139,7 +139,7 @@ task-more ps extra time a t s room small some short two =
     more ps (at.Task extra 0 time) a t s _ enough (omega arith, some, omega arith)
     (subst (Takes (at.Task extra 0 time) enough.stack) (omega (arith, height)) takes)
 
-par-more : (ps : List Position) (k a t s : ℕ) → HasRoom ps (suc a) t s → k ≤ height_of ps → 2 ≤ k
+par-more : (ps : List Position) (k a t s : ℕ) → HasRoomFor ps (suc a) t s → k ≤ height_of ps → 2 ≤ k
     → Stands (ps ++ Par k ∷ []) a t s (suc (height_of ps) - k)
 par-more ps k a t s room high two =
     let enough = less ps _ _ _ (suc a) (t + 0) (s + 0) room (omega arith) (omega arith) (omega arith) in
@@ -149,17 +149,17 @@ par-more ps k a t s room high two =
 
 -- ---- the steps of a random workflow
 
-pub hold-room : (ps : List Position) (dice : Lcg) (a t s : ℕ) → HasRoom ps (suc a) t (s + 1000)
+pub hold-room : (ps : List Position) (dice : Lcg) (a t s : ℕ) → HasRoomFor ps (suc a) t (s + 1000)
     → Stands (with_hold ps dice).0 a t s (height_of ps + 1)
 unfolding with_hold
 hold-room ps dice a t s room = hold-more ps _ a t s room (omega (arith, draw-below 1000 dice (lit< tt)))
 
 -- room, and so many terms stand at least
 pub record StandsWith (ps : List Position) (a t s least : ℕ) : Type 0 where
-  pub room : HasRoom ps a t s
+  pub room : HasRoomFor ps a t s
   pub some : least ≤ height_of ps
 
-pub data-room : (ps : List Position) (dice : Lcg) (a t s : ℕ) → HasRoom ps (2 + a) t (s + 2000) → StandsWith (with_data ps dice).0 a t s 2
+pub data-room : (ps : List Position) (dice : Lcg) (a t s : ℕ) → HasRoomFor ps (2 + a) t (s + 2000) → StandsWith (with_data ps dice).0 a t s 2
 unfolding with_data
 data-room ps dice a t s room = go (nat_le 2 (height_of ps)) ((draw 2 dice).0 == 0) refl
   where
@@ -178,7 +178,7 @@ data-room ps dice a t s room = go (nat_le 2 (height_of ps)) ((draw 2 dice).0 == 
     go true false e = both (draw 2 dice).1
     go false even e = both (draw 2 dice).1
 
-pub task-room : (ps : List Position) (dice : Lcg) (a t s : ℕ) → HasRoom ps (suc a) (suc t) (s + 1000) → 2 ≤ height_of ps
+pub task-room : (ps : List Position) (dice : Lcg) (a t s : ℕ) → HasRoomFor ps (suc a) (suc t) (s + 1000) → 2 ≤ height_of ps
     → StandsWith (with_task ps dice).0 a t s 1
 unfolding with_task
 task-room ps dice a t s room two =
@@ -188,7 +188,7 @@ task-room ps dice a t s room two =
     let after = task-more ps extra (1 + (draw 16 left).0) a t s room (omega (arith, small)) (omega arith) (omega (arith, time)) two in
     record { room = after.room; some = omega (arith, after.height_is) }
 
-par-room : (ps : List Position) (dice : Lcg) (a t s : ℕ) → HasRoom ps (suc a) t s → 1 ≤ height_of ps
+par-room : (ps : List Position) (dice : Lcg) (a t s : ℕ) → HasRoomFor ps (suc a) t s → 1 ≤ height_of ps
     → StandsWith (with_par ps dice).0 a t s 1
 unfolding with_par
 par-room ps dice a t s room one = go (nat_le 2 (height_of ps)) ((draw 3 dice).0 == 0) refl
@@ -204,7 +204,7 @@ par-room ps dice a t s room one = go (nat_le 2 (height_of ps)) ((draw 3 dice).0 
     go true false e = same
     go false third e = same
 
-one-room : (ps : List Position) (dice : Lcg) (a t s : ℕ) → HasRoom ps (4 + a) (suc t) (s + 3000) → StandsWith (with_one ps dice).0 a t s 1
+one-room : (ps : List Position) (dice : Lcg) (a t s : ℕ) → HasRoomFor ps (4 + a) (suc t) (s + 3000) → StandsWith (with_one ps dice).0 a t s 1
 unfolding with_one
 one-room ps dice a t s room =
     let (ready, after_data) = with_data ps dice in
@@ -218,7 +218,7 @@ one-room ps dice a t s room =
 
 -- after i tasks there is room for as many more as the limits say
 pub tasks-room : (i : ℕ) (dice : Lcg) (a t s : ℕ) → 4 * i + a ≤ most_positions → i + t ≤ most_tasks → 3000 * i + s ≤ most_total
-    → HasRoom (with_tasks i dice).0 a t s
+    → HasRoomFor (with_tasks i dice).0 a t s
 unfolding with_tasks
 tasks-room zero dice a t s fit_a fit_t fit_s = record {
   stack = [];

@@ -8,7 +8,7 @@ use Rattle.sp_terms.specs.Term.{Term}
 use Rattle.sp_terms.specs.Values.{Leaves, added_tasks, added_size}
 
 -- the positions leave terms, and so many positions and tasks more, and sizes of so much, pass no limit
-pub record HasRoom (ps : List Position) (positions tasks size : ℕ) : Type 0 where
+pub record HasRoomFor (ps : List Position) (positions tasks size : ℕ) : Type 0 where
   pub stack : List Term
   pub leaves : Leaves ps stack
   pub positions_fit : length ps + positions ≤ most_positions

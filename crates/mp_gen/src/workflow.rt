@@ -4,7 +4,7 @@ ghost use Rattle.std.specs.Prelude.{◌≡◌, ◌≤◌, ◌++◌, ◌∷◌, [
 ghost use Rattle.limits.specs.Limits.{most_tasks};
 ghost use Rattle.sp_terms.specs.Builder.{IsPosition, refusal_of};
 ghost use Rattle.mp_gen.specs.RandomWorkflow.{height_of, with_hold, with_data, with_task, with_par, with_one, closed, workflow_of};
-ghost use Rattle.mp_gen.specs.Room.{HasRoom};
+ghost use Rattle.mp_gen.specs.Room.{HasRoomFor};
 
 use crate::NoMemory;
 use crate::dice::{dice_of, draw};
@@ -27,7 +27,7 @@ fn put(builder: &mut TermBuilder, position: Position) -> Result<(), NoMemory>
 
 #[tactic(auto, unfolding(crate::specs::RandomWorkflow::with_hold))]
 fn put_hold(builder: &mut TermBuilder, dice: &mut Pcg32) -> Result<(), NoMemory>
-    requires { HasRoom builder.old 1 0 1000 }
+    requires { HasRoomFor builder.old 1 0 1000 }
     ensures { OnOk result ((builder.new, dice.new) ≡ with_hold builder.old dice.old) }
 {
     let size = 1 + u64::from(draw(dice, 1000));
@@ -37,7 +37,7 @@ fn put_hold(builder: &mut TermBuilder, dice: &mut Pcg32) -> Result<(), NoMemory>
 // Two data items; none, where at least two terms stand and the word is even.
 #[tactic(auto, unfolding(crate::specs::RandomWorkflow::with_data))]
 fn put_data(builder: &mut TermBuilder, dice: &mut Pcg32) -> Result<(), NoMemory>
-    requires { HasRoom builder.old 2 0 2000 }
+    requires { HasRoomFor builder.old 2 0 2000 }
     ensures { OnOk result ((builder.new, dice.new) ≡ with_data builder.old dice.old) }
 {
     let is_even = draw(dice, 2) == 0;
@@ -50,7 +50,7 @@ fn put_data(builder: &mut TermBuilder, dice: &mut Pcg32) -> Result<(), NoMemory>
 
 #[tactic(auto, unfolding(crate::specs::RandomWorkflow::with_task))]
 fn put_task(builder: &mut TermBuilder, dice: &mut Pcg32) -> Result<(), NoMemory>
-    requires room { HasRoom builder.old 1 1 1000 }
+    requires room { HasRoomFor builder.old 1 1 1000 }
     requires two { 2 ≤ height_of builder.old }
     ensures { OnOk result ((builder.new, dice.new) ≡ with_task builder.old dice.old) }
 {
@@ -67,7 +67,7 @@ fn put_task(builder: &mut TermBuilder, dice: &mut Pcg32) -> Result<(), NoMemory>
 // The last two terms side by side, where at least two stand and the word is a multiple of 3.
 #[tactic(auto, unfolding(crate::specs::RandomWorkflow::with_par))]
 fn put_par(builder: &mut TermBuilder, dice: &mut Pcg32) -> Result<(), NoMemory>
-    requires { HasRoom builder.old 1 0 0 }
+    requires { HasRoomFor builder.old 1 0 0 }
     ensures { OnOk result ((builder.new, dice.new) ≡ with_par builder.old dice.old) }
 {
     let is_third = draw(dice, 3) == 0;
@@ -80,7 +80,7 @@ fn put_par(builder: &mut TermBuilder, dice: &mut Pcg32) -> Result<(), NoMemory>
 // The positions of one task more.
 #[tactic(auto, unfolding(crate::specs::RandomWorkflow::with_one))]
 fn put_one(builder: &mut TermBuilder, dice: &mut Pcg32) -> Result<(), NoMemory>
-    requires { HasRoom builder.old 4 1 3000 }
+    requires { HasRoomFor builder.old 4 1 3000 }
     ensures { OnOk result ((builder.new, dice.new) ≡ with_one builder.old dice.old) }
 {
     put_data(builder, dice)?;
@@ -91,7 +91,7 @@ fn put_one(builder: &mut TermBuilder, dice: &mut Pcg32) -> Result<(), NoMemory>
 // All terms that stand side by side, where there are at least two.
 #[tactic(auto, unfolding(crate::specs::RandomWorkflow::closed))]
 fn close(builder: &mut TermBuilder) -> Result<(), NoMemory>
-    requires { HasRoom builder.old 1 0 0 }
+    requires { HasRoomFor builder.old 1 0 0 }
     ensures { OnOk result (builder.new ≡ closed builder.old) }
 {
     let height = builder.height();

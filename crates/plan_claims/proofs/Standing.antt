@@ -12,7 +12,7 @@ use Rattle.sp_terms.specs.Postfix.{gather, push, push_all}
 use Rattle.sp_terms.specs.Term.{Term, hold, series, par, Parts, no_parts, part, count, width_of, width_of_parts, IsAllowed, AreAllowed}
 use Rattle.sp_terms.specs.Values.{IsTerms, AllAllowed, added_size, last_term, stack_from, stack_of, term_of, term_at}
 use Rattle.sp_cuts.specs.Stacks.{total_of, total_of_parts}
-use Rattle.plan_claims.specs.Rows.{row_of, IsNext}
+use Rattle.plan_claims.specs.Rows.{row_of, IsNextRow}
 
 some_same : {A : Type 0} {x y : A} → Some x ≡ Some y → x ≡ y
 some_same e = cc
@@ -180,7 +180,7 @@ take_more [] i p h e = absurd (omega arith)
 take_more (q ∷ ps) zero p h e = ap (λ (x : Position). x ∷ []) e
 take_more (q ∷ ps) (suc i) p h e = ap (λ (l : List Position). q ∷ l) (take_more ps i p (omega arith) e)
 
-pub next_at : (ps : List Position) (i : ℕ) (p : Position) → IsTerms ps → i < length ps → get_or ps i p ≡ p → IsNext p (term_at ps i) (row_of ps i) (row_of ps (suc i))
+pub next_at : (ps : List Position) (i : ℕ) (p : Position) → IsTerms ps → i < length ps → get_or ps i p ≡ p → IsNextRow p (term_at ps i) (row_of ps i) (row_of ps (suc i))
 next_at ps i p a lt here =
     let (after, e) = split_at ps i p lt here in
     let whole : push_all (take i ps ++ p ∷ after) [] ≡ Some (term_of ps ∷ []) = subst (λ (l : List Position). push_all l [] ≡ Some (term_of ps ∷ [])) e a.is in
@@ -197,7 +197,7 @@ next_at ps i p a lt here =
     let stack1 : stack_of (take (suc i) ps) ≡ x.t ∷ x.rest = ap stack_from now ∙ x.is in
     let term : term_at ps i ≡ x.t = ap last_term stack1 in
     let ok : AllAllowed (x.t ∷ x.rest) = subst AllAllowed x.is (rest.allowed a.allowed) in
-    let y : IsNext p x.t (row_of ps i) (row_of ps (suc i)) =
+    let y : IsNextRow p x.t (row_of ps i) (row_of ps (suc i)) =
     record {
       before = reverse x.rest;
       was = ap reverse (stack0 ∙ x.was) ∙ turned (parts_of x.t) x.rest;
@@ -206,7 +206,7 @@ next_at ps i p a lt here =
       allowed = ok.0;
       within = omega (arith, ap stack_total x.is);
     } in
-    subst (λ (t : Term). IsNext p t (row_of ps i) (row_of ps (suc i))) (sym term) y
+    subst (λ (t : Term). IsNextRow p t (row_of ps i) (row_of ps (suc i))) (sym term) y
   where
     turned : (xs ys : List Term) → reverse (reverse xs ++ ys) ≡ reverse ys ++ xs
     turned xs ys = grind (arith, common_steps)
@@ -224,7 +224,7 @@ row_whole ps a = ap (λ (l : List Position). reverse (stack_of l)) (all_taken ps
     one : (t : Term) → reverse (t ∷ []) ≡ t ∷ []
     one t = grind (arith, common_steps)
 
-next_width : (p : Position) (t : Term) (row row' : List Term) → IsNext p t row row' → row_width row' ≡ suc (row_width row)
+next_width : (p : Position) (t : Term) (row row' : List Term) → IsNextRow p t row row' → row_width row' ≡ suc (row_width row)
 next_width p t row row' n =
     omega (arith, ap row_width n.was, ap row_width n.now_is, row_width_append n.before (parts_of t), row_width_append n.before (t ∷ []), width_parts t)
 
@@ -233,7 +233,7 @@ index_there [] i h = absurd (omega arith)
 index_there (p ∷ ps) zero h = (p, refl)
 index_there (p ∷ ps) (suc i) h = index_there ps i (omega arith)
 
-pub next_there : (ps : List Position) (i : ℕ) → IsTerms ps → i < length ps → (p : Position) × IsNext p (term_at ps i) (row_of ps i) (row_of ps (suc i))
+pub next_there : (ps : List Position) (i : ℕ) → IsTerms ps → i < length ps → (p : Position) × IsNextRow p (term_at ps i) (row_of ps i) (row_of ps (suc i))
 next_there ps i a lt = let (p, here) = index_there ps i lt in (p, next_at ps i p a lt here)
 
 pub row_width_is : (ps : List Position) (i : ℕ) → IsTerms ps → i ≤ length ps → row_width (row_of ps i) ≡ i

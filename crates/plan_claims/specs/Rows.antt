@@ -12,7 +12,7 @@ abbrev pub row_of : List Position → ℕ → List Term
 row_of ps k = reverse (stack_of (take k ps))
 
 -- a position puts this term in the place of its parts, which end the row
-pub record IsNext (p : Position) (t : Term) (row row' : List Term) : Type 0 where
+pub record IsNextRow (p : Position) (t : Term) (row row' : List Term) : Type 0 where
   pub before : List Term
   pub was : row ≡ before ++ parts_of t
   pub now_is : row' ≡ before ++ t ∷ []

@@ -13,7 +13,7 @@ use Rattle.rounds_run.specs.declared.front.Job.{Job}
 use Rattle.rounds_run.specs.declared.front.Made.{Made}
 use Rattle.rounds_run.specs.declared.held.Held.{Held}
 use Rattle.rounds_run.specs.FrontRows.{rows_of, list_of}
-use Rattle.rounds_run.specs.Holding.{Factor, IsHeld, IsMade, IsMadeOf, AreJobsOf, AreMadeOf, AreOrderly, AreDue, in_rounds, or_in, front_rows}
+use Rattle.rounds_run.specs.Holding.{Factor, IsHeld, IsHandedBack, IsMadeOf, AreJobsOf, AreMadeOf, AreOrderly, AreDue, in_rounds, or_in, front_rows}
 use Rattle.rounds_run.proofs.HeldLemmas.{held_same}
 
 -- a round that is read from the list
@@ -52,7 +52,7 @@ all_made f rounds i held is end held_is s super =
 pub made_of : (f : Factor) (round : List ℕ) (jobs : List Job) (made : List (Result Made AllocError)) → AreJobsOf f round jobs
     → length made ≡ length jobs
     → ((i : ℕ) (d : Result Made AllocError) (e : Job) → i < length jobs → IfOk (get_or made i d)
-    (IsMade f.joined f.order (get_or jobs i e).first (get_or jobs i e).columns))
+    (IsHandedBack f.joined f.order (get_or jobs i e).first (get_or jobs i e).columns))
     → AreMadeOf f round made
 made_of f round jobs made are long each = (
   long ∙ are.0,
@@ -60,8 +60,8 @@ made_of f round jobs made are long each = (
       let job : Job = record { place = 0; first = 0; columns = 0; children = [] } in
       let here = are.1 i job lt in
       let in_jobs : i < length jobs = omega (arith, are.0) in
-      subst (λ n. IfOk (get_or made i d) (IsMade f.joined f.order (first_of f.supers (get_or round i 0)) n)) here.columns
-      (subst (λ n. IfOk (get_or made i d) (IsMade f.joined f.order n (get_or jobs i job).columns)) here.first (each i d job in_jobs)),
+      subst (λ n. IfOk (get_or made i d) (IsHandedBack f.joined f.order (first_of f.supers (get_or round i 0)) n)) here.columns
+      (subst (λ n. IfOk (get_or made i d) (IsHandedBack f.joined f.order n (get_or jobs i job).columns)) here.first (each i d job in_jobs)),
 )
 
 -- ---- what was handed back, from the last on

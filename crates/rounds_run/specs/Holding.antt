@@ -43,12 +43,12 @@ pub record IsJobOf (f : Factor) (s : ℕ) (job : Job) : Type 0 where
   pub columns : job.columns ≡ (super_at f.supers s).columns
 
 -- what the task of a column hands back, where the front has so many columns
-pub record IsMade (joined : ℕ → ℕ → Bool) (n first columns : ℕ) (made : Made) : Type 0 where
+pub record IsHandedBack (joined : ℕ → ℕ → Bool) (n first columns : ℕ) (made : Made) : Type 0 where
   pub rows : made.rows ≡ rows_of joined n first
   pub rest : made.rest ≡ drop columns (rows_of joined n first)
 
 abbrev pub IsMadeOf : Factor → ℕ → Made → Type 0
-IsMadeOf f s made = IsMade f.joined f.order (first_of f.supers s) (super_at f.supers s).columns made
+IsMadeOf f s made = IsHandedBack f.joined f.order (first_of f.supers s) (super_at f.supers s).columns made
 
 -- the tasks of a round, in its order, and what they hand back
 abbrev pub AreJobsOf : Factor → List ℕ → List Job → Type 0

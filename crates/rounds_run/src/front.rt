@@ -5,7 +5,7 @@ ghost use Rattle.matrix_market.specs.Pattern.{has, is_joined, neighbours_of};
 ghost use Rattle.ordering.specs.Perm.{IsVertex, vertex_at};
 ghost use Rattle.ordering.specs.Fill.{renumbered};
 ghost use Rattle.rounds_run.specs.Gathering.{is_gathered};
-ghost use Rattle.rounds_run.specs.Holding.{IsJob, IsMade};
+ghost use Rattle.rounds_run.specs.Holding.{IsJob, IsHandedBack};
 
 use crate::NoMemory;
 use crate::gathering::{add_later, add_lists};
@@ -75,7 +75,7 @@ pub fn make_front(alloc: Global, pattern: &Pattern, perm: &Perm, job: Job) -> Re
     requires perm { length perm.now ≡ length pattern.now }
     requires job { IsJob (renumbered (is_joined pattern.now) perm.now) (length perm.now) job }
     ensures { IfOk result
-        (IsMade (renumbered (is_joined pattern.now) perm.now) (length perm.now) job.first job.columns) }
+        (IsHandedBack (renumbered (is_joined pattern.now) perm.now) (length perm.now) job.first job.columns) }
 {
     structure_by_children();
     path_theorem();

@@ -10,7 +10,7 @@ ghost use Rattle.rounds_run.specs.FrontRows.{rows_of, list_of};
 ghost use Rattle.rounds_run.specs.RowSystem.{row_peak, row_setting};
 ghost use Rattle.rounds_run.specs.Rounds.{AreRounds};
 ghost use Rattle.rounds_run.specs.Fronts.{IsFrontsRefusal};
-ghost use Rattle.rounds_run.specs.Holding.{Factor, IsFactor, IsHeld, IsJob, IsMade, AreJobsOf, AreMadeOf, AreOrderly, AreFirsts};
+ghost use Rattle.rounds_run.specs.Holding.{Factor, IsFactor, IsHeld, IsJob, IsHandedBack, AreJobsOf, AreMadeOf, AreOrderly, AreFirsts};
 
 use crate::NoMemory;
 use crate::front::{Job, Made, make_front};
@@ -57,7 +57,7 @@ fn make_fronts<R: Threads + Sync, G: Gate>(
     requires jobs { All (IsJob (renumbered (is_joined pattern.now) perm.now) (length perm.now)) jobs.items }
     ensures len { IfOk result (λ made. length made.items ≡ length jobs.items) }
     ensures each { IfOk result (λ made. (i : ℕ) (d : _) (e : Job) → i < length jobs.items → IfOk (slice_index_or made.items i d)
-        (IsMade (renumbered (is_joined pattern.now) perm.now) (length perm.now)
+        (IsHandedBack (renumbered (is_joined pattern.now) perm.now) (length perm.now)
         (slice_index_or jobs.items i e).first (slice_index_or jobs.items i e).columns)) }
 {
     thread::map_vec(
@@ -67,7 +67,7 @@ fn make_fronts<R: Threads + Sync, G: Gate>(
             requires { (length perm.now ≡ length pattern.now)
                 × IsJob (renumbered (is_joined pattern.now) perm.now) (length perm.now) job }
             ensures { IfOk result
-                (IsMade (renumbered (is_joined pattern.entry.now) perm.entry.now) (length perm.entry.now) job.first job.columns) }
+                (IsHandedBack (renumbered (is_joined pattern.entry.now) perm.entry.now) (length perm.entry.now) job.first job.columns) }
         {
             gate.enter(job.place);
             make_front(alloc, pattern, perm, job)

@@ -23,7 +23,7 @@ use Rattle.cut_laws.specs.Standing.{IsLowestReached, StandsFor}
 use Rattle.cut_laws.specs.TermCuts.{cut_of_term}
 use Rattle.sp_cuts.specs.declared.parts.Part.{Part}
 use Rattle.sp_cuts.specs.Parts.{cut_of}
-use Rattle.sp_cuts.specs.Reaching.{HasRoom, AreStepsOf, IsLast}
+use Rattle.sp_cuts.specs.Reaching.{CanBeRun, AreStepsOf, IsLast}
 use Rattle.sp_cuts.specs.Stacks.{IsPartOf, ArePiled, stack_tasks, PositionReady, PositionDone}
 use Rattle.sp_cuts.specs.Stairs.{BothSteps, AreStairsOf, AreStairsFrom, AreStairs, step_total}
 use Rattle.sp_cuts.specs.Stairs.{PassesLimit, both_of, all_of}
@@ -71,7 +71,7 @@ top_of lists st items p piled last =
     go (t ∷ st) below h = record { t = t; rest = st; is = refl; part = h.0 }
 
 pub has_room : SideLaws → (lists : List (List ℕ)) (base : ℕ) (t : Term) (p : Part)
-    → IsPartOf lists base t p → HasRoom p
+    → IsPartOf lists base t p → CanBeRun p
 has_room laws lists base t p h =
     let w = within laws lists p h.rough.both in
     let f = w.front_net in
@@ -143,7 +143,7 @@ module _ (laws : SideLaws) (stands : (t : Term) (n : Names t) → IsAllowed t
     → StandsFor t (names_of t n) (cut_of_term t n))
     (ps : List Position) (i : ℕ) (lists : List (List ℕ)) (items : List Part) (next : ℕ)
     (now : Standing ps (i + 1) lists items next) where
-  pub last_has_room : (p : Part) → IsLast items p → HasRoom p
+  pub last_has_room : (p : Part) → IsLast items p → CanBeRun p
   last_has_room p last =
       let x = top_of lists now.st items p now.piled last in
       has_room laws lists (suc (stack_tasks x.rest)) x.t p x.part
@@ -179,7 +179,7 @@ module _ (laws : SideLaws) (stands : (t : Term) (n : Names t) → IsAllowed t
   some_here = some_last lists lists' items items' p next next'
       (standing_ready ps i p lists items next a s lt here) done
 
-  pub room_here : (q : Part) → IsLast items' q → HasRoom q
+  pub room_here : (q : Part) → IsLast items' q → CanBeRun q
   room_here q last = last_has_room laws stands ps i lists' items' next' now q last
 
   pub stairs_here : IsAllowed (term_at ps i) → (both : BothSteps) → ((q : Part) → IsLast items' q

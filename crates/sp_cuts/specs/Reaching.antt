@@ -9,7 +9,7 @@ use Rattle.sp_cuts.specs.declared.parts.Part.{Part}
 use Rattle.sp_cuts.specs.Stairs.{BothSteps}
 
 -- both sides can be run from where they start
-pub record HasRoom (p : Part) : Type 0 where
+pub record CanBeRun (p : Part) : Type 0 where
   pub front : net_sum (profile p.front) ≤ p.initial
   pub back : net_sum (profile p.back) ≤ p.fin
   pub initial : p.initial ≤ most_total

@@ -6,7 +6,7 @@ ghost use Rattle.limits.specs.Limits.{most_steps};
 ghost use Rattle.sp_terms.specs.SystemOfTerm.{task_count};
 ghost use Rattle.sp_terms.specs.Values.{term_of};
 ghost use Rattle.sp_cuts.specs.Stairs.{AreStairs, step_total, PassesLimit, both_of, all_of};
-ghost use Rattle.sp_cuts.specs.Reaching.{HasRoom, AreStepsOf, IsLast};
+ghost use Rattle.sp_cuts.specs.Reaching.{CanBeRun, AreStepsOf, IsLast};
 ghost use Rattle.sp_cuts.specs.declared.reaching.StairsRefusal.TheVariants.{NoMemory as OutOfRoom};
 
 use crate::NoMemory;
@@ -110,7 +110,7 @@ pub fn staircases<L: Ledger>(
 // Those of the last part.
 fn last_stairs(alloc: Global, parts: &[Part]) -> Result<Stairs, NoMemory>
     requires some { 0 < length parts.now }
-    requires room { (p : Part) → IsLast parts.now p → HasRoom p }
+    requires room { (p : Part) → IsLast parts.now p → CanBeRun p }
     ensures { IfOk result (λ s. (p : Part) → IsLast parts.now p → AreStepsOf p (both_of s)) }
 {
     let part = &parts[parts.len() - 1];

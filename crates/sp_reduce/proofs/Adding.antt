@@ -4,7 +4,7 @@ use Rattle.std.proofs.lemmas.Bool.{cases_eq}
 use Rattle.std.proofs.lemmas.List.{get_or-set_other, get_or-set_same, length-set}
 use Rattle.std.proofs.lemmas.List.Sums.{sum_by_push}
 use Rattle.sp_reduce.specs.declared.link.Link.{Link}
-use Rattle.sp_reduce.specs.Work.{no_link, link, link_at, hit, link_weight, sum_links, key_of, AreRanked, IsWork, HasNone}
+use Rattle.sp_reduce.specs.Work.{no_link, link, link_at, hit, link_weight, sum_links, key_of, AreLinksRanked, IsWork, HasNone}
 use Rattle.sp_reduce.proofs.Works.{hit-self, hit-no, key-same}
 
 at-left : (xs : List Link) (y : Link) (i : ℕ) → i < length xs → get_or (xs ++ y ∷ []) i no_link ≡ get_or xs i no_link
@@ -83,19 +83,19 @@ module _ (n : ℕ) (rank : ℕ → ℕ) (links : List Link) (ins outs in_at out_
 -- ---- ranks, with one link more
 
 module _ (rank : ℕ → ℕ) (links : List Link) (p s : ℕ) where
-  pub ranked-before : AreRanked rank (links ++ link p s ∷ []) → AreRanked rank links
+  pub ranked-before : AreLinksRanked rank (links ++ link p s ∷ []) → AreLinksRanked rank links
   ranked-before h x lt alive low high =
       let e = at-left links (link p s) x lt in
       let now = h x (omega (arith, lt, length-append links (link p s ∷ []))) (ap (λ (l : Link). l.alive) e ∙ alive) (omega (arith, low, ap (λ (l : Link). l.from) e)) (omega (arith, high, ap (λ (l : Link). l.to) e)) in
       subst (λ (l : Link). rank l.from < rank l.to) e now
 
-  pub ranked-new : AreRanked rank (links ++ link p s ∷ []) → 1 ≤ p → 1 ≤ s → rank p < rank s
+  pub ranked-new : AreLinksRanked rank (links ++ link p s ∷ []) → 1 ≤ p → 1 ≤ s → rank p < rank s
   ranked-new h low high =
       let e = at-last links (link p s) in
       let now = h (length links) (omega (arith, length-append links (link p s ∷ []))) (ap (λ (l : Link). l.alive) e) (omega (arith, low, ap (λ (l : Link). l.from) e)) (omega (arith, high, ap (λ (l : Link). l.to) e)) in
       subst (λ (l : Link). rank l.from < rank l.to) e now
 
-  pub ranked-more : AreRanked rank links → (1 ≤ p → 1 ≤ s → rank p < rank s) → AreRanked rank (links ++ link p s ∷ [])
+  pub ranked-more : AreLinksRanked rank links → (1 ≤ p → 1 ≤ s → rank p < rank s) → AreLinksRanked rank (links ++ link p s ∷ [])
   ranked-more h lower x lt alive low high = elim (cases_eq x (length links)) [
     | inl same ↦ (let e = ap (λ y. link_at (links ++ link p s ∷ []) y) same ∙ at-last links (link p s) in
         subst (λ (l : Link). rank l.from < rank l.to) (sym e) (lower (omega (arith, low, ap (λ (l : Link). l.from) e)) (omega (arith, high, ap (λ (l : Link). l.to) e))))
@@ -104,7 +104,7 @@ module _ (rank : ℕ → ℕ) (links : List Link) (p s : ℕ) where
         subst (λ (l : Link). rank l.from < rank l.to) (sym e) (h x l (sym (ap (λ (l : Link). l.alive) e) ∙ alive) (omega (arith, low, ap (λ (l : Link). l.from) e)) (omega (arith, high, ap (λ (l : Link). l.to) e))))
   ]
 
-pub reranked : (n : ℕ) (rank rank' : ℕ → ℕ) (links : List Link) (ins outs in_at out_at : List ℕ) (table : ℕ → Option ℕ) → IsWork n rank links ins outs in_at out_at table → AreRanked rank' links
+pub reranked : (n : ℕ) (rank rank' : ℕ → ℕ) (links : List Link) (ins outs in_at out_at : List ℕ) (table : ℕ → Option ℕ) → IsWork n rank links ins outs in_at out_at table → AreLinksRanked rank' links
     → IsWork n rank' links ins outs in_at out_at table
 reranked n rank rank' links ins outs in_at out_at table w h = record {
   lens = w.lens;

@@ -9,9 +9,9 @@ use Rattle.sp_reduce.specs.declared.link.Link.{Link}
 use Rattle.sp_reduce.specs.declared.piece.Piece.{Piece}
 use Rattle.sp_reduce.specs.declared.piece.Piece.TheVariants.{Hold, Series, Both}
 use Rattle.sp_reduce.specs.Nets.{Net, hold, both, hits}
-use Rattle.sp_reduce.specs.Forests.{Edge, dead, edge_weight, total, IsForest}
+use Rattle.sp_reduce.specs.Forests.{Edge, dead, edge_weight, total, IsNetForest}
 use Rattle.sp_reduce.specs.Work.{no_link, link_at, link, hit, link_weight, sum_links, IsLink}
-use Rattle.sp_reduce.specs.Pieces.{net_at, piece_net, grown, nets_of, edge_of, edges_of, IsMade, piece_at, AreMade, IsCarried}
+use Rattle.sp_reduce.specs.Pieces.{net_at, piece_net, grown, nets_of, edge_of, edges_of, IsBuilt, piece_at, AreMade, IsCarried}
 use Rattle.sp_reduce.proofs.Forests.{forest-parallel, forest-series}
 use Rattle.sp_reduce.proofs.Works.{hits-end, end-some, counts-same}
 
@@ -45,11 +45,11 @@ pub old-net : (ps : List Piece) (p : Piece) (i : ℕ) → i < length ps → net_
 old-net ps p i h = ap (λ (ns : List Net). get_or ns i (hold 0)) (nets-push ps p) ∙ get_or_append_left (nets_of ps) (piece_net (nets_of ps) p ∷ []) (hold 0) i (omega (arith, nets-length ps))
 
 -- a piece of earlier ones more
-pub made-push : (ps : List Piece) (p : Piece) → AreMade ps → IsMade (length ps) p → AreMade (ps ++ p ∷ [])
+pub made-push : (ps : List Piece) (p : Piece) → AreMade ps → IsBuilt (length ps) p → AreMade (ps ++ p ∷ [])
 made-push ps p made new i lt = elim (cases_eq i (length ps)) [
-  | inl e ↦ subst (λ (k : ℕ). IsMade k (piece_at (ps ++ p ∷ []) k)) (sym e) (subst (IsMade (length ps)) (sym (get_or_push ps p (Hold 0) (length ps) refl)) new)
+  | inl e ↦ subst (λ (k : ℕ). IsBuilt k (piece_at (ps ++ p ∷ []) k)) (sym e) (subst (IsBuilt (length ps)) (sym (get_or_push ps p (Hold 0) (length ps) refl)) new)
   | inr ne ↦ (let short : i < length ps = omega (arith, lt, ne, length-append ps (p ∷ [])) in
-      subst (IsMade i) (sym (get_or_append_left ps (p ∷ []) (Hold 0) i short)) (made i short))
+      subst (IsBuilt i) (sym (get_or_append_left ps (p ∷ []) (Hold 0) i short)) (made i short))
 ]
 
 -- ---- edges
@@ -130,8 +130,8 @@ module _ (graph : List Item) (ps : List Piece) (links : List Link) (nodes : List
   es : List Edge
   es = edges_of (nets_of ps) links nodes
 
-  forest : IsForest graph (edges_of (nets_of ps) links nodes)
-  forest = subst (IsForest graph) (no-more (edges_of (nets_of ps) links nodes)) h.forest
+  forest : IsNetForest graph (edges_of (nets_of ps) links nodes)
+  forest = subst (IsNetForest graph) (no-more (edges_of (nets_of ps) links nodes)) h.forest
 
   series-net : Net
   series-net = piece_net (nets_of ps) (Series (get_or nodes i 0) v (get_or nodes j 0))
@@ -142,7 +142,7 @@ module _ (graph : List Item) (ps : List Piece) (links : List Link) (nodes : List
   outs-one : total (λ a k b. hits a (Some v)) (edges_of (nets_of ps) links nodes) ≡ 1
   outs-one = edges-sum (λ a b. hits a (Some v)) (nets_of ps) links nodes ∙ counts-same (λ a b. hits (end_of a) (Some v)) (λ a b. hit a v) (λ a b. hits-end a v some) links ∙ one_out
 
-  joined-forest : IsForest graph (set (set (edges_of (nets_of ps) links nodes) i (record { alive = true; from = end_of p; net = piece_net (nets_of ps) (Series (get_or nodes i 0) v (get_or nodes j 0)); to = end_of s })) j dead)
+  joined-forest : IsNetForest graph (set (set (edges_of (nets_of ps) links nodes) i (record { alive = true; from = end_of p; net = piece_net (nets_of ps) (Series (get_or nodes i 0) v (get_or nodes j 0)); to = end_of s })) j dead)
   joined-forest =
       forest-series (edges_of (nets_of ps) links nodes) i j (end_of p) (end_of v) (end_of v) (end_of s) (net_at (nets_of ps) (get_or nodes i 0)) (net_at (nets_of ps) (get_or nodes j 0))
       (omega (arith, edges-length (nets_of ps) links nodes, first.within)) (omega (arith, edges-length (nets_of ps) links nodes, second.within)) apart
@@ -170,7 +170,7 @@ module _ (graph : List Item) (ps : List Piece) (links : List Link) (nodes : List
           | inl e ↦ omega (arith, ap (λ (z : ℕ). get_or (set nodes i (length ps)) z 0) e, get_or-set_same nodes i (length ps) 0 (omega (arith, h.lens, first.within)), length-append ps (q ∷ []))
           | inr ne ↦ omega (arith, get_or-set_other nodes i y (length ps) 0 ne, length-append ps (q ∷ []), others y lt a ne)
         ];
-        forest = subst (IsForest graph) (sym (no-more (edges_of nets (set (set links i new) j no_link) (set nodes i (length ps))))) (subst (IsForest graph) (sym edges) joined-forest);
+        forest = subst (IsNetForest graph) (sym (no-more (edges_of nets (set (set links i new) j no_link) (set nodes i (length ps))))) (subst (IsNetForest graph) (sym edges) joined-forest);
       }
     where
       others : (y : ℕ) → y < length (set (set links i (link p s)) j no_link) → (link_at (set (set links i (link p s)) j no_link) y).alive ≡ true → y ≢ i → get_or nodes y 0 < length ps
@@ -199,7 +199,7 @@ module _ (graph : List Item) (ps : List Piece) (links : List Link) (nodes : List
       to = end_of s;
     }
 
-    merged-forest : IsForest graph (set (set (set (set (edges_of (nets_of ps) links nodes) i series-edge) j dead) k both-edge) i dead)
+    merged-forest : IsNetForest graph (set (set (set (set (edges_of (nets_of ps) links nodes) i series-edge) j dead) k both-edge) i dead)
     unfolding series-edge both-edge
     merged-forest =
         let es = edges_of (nets_of ps) links nodes in
@@ -253,8 +253,8 @@ module _ (graph : List Item) (ps : List Piece) (links : List Link) (nodes : List
             | inl e ↦ omega (arith, ap (λ (z : ℕ). get_or (set nodes k m) z 0) e, get_or-set_same nodes k m 0 (omega (arith, h.lens, twin.within)), length-append ps1 (y ∷ []), long, m_is)
             | inr ne ↦ omega (arith, get_or-set_other nodes k u m 0 ne, length-append ps1 (y ∷ []), long, left u lt a)
           ];
-          forest = subst (IsForest graph) (sym (no-more (edges_of nets (set (set links i no_link) j no_link) (set nodes k m))))
-              (subst (IsForest graph) (written es series-edge both-edge ∙ sym edges) merged-forest);
+          forest = subst (IsNetForest graph) (sym (no-more (edges_of nets (set (set links i no_link) j no_link) (set nodes k m))))
+              (subst (IsNetForest graph) (written es series-edge both-edge ∙ sym edges) merged-forest);
         }
       where
         left : (u : ℕ) → u < length (set (set links i no_link) j no_link) → (link_at (set (set links i no_link) j no_link) u).alive ≡ true → get_or nodes u 0 < length ps

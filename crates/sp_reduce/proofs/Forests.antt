@@ -6,7 +6,7 @@ use Rattle.std.proofs.lemmas.List.Sums.{sum_by-cons, sum_by-set}
 use Rattle.mp_system.specs.declared.system.Item.{Item}
 use Rattle.sp_reduce.specs.Nets.{Net, hold, series, both, times, weigh, hits, knows}
 use Rattle.sp_reduce.specs.NetGraphs.{arc_weight, Makes, arc, IsParallel, IsSeries, IsIrreducible, IsSingle}
-use Rattle.sp_reduce.specs.Forests.{Edge, dead, edge_weight, total, arcs_of, IsForest, planted}
+use Rattle.sp_reduce.specs.Forests.{Edge, dead, edge_weight, total, arcs_of, IsNetForest, planted}
 use Rattle.sp_reduce.proofs.Ends.{split, hits-le, hits-same}
 use Rattle.sp_reduce.proofs.Whole.{makes-fits, forth-parallel, forth-series, ended}
 
@@ -39,9 +39,9 @@ module _ (es : List Edge) (i j : ℕ) (p q r s : Option ℕ) (m n : Net) (lt : i
       let c : get_or (set es i new) j dead ≡ record { alive = true; from = r; net = n; to = s } = get_or-set_other es i j new dead (λ z. ne (sym z)) ∙ at_j in
       omega (arith, a, b, was f, ap (edge_weight f) at_i, ap (edge_weight f) c)
 
-  module _ (graph : List Item) (forest : IsForest graph es) where
+  module _ (graph : List Item) (forest : IsNetForest graph es) where
     -- the same ends
-    pub forest-parallel : p ≡ r → q ≡ s → IsForest graph (set (set es i (record { alive = true; from = p; net = both m n; to = q })) j dead)
+    pub forest-parallel : p ≡ r → q ≡ s → IsNetForest graph (set (set es i (record { alive = true; from = p; net = both m n; to = q })) j dead)
     forest-parallel e e' =
         let after = set (set es i (record { alive = true; from = p; net = both m n; to = q })) j dead in
         let gone = set (set es i dead) j dead in
@@ -73,7 +73,7 @@ module _ (es : List Edge) (i j : ℕ) (p q r s : Option ℕ) (m n : Net) (lt : i
 
     -- one arc into a task and one out of it
     pub forest-series : (v : ℕ) → q ≡ Some v → r ≡ Some v → total (λ x k y. hits y (Some v)) es ≡ 1 → total (λ x k y. hits x (Some v)) es ≡ 1
-        → IsForest graph (set (set es i (record { alive = true; from = p; net = series m v n; to = s })) j dead)
+        → IsNetForest graph (set (set es i (record { alive = true; from = p; net = series m v n; to = s })) j dead)
     forest-series v e e' one_in one_out =
         let after = set (set es i (record { alive = true; from = p; net = series m v n; to = s })) j dead in
         let gone = set (set es i dead) j dead in
@@ -124,7 +124,7 @@ no_sum : (xs : List Item) → sum_by (λ x. 0) xs ≡ 0
 no_sum [] = refl
 no_sum (x ∷ xs) = omega (arith, sum_by-cons (λ (y : Item). 0) x xs, no_sum xs)
 
-pub forest-first : (graph : List Item) → IsForest graph (planted graph)
+pub forest-first : (graph : List Item) → IsNetForest graph (planted graph)
 forest-first graph = record {
   whole = λ f. planted-total (λ p n q. weigh f p q n) graph;
   once = λ v. omega (arith, planted-total (λ p n q. times v n) graph, no_sum graph);
@@ -150,7 +150,7 @@ none-alive f (e ∷ es) h =
     off true k = absurd (omega arith)
     off false k = refl
 
-pub forest-yes : (graph : List Item) (es : List Edge) (i : ℕ) (n : Net) → IsForest graph es → i < length es → get_or es i dead ≡ record { alive = true; from = None; net = n; to = None }
+pub forest-yes : (graph : List Item) (es : List Edge) (i : ℕ) (n : Net) → IsNetForest graph es → i < length es → get_or es i dead ≡ record { alive = true; from = None; net = n; to = None }
     → total (λ p m q. 1) es ≡ 1 → Makes n graph
 forest-yes graph es i n forest lt at one =
     let only : (f : Option ℕ → Net → Option ℕ → ℕ) → total f es ≡ f None n None =
@@ -163,7 +163,7 @@ forest-yes graph es i n forest lt at one =
       arcs = λ f. sym (only (λ p m q. weigh f p q m)) ∙ forest.whole f;
     }
 
-pub forest-no : (graph : List Item) (es : List Edge) → IsForest graph es → IsIrreducible (arcs_of es) → (IsSingle (arcs_of es) → ⊥) → (t : Net) → Makes t graph → ⊥
+pub forest-no : (graph : List Item) (es : List Edge) → IsNetForest graph es → IsIrreducible (arcs_of es) → (IsSingle (arcs_of es) → ⊥) → (t : Net) → Makes t graph → ⊥
 forest-no graph es forest ir not_one t m =
     let u = forest.keeps t (makes-fits t graph m) in
     not_one (ended (arcs_of es) ir u.0 u.1)

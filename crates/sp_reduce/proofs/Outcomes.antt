@@ -13,7 +13,7 @@ use Rattle.sp_reduce.specs.declared.piece.Piece.{Piece}
 use Rattle.sp_reduce.specs.Nets.{Net}
 use Rattle.sp_reduce.specs.NetGraphs.{arc, Makes, IsSingle}
 use Rattle.sp_reduce.specs.NetGraphs as nets
-use Rattle.sp_reduce.specs.Forests.{Edge, dead, arcs_of, IsForest}
+use Rattle.sp_reduce.specs.Forests.{Edge, dead, arcs_of, IsNetForest}
 use Rattle.sp_reduce.specs.Outcome.{IsOutcome}
 use Rattle.sp_reduce.specs.Pieces.{net_at, nets_of, edges_of, IsCarried}
 use Rattle.sp_reduce.specs.Reductions.{IsIrreducible, ends_of}
@@ -108,8 +108,8 @@ ones-length [] = refl
 ones-length (x ∷ xs) = omega (arith, sum_by-cons (λ (y : ℕ × ℕ). 1) x xs, ones-length xs)
 
 module _ (arcs : List Arc) (links : List Link) (nodes : List ℕ) (pieces : List Piece) (o : IsOutcome arcs links nodes pieces) where
-  forest : IsForest (map item_of arcs) (edges_of (nets_of pieces) links nodes)
-  forest = subst (IsForest (map item_of arcs)) (no-more (edges_of (nets_of pieces) links nodes)) o.carried.forest
+  forest : IsNetForest (map item_of arcs) (edges_of (nets_of pieces) links nodes)
+  forest = subst (IsNetForest (map item_of arcs)) (no-more (edges_of (nets_of pieces) links nodes)) o.carried.forest
 
   pub node-within : (x : ℕ) → IsLink links x 0 0 → get_or nodes x 0 < length pieces
   node-within x l = o.carried.within x l.within l.alive

@@ -13,8 +13,8 @@ use Rattle.sp_reduce.specs.declared.piece.Piece.{Piece}
 use Rattle.sp_reduce.specs.declared.piece.Piece.TheVariants.{Hold, Both}
 use Rattle.sp_reduce.specs.Nets.{Net, hold, both, times, hits}
 use Rattle.sp_reduce.specs.NetGraphs.{arc, Fits}
-use Rattle.sp_reduce.specs.Forests.{Edge, dead, edge_weight, total, arcs_of, IsForest, planted}
-use Rattle.sp_reduce.specs.Reductions.{LeadsTo, in_order, by_parallel}
+use Rattle.sp_reduce.specs.Forests.{Edge, dead, edge_weight, total, arcs_of, IsNetForest, planted}
+use Rattle.sp_reduce.specs.Reductions.{ReducesTo, in_order, by_parallel}
 use Rattle.sp_reduce.specs.Work.{no_link, link_at, link, link_weight, pairs_of, IsLink}
 use Rattle.sp_reduce.specs.Pieces.{net_at, nets_of, edge_of, edges_of, IsCarried}
 use Rattle.sp_reduce.proofs.Forests.{forest-parallel}
@@ -31,7 +31,7 @@ dead-arcs : (xs ys : List Edge) → arcs_of (xs ++ dead ∷ ys) ≡ arcs_of (xs 
 dead-arcs [] ys = refl
 dead-arcs (x ∷ xs) ys = λ i. cond x.alive (arc x.from 0 x.to ∷ dead-arcs xs ys i) (dead-arcs xs ys i)
 
-forest-dead : (graph : List Item) (xs ys : List Edge) → IsForest graph (xs ++ dead ∷ ys) → IsForest graph (xs ++ ys)
+forest-dead : (graph : List Item) (xs ys : List Edge) → IsNetForest graph (xs ++ dead ∷ ys) → IsNetForest graph (xs ++ ys)
 forest-dead graph xs ys h = record {
   whole = λ f. sym (dead-total _ xs ys) ∙ h.whole f;
   once = λ v. omega (arith, h.once v, dead-total (λ p n q. times v n) xs ys);
@@ -73,7 +73,7 @@ module _ (graph rest : List Item) (ps : List Piece) (links : List Link) (nodes :
                 within-one y short (sym (ap (λ (z : Link). z.alive) (get_or_append_left links (link p q ∷ []) no_link y short)) ∙ a),
               ))
         ];
-        forest = subst (IsForest graph) (sym (ap (λ (xs : List Edge). xs ++ planted rest) edges ∙ append_assoc es (own ∷ []) (planted rest))) h.forest;
+        forest = subst (IsNetForest graph) (sym (ap (λ (xs : List Edge). xs ++ planted rest) edges ∙ append_assoc es (own ∷ []) (planted rest))) h.forest;
       }
 
   -- ---- a part of the term of its twin
@@ -115,8 +115,8 @@ module _ (graph rest : List Item) (ps : List Piece) (links : List Link) (nodes :
             | inl e ↦ omega (arith, ap (λ (z : ℕ). get_or (set nodes k m) z 0) e, get_or-set_same nodes k m 0 (omega (arith, h.lens, twin.within)), length-append ps1 (y ∷ []), long, m_is)
             | inr ne ↦ omega (arith, get_or-set_other nodes k u m 0 ne, length-append ps1 (y ∷ []), long, h.within u lt a)
           ];
-          forest = subst (λ (zs : List Edge). IsForest graph (zs ++ planted rest)) (sym edges)
-              (forest-dead graph (set es k joined) (planted rest) (subst (IsForest graph) written made));
+          forest = subst (λ (zs : List Edge). IsNetForest graph (zs ++ planted rest)) (sym edges)
+              (forest-dead graph (set es k joined) (planted rest) (subst (IsNetForest graph) written made));
         }
 
 -- ---- the rows
@@ -129,13 +129,13 @@ pairs-append (x ∷ xs) ys = here x.alive (pairs-append xs ys) where
   here true e = ap (λ (zs : List (ℕ × ℕ)). (x.from, x.to) ∷ zs) e
   here false e = e
 
-pub leads-new : (links : List Link) (p q : ℕ) (rest : List (ℕ × ℕ)) → LeadsTo (pairs_of links ++ (p, q) ∷ rest) (pairs_of (links ++ link p q ∷ []) ++ rest)
+pub leads-new : (links : List Link) (p q : ℕ) (rest : List (ℕ × ℕ)) → ReducesTo (pairs_of links ++ (p, q) ∷ rest) (pairs_of (links ++ link p q ∷ []) ++ rest)
 leads-new links p q rest =
     let same : pairs_of (links ++ link p q ∷ []) ++ rest ≡ pairs_of links ++ (p, q) ∷ rest =
     ap (λ (zs : List (ℕ × ℕ)). zs ++ rest) (pairs-append links (link p q ∷ [])) ∙ append_assoc (pairs_of links) ((p, q) ∷ []) rest in
-    subst (LeadsTo (pairs_of links ++ (p, q) ∷ rest)) (sym same) (in_order (IsPermutation-refl (pairs_of links ++ (p, q) ∷ rest)))
+    subst (ReducesTo (pairs_of links ++ (p, q) ∷ rest)) (sym same) (in_order (IsPermutation-refl (pairs_of links ++ (p, q) ∷ rest)))
 
-pub leads-twin : (links : List Link) (p q : ℕ) (rest : List (ℕ × ℕ)) (k : ℕ) → IsLink links k p q → LeadsTo (pairs_of links ++ (p, q) ∷ rest) (pairs_of links ++ rest)
+pub leads-twin : (links : List Link) (p q : ℕ) (rest : List (ℕ × ℕ)) (k : ℕ) → IsLink links k p q → ReducesTo (pairs_of links ++ (p, q) ∷ rest) (pairs_of links ++ rest)
 leads-twin links p q rest k twin =
     let gone = set links k no_link in
     let left = pairs_of gone ++ rest in

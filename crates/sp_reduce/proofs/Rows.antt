@@ -10,7 +10,7 @@ use Rattle.sp_reduce.specs.declared.link.Link.{Link}
 use Rattle.sp_reduce.specs.Nets.{hits, pair, into, out_of}
 use Rattle.sp_reduce.specs.NetGraphs.{counted}
 use Rattle.sp_reduce.specs.NetGraphs as nets
-use Rattle.sp_reduce.specs.Reductions.{IsParallel, IsSeries, LeadsTo, in_order, by_parallel, by_series, IsIrreducible}
+use Rattle.sp_reduce.specs.Reductions.{IsParallel, IsSeries, ReducesTo, in_order, by_parallel, by_series, IsIrreducible}
 use Rattle.sp_reduce.specs.Work.{no_link, link_at, hit, link, link_weight, sum_links, graph_of, pairs_of, IsWork, IsLink}
 use Rattle.sp_reduce.proofs.Weights.{weighed}
 use Rattle.sp_reduce.proofs.Ends.{hits-self}
@@ -46,7 +46,7 @@ pairs-sum f (l ∷ ls) = omega (arith, pairs-sum f ls, here l.alive, sum_by-cons
 two_first : (f : ℕ × ℕ → ℕ) (x y : ℕ × ℕ) (rest : List (ℕ × ℕ)) → sum_by f (x ∷ y ∷ rest) ≡ f x + (f y + sum_by f rest)
 two_first f x y rest = omega (arith, sum_by-cons f x (y ∷ rest), sum_by-cons f y rest)
 
-pub leads-trans : (g h k : List (ℕ × ℕ)) → LeadsTo g h → LeadsTo h k → LeadsTo g k
+pub leads-trans : (g h k : List (ℕ × ℕ)) → ReducesTo g h → ReducesTo h k → ReducesTo g k
 leads-trans g h k (in_order p) (in_order q) = in_order (IsPermutation-trans g h k p q)
 leads-trans g h k (in_order p) (by_parallel {h = x} r row) = by_parallel {h = x} (record { from = r.from; to = r.to; rest = r.rest; was = IsPermutation-trans g h ((r.from, r.to) ∷ (r.from, r.to) ∷ r.rest) p r.was; is = r.is }) row
 leads-trans g h k (in_order p) (by_series {h = x} r row) = by_series {h = x} (record {

@@ -3,15 +3,15 @@ use Rattle.std.proofs.Common.{◌≡◌, ◌≢◌, ℕ, ◌+◌, ◌≤◌, ref
 use Rattle.std.proofs.lemmas.List.Sorted.{IsPermutation-refl}
 use Rattle.sp_reduce.specs.declared.link.Link.{Link}
 use Rattle.sp_reduce.specs.declared.link.Taken.{Taken}
-use Rattle.sp_reduce.specs.Reductions.{LeadsTo, in_order, by_parallel, by_series}
-use Rattle.sp_reduce.specs.Work.{no_link, link, hit, links_into, links_out_of, link_count, link_weight, sum_links, pairs_of, fewer_by, IsLink, IsTaken, IsWork}
+use Rattle.sp_reduce.specs.Reductions.{ReducesTo, in_order, by_parallel, by_series}
+use Rattle.sp_reduce.specs.Work.{no_link, link, hit, links_into, links_out_of, link_count, link_weight, sum_links, pairs_of, fewer_by, IsLink, IsTaskTaken, IsWork}
 use Rattle.sp_reduce.proofs.Works.{Meets, changed-len, hit-self, hit-no, two_sums, joined_fewer, merged_fewer}
 use Rattle.sp_reduce.proofs.Rows.{leads-series, leads-parallel}
 
 pub record IsTakenOut (n : ℕ) (old new : List Link) (v : ℕ) (r : Taken) : Type 0 where
   pub len : length new ≡ length old
-  pub row : LeadsTo (pairs_of old) (pairs_of new)
-  pub taken : IsTaken old new v r
+  pub row : ReducesTo (pairs_of old) (pairs_of new)
+  pub taken : IsTaskTaken old new v r
   pub within : (r.from ≤ n) × (r.to ≤ n)
   pub none_in : links_into v new ≡ 0
   pub others : (u : ℕ) → u ≢ v → u ≢ r.from → u ≢ r.to → (links_into u new ≡ links_into u old) × (links_out_of u new ≡ links_out_of u old)

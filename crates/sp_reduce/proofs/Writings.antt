@@ -14,7 +14,7 @@ use Rattle.sp_reduce.specs.declared.piece.Piece.{Piece}
 use Rattle.sp_reduce.specs.declared.piece.Piece.TheVariants.{Hold, Series, Both}
 use Rattle.sp_reduce.specs.declared.postfix.Pending.{Pending}
 use Rattle.sp_reduce.specs.Nets.{Net, hold, series, both, names}
-use Rattle.sp_reduce.specs.Pieces.{net_at, piece_net, grown, nets_of, IsMade, piece_at, AreMade}
+use Rattle.sp_reduce.specs.Pieces.{net_at, piece_net, grown, nets_of, IsBuilt, piece_at, AreMade}
 use Rattle.sp_reduce.specs.Shapes.{shape_of, parts_of, size_of}
 use Rattle.sp_reduce.specs.Writing.{IsKnown, children, own_positions, own_names, positions_of, all_positions, all_names, all_sizes}
 use Rattle.sp_reduce.proofs.Shaped.{counted-parts, parts-front}
@@ -27,7 +27,7 @@ grown-old nets (p ∷ ps) j lt =
     grown-old (nets ++ piece_net nets p ∷ []) ps j (omega (arith, lt, length-append nets (piece_net nets p ∷ [])))
     ∙ get_or_append_left nets (piece_net nets p ∷ []) (hold 0) j lt
 
-piece-same : (nets more : List Net) (p : Piece) → IsMade (length nets) p → ((j : ℕ) → j < length nets → net_at more j ≡ net_at nets j) → piece_net nets p ≡ piece_net more p
+piece-same : (nets more : List Net) (p : Piece) → IsBuilt (length nets) p → ((j : ℕ) → j < length nets → net_at more j ≡ net_at nets j) → piece_net nets p ≡ piece_net more p
 piece-same nets more (Hold n) made same = refl
 piece-same nets more (Series a v b) made same = λ i. series (sym (same a made.0) i) v (sym (same b made.1) i)
 piece-same nets more (Both a b) made same = λ i. both (sym (same a made.0) i) (sym (same b made.1) i)
@@ -36,13 +36,13 @@ at-end : (xs : List Net) (y : Net) → net_at (xs ++ y ∷ []) (length xs) ≡ y
 at-end [] y = refl
 at-end (x ∷ xs) y = at-end xs y
 
-grown-new : (nets : List Net) (ps : List Piece) (i : ℕ) → ((k : ℕ) → k < length ps → IsMade (length nets + k) (piece_at ps k)) → i < length ps
+grown-new : (nets : List Net) (ps : List Piece) (i : ℕ) → ((k : ℕ) → k < length ps → IsBuilt (length nets + k) (piece_at ps k)) → i < length ps
     → net_at (grown nets ps) (length nets + i) ≡ piece_net (grown nets ps) (piece_at ps i)
 grown-new nets [] i made lt = absurd (omega arith)
 grown-new nets (p ∷ ps) zero made lt =
     let next = nets ++ piece_net nets p ∷ [] in
     let long : length next ≡ length nets + 1 = length-append nets (piece_net nets p ∷ []) in
-    let own : IsMade (length nets) p = (let e : length nets + 0 ≡ length nets = omega arith in subst (λ (k : ℕ). IsMade k p) e (made 0 (omega arith))) in
+    let own : IsBuilt (length nets) p = (let e : length nets + 0 ≡ length nets = omega arith in subst (λ (k : ℕ). IsBuilt k p) e (made 0 (omega arith))) in
     (let e : length nets + 0 ≡ length nets = omega arith in ap (net_at (grown next ps)) e)
     ∙ grown-old next ps (length nets) (omega (arith, long)) ∙ at-end nets (piece_net nets p)
     ∙ piece-same nets (grown next ps) p own (λ j h. grown-old next ps j (omega (arith, h, long)) ∙ get_or_append_left nets (piece_net nets p ∷ []) (hold 0) j h)
@@ -50,12 +50,12 @@ grown-new nets (p ∷ ps) (suc i) made lt =
     let next = nets ++ piece_net nets p ∷ [] in
     let long : length next ≡ length nets + 1 = length-append nets (piece_net nets p ∷ []) in
     (let e : length nets + suc i ≡ length next + i = omega (arith, long) in ap (net_at (grown next ps)) e)
-    ∙ grown-new next ps i (λ k h. (let e : length nets + suc k ≡ length next + k = omega (arith, long) in subst (λ (m : ℕ). IsMade m (piece_at ps k)) e (made (suc k) (omega (arith, h))))) (omega (arith, lt))
+    ∙ grown-new next ps i (λ k h. (let e : length nets + suc k ≡ length next + k = omega (arith, long) in subst (λ (m : ℕ). IsBuilt m (piece_at ps k)) e (made (suc k) (omega (arith, h))))) (omega (arith, lt))
 
 pub net-is : (ps : List Piece) → AreMade ps → (i : ℕ) → i < length ps → net_at (nets_of ps) i ≡ piece_net (nets_of ps) (piece_at ps i)
 net-is ps made i lt =
     (let e : i ≡ 0 + i = omega arith in ap (net_at (nets_of ps)) e)
-    ∙ grown-new [] ps i (λ k h. (let e : k ≡ 0 + k = omega arith in subst (λ (m : ℕ). IsMade m (piece_at ps k)) e (made k h))) lt
+    ∙ grown-new [] ps i (λ k h. (let e : k ≡ 0 + k = omega arith in subst (λ (m : ℕ). IsBuilt m (piece_at ps k)) e (made k h))) lt
 
 -- ---- counts of parts
 
@@ -238,7 +238,7 @@ module _ (tasks : ℕ → Task) (n : ℕ) (ps : List Piece) (made : AreMade ps) 
       All-cons (λ (r : Pending). r.piece < length ps) x (y ∷ []) (omega (arith, k.0, place-next))
       (All-cons (λ (r : Pending). r.piece < length ps) y [] (omega (arith, k.1, place-next)) (All-nil (λ (r : Pending). r.piece < length ps)))
 
-  child-places : (among : Bool) (q : Piece) → IsMade next.piece q → All (λ (r : Pending). r.piece < length ps) (children among q)
+  child-places : (among : Bool) (q : Piece) → IsBuilt next.piece q → All (λ (r : Pending). r.piece < length ps) (children among q)
   child-places among (Hold m) k = All-nil (λ (r : Pending). r.piece < length ps)
   child-places among (Series a v b) k = two false a b k
   child-places among (Both a b) k = two true a b k

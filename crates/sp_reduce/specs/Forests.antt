@@ -29,7 +29,7 @@ arcs_of (e ∷ es) = cond e.alive (arc e.from 0 e.to ∷ arcs_of es) (arcs_of es
 
 -- the terms of the arcs alive have together the arcs of the graph, each task stands in at most one of them, and
 -- in none while an arc leads to it; and where a term has the graph, one has what is left
-pub record IsForest (graph : List Item) (es : List Edge) : Type 0 where
+pub record IsNetForest (graph : List Item) (es : List Edge) : Type 0 where
   pub whole : (f : Option ℕ → ℕ → Option ℕ → ℕ) → total (λ p n q. weigh f p q n) es ≡ sum_by (arc_weight f) graph
   pub once : (v : ℕ) → total (λ p n q. times v n) es ≤ 1
   pub open_tasks : (v : ℕ) → 1 ≤ total (λ p n q. hits q (Some v)) es → total (λ p n q. times v n) es ≡ 0

@@ -8,11 +8,11 @@ use Rattle.sp_reduce.specs.declared.link.Link.{Link}
 use Rattle.sp_reduce.specs.declared.piece.Piece.{Piece}
 use Rattle.sp_reduce.specs.NetGraphs.{IsIrreducible}
 use Rattle.sp_reduce.specs.Pieces.{IsCarried}
-use Rattle.sp_reduce.specs.Reductions.{LeadsTo, ends_of}
+use Rattle.sp_reduce.specs.Reductions.{ReducesTo, ends_of}
 use Rattle.sp_reduce.specs.Work.{graph_of, pairs_of}
 
 pub record IsOutcome (arcs : List Arc) (links : List Link) (nodes : List ℕ) (pieces : List Piece) : Type 0 where
-  pub row : LeadsTo (map ends_of arcs) (pairs_of links)
+  pub row : ReducesTo (map ends_of arcs) (pairs_of links)
   pub irreducible : IsIrreducible (graph_of links)
   pub carried : IsCarried (map item_of arcs) [] pieces links nodes
   pub few : length links ≤ most_arcs

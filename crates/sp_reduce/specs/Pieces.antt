@@ -8,7 +8,7 @@ use Rattle.sp_reduce.specs.declared.link.Link.{Link}
 use Rattle.sp_reduce.specs.declared.piece.Piece.{Piece}
 use Rattle.sp_reduce.specs.declared.piece.Piece.TheVariants.{Hold, Series, Both}
 use Rattle.sp_reduce.specs.Nets.{Net, hold, series, both}
-use Rattle.sp_reduce.specs.Forests.{Edge, dead, IsForest, planted}
+use Rattle.sp_reduce.specs.Forests.{Edge, dead, IsNetForest, planted}
 use Rattle.sp_reduce.specs.Work.{link_at}
 
 -- pieces: one for each arc, and one for each arc that is joined with another
@@ -41,20 +41,20 @@ edges_of nets (l ∷ ls) [] = edge_of nets l 0 ∷ edges_of nets ls []
 edges_of nets (l ∷ ls) (n ∷ ns) = edge_of nets l n ∷ edges_of nets ls ns
 
 -- a piece at this place is made of earlier ones
-abbrev pub IsMade : ℕ → Piece → Type 0
-IsMade i (Hold n) = Unit {0}
-IsMade i (Series a v b) = (a < i) × (b < i)
-IsMade i (Both a b) = (a < i) × (b < i)
+abbrev pub IsBuilt : ℕ → Piece → Type 0
+IsBuilt i (Hold n) = Unit {0}
+IsBuilt i (Series a v b) = (a < i) × (b < i)
+IsBuilt i (Both a b) = (a < i) × (b < i)
 
 abbrev pub piece_at : List Piece → ℕ → Piece
 piece_at ps i = slice_index_or ps i (Hold 0)
 
 abbrev pub AreMade : List Piece → Type 0
-AreMade ps = (i : ℕ) → i < length ps → IsMade i (piece_at ps i)
+AreMade ps = (i : ℕ) → i < length ps → IsBuilt i (piece_at ps i)
 
 -- each link that is alive carries a piece, and these are the terms of a forest of the graph, with the arcs that are still to come
 pub record IsCarried (graph rest : List Item) (pieces : List Piece) (links : List Link) (nodes : List ℕ) : Type 0 where
   pub lens : length nodes ≡ length links
   pub made : AreMade pieces
   pub within : (x : ℕ) → x < length links → (link_at links x).alive ≡ true → slice_index nodes x < length pieces
-  pub forest : IsForest graph (edges_of (nets_of pieces) links nodes ++ planted rest)
+  pub forest : IsNetForest graph (edges_of (nets_of pieces) links nodes ++ planted rest)

@@ -39,10 +39,10 @@ pub record IsSeries (before after : List (ℕ × ℕ)) : Type 0 where
   pub one_out : count_out_of task before ≡ 1
 
 -- reductions lead from the one graph to the other, whose arcs stand in any order
-pub data LeadsTo : List (ℕ × ℕ) → List (ℕ × ℕ) → Type 0 where
-  in_order : {g h : List (ℕ × ℕ)} → IsPermutation g h → LeadsTo g h
-  by_parallel : {g h k : List (ℕ × ℕ)} → IsParallel g h → LeadsTo h k → LeadsTo g k
-  by_series : {g h k : List (ℕ × ℕ)} → IsSeries g h → LeadsTo h k → LeadsTo g k
+pub data ReducesTo : List (ℕ × ℕ) → List (ℕ × ℕ) → Type 0 where
+  in_order : {g h : List (ℕ × ℕ)} → IsPermutation g h → ReducesTo g h
+  by_parallel : {g h k : List (ℕ × ℕ)} → IsParallel g h → ReducesTo h k → ReducesTo g k
+  by_series : {g h k : List (ℕ × ℕ)} → IsSeries g h → ReducesTo h k → ReducesTo g k
 
 -- no reduction applies
 pub record IsIrreducible (graph : List (ℕ × ℕ)) : Type 0 where
@@ -56,7 +56,7 @@ by_ends a b = ordering_then (nat_cmp a.0 b.0) (nat_cmp a.1 b.1)
 -- an irreducible rest of a graph: reductions lead to it, none applies to it, it is not one single arc from none to none, and its
 -- arcs stand in rising order
 pub record IsRestOf (graph rest : List (ℕ × ℕ)) : Type 0 where
-  pub reached : LeadsTo graph rest
+  pub reached : ReducesTo graph rest
   pub irreducible : IsIrreducible rest
   pub not_single : rest ≡ (0, 0) ∷ [] → ⊥
   pub rising : IsSorted by_ends rest

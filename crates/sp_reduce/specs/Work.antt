@@ -37,8 +37,8 @@ abbrev pub links_out_of : ℕ → List Link → ℕ
 links_out_of v links = sum_links (λ p q. hit p v) links
 
 -- each link leads from a task to one of a higher rank, so that the links have no cycle
-abbrev pub AreRanked : (ℕ → ℕ) → List Link → Type 0
-AreRanked rank links = (x : ℕ) → x < length links → (link_at links x).alive ≡ true →
+abbrev pub AreLinksRanked : (ℕ → ℕ) → List Link → Type 0
+AreLinksRanked rank links = (x : ℕ) → x < length links → (link_at links x).alive ≡ true →
     1 ≤ (link_at links x).from → 1 ≤ (link_at links x).to → rank (link_at links x).from < rank (link_at links x).to
 
 -- the links' graph
@@ -55,7 +55,7 @@ key_of p q = p * 2 ^ 32 + q
 pub record IsWork (n : ℕ) (rank : ℕ → ℕ) (links : List Link) (ins outs in_at out_at : List ℕ) (table : ℕ → Option ℕ) : Type 0 where
   pub lens : (length ins ≡ suc n) × (length outs ≡ suc n) × (length in_at ≡ suc n) × (length out_at ≡ suc n)
   pub inside : (x : ℕ) → x < length links → (link_at links x).alive ≡ true → ((link_at links x).from ≤ n) × ((link_at links x).to ≤ n)
-  pub rising : AreRanked rank links
+  pub rising : AreLinksRanked rank links
   pub ins_are : (v : ℕ) → v ≤ n → slice_index ins v ≡ links_into v links
   pub outs_are : (v : ℕ) → v ≤ n → slice_index outs v ≡ links_out_of v links
   pub in_at_is : (v : ℕ) → v ≤ n → 1 ≤ slice_index ins v →
@@ -112,12 +112,12 @@ abbrev pub link : ℕ → ℕ → Link
 link p q = record { alive = true; from = p; to = q }
 
 -- what is left of the links of a task that is taken out: one from end to end, or none where it has a twin
-abbrev pub AreLeft : List Link → List Link → ℕ → ℕ → ℕ → ℕ → Option ℕ → Type 0
-AreLeft old new i j p s None = new ≡ slice_set (slice_set old i (link p s)) j no_link
-AreLeft old new i j p s (Some k) = IsLink old k p s × (new ≡ slice_set (slice_set old i no_link) j no_link)
+abbrev pub IsLinkLeft : List Link → List Link → ℕ → ℕ → ℕ → ℕ → Option ℕ → Type 0
+IsLinkLeft old new i j p s None = new ≡ slice_set (slice_set old i (link p s)) j no_link
+IsLinkLeft old new i j p s (Some k) = IsLink old k p s × (new ≡ slice_set (slice_set old i no_link) j no_link)
 
 -- a task was taken out: the one link into it and the one out of it became one
-pub record IsTaken (old new : List Link) (v : ℕ) (taken : Taken) : Type 0 where
+pub record IsTaskTaken (old new : List Link) (v : ℕ) (taken : Taken) : Type 0 where
   pub task : 1 ≤ v
   pub first : IsLink old taken.first taken.from v
   pub second : IsLink old taken.second v taken.to
@@ -126,7 +126,7 @@ pub record IsTaken (old new : List Link) (v : ℕ) (taken : Taken) : Type 0 wher
   pub other_to : taken.to ≢ v
   pub one_in : links_into v old ≡ 1
   pub one_out : links_out_of v old ≡ 1
-  pub left : AreLeft old new taken.first taken.second taken.from taken.to taken.twin
+  pub left : IsLinkLeft old new taken.first taken.second taken.from taken.to taken.twin
 
 -- how many links fewer there are
 abbrev pub fewer_by : Option ℕ → ℕ

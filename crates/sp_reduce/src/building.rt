@@ -5,8 +5,8 @@ ghost use Rattle.mp_system.specs.declared.system.Item.{Item};
 ghost use Rattle.limits.specs.Limits.{most_arcs};
 ghost use Rattle.task_graph.specs.Graph.{IsArcWithin, Rises, item_of};
 ghost use Rattle.sp_reduce.specs.Pieces.{IsCarried, most_pieces};
-ghost use Rattle.sp_reduce.specs.Reductions.{LeadsTo, ends_of};
-ghost use Rattle.sp_reduce.specs.Work.{AreRanked, link_count, pairs_of};
+ghost use Rattle.sp_reduce.specs.Reductions.{ReducesTo, ends_of};
+ghost use Rattle.sp_reduce.specs.Work.{AreLinksRanked, link_count, pairs_of};
 
 use crate::NoMemory;
 use crate::forest::Forest;
@@ -17,16 +17,17 @@ use task_graph::Arc;
 fn add_arc(arc: Arc, links: &mut Links, forest: &mut Forest) -> Result<(), NoMemory>
     requires within { (arc.from ≤ links.old.tasks) × (arc.to ≤ links.old.tasks) }
     requires few { length links.old.list < most_arcs }
-    requires ranked { (rank : ℕ → ℕ) × (Rises rank arc × AreRanked rank links.old.list) }
+    requires ranked { (rank : ℕ → ℕ) × (Rises rank arc × AreLinksRanked rank links.old.list) }
     requires lens { vec_len forest.old.nodes ≡ length links.old.list }
     requires room { vec_len forest.old.pieces + 2 ≤ most_pieces }
     ensures tasks { IfOk result (λ _. links.new.tasks ≡ links.old.tasks) }
-    ensures ranked { IfOk result (λ _. (rank : ℕ → ℕ) → Rises rank arc → AreRanked rank links.old.list → AreRanked rank links.new.list) }
+    ensures ranked { IfOk result (λ _.
+        (rank : ℕ → ℕ) → Rises rank arc → AreLinksRanked rank links.old.list → AreLinksRanked rank links.new.list) }
     ensures carried { IfOk result (λ _. (graph rest : List Item) →
         IsCarried graph (item_of arc ∷ rest) forest.old.pieces.items links.old.list forest.old.nodes.items →
         IsCarried graph rest forest.new.pieces.items links.new.list forest.new.nodes.items) }
     ensures row { IfOk result (λ _. (rest : List (ℕ × ℕ)) →
-        LeadsTo (pairs_of links.old.list ++ ends_of arc ∷ rest) (pairs_of links.new.list ++ rest)) }
+        ReducesTo (pairs_of links.old.list ++ ends_of arc ∷ rest) (pairs_of links.new.list ++ rest)) }
     ensures lens { IfOk result (λ _. (vec_len forest.new.nodes ≡ length links.new.list) ×
         (length links.new.list ≤ length links.old.list + 1)) }
     ensures room { IfOk result (λ _. vec_len forest.new.pieces + link_count links.new.list
@@ -49,7 +50,7 @@ pub fn add_arcs(arcs: &[Arc], links: &mut Links, forest: &mut Forest) -> Result<
     requires ranked { (rank : ℕ → ℕ) × All (Rises rank) arcs.now }
     ensures tasks { IfOk result (λ _. links.new.tasks ≡ links.old.tasks) }
     ensures carried { IfOk result (λ _. IsCarried (map item_of arcs.now) [] forest.new.pieces.items links.new.list forest.new.nodes.items) }
-    ensures row { IfOk result (λ _. LeadsTo (map ends_of arcs.now) (pairs_of links.new.list)) }
+    ensures row { IfOk result (λ _. ReducesTo (map ends_of arcs.now) (pairs_of links.new.list)) }
     ensures lens { IfOk result (λ _. vec_len forest.new.nodes ≡ length links.new.list) }
     ensures room { IfOk result (λ _. vec_len forest.new.pieces + link_count links.new.list ≤ most_pieces) }
 {

@@ -6,7 +6,7 @@ ghost use Rattle.mp_system.specs.declared.system.Item.{Item};
 ghost use Rattle.task_graph.specs.Graph.{end_of};
 ghost use Rattle.sp_reduce.specs.declared.link.Link.{Link};
 ghost use Rattle.sp_reduce.specs.Pieces.{IsCarried, most_pieces};
-ghost use Rattle.sp_reduce.specs.Work.{IsLink, IsTaken, fewer_by, link};
+ghost use Rattle.sp_reduce.specs.Work.{IsLink, IsTaskTaken, fewer_by, link};
 
 use crate::NoMemory;
 use crate::link::Taken;
@@ -66,7 +66,7 @@ impl Forest {
         requires places { (taken.first < vec_len self.old.nodes) × (taken.second < vec_len self.old.nodes) }
         requires twin { ForSome taken.twin (λ k. k < vec_len self.old.nodes) }
         requires room { vec_len self.old.pieces + fewer_by taken.twin ≤ most_pieces }
-        ensures carried { IfOk result (λ _. (graph : List Item) (old new : List Link) → IsTaken old new task taken →
+        ensures carried { IfOk result (λ _. (graph : List Item) (old new : List Link) → IsTaskTaken old new task taken →
             IsCarried graph [] self.old.pieces.items old self.old.nodes.items →
             IsCarried graph [] self.new.pieces.items new self.new.nodes.items) }
         ensures nodes { IfOk result (λ _. vec_len self.new.nodes ≡ vec_len self.old.nodes) }

@@ -3,8 +3,8 @@
 ghost use Rattle.std.specs.Prelude.{◌≡◌, ◌≢◌, ◌≤◌, ◌<◌, ◌+◌, ◌↔◌, ℕ, ◌++◌, ◌∷◌, [], length, IfOk, IsTrue, MatchOption};
 ghost use Rattle.limits.specs.Limits.{most_arcs, most_tasks};
 ghost use Rattle.sp_reduce.specs.NetGraphs.{IsIrreducible};
-ghost use Rattle.sp_reduce.specs.Reductions.{LeadsTo};
-ghost use Rattle.sp_reduce.specs.Work.{AreRanked, HasNone, IsIdle, IsLink, IsTaken, fewer_by, graph_of, key_of, link, link_count};
+ghost use Rattle.sp_reduce.specs.Reductions.{ReducesTo};
+ghost use Rattle.sp_reduce.specs.Work.{AreLinksRanked, HasNone, IsIdle, IsLink, IsTaskTaken, fewer_by, graph_of, key_of, link, link_count};
 ghost use Rattle.sp_reduce.specs.Work.{links_into, links_out_of, pairs_of};
 
 use crate::NoMemory;
@@ -110,7 +110,7 @@ impl Links {
         requires within { (from ≤ self.old.tasks) × (to ≤ self.old.tasks) }
         requires few { length self.old.list < most_arcs }
         requires none { HasNone self.old.list from to }
-        requires ranked { (rank : ℕ → ℕ) × AreRanked rank (self.old.list ++ link from to ∷ []) }
+        requires ranked { (rank : ℕ → ℕ) × AreLinksRanked rank (self.old.list ++ link from to ∷ []) }
         ensures { IfOk result (λ _. self.new ≡ record { tasks = self.old.tasks; list = self.old.list ++ link from to ∷ [] }) }
     {
         // What may be refused comes first: the table may have a place with no link, but the counts are those of the list.
@@ -142,8 +142,8 @@ impl Links {
         requires in_series { (links_into task self.old.list ≡ 1) × (links_out_of task self.old.list ≡ 1) }
         ensures tasks { IfOk result (λ _. self.new.tasks ≡ self.old.tasks) }
         ensures len { IfOk result (λ _. length self.new.list ≡ length self.old.list) }
-        ensures row { IfOk result (λ _. LeadsTo (pairs_of self.old.list) (pairs_of self.new.list)) }
-        ensures taken { IfOk result (λ r. IsTaken self.old.list self.new.list task r) }
+        ensures row { IfOk result (λ _. ReducesTo (pairs_of self.old.list) (pairs_of self.new.list)) }
+        ensures taken { IfOk result (λ r. IsTaskTaken self.old.list self.new.list task r) }
         ensures within { IfOk result (λ r. (r.from ≤ self.old.tasks) × (r.to ≤ self.old.tasks)) }
         ensures none_in { IfOk result (λ _. links_into task self.new.list ≡ 0) }
         ensures others { IfOk result (λ r. (u : ℕ) → u ≢ task → u ≢ r.from → u ≢ r.to →

@@ -4,7 +4,7 @@ ghost use Rattle.std.specs.Prelude.{◌≡◌, ◌≢◌, ◌≤◌, ◌+◌, �
 ghost use Rattle.limits.specs.Limits.{most_tasks};
 ghost use Rattle.mp_system.specs.declared.system.Item.{Item};
 ghost use Rattle.sp_reduce.specs.Pieces.{IsCarried, most_pieces};
-ghost use Rattle.sp_reduce.specs.Reductions.{LeadsTo};
+ghost use Rattle.sp_reduce.specs.Reductions.{ReducesTo};
 ghost use Rattle.sp_reduce.specs.Work.{AreNoted, AreTasks, IsIdle, link_count, links_into, links_out_of, pairs_of, stands};
 
 use crate::NoMemory;
@@ -39,7 +39,7 @@ fn visit(
     requires noted { (u : ℕ) → 1 ≤ u → u ≤ links.old.tasks → u ≢ task →
         links_into u links.old.list ≡ 1 → links_out_of u links.old.list ≡ 1 → stands u todo.old.items ≡ true }
     ensures tasks { IfOk result (λ _. links.new.tasks ≡ links.old.tasks) }
-    ensures row { IfOk result (λ _. LeadsTo (pairs_of links.old.list) (pairs_of links.new.list)) }
+    ensures row { IfOk result (λ _. ReducesTo (pairs_of links.old.list) (pairs_of links.new.list)) }
     ensures carried { IfOk result (λ _. (graph : List Item) →
         IsCarried graph [] forest.old.pieces.items links.old.list forest.old.nodes.items →
         IsCarried graph [] forest.new.pieces.items links.new.list forest.new.nodes.items) }
@@ -70,7 +70,7 @@ pub fn reduce_links(
     requires room { vec_len forest.old.pieces + link_count links.old.list ≤ most_pieces }
     requires listed { AreTasks links.old.tasks todo.old.items }
     requires noted { AreNoted links.old.tasks links.old.list todo.old.items }
-    ensures row { IfOk result (λ _. LeadsTo (pairs_of links.old.list) (pairs_of links.new.list)) }
+    ensures row { IfOk result (λ _. ReducesTo (pairs_of links.old.list) (pairs_of links.new.list)) }
     ensures carried { IfOk result (λ _. (graph : List Item) →
         IsCarried graph [] forest.old.pieces.items links.old.list forest.old.nodes.items →
         IsCarried graph [] forest.new.pieces.items links.new.list forest.new.nodes.items) }

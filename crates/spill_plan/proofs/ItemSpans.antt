@@ -14,7 +14,7 @@ use Rattle.mp_system.specs.Memory.{stands_in, is_done_or}
 use Rattle.mp_system.specs.Traversal.{IsTraversal}
 use Rattle.spill_plan.specs.declared.span.Span.{Span}
 use Rattle.spill_plan.specs.SpillPlans.{is_held, own_need, sum_from, kept_across, IsSpillPlan, most_among, plan_volume}
-use Rattle.spill_plan.specs.Spans.{step_of, AreSteps, IsInTable, start_of_item, end_of_item, span_of, no_span, AreItemSpans, is_across, start_sum, end_sum, kept_at, IsSpanPlan, span_volume}
+use Rattle.spill_plan.specs.Spans.{step_of, IsStepTable, IsInTable, start_of_item, end_of_item, span_of, no_span, AreItemSpans, is_across, start_sum, end_sum, kept_at, IsSpanPlan, span_volume}
 use Rattle.spill_plan.proofs.OrderSteps.{stands-take, task_step, step_of_task, produced_before}
 
 lt-le : (m n : ℕ) → nat_lt m n ≡ nat_le (suc m) n
@@ -154,7 +154,7 @@ module _ (system : TaskSystem) (order : List ℕ) (within : IsSystem system) (tr
       (λ i d l. ap (λ b. cond b (get_or system.items i d).size 0) (starts_after_step k (get_or system.items i d).from h (producer i d l)))
 
   -- an item's span by the table of steps
-  module _ (steps : List ℕ) (are : AreSteps system order steps) where
+  module _ (steps : List ℕ) (are : IsStepTable system order steps) where
     pub in_table : (o : Option ℕ) → ForSome o (IsTask system) → ForSome o (IsInTable steps)
     in_table o tasks task is =
         let t = tasks task is in

@@ -3,7 +3,7 @@ use Rattle.std.proofs.Common.{◌≡◌, ℕ, zero, suc, ◌+◌, ◌-◌, ◌<�
 use Rattle.std.specs.Prelude.{nat_lt}
 use Rattle.spill_plan.specs.declared.span.Span.{Span}
 use Rattle.spill_plan.specs.SpillPlans.{sum_from, most_among}
-use Rattle.spill_plan.specs.Spans.{no_span, is_across, spilled_at, amount_sum, IsSpanPlan, demand, IsLast, IsRaised, IsBest}
+use Rattle.spill_plan.specs.Spans.{no_span, is_across, spilled_at, amount_sum, IsSpanPlan, demand, IsJustEnough, IsRaised, IsLowestBefore}
 use Rattle.spill_plan.proofs.SpanSums.{split, lt-yes, lt-no, across-yes, across-early, across-late, cond-yes, cond-no, cond-le, parts, sum-add, sum-le-all, sum-same-all}
 
 -- ---- one step keeps the greedy's lead
@@ -50,11 +50,11 @@ module _ (xs : List Span) (k least : ℕ) (was is other : ℕ → ℕ) where
       (λ sooner. cond-le (nat_lt x.end q) (is i) (was i) (omega (arith, same i h sooner))))
 
   module _ (fits : (i : ℕ) → i < length xs → other i ≤ (get_or xs i no_span).size) (meets : least ≤ spilled_at k other xs)
-      (raised : IsRaised xs k least was is) (best : IsBest xs k was other) where
+      (raised : IsRaised xs k least was is) (best : IsLowestBefore xs k was other) where
     fresh : (i : ℕ) → i < length xs → suc k ≤ (get_or xs i no_span).start → is i ≡ 0
     fresh i h l = raised.others i h (across-early k (get_or xs i no_span) (omega arith)) ∙ best.fresh i h (omega arith)
 
-    key : (last : IsLast xs k least was is) (q : ℕ) → last.turn < q → k < q
+    key : (last : IsJustEnough xs k least was is) (q : ℕ) → last.turn < q → k < q
         → sum_from 0 (λ i x. cond (nat_lt x.end q) (is i) 0) xs ≤ sum_from 0 (λ i x. cond (nat_lt x.end q) (other i) 0) xs
     key last q turn_q k_q =
         let f1 : ℕ → Span → ℕ = λ i x. cond (nat_lt x.end q) (is i) 0 in
@@ -79,7 +79,7 @@ module _ (xs : List Span) (k least : ℕ) (was is other : ℕ → ℕ) where
           best.low (suc k),
         )
 
-    pub raised-best : IsBest xs (suc k) is other
+    pub raised-best : IsLowestBefore xs (suc k) is other
     raised-best = record {
       low = λ q. split q (suc k)
           (λ early. omega (arith, unraised q (λ i h l. raised.others i h (across-late k (get_or xs i no_span) (omega arith))), best.low q))
@@ -95,7 +95,7 @@ module _ (xs : List Span) (k least : ℕ) (was is other : ℕ → ℕ) where
 -- ---- the whole run
 
 -- nothing is spilled at first
-pub none-best : (xs : List Span) (amount other : ℕ → ℕ) → ((i : ℕ) → i < length xs → amount i ≡ 0) → IsBest xs 0 amount other
+pub none-best : (xs : List Span) (amount other : ℕ → ℕ) → ((i : ℕ) → i < length xs → amount i ≡ 0) → IsLowestBefore xs 0 amount other
 none-best xs amount other none = record {
   low = λ q. sum-le-all (λ i x. cond (nat_lt x.end q) (amount i) 0) (λ i x. cond (nat_lt x.end q) (other i) 0) xs
       (λ i h. cond-le (nat_lt (get_or xs i no_span).end q) (amount i) (other i) (omega (arith, none i h)));
@@ -104,7 +104,7 @@ none-best xs amount other none = record {
 
 -- the lead at a place that nothing ends behind is one on the amount_sum
 pub best-volume : (xs : List Span) (k n : ℕ) (amount other : ℕ → ℕ) → ((i : ℕ) → i < length xs → (get_or xs i no_span).end ≤ n)
-    → IsBest xs k amount other → amount_sum amount xs ≤ amount_sum other xs
+    → IsLowestBefore xs k amount other → amount_sum amount xs ≤ amount_sum other xs
 best-volume xs k n amount other ends best =
     let whole : (a : ℕ → ℕ) → sum_from 0 (λ i x. cond (nat_lt x.end (suc n)) (a i) 0) xs ≡ amount_sum a xs =
     λ a. sum-same-all (λ i x. cond (nat_lt x.end (suc n)) (a i) 0) (λ i x. a i) xs

@@ -5,7 +5,7 @@ use Rattle.std.proofs.lemmas.Bool.{cases_Bool, cases_eq, ne_eqb, true≢false}
 use Rattle.std.proofs.lemmas.List.{get_or-set_same, get_or-set_other, length-set}
 use Rattle.spill_plan.specs.declared.span.Span.{Span}
 use Rattle.spill_plan.specs.Spans.{no_span, span_at, AreItemSpans, is_across, kept_at}
-use Rattle.spill_plan.specs.Spilled.{IsEndRanking, AreStarts, left_at, AreLeft, IsRaising}
+use Rattle.spill_plan.specs.Spilled.{IsEndRanking, AreStartsByRank, left_at, AreLeftAt, IsRaising}
 use Rattle.min_tree.specs.Least.{greatest, IsFirstAtMost}
 use Rattle.spill_plan.proofs.SpanSums.{split, across-is, across-yes, cond-yes, cond-no, sum-change, sum-none, term-le}
 
@@ -13,7 +13,7 @@ use Rattle.spill_plan.proofs.SpanSums.{split, across-is, across-yes, cond-yes, c
 
 module _ (xs : List Span) (steps : ℕ) (ranks amounts values : List ℕ) (k missing : ℕ) (spans : AreItemSpans xs steps)
     (ranking : IsEndRanking xs ranks)
-    (starts : AreStarts xs ranks amounts values) (some : 0 < missing) (room : missing ≤ kept_at k (slice_index amounts) xs)
+    (starts : AreStartsByRank xs ranks amounts values) (some : 0 < missing) (room : missing ≤ kept_at k (slice_index amounts) xs)
     (small : k < greatest) where
   -- not all that is held has been spilled whole
   not_all : ((j : ℕ) → j < length xs → is_across k (span_at xs j) ≡ true → (span_at xs j).size ≤ get_or amounts j 0) → ⊥
@@ -94,7 +94,7 @@ module _ (xs : List Span) (amounts : List ℕ) (i part : ℕ) (len : length amou
             ((get_or xs i no_span).size - get_or amounts i 0) held,
       )
 
-  pub left_fits : (leaving : List ℕ) → AreLeft xs amounts leaving → (span_at xs i).end < length leaving → part
+  pub left_fits : (leaving : List ℕ) → AreLeftAt xs amounts leaving → (span_at xs i).end < length leaving → part
       ≤ get_or leaving (span_at xs i).end 0
   left_fits leaving left w =
       let e = (span_at xs i).end in
@@ -102,8 +102,8 @@ module _ (xs : List Span) (amounts : List ℕ) (i part : ℕ) (len : length amou
       let same : nat_eq e e ≡ true = grind arith in
       omega (arith, left e w, term-le g xs i inside, cond-yes (nat_eq e e) ((get_or xs i no_span).size - get_or amounts i 0) same, fits)
 
-  pub raised_left : (leaving : List ℕ) → AreLeft xs amounts leaving → (span_at xs i).end < length leaving
-      → AreLeft xs (set amounts i (get_or amounts i 0 + part)) (set leaving (span_at xs i).end (get_or leaving (span_at xs i).end 0 - part))
+  pub raised_left : (leaving : List ℕ) → AreLeftAt xs amounts leaving → (span_at xs i).end < length leaving
+      → AreLeftAt xs (set amounts i (get_or amounts i 0 + part)) (set leaving (span_at xs i).end (get_or leaving (span_at xs i).end 0 - part))
   raised_left leaving left w e h =
       let is = set amounts i (get_or amounts i 0 + part) in
       let end = (span_at xs i).end in
@@ -191,13 +191,13 @@ module _ (xs : List Span) (amounts : List ℕ) (i part : ℕ) (len : length amou
         ];
       }
 
-  module _ (ranks values : List ℕ) (r : ℕ) (ranking : IsEndRanking xs ranks) (starts : AreStarts xs ranks amounts values)
+  module _ (ranks values : List ℕ) (r : ℕ) (ranking : IsEndRanking xs ranks) (starts : AreStartsByRank xs ranks amounts values)
       (rank_in : r < length xs) (at : get_or ranks r 0 ≡ i) where
     apart : (s : ℕ) → s < length xs → s ≢ r → get_or ranks s 0 ≢ i
     apart s h ne e = ne (ranking.one s r h rank_in (e ∙ sym at))
 
     pub raised_starts : part + get_or amounts i 0 < (span_at xs i).size
-        → AreStarts xs ranks (set amounts i (get_or amounts i 0 + part)) values
+        → AreStartsByRank xs ranks (set amounts i (get_or amounts i 0 + part)) values
     raised_starts more_left = record {
       len = starts.len;
       left = λ s h less. elim (cases_eq s r) [
@@ -214,7 +214,7 @@ module _ (xs : List Span) (amounts : List ℕ) (i part : ℕ) (len : length amou
     }
 
     pub closed_starts : (span_at xs i).size ≤ part + get_or amounts i 0
-        → AreStarts xs ranks (set amounts i (get_or amounts i 0 + part)) (set values r greatest)
+        → AreStartsByRank xs ranks (set amounts i (get_or amounts i 0 + part)) (set values r greatest)
     closed_starts none_left =
         let len_v = length-set values r greatest in
         record {
@@ -244,7 +244,7 @@ pub record Picked (xs : List Span) (ranks amounts : List ℕ) (k r : ℕ) : Type
       → (span_at xs j).size ≤ get_or amounts j 0
 
 pub picked : (xs : List Span) (steps : ℕ) (ranks amounts values : List ℕ) (k missing x r : ℕ) → AreItemSpans xs steps
-    → IsEndRanking xs ranks → AreStarts xs ranks amounts values → 0 < missing
+    → IsEndRanking xs ranks → AreStartsByRank xs ranks amounts values → 0 < missing
     → missing ≤ kept_at k (slice_index amounts) xs → k < greatest → x ≡ k → IsFirstAtMost values x r → Picked xs ranks amounts k r
 picked xs steps ranks amounts values k missing x r spans ranking starts some room small is f =
     let low : get_or values r 0 ≤ k = omega (arith, f.small) in
@@ -261,7 +261,7 @@ picked xs steps ranks amounts values k missing x r spans ranking starts some roo
 
 pub record IsNext (xs : List Span) (amounts leaving : List ℕ) (k part missing over i : ℕ) (was : ℕ → ℕ) : Type 0 where
   pub raising : (turn : ℕ) × IsRaising xs k was (slice_index (set amounts i (get_or amounts i 0 + part))) (over - (missing - part)) turn
-  pub left : AreLeft xs (set amounts i (get_or amounts i 0 + part))
+  pub left : AreLeftAt xs (set amounts i (get_or amounts i 0 + part))
       (set leaving (span_at xs i).end (get_or leaving (span_at xs i).end 0 - part))
   pub room : missing - part ≤ kept_at k (slice_index (set amounts i (get_or amounts i 0 + part))) xs
   pub enough : part ≤ get_or leaving (span_at xs i).end 0
@@ -270,7 +270,7 @@ pub next_raised : (xs : List Span) (ranks amounts leaving : List ℕ) (k part mi
     → Picked xs ranks amounts k r → length amounts ≡ length xs
     → (span_at xs (get_or ranks r 0)).end < length leaving → part
     ≡ min ((span_at xs (get_or ranks r 0)).size - get_or amounts (get_or ranks r 0) 0) missing → missing ≤ over
-    → AreLeft xs amounts leaving → missing ≤ kept_at k (slice_index amounts) xs
+    → AreLeftAt xs amounts leaving → missing ≤ kept_at k (slice_index amounts) xs
     → (turn : ℕ) × IsRaising xs k was (slice_index amounts) (over - missing) turn
     → IsNext xs amounts leaving k part missing over (get_or ranks r 0) was
 next_raised xs ranks amounts leaving k part missing over r was p len end_in part_is below left room raising =

@@ -15,7 +15,7 @@ step_of [] task = 0
 step_of (u ∷ order) task = if u == task then 0 else suc (step_of order task)
 
 -- the table of these steps
-pub record AreSteps (system : TaskSystem) (order steps : List ℕ) : Type 0 where
+pub record IsStepTable (system : TaskSystem) (order steps : List ℕ) : Type 0 where
   pub few : length order ≤ most_tasks
   pub len : length steps ≡ length system.tasks
   pub each : (task : ℕ) → IsTask system task → slice_index steps (task - 1) ≡ step_of order task
@@ -95,7 +95,7 @@ demand xs need bound k = need k + sum_from 0 (λ i x. if is_across k x then x.si
 -- ---- the greedy, against any amounts
 
 -- just enough: of what ends before `turn` no more than before, of what ends after it all
-pub record IsLast (xs : List Span) (k least : ℕ) (was is : ℕ → ℕ) : Type 0 where
+pub record IsJustEnough (xs : List Span) (k least : ℕ) (was is : ℕ → ℕ) : Type 0 where
   pub exact : spilled_at k is xs ≡ least
   pub turn : ℕ
   pub before : (i : ℕ) → i < length xs → (span_at xs i).end < turn → is i ≡ was i
@@ -107,10 +107,10 @@ pub record IsRaised (xs : List Span) (k least : ℕ) (was is : ℕ → ℕ) : Ty
   pub more : (i : ℕ) → i < length xs → was i ≤ is i
   pub others : (i : ℕ) → i < length xs → is_across k (span_at xs i) ≡ false → is i ≡ was i
   pub enough : least ≤ spilled_at k is xs
-  pub last : ((i : ℕ) → i < length xs → is i ≡ was i) ⊎ IsLast xs k least was is
+  pub last : ((i : ℕ) → i < length xs → is i ≡ was i) ⊎ IsJustEnough xs k least was is
 
 -- amounts after k steps beside others: on what ends before any place no more
-pub record IsBest (xs : List Span) (k : ℕ) (amount other : ℕ → ℕ) : Type 0 where
+pub record IsLowestBefore (xs : List Span) (k : ℕ) (amount other : ℕ → ℕ) : Type 0 where
   pub low : (q : ℕ) →
       sum_from 0 (λ i x. if nat_lt x.end q then amount i else 0) xs ≤ sum_from 0 (λ i x. if nat_lt x.end q then other i else 0) xs
   pub fresh : (i : ℕ) → i < length xs → k ≤ (span_at xs i).start → amount i ≡ 0
@@ -126,4 +126,4 @@ pub record IsSpilledAfter (xs : List Span) (steps : ℕ) (need : ℕ → ℕ) (b
   pub meets : (j : ℕ) → j < k → demand xs need bound j ≤ spilled_at j amount xs
   pub fresh : (i : ℕ) → i < length xs → k ≤ (span_at xs i).start → amount i ≡ 0
   pub idle : (i : ℕ) → i < length xs → (span_at xs i).end ≤ (span_at xs i).start → amount i ≡ 0
-  pub best : (other : ℕ → ℕ) → IsRival xs steps need bound other → IsBest xs k amount other
+  pub best : (other : ℕ → ℕ) → IsRival xs steps need bound other → IsLowestBefore xs k amount other

@@ -18,7 +18,7 @@ pub record IsEndRanking (xs : List Span) (ranks : List ℕ) : Type 0 where
   pub falling : (r s : ℕ) → r ≤ s → s < length xs → (span_at xs (slice_index ranks s)).end ≤ (span_at xs (slice_index ranks r)).end
 
 -- at the rank of an item of which something is left stands its start
-pub record AreStarts (xs : List Span) (ranks amounts values : List ℕ) : Type 0 where
+pub record AreStartsByRank (xs : List Span) (ranks amounts values : List ℕ) : Type 0 where
   pub len : length values ≡ length xs
   pub left : (r : ℕ) → r < length xs → slice_index amounts (slice_index ranks r) < (span_at xs (slice_index ranks r)).size →
       slice_index values r ≡ (span_at xs (slice_index ranks r)).start
@@ -29,15 +29,15 @@ pub record AreStarts (xs : List Span) (ranks amounts values : List ℕ) : Type 0
 abbrev pub left_at : ℕ → (ℕ → ℕ) → List Span → ℕ
 left_at e amount xs = sum_from 0 (λ i x. if x.end == e then x.size - amount i else 0) xs
 
-abbrev pub AreLeft : List Span → List ℕ → List ℕ → Type 0
-AreLeft xs amounts leaving = (e : ℕ) → e < length leaving → slice_index leaving e ≡ left_at e (slice_index amounts) xs
+abbrev pub AreLeftAt : List Span → List ℕ → List ℕ → Type 0
+AreLeftAt xs amounts leaving = (e : ℕ) → e < length leaving → slice_index leaving e ≡ left_at e (slice_index amounts) xs
 
 -- what is kept of these spans in this ranking
-pub record IsSpilled (xs : List Span) (ranks : List ℕ) (s : Spilled) : Type 0 where
+pub record IsSpilledState (xs : List Span) (ranks : List ℕ) (s : Spilled) : Type 0 where
   pub len : length s.amounts.items ≡ length xs
   pub within : (i : ℕ) → i < length xs → slice_index s.amounts.items i ≤ (span_at xs i).size
-  pub starts : AreStarts xs ranks s.amounts.items s.starts
-  pub left : AreLeft xs s.amounts.items s.leaving.items
+  pub starts : AreStartsByRank xs ranks s.amounts.items s.starts
+  pub left : AreLeftAt xs s.amounts.items s.leaving.items
 
 -- amounts in the midst of one step: those that were, and more of what ends last
 pub record IsRaising (xs : List Span) (k : ℕ) (was is : ℕ → ℕ) (spilled turn : ℕ) : Type 0 where

@@ -1,6 +1,6 @@
 ghost use Rattle.std.specs.Prelude.{◌≡◌, ◌≤◌, ◌<◌, ◌+◌, ◌^◌, ℕ, List, length, slice_index, IfOk};
 ghost use Rattle.spill_plan.specs.Spans.{AreItemSpans, IsSpilledAfter, kept_at, start_sum, end_sum};
-ghost use Rattle.spill_plan.specs.Spilled.{IsEndRanking, IsSpilled, IsRaising, AreStarts, AreZero};
+ghost use Rattle.spill_plan.specs.Spilled.{IsEndRanking, IsSpilledState, IsRaising, AreStartsByRank, AreZero};
 
 use crate::NoMemory;
 use crate::span::Span;
@@ -21,7 +21,7 @@ pub struct Spilled {
 fn start_tree(alloc: Global, spans: &[Span], ranks: &[u32]) -> Result<MinTree, NoMemory>
     requires few { length spans.now ≤ 2 ^ 31 }
     requires ranking { IsEndRanking spans.now ranks.now }
-    ensures { IfOk result (λ starts. (amounts : List ℕ) → AreZero amounts → AreStarts spans.now ranks.now amounts starts) }
+    ensures { IfOk result (λ starts. (amounts : List ℕ) → AreZero amounts → AreStartsByRank spans.now ranks.now amounts starts) }
 {
     let mut starts = MinTree::new(alloc, spans.len())?;
     for (rank, i) in ranks.iter().enumerate() {
@@ -44,7 +44,7 @@ impl Spilled {
         requires few { length spans.now ≤ 2 ^ 31 }
         requires ranking { IsEndRanking spans.now ranks.now }
         requires leaving { (k : ℕ) → k < length leaving.items → slice_index leaving.items k ≡ end_sum k spans.now }
-        ensures state { IfOk result (IsSpilled spans.now ranks.now) }
+        ensures state { IfOk result (IsSpilledState spans.now ranks.now) }
         ensures zero { IfOk result (λ spilled. AreZero spilled.amounts.items) }
         ensures len { IfOk result (λ spilled. length spilled.leaving.items ≡ length leaving.items) }
     {
@@ -61,12 +61,12 @@ impl Spilled {
     fn raise(&mut self, spans: &[Span], ranks: &[u32], step: u32, over: u64)
         requires spans { (steps : ℕ) × AreItemSpans spans.now steps × (step < steps) × (length self.old.leaving.items ≡ steps + 1) }
         requires ranking { IsEndRanking spans.now ranks.now }
-        requires state { IsSpilled spans.now ranks.now self.old }
+        requires state { IsSpilledState spans.now ranks.now self.old }
         requires over { over ≤ kept_at step (slice_index self.old.amounts.items) spans.now }
         ensures raised { (turn : ℕ) ×
             IsRaising spans.now step (slice_index self.old.amounts.items) (slice_index self.new.amounts.items) over turn }
         ensures none { over ≡ 0 → self.new.amounts.items ≡ self.old.amounts.items }
-        ensures state { IsSpilled spans.now ranks.now self.new }
+        ensures state { IsSpilledState spans.now ranks.now self.new }
         ensures len { length self.new.leaving.items ≡ length self.old.leaving.items }
     {
         let mut missing = over;
@@ -91,7 +91,7 @@ impl Spilled {
     pub fn run(&mut self, spans: &[Span], ranks: &[u32], joining: &[u64], needs: &[u64], bound: u64)
         requires spans { AreItemSpans spans.now (length needs.now) }
         requires ranking { IsEndRanking spans.now ranks.now }
-        requires state { IsSpilled spans.now ranks.now self.old × AreZero self.old.amounts.items }
+        requires state { IsSpilledState spans.now ranks.now self.old × AreZero self.old.amounts.items }
         requires len { (length self.old.leaving.items ≡ length needs.now + 1) × (length joining.now ≡ length needs.now + 1) }
         requires joining { (k : ℕ) → k ≤ length needs.now → slice_index joining.now k ≡ start_sum k spans.now }
         requires fit { (k : ℕ) → k < length needs.now → slice_index needs.now k ≤ bound }

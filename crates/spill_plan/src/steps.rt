@@ -1,6 +1,6 @@
 ghost use Rattle.std.specs.Prelude.{IfOk};
 ghost use Rattle.mp_system.specs.Traversal.{IsTraversal};
-ghost use Rattle.spill_plan.specs.Spans.{AreSteps};
+ghost use Rattle.spill_plan.specs.Spans.{IsStepTable};
 
 use crate::NoMemory;
 use mp_system::System;
@@ -10,7 +10,7 @@ use std::alloc::Global;
 /// For each task the step of a traversal at which it runs, counted from 0.
 pub fn steps_by_task(alloc: Global, system: &System, order: &[u32]) -> Result<Vec<u32>, NoMemory>
     requires { IsTraversal system.now order.now }
-    ensures { IfOk result (λ steps. AreSteps system.now order.now steps.items) }
+    ensures { IfOk result (λ steps. IsStepTable system.now order.now steps.items) }
 {
     traversal_law();
     system.keeps();

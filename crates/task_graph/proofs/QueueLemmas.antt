@@ -12,7 +12,7 @@ use Rattle.mp_system.specs.Memory.{stands_in}
 use Rattle.row_table.specs.Rows.{numbers_with}
 use Rattle.task_graph.specs.declared.arc.Arc.{Arc}
 use Rattle.task_graph.specs.Graph.{IsAmong, IsArcWithin, IsSupplied, AreSupplied}
-use Rattle.task_graph.specs.Queue.{from_of, arc_at, is_wait, waits_of, heads_among, IsTaken, IsPartTaken, IsRowOf, AreJudged}
+use Rattle.task_graph.specs.Queue.{from_of, arc_at, is_wait, waits_of, heads_among, IsQueueTaken, IsPartTaken, IsArcRow, AreJudged}
 use Rattle.task_graph.proofs.Standing.{stands-left, stands-new, stands-cases, stands-take, place, push-split, count-none, count-some}
 
 abbrev pub no_arc : Arc
@@ -178,7 +178,7 @@ first-push n arcs waits queue v h none low are = record {
 }
 
 pub first-taken : (n : ℕ) (arcs : List Arc) (waits queue : List ℕ) (v : ℕ) → v ≡ n + 1 → IsFirst n arcs waits queue v → length waits ≡ n + 1
-    → ((u : ℕ) → u ≤ n → get_or waits u 0 ≡ waits_of arcs [] u) → IsTaken n arcs waits queue 0
+    → ((u : ℕ) → u ≤ n → get_or waits u 0 ≡ waits_of arcs [] u) → IsQueueTaken n arcs waits queue 0
 first-taken n arcs waits queue v e h long are = record {
   queued = record {
     long = long;
@@ -193,11 +193,11 @@ first-taken n arcs waits queue v e h long are = record {
 
 -- ---- one arc more is taken
 
-pub part-none : (n : ℕ) (arcs : List Arc) (waits queue row : List ℕ) (at : ℕ) → IsTaken n arcs waits queue at → at < length queue → IsPartTaken n arcs waits queue at row 0
+pub part-none : (n : ℕ) (arcs : List Arc) (waits queue row : List ℕ) (at : ℕ) → IsQueueTaken n arcs waits queue at → at < length queue → IsPartTaken n arcs waits queue at row 0
 part-none n arcs waits queue row at h lt = record { queued = h.queued; short = lt; waits_are = λ v le. omega (arith, h.waits_are v le) }
 
 module _ (n : ℕ) (arcs : List Arc) (waits queue : List ℕ) (at : ℕ) (row : List ℕ) (j : ℕ) (h : IsPartTaken n arcs waits queue at row j)
-    (within : All (IsArcWithin n) arcs) (is_row : IsRowOf arcs row (get_or queue at 0)) (lt : j < length row) where
+    (within : All (IsArcWithin n) arcs) (is_row : IsArcRow arcs row (get_or queue at 0)) (lt : j < length row) where
   u : ℕ
   u = get_or queue at 0
 
@@ -323,7 +323,7 @@ module _ (n : ℕ) (arcs : List Arc) (waits queue : List ℕ) (at : ℕ) (row : 
 
 -- the whole row is taken
 pub part-all : (n : ℕ) (arcs : List Arc) (waits queue : List ℕ) (at : ℕ) (row : List ℕ) (j : ℕ) → IsPartTaken n arcs waits queue at row j
-    → IsRowOf arcs row (get_or queue at 0) → length row ≤ j → IsTaken n arcs waits queue (at + 1)
+    → IsArcRow arcs row (get_or queue at 0) → length row ≤ j → IsQueueTaken n arcs waits queue (at + 1)
 part-all n arcs waits queue at row j h is_row le =
     let u = get_or queue at 0 in
     let cut : queue ≡ take at queue ++ u ∷ drop (at + 1) queue = sym (take-append-drop at queue) ∙ ap (λ (xs : List ℕ). take at queue ++ xs) (drop_more queue at 0 h.short) in
@@ -341,7 +341,7 @@ part-all n arcs waits queue at row j h is_row le =
 
 -- ---- the whole queue is taken
 
-module _ (n : ℕ) (arcs : List Arc) (waits queue : List ℕ) (h : IsTaken n arcs waits queue (length queue)) (within : All (IsArcWithin n) arcs)
+module _ (n : ℕ) (arcs : List Arc) (waits queue : List ℕ) (h : IsQueueTaken n arcs waits queue (length queue)) (within : All (IsArcWithin n) arcs)
     (list : List ℕ) (sup : AreSupplied arcs list) where
   -- whoever stands in a supplied list waits for none
   served : (m : ℕ) (before rest : List ℕ) (v : ℕ) → length before < m → list ≡ before ++ v ∷ rest → v ≤ n → get_or waits v 0 ≡ 0
@@ -362,10 +362,10 @@ module _ (n : ℕ) (arcs : List Arc) (waits queue : List ℕ) (h : IsTaken n arc
         )
   ]
 
-pub judged : (n : ℕ) (arcs : List Arc) (waits queue : List ℕ) (at : ℕ) → IsTaken n arcs waits queue at → length queue ≤ at → All (IsArcWithin n) arcs → AreJudged n arcs waits
+pub judged : (n : ℕ) (arcs : List Arc) (waits queue : List ℕ) (at : ℕ) → IsQueueTaken n arcs waits queue at → length queue ≤ at → All (IsArcWithin n) arcs → AreJudged n arcs waits
 judged n arcs waits queue at h le within =
     let end : at ≡ length queue = omega (arith, h.short) in
-    let taken : IsTaken n arcs waits queue (length queue) = subst (IsTaken n arcs waits queue) end h in
+    let taken : IsQueueTaken n arcs waits queue (length queue) = subst (IsQueueTaken n arcs waits queue) end h in
     record {
       long = h.queued.long;
       idle = λ v among none. record {
@@ -417,7 +417,7 @@ pub row-heads : (arcs : List Arc) (u v : ℕ) → heads_among arcs (numbers_with
 row-heads arcs u v = heads-row u v (arc_at arcs) 0 arcs (λ i lt. let e : 0 + i ≡ i = omega arith in ap (arc_at arcs) e)
 
 pub row-is : (arcs : List Arc) (u : ℕ) → All (λ v. (0 ≤ v) × (v - 0 < length (map from_of arcs)) × (get_or (map from_of arcs) (v - 0) 0 ≡ u)) (numbers_with (map from_of arcs) 0 u)
-    → IsRowOf arcs (numbers_with (map from_of arcs) 0 u) u
+    → IsArcRow arcs (numbers_with (map from_of arcs) 0 u) u
 row-is arcs u each = record {
   within = λ i d lt. (let e = each i d lt in omega (arith, e.1, length-map arcs from_of));
   heads = λ v. row-heads arcs u v;

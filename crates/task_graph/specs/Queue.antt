@@ -38,7 +38,7 @@ pub record IsQueue (n : ℕ) (arcs : List Arc) (waits queue : List ℕ) : Type 0
   pub listed : (v : ℕ) → stands_in queue v ≡ true → slice_index waits v ≡ 0
 
 -- the first tasks of the queue are taken from the waits
-pub record IsTaken (n : ℕ) (arcs : List Arc) (waits queue : List ℕ) (at : ℕ) : Type 0 where
+pub record IsQueueTaken (n : ℕ) (arcs : List Arc) (waits queue : List ℕ) (at : ℕ) : Type 0 where
   pub queued : IsQueue n arcs waits queue
   pub short : at ≤ length queue
   pub waits_are : (v : ℕ) → v ≤ n → slice_index waits v ≡ waits_of arcs (take at queue) v
@@ -50,7 +50,7 @@ pub record IsPartTaken (n : ℕ) (arcs : List Arc) (waits queue : List ℕ) (at 
   pub waits_are : (v : ℕ) → v ≤ n → slice_index waits v + heads_among arcs (take j row) v ≡ waits_of arcs (take at queue) v
 
 -- the places of the arcs out of a task
-pub record IsRowOf (arcs : List Arc) (row : List ℕ) (u : ℕ) : Type 0 where
+pub record IsArcRow (arcs : List Arc) (row : List ℕ) (u : ℕ) : Type 0 where
   pub within : All (λ k. k < length arcs) row
   pub heads : (v : ℕ) → heads_among arcs row v ≡ count_by (λ arc. arc.to == v && arc.from == u) arcs
 

@@ -5,7 +5,7 @@ ghost use Rattle.row_table.specs.Rows.{row_at};
 ghost use Rattle.limits.specs.Limits.{most_tasks};
 ghost use Rattle.task_graph.specs.Graph.{IsAmong, IsArcWithin, CanBeOrdered};
 ghost use Rattle.task_graph.specs.GraphFile.{IsFirstWithout};
-ghost use Rattle.task_graph.specs.Queue.{waits_of, IsQueue, IsTaken, IsRowOf, AreJudged};
+ghost use Rattle.task_graph.specs.Queue.{waits_of, IsQueue, IsQueueTaken, IsArcRow, AreJudged};
 
 use crate::NoMemory;
 use crate::arc::Arc;
@@ -35,7 +35,7 @@ fn first_queue(alloc: Global, count: u32, arcs: &[Arc], waits: &[u32]) -> Result
     requires few { count ≤ most_tasks }
     requires len { length waits.now ≡ count + 1 }
     requires waits { (v : ℕ) → v ≤ count → slice_index waits.now v ≡ waits_of arcs.now [] v }
-    ensures { IfOk result (λ queue. IsTaken count arcs.now waits.now queue.items 0) }
+    ensures { IfOk result (λ queue. IsQueueTaken count arcs.now waits.now queue.items 0) }
 {
     let mut queue = Vec::new(alloc);
     for v in 1..count + 1 {
@@ -56,10 +56,10 @@ fn take_next(
     queue: &mut Vec<u32>,
 ) -> Result<(), NoMemory>
     requires within { All (IsArcWithin count) arcs.now }
-    requires taken { IsTaken count arcs.now waits.old queue.old.items at }
+    requires taken { IsQueueTaken count arcs.now waits.old queue.old.items at }
     requires short { at < length queue.old.items }
-    requires row { IsRowOf arcs.now row.now (slice_index queue.old.items at) }
-    ensures taken { IfOk result (λ _. IsTaken count arcs.now waits.new queue.new.items (at + 1)) }
+    requires row { IsArcRow arcs.now row.now (slice_index queue.old.items at) }
+    ensures taken { IfOk result (λ _. IsQueueTaken count arcs.now waits.new queue.new.items (at + 1)) }
     ensures fewer { IfOk result (λ _. sum waits.new + vec_len queue.new ≤ sum waits.old + vec_len queue.old) }
 {
     for k in row {
@@ -82,8 +82,8 @@ fn take_all(
 ) -> Result<(), NoMemory>
     requires within { All (IsArcWithin count) arcs.now }
     requires rows { (length rows.now ≡ count + 1)
-        × ((u : ℕ) → u ≤ count → IsRowOf arcs.now (row_at rows.now u) u) }
-    requires taken { IsTaken count arcs.now waits.old queue.old.items 0 }
+        × ((u : ℕ) → u ≤ count → IsArcRow arcs.now (row_at rows.now u) u) }
+    requires taken { IsQueueTaken count arcs.now waits.old queue.old.items 0 }
     ensures { IfOk result (λ _. AreJudged count arcs.now waits.new) }
 {
     let mut at = 0;
@@ -117,7 +117,7 @@ fn rows_of(alloc: Global, count: u32, arcs: &[Arc]) -> Result<RowTable, NoMemory
     requires few { length arcs.now < 2 ^ 32 }
     requires few_tasks { count ≤ most_tasks }
     ensures len { IfOk result (λ rows. length rows ≡ count + 1) }
-    ensures rows { IfOk result (λ rows. (u : ℕ) → u ≤ count → IsRowOf arcs.now (row_at rows u) u) }
+    ensures rows { IfOk result (λ rows. (u : ℕ) → u ≤ count → IsArcRow arcs.now (row_at rows u) u) }
 {
     numbers_law();
     let tails = tails_of(alloc, arcs)?;

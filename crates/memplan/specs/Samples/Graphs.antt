@@ -21,7 +21,7 @@ use Rattle.task_graph.specs.declared.arc.Arc.{Arc}
 use Rattle.task_graph.specs.Graph.{TaskGraph, completed_arcs, completed_system}
 use Rattle.sp_reduce.specs.NamedText.{named_text}
 use Rattle.sp_reduce.specs.Reduced.{HasSystem, HasParts}
-use Rattle.sp_reduce.specs.Reductions.{IsParallel, IsSeries, LeadsTo, in_order, by_parallel, by_series, count_into, count_out_of}
+use Rattle.sp_reduce.specs.Reductions.{IsParallel, IsSeries, ReducesTo, in_order, by_parallel, by_series, count_into, count_out_of}
 
 -- ---- systems
 
@@ -108,7 +108,7 @@ task_two_goes = record {
 }
 
 -- so the graph is series-parallel
-pub leads_to_one_arc : LeadsTo twice ((0, 0) ∷ [])
+pub leads_to_one_arc : ReducesTo twice ((0, 0) ∷ [])
 leads_to_one_arc =
     by_parallel parallel_arcs (by_series task_one_goes (by_series task_two_goes (in_order (record { moves = []; below = tt; is = refl }))))
 

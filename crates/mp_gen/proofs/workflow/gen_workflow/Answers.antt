@@ -4,7 +4,7 @@ use Rattle.sp_terms.specs.declared.position.Position.{Position}
 use Rattle.sp_terms.specs.Builder.{IsOneTerm}
 use Rattle.mp_gen.specs.Dice.{dice_of}
 use Rattle.mp_gen.specs.RandomWorkflow.{with_one, with_tasks}
-use Rattle.mp_gen.specs.Room.{HasRoom}
+use Rattle.mp_gen.specs.Room.{HasRoomFor}
 use Rattle.mp_gen.proofs.RoomLemmas.{tasks-room, tasks-more, all-tasks, workflow_of-one}
 use Rattle.mp_gen.proofs.workflow.gen_workflow.Goals as goal
 
@@ -14,7 +14,7 @@ loop-i-init c = record { positions = c.new-builder.ensures; dice = c.dice_of-dic
 
 pub put_one-requires : goal.put_one-requires
 put_one-requires c =
-    subst (λ (ps : List Position). HasRoom ps 4 1 3000) (sym c.loop-i.invariant.positions)
+    subst (λ (ps : List Position). HasRoomFor ps 4 1 3000) (sym c.loop-i.invariant.positions)
     (tasks-room c.loop-i._i (dice_of c.args.seed) 4 1 3000 (omega arith) (omega arith) (omega arith))
 
 pub loop-i-preserved : goal.loop-i-preserved
@@ -26,7 +26,7 @@ loop-i-preserved c =
 
 pub close-requires : goal.close-requires
 close-requires c =
-    subst (λ (ps : List Position). HasRoom ps 1 0 0) (sym c.loop-i.invariant.positions)
+    subst (λ (ps : List Position). HasRoomFor ps 1 0 0) (sym c.loop-i.invariant.positions)
     (tasks-room c.loop-i._i (dice_of c.args.seed) 1 0 0 (omega arith) (omega arith) (omega arith))
 
 pub unreachable-requires : goal.unreachable-requires

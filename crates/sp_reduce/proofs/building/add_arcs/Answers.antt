@@ -6,7 +6,7 @@ use Rattle.task_graph.specs.declared.arc.Arc.{Arc}
 use Rattle.task_graph.specs.Graph.{item_of}
 use Rattle.sp_reduce.specs.declared.link.Link.{Link}
 use Rattle.sp_reduce.specs.Pieces.{IsCarried}
-use Rattle.sp_reduce.specs.Reductions.{LeadsTo, in_order, ends_of}
+use Rattle.sp_reduce.specs.Reductions.{ReducesTo, in_order, ends_of}
 use Rattle.sp_reduce.specs.Work.{link_count, pairs_of}
 use Rattle.sp_reduce.proofs.Rows.{leads-trans}
 use Rattle.sp_reduce.proofs.Outcomes.{no_arc, carried-empty, item-next, ends-next}
@@ -17,7 +17,7 @@ loop-arc-init c = record {
   tasks = refl;
   ranked = λ rank rises x lt. absurd (omega (arith, lt, ap length c.requires.empty.0));
   carried = carried-empty (map item_of c.args.arcs.now) c.args.forest.now.pieces.items c.args.links.now.list c.args.forest.now.nodes.items c.requires.empty.2 c.requires.empty.0 c.requires.empty.1;
-  row = subst (λ (ls : List Link). LeadsTo (map ends_of c.args.arcs.now) (pairs_of ls ++ map ends_of c.args.arcs.now)) (sym c.requires.empty.0) (in_order (IsPermutation-refl (map ends_of c.args.arcs.now)));
+  row = subst (λ (ls : List Link). ReducesTo (map ends_of c.args.arcs.now) (pairs_of ls ++ map ends_of c.args.arcs.now)) (sym c.requires.empty.0) (in_order (IsPermutation-refl (map ends_of c.args.arcs.now)));
   lens = omega (arith, c.args.forest.now.nodes.ok.0, ap length c.requires.empty.0, ap length c.requires.empty.1);
   few = omega (arith, ap length c.requires.empty.0);
   room = omega (arith, c.args.forest.now.pieces.ok.0, ap length c.requires.empty.2, ap link_count c.requires.empty.0);
@@ -46,7 +46,7 @@ loop-arc-preserved c =
       carried = c.in_ok-add_arc.ensures.carried (map item_of arcs) (map item_of (drop (i + 1) arcs))
           (subst (λ (xs : List Item). IsCarried (map item_of arcs) xs c.loop-arc.forest.pieces.items links c.loop-arc.forest.nodes.items) (item-next arcs no_arc i lt) c.loop-arc.invariant.carried);
       row = leads-trans (map ends_of arcs) (pairs_of links ++ ends_of (get_or arcs i no_arc) ∷ map ends_of (drop (i + 1) arcs)) (pairs_of c.add_arc.new.links.list ++ map ends_of (drop (i + 1) arcs))
-          (subst (λ (xs : List (ℕ × ℕ)). LeadsTo (map ends_of arcs) (pairs_of links ++ xs)) (ends-next arcs no_arc i lt) c.loop-arc.invariant.row)
+          (subst (λ (xs : List (ℕ × ℕ)). ReducesTo (map ends_of arcs) (pairs_of links ++ xs)) (ends-next arcs no_arc i lt) c.loop-arc.invariant.row)
           (c.in_ok-add_arc.ensures.row (map ends_of (drop (i + 1) arcs)));
       lens = c.in_ok-add_arc.ensures.lens.0;
       few = omega (arith, c.loop-arc.invariant.few, c.in_ok-add_arc.ensures.lens.1);
@@ -60,7 +60,7 @@ returns-clause-carried c =
 
 pub returns-clause-row : goal.returns-clause-row
 returns-clause-row c =
-    subst (λ (xs : List (ℕ × ℕ)). LeadsTo (map ends_of c.args.arcs.now) xs)
+    subst (λ (xs : List (ℕ × ℕ)). ReducesTo (map ends_of c.args.arcs.now) xs)
     (ap (λ (xs : List Arc). pairs_of c.loop-arc.links.list ++ map ends_of xs) (drop_all c.loop-arc.arc-index c.args.arcs.now c.loop-arc-test.false)
     ∙ append-nil (pairs_of c.loop-arc.links.list))
     c.loop-arc.invariant.row

@@ -1,7 +1,7 @@
 use Rattle.std.proofs.Common.{◌≡◌, ◌<◌, ◌+◌, ◌-◌, ◌^◌, ℕ, arith, ap, subst, ◌∙◌, List, length, get_or, min}
 use Rattle.std.proofs.lemmas.List.{get_or_read}
 use Rattle.sp_reduce.specs.declared.piece.Piece.TheVariants.{Both}
-use Rattle.sp_reduce.specs.Pieces.{IsMade}
+use Rattle.sp_reduce.specs.Pieces.{IsBuilt}
 use Rattle.sp_reduce.proofs.Writings.{count_at, counts-more, count-both, count-one}
 use Rattle.sp_reduce.proofs.postfix.part_counts.Goals.{in-Both, in_default}
 use Rattle.sp_reduce.proofs.postfix.part_counts.Goals as goal
@@ -13,7 +13,7 @@ loop-piece-preserved c =
     let counts = c.loop-piece.counts.items in
     let lt : j < length ps = omega (arith, c.loop-piece-test.true) in
     let own : c.match-piece.count ≡ count_at ps j = elim c.match-piece.branch [
-      | in-Both w ↦ (let made : IsMade j (Both w.in-Both.first w.in-Both.second) = subst (IsMade j) w.in-Both.is (c.requires j lt) in
+      | in-Both w ↦ (let made : IsBuilt j (Both w.in-Both.first w.in-Both.second) = subst (IsBuilt j) w.in-Both.is (c.requires j lt) in
           let first : w.index.result.now ≡ count_at ps w.in-Both.first =
           get_or_read counts w.in-Both.first w.index.result.now (omega (arith, made.0, c.loop-piece.invariant.len)) w.index.ensures 0
           ∙ c.loop-piece.invariant.counts w.in-Both.first made.0 in

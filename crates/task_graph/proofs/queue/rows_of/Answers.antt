@@ -1,7 +1,7 @@
 use Rattle.std.proofs.Common.{◌∙◌, ◌+◌, ◌<◌, ℕ, List, map, sym, ap, subst, arith}
 use Rattle.std.proofs.lemmas.List.Elements.{All-same}
 use Rattle.row_table.specs.Rows.{numbers_with}
-use Rattle.task_graph.specs.Queue.{from_of, IsRowOf}
+use Rattle.task_graph.specs.Queue.{from_of, IsArcRow}
 use Rattle.task_graph.proofs.CountLemmas.{tails-below}
 use Rattle.task_graph.proofs.QueueLemmas.{row-is}
 use Rattle.task_graph.proofs.queue.rows_of.Goals as goal
@@ -15,4 +15,4 @@ pub returns-clause-rows : goal.returns-clause-rows
 returns-clause-rows c = λ u le.
     let arcs = c.args.arcs.now in
     let is = c.in_ok-rows.ensures.rows u (omega (arith, le)) ∙ ap (λ (keys : List ℕ). numbers_with keys 0 u) (c.deref.ensures.value ∙ c.in_ok-tails.ensures) in
-    subst (λ (row : List ℕ). IsRowOf arcs row u) (sym is) (row-is arcs u (c.numbers_law.ensures.each (map from_of arcs) 0 u))
+    subst (λ (row : List ℕ). IsArcRow arcs row u) (sym is) (row-is arcs u (c.numbers_law.ensures.each (map from_of arcs) 0 u))

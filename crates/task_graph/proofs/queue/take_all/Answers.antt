@@ -1,7 +1,7 @@
 use Rattle.std.proofs.Common.{◌≡◌, ◌<◌, length, get_or, arith, sym, subst, List, ℕ}
 use Rattle.std.proofs.lemmas.List.{get_or_read}
 use Rattle.row_table.specs.Rows.{row_at}
-use Rattle.task_graph.specs.Queue.{IsRowOf}
+use Rattle.task_graph.specs.Queue.{IsArcRow}
 use Rattle.task_graph.proofs.QueueLemmas.{judged}
 use Rattle.task_graph.proofs.queue.take_all.Goals as goal
 
@@ -13,8 +13,8 @@ take_next-requires-clause-row c =
     let u = c.index.result.now in
     let is : u ≡ get_or queue at 0 = get_or_read queue at u lt c.index.ensures 0 in
     let small = (c.loop-at.invariant.queued.within at 0 lt).1 in
-    subst (λ (row : List ℕ). IsRowOf c.args.arcs.now row (get_or queue at 0)) (sym c.row-row.ensures)
-    (subst (IsRowOf c.args.arcs.now (row_at c.args.rows.now u)) is (c.requires.rows.1 u (omega (arith, small, is))))
+    subst (λ (row : List ℕ). IsArcRow c.args.arcs.now row (get_or queue at 0)) (sym c.row-row.ensures)
+    (subst (IsArcRow c.args.arcs.now (row_at c.args.rows.now u)) is (c.requires.rows.1 u (omega (arith, small, is))))
 
 pub returns : goal.returns
 returns c =

@@ -1,6 +1,6 @@
 use Rattle.std.proofs.Common.{◌≡◌, ◌≢◌, ◌⊎◌, ◌≤◌, ◌+◌, ◌-◌, ◌++◌, ◌∷◌, [], ℕ, List, get_or, set, take, vec_len, arith, inl, inr, sym, ap, subst, ◌∙◌, Vec, Global}
 use Rattle.std.proofs.lemmas.List.{take-append-le}
-use Rattle.task_graph.specs.Queue.{arc_at, IsPartTaken, IsRowOf}
+use Rattle.task_graph.specs.Queue.{arc_at, IsPartTaken, IsArcRow}
 use Rattle.task_graph.proofs.QueueLemmas.{waits-some, part-keep, part-push, part-all, sum-set, same-at}
 use Rattle.task_graph.proofs.queue.take_next.Goals as goal
 use Rattle.task_graph.proofs.queue.take_next.Goals.{then-to-ne0+then-waits-to-eq0+in_ok-push, else-to-ne0, else-to-ne0-via-then-to-ne0+else-waits-to-eq0, else-to-ne0-via-else-to-ne0}
@@ -10,7 +10,7 @@ overflow_sub-waits c =
     let l = c.loop-k in
     let arcs = c.args.arcs.now in
     let row = c.args.row.now in
-    let is_row = subst (IsRowOf arcs row) (sym (same-at l.queue.items c.args.queue.now.items c.args.at l.invariant.first)) c.requires.row in
+    let is_row = subst (IsArcRow arcs row) (sym (same-at l.queue.items c.args.queue.now.items c.args.at l.invariant.first)) c.requires.row in
     waits-some c.args.count arcs l.waits l.queue.items c.args.at row l.k-index l.invariant.part c.requires.within is_row c.loop-k-test.true
 
 pub loop-k-preserved : goal.loop-k-preserved
@@ -22,7 +22,7 @@ loop-k-preserved c =
     let row = c.args.row.now in
     let to = (arc_at arcs (get_or row l.k-index 0)).to in
     let w0 = get_or l.waits to 0 - 1 in
-    let is_row = subst (IsRowOf arcs row) (sym (same-at l.queue.items c.args.queue.now.items at l.invariant.first)) c.requires.row in
+    let is_row = subst (IsArcRow arcs row) (sym (same-at l.queue.items c.args.queue.now.items at l.invariant.first)) c.requires.row in
     let some = waits-some n arcs l.waits l.queue.items at row l.k-index l.invariant.part c.requires.within is_row c.loop-k-test.true in
     let w_is : w0 + 1 ≡ get_or l.waits to 0 = omega (arith, some) in
     let fewer = sum-set n arcs l.waits l.queue.items at row l.k-index l.invariant.part c.requires.within is_row c.loop-k-test.true w0 w_is in
@@ -54,5 +54,5 @@ loop-k-preserved c =
 pub returns-clause-taken : goal.returns-clause-taken
 returns-clause-taken c =
     let l = c.loop-k in
-    let is_row = subst (IsRowOf c.args.arcs.now c.args.row.now) (sym (same-at l.queue.items c.args.queue.now.items c.args.at l.invariant.first)) c.requires.row in
+    let is_row = subst (IsArcRow c.args.arcs.now c.args.row.now) (sym (same-at l.queue.items c.args.queue.now.items c.args.at l.invariant.first)) c.requires.row in
     part-all c.args.count c.args.arcs.now l.waits l.queue.items c.args.at c.args.row.now l.k-index l.invariant.part is_row c.loop-k-test.false

@@ -3,7 +3,7 @@ use Rattle.std.proofs.lemmas.List.{get_or_read}
 use Rattle.sp_reduce.specs.declared.link.Link.{Link}
 use Rattle.sp_reduce.specs.declared.piece.Piece.{Piece}
 use Rattle.sp_reduce.specs.declared.piece.Piece.TheVariants.{Series, Both}
-use Rattle.sp_reduce.specs.Work.{no_link, link, IsLink, AreLeft}
+use Rattle.sp_reduce.specs.Work.{no_link, link, IsLink, IsLinkLeft}
 use Rattle.sp_reduce.specs.Pieces.{IsCarried}
 use Rattle.sp_reduce.proofs.Carried.{carried-joined, carried-merged}
 use Rattle.sp_reduce.proofs.forest.Forest.carry.Goals as goal
@@ -16,7 +16,7 @@ returns-in-None-clause-carried c = λ graph old new t h.
     let s = c.args.taken.to in
     let ps = c.args.self.now.pieces.items in
     let nodes = c.args.self.now.nodes.items in
-    let left : new ≡ set (set old i (link p s)) j no_link = subst (AreLeft old new i j p s) c.in-None.is t.left in
+    let left : new ≡ set (set old i (link p s)) j no_link = subst (IsLinkLeft old new i j p s) c.in-None.is t.left in
     let into : c.index.result.now ≡ get_or nodes i 0 = get_or_read nodes i c.index.result.now (omega (arith, c.args.self.now.nodes.ok, c.requires.places)) c.index.ensures 0 in
     let out_of : c.index-2.result.now ≡ get_or nodes j 0 = get_or_read nodes j c.index-2.result.now (omega (arith, c.args.self.now.nodes.ok, c.requires.places)) c.index-2.ensures 0 in
     let series : Piece = Series (get_or nodes i 0) c.args.task (get_or nodes j 0) in
@@ -36,7 +36,7 @@ returns-in_ok-push-in-Some-clause-carried c = λ graph old new t h.
     let k = c.in-Some.twin in
     let ps = c.args.self.now.pieces.items in
     let nodes = c.args.self.now.nodes.items in
-    let left : IsLink old k p s × (new ≡ set (set old i no_link) j no_link) = subst (AreLeft old new i j p s) c.in-Some.is t.left in
+    let left : IsLink old k p s × (new ≡ set (set old i no_link) j no_link) = subst (IsLinkLeft old new i j p s) c.in-Some.is t.left in
     let into : c.index.result.now ≡ get_or nodes i 0 = get_or_read nodes i c.index.result.now (omega (arith, c.args.self.now.nodes.ok, c.requires.places)) c.index.ensures 0 in
     let out_of : c.index-2.result.now ≡ get_or nodes j 0 = get_or_read nodes j c.index-2.result.now (omega (arith, c.args.self.now.nodes.ok, c.requires.places)) c.index-2.ensures 0 in
     let series : Piece = Series (get_or nodes i 0) c.args.task (get_or nodes j 0) in

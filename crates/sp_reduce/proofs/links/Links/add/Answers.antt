@@ -5,7 +5,7 @@ use Rattle.std.proofs.lemmas.Bool.{ne_eqb}
 use Rattle.std.proofs.lemmas.List.{get_or_read}
 use Rattle.limits.specs.Limits.{most_arcs}
 use Rattle.sp_reduce.specs.declared.link.Link.{Link}
-use Rattle.sp_reduce.specs.Work.{AreRanked, HasNone, IsWork, hit, key_of, link}
+use Rattle.sp_reduce.specs.Work.{AreLinksRanked, HasNone, IsWork, hit, key_of, link}
 use Rattle.sp_reduce.proofs.Adding.{added_work, ranked-before, ranked-new, reranked}
 use Rattle.sp_reduce.proofs.Outcomes.{links-le-length, hit-le}
 use Rattle.sp_reduce.proofs.links.Links.add.Goals as goal
@@ -38,7 +38,7 @@ invariant_of-self-2 c =
     let few : length links < most_arcs = rw (← c.self.view_is) at c.requires.few in
     let none : HasNone links p s = rw (← c.self.view_is) at c.requires.none in
     let rank = c.requires.ranked.0 in
-    let ranked : AreRanked rank (links ++ link p s ∷ []) = rw (← c.self.view_is) at c.requires.ranked.1 in
+    let ranked : AreLinksRanked rank (links ++ link p s ∷ []) = rw (← c.self.view_is) at c.requires.ranked.1 in
     let old : IsWork f.tasks rank links f.ins.items f.outs.items f.in_at.items f.out_at.items (hash.get nat_eq f.by_ends) =
     reranked f.tasks c.self.invariant.rank rank links f.ins.items f.outs.items f.in_at.items f.out_at.items (hash.get nat_eq f.by_ends) w (ranked-before rank links p s ranked) in
     let table : ℕ → Option ℕ = λ q. hash.get nat_eq f.by_ends q in

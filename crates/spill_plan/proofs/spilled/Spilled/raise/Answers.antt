@@ -2,7 +2,7 @@ use Rattle.std.proofs.Common.{◌≡◌, ◌≤◌, ◌<◌, ◌+◌, ◌-◌, l
 use Rattle.std.specs.Prelude.{slice_index}
 use Rattle.std.proofs.lemmas.List.{get_or_read}
 use Rattle.spill_plan.specs.Spans.{span_at}
-use Rattle.spill_plan.specs.Spilled.{AreStarts}
+use Rattle.spill_plan.specs.Spilled.{AreStartsByRank}
 use Rattle.spill_plan.proofs.Raisings.{none_found, picked, next_raised, raised_starts, closed_starts}
 use Rattle.spill_plan.proofs.spilled.Spilled.raise.Goals as goal
 
@@ -70,7 +70,7 @@ loop-missing-preserved-then-part-room c =
       raising = next.raising;
       len = length-set amounts i (get_or amounts i 0 + part) ∙ inv.len;
       len_leaving = length-set leaving (span_at xs i).end (get_or leaving (span_at xs i).end 0 - part) ∙ inv.len_leaving;
-      starts = subst (AreStarts xs ranks (set amounts i (get_or amounts i 0 + part))) (sym c.put.ensures)
+      starts = subst (AreStartsByRank xs ranks (set amounts i (get_or amounts i 0 + part))) (sym c.put.ensures)
           (closed_starts xs amounts i part inv.len p.item_in fits ranks c.loop-missing.self.starts r c.requires.ranking inv.starts
           p.rank_in refl (omega (arith, room)));
       left = next.left;

@@ -1,7 +1,7 @@
 use Rattle.std.proofs.Common.{◌≡◌, ℕ, ◌-◌, ◌≤◌, length}
 use Rattle.std.specs.Prelude.{slice_index}
 use Rattle.spill_plan.specs.Spans.{kept_at}
-use Rattle.spill_plan.specs.Spilled.{AreStarts, AreLeft, IsRaising}
+use Rattle.spill_plan.specs.Spilled.{AreStartsByRank, AreLeftAt, IsRaising}
 use Rattle.spill_plan.proofs.spilled.Spilled.raise.Given as goal
 
 abbrev pub invariant-loop-missing : goal.invariant-loop-missing
@@ -12,8 +12,8 @@ invariant-loop-missing l = record {
       (l.over - l.missing) turn;
   len : length l.self.amounts.items ≡ length l.spans;
   len_leaving : length l.self.leaving.items ≡ length l.fn.self.leaving.items;
-  starts : AreStarts l.spans l.ranks l.self.amounts.items l.self.starts;
-  left : AreLeft l.spans l.self.amounts.items l.self.leaving.items;
+  starts : AreStartsByRank l.spans l.ranks l.self.amounts.items l.self.starts;
+  left : AreLeftAt l.spans l.self.amounts.items l.self.leaving.items;
   room : l.missing ≤ kept_at l.step (slice_index l.self.amounts.items) l.spans;
 }
 
