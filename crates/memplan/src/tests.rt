@@ -109,6 +109,12 @@ fn run_into<R: Threads + Sync, F: Files>(
     Ok(run_words(rt, alloc, &words, files, sink, &NoGate))
 }
 
+// A run ended with this status, and wrote this text.
+fn check_end(rt: &impl Abort, run: &str, ended: Status, written: &[u8], status: Status, text: &str) {
+    assert_eq!(rt; ended, status, "{run}: {text}");
+    assert_eq!(rt; written, text.as_bytes(), "{run}: {text}");
+}
+
 // Whether a run over these files ends with this status, and writes this text and no more.
 fn check_run<R: Threads + Sync + Abort, F: Files>(
     rt: &R,
@@ -120,8 +126,7 @@ fn check_run<R: Threads + Sync + Abort, F: Files>(
 ) -> Result<(), AllocError> {
     let mut sink = MemSink::new(alloc, 1000)?;
     let ended = run_into(rt, alloc, run, files, &mut sink)?;
-    assert_eq!(rt; ended, status, "{run}: {text}");
-    assert_eq!(rt; sink.written(), text.as_bytes(), "{run}: {text}");
+    check_end(rt, run, ended, sink.written(), status, text);
     Ok(())
 }
 

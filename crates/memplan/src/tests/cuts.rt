@@ -37,6 +37,14 @@ const CUTS: &[Cut] = &[
         whole: "tree 1\nnodes 3\n3 1 2 1\n3 1 2 1\n0 0 3 2\nend\n", kinds: &["count"], last: "count 2" },
 ];
 
+// What is printed of a text that is refused so, or of the whole text.
+fn said_of(alloc: Global, cut: &Cut, refusal: Option<&str>) -> Result<String, AllocError> {
+    match refusal {
+        Some(refusal) => format!(in alloc; "refused format {} {refusal}\n", cut.file),
+        None => String::from_str(alloc, cut.whole),
+    }
+}
+
 // Whether each run over this text ends so.
 fn check_text<R: Threads + Sync + Abort>(
     rt: &R,
@@ -45,10 +53,7 @@ fn check_text<R: Threads + Sync + Abort>(
     text: &str,
     refusal: Option<&str>,
 ) -> Result<(), AllocError> {
-    let said = match refusal {
-        Some(refusal) => format!(in alloc; "refused format {} {refusal}\n", cut.file)?,
-        None => String::from_str(alloc, cut.whole)?,
-    };
+    let said = said_of(alloc, cut, refusal)?;
     let status = if refusal.is_some() { Format } else { Done };
     for run in cut.runs {
         let mut files = files_of(alloc, cut.others)?;
@@ -59,6 +64,19 @@ fn check_text<R: Threads + Sync + Abort>(
 }
 
 // The text that ends before a line is refused at the number of that line.
+fn check_start<R: Threads + Sync + Abort>(
+    rt: &R,
+    alloc: Global,
+    cut: &Cut,
+    start: &str,
+    before: usize,
+) -> Result<(), AllocError> {
+    let kind = cut.kinds.get(before).copied().unwrap_or("");
+    let refusal = format!(in alloc; "{kind} {}", before.saturating_add(1))?;
+    check_text(rt, alloc, cut, start, Some(&refusal))
+}
+
+// Each start of the text, and the whole.
 fn check_lines<R: Threads + Sync + Abort>(
     rt: &R,
     alloc: Global,
@@ -66,9 +84,7 @@ fn check_lines<R: Threads + Sync + Abort>(
 ) -> Result<(), AllocError> {
     let mut text = String::new(alloc);
     for (before, line) in cut.text.split_inclusive('\n').enumerate() {
-        let kind = cut.kinds.get(before).copied().unwrap_or("");
-        let refusal = format!(in alloc; "{kind} {}", before.saturating_add(1))?;
-        check_text(rt, alloc, cut, &text, Some(&refusal))?;
+        check_start(rt, alloc, cut, &text, before)?;
         text.push_str(line)?;
     }
     check_text(rt, alloc, cut, &text, None)
