@@ -110,7 +110,14 @@ fn run_into<R: Threads + Sync, F: Files>(
 }
 
 // A run ended with this status, and wrote this text.
-fn check_end(rt: &impl Abort, run: &str, ended: Status, written: &[u8], status: Status, text: &str) {
+fn check_end(
+    rt: &impl Abort,
+    run: &str,
+    ended: Status,
+    written: &[u8],
+    status: Status,
+    text: &str,
+) {
     assert_eq!(rt; ended, status, "{run}: {text}");
     assert_eq!(rt; written, text.as_bytes(), "{run}: {text}");
 }
