@@ -7,11 +7,11 @@ use Rattle.std.proofs.Math.Seq.{get_or-append_seam}
 use Rattle.std.proofs.lemmas.List.Elements.{All-push, All-nil}
 use Rattle.std.proofs.lemmas.List.Folds.{list_any-append}
 use Rattle.std.proofs.lemmas.List.Sums.{sum_by-cons, sum_by_more, sum_by-take-le, sum_by-set, count_by-le-length}
-use Rattle.std.proofs.lemmas.Bool.{cases_eq, cases_lt, ne_eqb, eqb-true, and_parts, false_from_ne_true, true_from_ne_false}
+use Rattle.std.proofs.lemmas.Bool.{cases_eq, cases_lt, ne_eqb, eqb-true, and_parts, not-true, false_from_ne_true, true_from_ne_false}
 use Rattle.mp_system.specs.Memory.{stands_in}
 use Rattle.row_table.specs.Rows.{numbers_with}
 use Rattle.task_graph.specs.declared.arc.Arc.{Arc}
-use Rattle.task_graph.specs.Graph.{IsAmong, IsArcWithin, IsSupplied, AreSupplied}
+use Rattle.task_graph.specs.Graph.{IsAmong, IsArcWithin, IsSupplied, AreSupplied, CanBeOrdered}
 use Rattle.task_graph.specs.Queue.{from_of, arc_at, is_wait, waits_of, heads_among, IsQueueTaken, IsPartTaken, IsArcRow, AreJudged}
 use Rattle.task_graph.proofs.Standing.{stands-left, stands-new, stands-cases, stands-take, place, push-split, count-none, count-some}
 
@@ -55,19 +55,15 @@ unsupplied arcs done v some =
     let arc = get_or arcs r.0 no_arc in
     let one = and_parts (eqb arc.to v) (not (eqb arc.from 0) && not (stands_in done arc.from)) r.2 in
     let two = and_parts (not (eqb arc.from 0)) (not (stands_in done arc.from)) one.1 in
-    (r.0, r.1, eqb-true arc.to v one.0, positive arc.from two.0, not_so (stands_in done arc.from) two.1)
+    (r.0, r.1, eqb-true arc.to v one.0, positive arc.from two.0, not-true (stands_in done arc.from) two.1)
   where
-    not_so : (b : Bool) → not b ≡ true → b ≡ false
-    not_so true e = absurd cc
-    not_so false e = refl
-
     positive : (n : ℕ) → not (eqb n 0) ≡ true → 1 ≤ n
     positive zero e = absurd (cc (sym e))
     positive (suc n) e = omega arith
 
 -- ---- one task more has run
 
-stands-other : (done : List ℕ) (u v : ℕ) → v ≢ u → stands_in (done ++ u ∷ []) v ≡ stands_in done v
+pub stands-other : (done : List ℕ) (u v : ℕ) → v ≢ u → stands_in (done ++ u ∷ []) v ≡ stands_in done v
 stands-other done u v ne =
     let other : eqb u v ≡ false = ne_eqb u v (λ e. ne (sym e)) in
     list_any-append (λ w. eqb w v) done (u ∷ []) ∙ rw other (or_no (stands_in done v))
@@ -339,33 +335,42 @@ part-all n arcs waits queue at row j h is_row le =
           omega (arith, h.waits_are v small, all, split, is_row.heads v, next);
     }
 
--- ---- the whole queue is taken
+-- ---- a list that no task can follow
 
-module _ (n : ℕ) (arcs : List Arc) (waits queue : List ℕ) (h : IsQueueTaken n arcs waits queue (length queue)) (within : All (IsArcWithin n) arcs)
+-- each task of which no arc is waited for stands in the list
+abbrev pub IsClosed : ℕ → List Arc → List ℕ → Type 0
+IsClosed n arcs list = (v : ℕ) → IsAmong n v → waits_of arcs list v ≡ 0 → stands_in list v ≡ true
+
+module _ (n : ℕ) (arcs : List Arc) (closed_list : List ℕ) (closed : IsClosed n arcs closed_list) (within : All (IsArcWithin n) arcs)
     (list : List ℕ) (sup : AreSupplied arcs list) where
-  -- whoever stands in a supplied list waits for none
-  served : (m : ℕ) (before rest : List ℕ) (v : ℕ) → length before < m → list ≡ before ++ v ∷ rest → v ≤ n → get_or waits v 0 ≡ 0
-  served zero before rest v lt split le = absurd (omega arith)
-  served (suc m) before rest v lt split le = elim (cases_lt 0 (get_or waits v 0)) [
-    | inr none ↦ omega arith
+  -- whoever stands in a supplied list stands in a closed one
+  served : (m : ℕ) (before rest : List ℕ) (v : ℕ) → length before < m → list ≡ before ++ v ∷ rest → IsAmong n v → stands_in closed_list v ≡ true
+  served zero before rest v lt split among = absurd (omega arith)
+  served (suc m) before rest v lt split among = elim (cases_lt 0 (waits_of arcs closed_list v)) [
+    | inr none ↦ closed v among (omega (arith, none))
     | inl some ↦ (
-        let are : get_or waits v 0 ≡ waits_of arcs queue v = h.waits_are v le ∙ ap (λ (xs : List ℕ). waits_of arcs xs v) (take_all (length queue) queue (omega arith)) in
-        let r = unsupplied arcs queue v (omega (arith, some, are)) in
+        let r = unsupplied arcs closed_list v (omega (arith, some)) in
         let arc = get_or arcs r.0 no_arc in
         let stands : stands_in before arc.from ≡ true = sup.each before rest v split r.0 no_arc r.1 r.2 r.3 in
         let p = place before arc.from stands in
         let earlier : list ≡ p.before ++ arc.from ∷ (p.rest ++ v ∷ rest) =
         split ∙ ap (λ (xs : List ℕ). xs ++ v ∷ rest) p.is ∙ append_assoc p.before (arc.from ∷ p.rest) (v ∷ rest) in
-        let small : arc.from ≤ n = (within r.0 no_arc r.1).from in
-        let idle = served m p.before (p.rest ++ v ∷ rest) arc.from (omega (arith, lt, ap length p.is, length-append p.before (arc.from ∷ p.rest))) earlier small in
-        absurd (cc (sym (h.queued.idle arc.from (r.3, small) idle) ∙ r.4))
+        let there = served m p.before (p.rest ++ v ∷ rest) arc.from (omega (arith, lt, ap length p.is, length-append p.before (arc.from ∷ p.rest))) earlier (r.3, (within r.0 no_arc r.1).from) in
+        absurd (cc (sym there ∙ r.4))
         )
   ]
 
+-- whoever can be ordered stands in it
+pub ordered-stands : (n : ℕ) (arcs : List Arc) (list : List ℕ) → IsClosed n arcs list → All (IsArcWithin n) arcs → (v : ℕ) → IsAmong n v → CanBeOrdered arcs v → stands_in list v ≡ true
+ordered-stands n arcs list closed within v among ordered =
+    let p = place ordered.list v ordered.stands in
+    served n arcs list closed within ordered.list ordered.supplied (suc (length p.before)) p.before p.rest v (omega arith) p.is among
+
+-- the whole queue is taken
 pub judged : (n : ℕ) (arcs : List Arc) (waits queue : List ℕ) (at : ℕ) → IsQueueTaken n arcs waits queue at → length queue ≤ at → All (IsArcWithin n) arcs → AreJudged n arcs waits
 judged n arcs waits queue at h le within =
-    let end : at ≡ length queue = omega (arith, h.short) in
-    let taken : IsQueueTaken n arcs waits queue (length queue) = subst (IsQueueTaken n arcs waits queue) end h in
+    let are : (v : ℕ) → v ≤ n → get_or waits v 0 ≡ waits_of arcs queue v = λ v small. h.waits_are v small ∙ ap (λ (xs : List ℕ). waits_of arcs xs v) (take_all at queue le) in
+    let closed : IsClosed n arcs queue = λ v among none. h.queued.idle v among (are v among.1 ∙ none) in
     record {
       long = h.queued.long;
       idle = λ v among none. record {
@@ -373,10 +378,7 @@ judged n arcs waits queue at h le within =
         supplied = record { each = λ before rest u split. (h.queued.each before rest u split).0 };
         stands = h.queued.idle v among none;
       };
-      waiting = λ v among some ordered.
-          let p = place ordered.list v ordered.stands in
-          let none = served n arcs waits queue taken within ordered.list ordered.supplied (suc (length p.before)) p.before p.rest v (omega arith) p.is among.1 in
-          omega (arith, none, some);
+      waiting = λ v among some ordered. omega (arith, some, h.queued.listed v (ordered-stands n arcs queue closed within v among ordered));
     }
 
 -- ---- the rows of arcs

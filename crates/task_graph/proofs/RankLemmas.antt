@@ -1,17 +1,16 @@
 -- In the completed graph an arc leads into each task and out of it; and tasks that can be ordered have ranks.
-use Rattle.std.proofs.Common.{◌≡◌, ℕ, zero, suc, ◌+◌, ◌-◌, ◌<◌, ◌≤◌, Bool, true, cond, ◌&&◌, eqb, eq-eqb, List, [], ◌∷◌, ◌++◌, length, take, drop, get_or, map, filter, refl, sym, ap, subst, ◌∙◌, arith, inl, inr, ◌⊎◌}
+use Rattle.std.proofs.Common.{◌≡◌, ℕ, zero, suc, ◌+◌, ◌<◌, ◌≤◌, Bool, true, cond, ◌&&◌, eqb, eq-eqb, List, [], ◌∷◌, ◌++◌, length, take, drop, get_or, map, filter, refl, sym, ap, subst, ◌∙◌, arith, inl, inr, ◌⊎◌}
 use Rattle.std.specs.List.{count_by, range_with_len, All, position_or_len}
 use Rattle.std.proofs.lemmas.List.{length-append, take-append-drop, drop_more, length-take-le, get_or-take}
 use Rattle.std.proofs.Math.Seq.{get_or-append_seam}
 use Rattle.std.proofs.lemmas.List.Elements.{All-append, All-map}
-use Rattle.std.proofs.lemmas.List.FromFn.{length-range_with_len, get_or-range_with_len}
-use Rattle.std.proofs.lemmas.List.Sums.{sum_by-cons, sum_by-append, get_or-le-sum_by, fails_before_first, passes_at_first}
+use Rattle.std.proofs.lemmas.List.Sums.{sum_by-cons, sum_by-append, fails_before_first, passes_at_first}
 use Rattle.std.proofs.lemmas.List.Folds.{list_any-append}
 use Rattle.std.proofs.lemmas.Bool.{cases_lt, cases_Bool, eqb-true, or_right}
 use Rattle.mp_system.specs.Memory.{stands_in}
 use Rattle.task_graph.specs.declared.arc.Arc.{Arc}
 use Rattle.task_graph.specs.Graph.{TaskGraph, IsAmong, IsGraph, Rises, AreSupplied, CanBeOrdered, is_into, is_out_of, arc_between, without_into, without_out, added_arcs, completed_arcs, completed}
-use Rattle.task_graph.proofs.Standing.{place, stands-left}
+use Rattle.task_graph.proofs.Standing.{place, stands-left, count-task}
 
 -- ---- an arc for each task
 
@@ -31,11 +30,8 @@ filter-count p q (x ∷ xs) =
 
 kept : (p : ℕ → Bool) (n v : ℕ) → IsAmong n v → p v ≡ true → 1 ≤ count_by (λ u. eqb u v) (filter p (range_with_len 1 n))
 kept p n v among e =
-    let lt : v - 1 < n = omega (arith, among.0, among.1) in
-    let at : get_or (range_with_len 1 n) (v - 1) 0 ≡ v = get_or-range_with_len 1 n (v - 1) 0 lt ∙ omega (arith, among.0) in
-    let le = get_or-le-sum_by (λ u. cond {A = ℕ} (p u && eqb u v) 1 0) (range_with_len 1 n) (v - 1) 0 (omega (arith, lt, length-range_with_len 1 n)) in
-    let one : cond {A = ℕ} (p v && eqb v v) 1 0 ≡ 1 = rw (e, eq-eqb v v refl) refl in
-    omega (arith, filter-count p (λ u. eqb u v) (range_with_len 1 n), le, one, ap (λ (u : ℕ). cond {A = ℕ} (p u && eqb u v) 1 0) at)
+    let both : (p v && eqb v v) ≡ true = rw (e, eq-eqb v v refl) refl in
+    omega (arith, filter-count p (λ u. eqb u v) (range_with_len 1 n), count-task (λ u. p u && eqb u v) n v among both)
 
 first-count : (v : ℕ) (us : List ℕ) → count_by (is_into v) (map (λ u. arc_between 0 u) us) ≡ count_by (λ u. eqb u v) us
 first-count v [] = refl
@@ -103,7 +99,7 @@ record AreJoined (arcs : List Arc) (n : ℕ) : Type 0 where
   supplied : AreSupplied arcs list
   stands : (v : ℕ) → IsAmong n v → stands_in list v ≡ true
 
-nothing-supplied : (arcs : List Arc) → AreSupplied arcs []
+pub nothing-supplied : (arcs : List Arc) → AreSupplied arcs []
 nothing-supplied arcs = record { each = λ before rest v split. absurd (let e : 0 ≡ length (before ++ v ∷ rest) = ap length split in omega (arith, e, length-append before (v ∷ rest))) }
 
 joined : (arcs : List Arc) (n : ℕ) → ((v : ℕ) → IsAmong n v → CanBeOrdered arcs v) → AreJoined arcs n

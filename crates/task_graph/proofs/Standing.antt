@@ -1,11 +1,13 @@
 -- Numbers that stand in a list, and where.
-use Rattle.std.proofs.Common.{◌≡◌, ℕ, suc, ◌<◌, ◌≤◌, Bool, true, false, cond, eqb, List, [], ◌∷◌, ◌++◌, length, take, drop, get_or, refl, sym, ap, subst, ◌∙◌, arith, inl, inr, ◌⊎◌, eq-eqb}
-use Rattle.std.specs.List.{count_by, All}
+use Rattle.std.proofs.Common.{◌≡◌, ℕ, suc, ◌-◌, ◌<◌, ◌≤◌, Bool, true, false, cond, eqb, List, [], ◌∷◌, ◌++◌, length, take, drop, get_or, refl, sym, ap, subst, ◌∙◌, arith, inl, inr, ◌⊎◌, eq-eqb}
+use Rattle.std.specs.List.{count_by, range_with_len, All}
 use Rattle.std.proofs.lemmas.List.{take-append-drop, length-append}
+use Rattle.std.proofs.lemmas.List.FromFn.{length-range_with_len, get_or-range_with_len}
 use Rattle.std.proofs.lemmas.List.Folds.{list_any-append}
 use Rattle.std.proofs.lemmas.List.Sums.{sum_by-cons, get_or-le-sum_by}
 use Rattle.std.proofs.lemmas.Bool.{or_left, or_right, or_cases, eqb-true, cases_Bool, false_from_ne_true}
 use Rattle.mp_system.specs.Memory.{stands_in}
+use Rattle.task_graph.specs.Graph.{IsAmong}
 
 pub stands-left : (xs ys : List ℕ) (v : ℕ) → stands_in xs v ≡ true → stands_in (xs ++ ys) v ≡ true
 stands-left xs ys v h = list_any-append (λ u. eqb u v) xs ys ∙ or_left (stands_in xs v) (stands_in ys v) h
@@ -73,3 +75,10 @@ module _ {X : Type 0} (p : X → Bool) where
         | inr fails ↦ (let none : cond {A = ℕ} (p x) 1 0 ≡ 0 = rw fails refl in
             let r = count-some d xs (omega (arith, e, some, none)) in (suc r.0, omega (arith, r.1), r.2))
       ]
+
+-- a task that passes counts among all tasks
+pub count-task : (p : ℕ → Bool) (n v : ℕ) → IsAmong n v → p v ≡ true → 1 ≤ count_by p (range_with_len 1 n)
+count-task p n v among e =
+    let lt : v - 1 < n = omega (arith, among.0, among.1) in
+    let at : get_or (range_with_len 1 n) (v - 1) 0 ≡ v = get_or-range_with_len 1 n (v - 1) 0 lt ∙ omega (arith, among.0) in
+    count-at p (range_with_len 1 n) (v - 1) 0 (omega (arith, lt, length-range_with_len 1 n)) (ap p at ∙ e)
