@@ -86,7 +86,7 @@ fn one_file()
     order_laws::exactly_one();
     order_laws::exactly_one_perm();
     plan_laws::exactly_one();
-    graph_laws::at_most_one();
+    graph_laws::exactly_one();
 }
 
 // A demo has one answer: plans may differ, but not their peak; the checker says yes to them, and no traversal has a lower peak.

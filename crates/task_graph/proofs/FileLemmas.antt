@@ -1,17 +1,42 @@
--- Of a graph file: it is not both read and refused, and is read as one graph or refused with one refusal.
-use Rattle.std.proofs.Common.{◌≡◌, ℕ, List, inl, inr, length, sym, ap, subst, ◌∙◌}
-use Rattle.std.proofs.lemmas.Bool.{cases_order}
+-- Of a graph file: it is read or refused, never both, as one graph or with one refusal.
+use Rattle.std.proofs.Common.{◌≡◌, ℕ, zero, suc, ◌+◌, List, ◌⊎◌, inl, inr, length, refl, sym, ap, subst, ◌∙◌, arith}
+use Rattle.std.specs.List.{sum_by}
+use Rattle.std.proofs.lemmas.Bool.{cases_eq, cases_lt, cases_order}
+use Rattle.limits.specs.Limits.{most_arcs}
+use Rattle.limits.specs.declared.name.LimitName.TheVariants as limits
 use Rattle.mp_text.specs.declared.layout.Layout.TheVariants.{Commented}
 use Rattle.mp_text.specs.declared.refusals.Refusal.{Refusal}
+use Rattle.mp_text.specs.declared.refusals.Refusal.TheVariants as refusals
 use Rattle.mp_text.specs.Text.{Row}
 use Rattle.mp_text.specs.Ahead.{rows_of_bytes, past_of_bytes}
 use Rattle.mp_text.specs.Grammar.{Format, IsWellFormed, Refuses, fault_at}
 use Rattle.task_graph.specs.declared.kind.GraphKind.{GraphKind}
 use Rattle.task_graph.specs.declared.kind.GraphKind.TheVariants as kinds
-use Rattle.task_graph.specs.Graph.{TaskGraph, IsAmong, ShareFits, IsGraph}
+use Rattle.task_graph.specs.Graph.{TaskGraph, IsAmong, CanBeOrdered, ShareFits, IsGraph, completed_arcs, size_into, size_out_of, task_at}
 use Rattle.task_graph.specs.GraphFile.{graph_format, stated_by, HasFewArcs, IsOrdered, IsFirstWithout, ReadsGraph, RefusesCycle, RefusesShare, RefusesGraph, line_stating}
 use Rattle.task_graph.specs.Stated.{IsWithin}
 use Rattle.task_graph.proofs.FormLemmas.{well_formed_within}
+use Rattle.task_graph.proofs.OrderLemmas.{ordered_or_not}
+
+-- ---- the lowest task of which a fact does not hold
+
+-- of each of so many tasks, a fact that holds or not
+abbrev IsEither : (ℕ → Type 0) → ℕ → Type 0
+IsEither fact n = (v : ℕ) → IsAmong n v → fact v ⊎ (fact v → ⊥)
+
+lowest : (fact : ℕ → Type 0) (n : ℕ) → IsEither fact n → ((v : ℕ) → IsAmong n v → fact v) ⊎ ((v : ℕ) × IsFirstWithout fact n v)
+lowest fact zero either = inl (λ v among. absurd (omega (arith, among.0, among.1)))
+lowest fact (suc n) either =
+    elim (lowest fact n (λ v among. either v (among.0, omega (arith, among.1)))) [
+      | inr first ↦ inr (first.0, record { task = (first.1.task.0, omega (arith, first.1.task.1)); fails = first.1.fails; before = first.1.before })
+      | inl before ↦ elim (either (suc n) (omega arith, omega arith)) [
+        | inr fails ↦ inr (suc n, record { task = (omega arith, omega arith); fails = fails; before = λ w some less. before w (some, omega arith) })
+        | inl holds ↦ inl (λ v among. elim (cases_eq v (suc n)) [
+          | inl last ↦ subst fact (sym last) holds
+          | inr other ↦ before v (among.0, omega (arith, among.1, other))
+        ])
+      ]
+    ]
 
 one_lowest : (fact : ℕ → Type 0) (n v w : ℕ) → IsFirstWithout fact n v → IsFirstWithout fact n w → v ≡ w
 one_lowest fact n v w one two = elim (cases_order v w) [
@@ -20,11 +45,53 @@ one_lowest fact n v w one two = elim (cases_order v w) [
   | inr (inr gt) ↦ absurd (two.fails (one.before w two.task.0 gt))
 ]
 
+few_or_not : (graph : TaskGraph) → HasFewArcs graph ⊎ (HasFewArcs graph → ⊥)
+few_or_not graph = elim (cases_lt most_arcs (length (completed_arcs (length graph.tasks) graph.arcs))) [
+  | inl many ↦ inr (λ few. absurd (omega (arith, many, few)))
+  | inr few ↦ inl few
+]
+
+fits_or_not : (graph : TaskGraph) → IsEither (ShareFits graph.tasks graph.arcs) (length graph.tasks)
+fits_or_not graph v among =
+    let task = task_at graph.tasks v in
+    elim (cases_lt (sum_by (size_into v) graph.arcs) task.share) [
+      | inl gt ↦ inr (λ fits. absurd (omega (arith, gt, fits.0)))
+      | inr below ↦ elim (cases_lt (task.extra + sum_by (size_out_of v) graph.arcs) task.share) [
+        | inl gt ↦ inr (λ fits. absurd (omega (arith, gt, fits.1)))
+        | inr own ↦ inl (below, own)
+      ]
+    ]
+
+-- ---- a file is read or refused
+
+-- what the law of formats says
+abbrev pub SomeOutcome : Type 0
+SomeOutcome = (format : Format GraphKind) (rows : List Row) (past : ℕ) → IsWellFormed format rows past ⊎ ((refusal : Refusal GraphKind) × Refuses format rows past refusal)
+
 abbrev pub NotBoth : Type 0
 NotBoth = (format : Format GraphKind) (rows : List Row) (past : ℕ) (refusal : Refusal GraphKind) → IsWellFormed format rows past → Refuses format rows past refusal → ⊥
 
 abbrev pub OneRefusal : Type 0
 OneRefusal = (format : Format GraphKind) (rows : List Row) (past : ℕ) (one two : Refusal GraphKind) → Refuses format rows past one → Refuses format rows past two → one ≡ two
+
+pub read_or_refused : SomeOutcome → (bytes : List ℕ) → ((graph : TaskGraph) × ReadsGraph bytes graph) ⊎ ((refusal : Refusal GraphKind) × RefusesGraph bytes refusal)
+read_or_refused outcome bytes =
+    let rows = rows_of_bytes Commented bytes in
+    let graph = stated_by bytes in
+    let n = length graph.tasks in
+    elim (outcome graph_format rows (past_of_bytes bytes)) [
+      | inr refused ↦ inr (refused.0, inl refused.1)
+      | inl form ↦ elim (few_or_not graph) [
+        | inr many ↦ inr (refusals.Limit limits.Arcs, inr (inl (record { form = form; many = many; refusal_is = refl })))
+        | inl few ↦ elim (lowest (CanBeOrdered graph.arcs) n (ordered_or_not n graph.arcs (well_formed_within rows (past_of_bytes bytes) form).arcs)) [
+          | inr first ↦ inr (fault_at (line_stating rows first.0) kinds.Cycle, inr (inr (inl (record { form = form; few = few; task = first.0; first = first.1; refusal_is = refl }))))
+          | inl ordered ↦ elim (lowest (ShareFits graph.tasks graph.arcs) n (fits_or_not graph)) [
+            | inr first ↦ inr (fault_at (line_stating rows first.0) kinds.Share, inr (inr (inr (record { form = form; few = few; ordered = ordered; task = first.0; first = first.1; refusal_is = refl }))))
+            | inl shares ↦ inl (graph, record { form = form; stated = refl; few = few; ordered = ordered; shares = shares })
+          ]
+        ]
+      ]
+    ]
 
 -- what a reading says of the stated graph
 module _ (bytes : List ℕ) (graph : TaskGraph) (reads : ReadsGraph bytes graph) where

@@ -5,6 +5,7 @@ pub mod SystemLemmas
 pub mod ReaderLaws
 pub mod FormLemmas
 pub mod StatedLemmas
+pub mod OrderLemmas
 pub mod FileLemmas
 pub mod CountLemmas
 pub mod ReadLemmas

@@ -1,6 +1,6 @@
 //! Laws of graphs and graph files: what holds of each, without a call.
 
-ghost use Rattle.std.specs.Prelude.{◌≡◌, ◌≤◌, ◌↔◌, ℕ, List, All, length, count_by};
+ghost use Rattle.std.specs.Prelude.{◌≡◌, ◌≤◌, ◌↔◌, ◌⊎◌, ℕ, List, All, length, count_by};
 ghost use Rattle.mp_text.specs.declared.refusals.Refusal.{Refusal};
 ghost use Rattle.mp_system.specs.System.{IsSystem};
 ghost use Rattle.mp_system.specs.Memory.{peak_of};
@@ -13,8 +13,10 @@ ghost use Rattle.task_graph.specs.GraphFile.{ReadsGraph, RefusesGraph};
 use crate::kind::GraphKind;
 use mp_text::laws as text_laws;
 
-/// A file is read as a graph or refused, but not both; it is read as one graph only, and refused with one refusal only.
-pub fn at_most_one()
+/// A file is read as a graph or refused, never both; it is read as one graph only, and refused with one refusal only.
+pub fn exactly_one()
+    ensures some { (bytes : List ℕ) →
+        ((graph : TaskGraph) × ReadsGraph bytes graph) ⊎ ((refusal : Refusal GraphKind) × RefusesGraph bytes refusal) }
     ensures not_both { (bytes : List ℕ) (graph : TaskGraph) (refusal : Refusal GraphKind) →
         ReadsGraph bytes graph → RefusesGraph bytes refusal → ⊥ }
     ensures one_graph { (bytes : List ℕ) (one two : TaskGraph) → ReadsGraph bytes one → ReadsGraph bytes two → one ≡ two }

@@ -1,6 +1,9 @@
 use Rattle.std.proofs.Common.{sym, ◌∙◌}
-use Rattle.task_graph.proofs.FileLemmas.{not_both, one_refusal}
-use Rattle.task_graph.proofs.laws.at_most_one.Goals as goal
+use Rattle.task_graph.proofs.FileLemmas.{read_or_refused, not_both, one_refusal}
+use Rattle.task_graph.proofs.laws.exactly_one.Goals as goal
+
+pub returns-clause-some : goal.returns-clause-some
+returns-clause-some c = read_or_refused c.exactly_one.ensures.some
 
 pub returns-clause-not_both : goal.returns-clause-not_both
 returns-clause-not_both c = not_both c.exactly_one.ensures.not_both
