@@ -86,6 +86,9 @@ const MOST: u64 = 100_000;
 
 // ---- the worked rows
 
+// Two leaves below a root: 1 is left on a hill of 10, and 8 on one of 12. Whoever takes the higher hill first needs 18.
+const HILLS: &str = "tree 1\nnodes 3\n3 1 9 1\n3 8 4 1\n0 0 0 1\nend\n";
+
 // An input, its files, and the least peak.
 #[rattlefmt::skip]
 const PEAKS: &[(&str, Texts, &str)] = &[
@@ -94,6 +97,7 @@ const PEAKS: &[(&str, Texts, &str)] = &[
     ("--tree t", &[("t", NOTHING)], "0"),
     ("--tree t", &[("t", FOUR)], "6"),
     ("--tree t", &[("t", ROOTS)], "7"),
+    ("--tree t", &[("t", HILLS)], "13"),
     ("--workflow t", &[("t", NO_TASKS)], "20"),
     ("--workflow t", &[("t", BRANCHES)], "13"),
     ("--workflow t", &[("t", SHARE)], "5"),
