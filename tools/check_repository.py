@@ -78,7 +78,7 @@ def files_of_repository() -> list[str]:
     """The repository's files, without what was built or measured."""
     found = []
     for above, folders, names in os.walk(ROOT):
-        folders[:] = [it for it in folders if it not in (".git", "out", "build", "__pycache__")]
+        folders[:] = [it for it in folders if it not in (".git", "out", "build", "dist", "__pycache__")]
         found += [str((Path(above) / name).relative_to(ROOT)) for name in names]
     return sorted(found)
 

@@ -1,0 +1,115 @@
+"""Installing, removing and packing: of a copy of the repository, by its Makefiles, with a C compiler and no toolchain."""
+
+import os
+import shutil
+import subprocess
+import tempfile
+import unittest
+from pathlib import Path
+from typing import List
+
+ROOT = Path(__file__).resolve().parents[2]
+SYSTEM = "/usr/bin:/bin"  # where no toolchain lies
+POSTORDER = "peak 15\norder 5\n1\n2\n3\n4\n5\nend\n"
+CALLER = """#include <memplan.h>
+#include <string.h>
+int main(void)
+{
+    memplan_node nodes[5] = {{2, 1, 9, 0, 1}, {5, 5, 0, 0, 1}, {4, 1, 9, 0, 1}, {5, 5, 0, 0, 1}, {0, 0, 0, 0, 1}};
+    uint32_t order[5];
+    uint64_t peak = 0;
+    memplan_fault fault;
+    return !(memplan_plan_tree(nodes, 5, order, 5, &peak, &fault) == MEMPLAN_DONE && peak == 11 && strcmp(memplan_version(), MEMPLAN_VERSION) == 0);
+}
+"""
+
+
+def is_left_out(folder: str, names: List[str]) -> List[str]:
+    return [name for name in names if name in (".git", "out", "build", "dist", "__pycache__", "must-fail")]
+
+
+@unittest.skipUnless(shutil.which("cc", path=SYSTEM) and shutil.which("make", path=SYSTEM), "a C compiler and make")
+class Installing(unittest.TestCase):
+    def setUp(self) -> None:
+        folder = tempfile.TemporaryDirectory()
+        self.addCleanup(folder.cleanup)
+        self.folder = Path(folder.name)
+        self.top = self.folder / "memplan"
+        shutil.copytree(ROOT, self.top, ignore=is_left_out)
+
+    def run_words(self, *words: str, where: str = "", status: int = 0) -> str:
+        environment = {"PATH": SYSTEM, "HOME": str(self.folder), "PKG_CONFIG_PATH": str(self.folder / "put/lib/pkgconfig")}
+        done = subprocess.run(
+            words, cwd=self.top / where, env=environment, stdin=subprocess.DEVNULL, stdout=subprocess.PIPE, stderr=subprocess.STDOUT, text=True
+        )
+        self.assertEqual(done.returncode, status, f"{words}: {done.stdout}")
+        return done.stdout
+
+    def make(self, *words: str, where: str = "", status: int = 0) -> str:
+        return self.run_words("make", *words, where=where, status=status)
+
+    def check_caller(self, *flags: str) -> None:
+        (self.folder / "caller.c").write_text(CALLER)
+        caller = str(self.folder / "caller")
+        self.run_words("cc", "-o", caller, str(self.folder / "caller.c"), *flags)
+        self.run_words(caller)
+
+    def files_below(self, folder: Path) -> List[str]:
+        return sorted(str(it.relative_to(folder)) for it in folder.rglob("*") if not it.is_dir())
+
+    def test_what_is_installed_works_and_is_removed(self) -> None:
+        put = self.folder / "put"
+        self.make("install", f"PREFIX={put}")
+        self.assertEqual(self.run_words(str(put / "bin/memplan"), "post", "--tree", "examples/five.tree"), POSTORDER)
+        self.check_caller(f"-I{put}/include", f"{put}/lib/libmemplan.a")
+        self.check_caller(f"-I{put}/include", f"-L{put}/lib", "-lmemplan", f"-Wl,-rpath,{put}/lib")
+        self.assertIn(f"prefix={put}\n", (put / "lib/pkgconfig/memplan.pc").read_text())
+        self.assertIn("share/memplan/python/memplan/__init__.py", self.files_below(put))
+        self.make("uninstall", f"PREFIX={put}")
+        self.assertEqual(self.files_below(put), [])
+
+    def test_what_is_installed_says_where_it_is_going_to_lie(self) -> None:
+        self.make("install", f"DESTDIR={self.folder}/stage", "PREFIX=/opt/memplan", where="c")
+        text = (self.folder / "stage/opt/memplan/lib/pkgconfig/memplan.pc").read_text()
+        self.assertIn("prefix=/opt/memplan\n", text)
+        # another prefix, from the same build
+        self.make("install", f"DESTDIR={self.folder}/stage", "PREFIX=/usr", where="c")
+        self.assertIn("prefix=/usr\n", (self.folder / "stage/usr/lib/pkgconfig/memplan.pc").read_text())
+
+    def test_built_libraries_are_installed_where_no_sources_are(self) -> None:
+        self.make(where="c")
+        for name in ("crates", "crates.txt", "prebuilt", "tools"):
+            it = self.top / name
+            shutil.rmtree(it) if it.is_dir() else it.unlink()
+        self.make("install", f"PREFIX={self.folder}/put", where="c")
+        self.check_caller(f"-I{self.folder}/put/include", f"{self.folder}/put/lib/libmemplan.a")
+
+    def test_a_changed_source_is_not_passed_over(self) -> None:
+        self.make(where="c")
+        self.assertNotIn(" -c support.c", self.make(where="c"))
+        os.utime(self.top / "c/support.c")
+        self.assertIn(" -c support.c", self.make(where="c"))
+        source = self.top / "crates/memplan_c/src/plans.rt"
+        source.write_text(source.read_text() + "// changed\n")
+        self.assertIn("there is no rt on PATH", self.make(where="c", status=2))
+
+    def test_the_tarball_is_whole_and_stands_alone(self) -> None:
+        self.make("dist")
+        (tarball,) = (self.top / "dist").glob("*.tar.gz")
+        first = tarball.read_bytes()
+        self.run_words("sha256sum", "--check", "--status", f"{tarball.name}.sha256", where="dist")
+        self.run_words("tar", "-xzf", str(tarball), "-C", str(self.folder))
+        put = self.folder / tarball.name.replace(".tar.gz", "")
+        self.run_words("sha256sum", "--check", "--status", "SHA256SUMS", where=str(put))
+        self.assertEqual(self.run_words(str(put / "bin/memplan"), "post", "--tree", "examples/five.tree"), POSTORDER)
+        self.check_caller(f"-I{put}/include", f"{put}/lib/libmemplan.a")
+        if shutil.which("pkg-config", path=SYSTEM):
+            put.rename(self.folder / "put")
+            flags = self.run_words("pkg-config", "--cflags", "--libs", "memplan").split()
+            self.check_caller(*flags, f"-Wl,-rpath,{self.folder}/put/lib")
+        self.make("dist")
+        self.assertEqual(tarball.read_bytes(), first)
+
+
+if __name__ == "__main__":
+    unittest.main()
