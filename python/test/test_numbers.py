@@ -8,6 +8,7 @@ from decimal import Decimal
 from typing import Any, Callable, Iterator, List, NamedTuple
 
 import memplan
+from memplan.admission import Admission, Graph
 from samples import ACROSS, ARROW, EXTRA, IN_TURN, ITEMS, OUT, PARENT, TASKS, Case, numpy, put
 
 FRACTIONS = [2.9, 1.0, float("nan"), True, False, "7", None, Decimal(1), [1], (1,), 1j]
@@ -43,6 +44,10 @@ def checked(given: memplan.Certificate) -> None:
 
 def replayed(item: Any) -> int:
     return memplan.replay_system(TASKS, put(ITEMS, 0, item), [1, 2, 3, 4])
+
+
+def of_graph(inputs: Any = ((), (0,)), sizes: Any = (1, 1), extras: Any = (1, 1), kept: Any = ()) -> Graph:
+    return Graph(inputs, sizes, extras, kept)
 
 
 TREES = [
@@ -86,7 +91,17 @@ FRONTS = [
     Place("indices[2]", 32, lambda it: memplan.fronts((ARROW[0], put(ARROW[1], 2, it)))),
     Place("order[3]", 32, lambda it: memplan.fronts(ARROW, [1, 2, 0, it])),
 ]
-PLACES = [*TREES, *CERTIFICATES, *SYSTEMS, *CORES, *FRONTS]
+ADMISSION = [
+    Place("inputs[1][0]", 32, lambda it: of_graph(inputs=[(), (it,)])),
+    Place("sizes[1]", 64, lambda it: of_graph(sizes=[1, it])),
+    Place("extras[1]", 64, lambda it: of_graph(extras=[1, it])),
+    Place("kept[0]", 32, lambda it: of_graph(kept=[it])),
+    Place("order[1]", 32, lambda it: of_graph().least_bound([0, it])),
+    Place("order[0]", 32, lambda it: Admission(of_graph(), 9, [it, 1])),
+    Place("bound", 64, lambda it: Admission(of_graph(), it, [0, 1])),
+    Place("task", 32, lambda it: Admission(of_graph(), 9, [0, 1]).start(it)),
+]
+PLACES = [*TREES, *CERTIFICATES, *SYSTEMS, *CORES, *FRONTS, *ADMISSION]
 # None says that no fronts are merged.
 ZEROS = Place("zeros", 64, lambda it: memplan.fronts(ARROW, [1, 2, 0, 3], zeros=it))
 BOUND_OF_CLAIM = Place("claims[1].bound", 64, lambda it: checked(altered(1, 2, it)))
@@ -218,6 +233,9 @@ class ClaimsThatAreNone(Case):
 
 def numbers_that_were_taken_for_others() -> Iterator[Any]:
     """Calls that once had an answer, for other numbers than were given."""
+    yield TypeError, "sizes[0]: 2.9 is no whole number", lambda: Graph([(), (0,)], [2.9, 0.9], [0.9, 0.9])
+    yield TypeError, "extras[0]: 0.9 is no whole number", lambda: Graph([(), (0,)], [2, 0], [0.9, 0.9])
+    yield OverflowError, f"sizes[0]: {2 ** 64} does not fit 64 bits", lambda: Graph([()], [2 ** 64], [0])
     yield OverflowError, f"tasks[0]: {2 ** 64 + 5} does not fit 64 bits", lambda: memplan.replay_system([2 ** 64 + 5], [], [1])
     yield (
         OverflowError,
