@@ -35,7 +35,9 @@ def run(tasks: Sequence[Task], bound: int, workers: int, order: Optional[Sequenc
     """Runs the tasks on so many threads with at most ``bound`` bytes of results and extras; the results that stay, by their tasks.
 
     Without an ``order`` the tasks run along a plan of least peak where each result has one consumer, and as they stand elsewhere.
-    Raises `memplan.admission.BoundTooLow`, `memplan.Refused`, or what a task raises, once the tasks that run by then have ended.
+    Raises `TypeError` or `OverflowError` where a size, an extra or the bound is no whole number that the library takes,
+    `memplan.admission.GraphRefused`, which counts tasks from 0, `memplan.admission.BoundTooLow`, or what a task raises, once the tasks
+    that run by then have ended.
     """
     graph = graph_of(tasks)
     if order is None and not graph.is_forest:

@@ -11,7 +11,7 @@ import blocks
 import workloads
 from harness import raised, run_all
 from memplan import Refused
-from memplan.admission import Admission, BoundTooLow, Graph
+from memplan.admission import Admission, BoundTooLow, Graph, GraphRefused
 from memplan_threads import Task, graph_of, run
 from workloads import MB
 
@@ -86,14 +86,26 @@ def bounds_below_the_peak_are_refused() -> None:
     assert raised(OverflowError, run, tasks, -1, 2)
 
 
+# Taken for 0, as they once were, six of these would run at once within a bound of 1.
+def fractions_are_refused() -> None:
+    ran = []
+    for size, extra, words in ((0, 0.9, "extras[0]: 0.9 is no whole number"), (2.9, 0, "sizes[0]: 2.9 is no whole number")):
+        tasks = [Task(lambda *_: ran.append(1), (), (), size, extra) for _ in range(8)]
+        tasks += [Task(lambda *_: ran.append(1), (), (0, 1)), Task(lambda *_: ran.append(1), (), (0, 2))]
+        assert str(raised(TypeError, run, tasks, 1, 6)) == words
+    assert str(raised(TypeError, run, [Task(int)], 1.5, 2)) == "bound: 1.5 is no whole number"
+    assert not ran
+
+
 def wrong_graphs_are_refused() -> None:
     def task(*inputs: int) -> Task:
         return Task(blocks.work, (0, 1, 0, 0), inputs, 1)
 
-    assert raised(Refused, run, [task(1), task(0)], MB, 2).kind == 17, "a cycle leads to no root"
-    assert raised(Refused, run, [task(1), task(), task(1)], MB, 2).kind == 22, "the first task waits for the second"
-    assert raised(Refused, run, [task(), task(0), task(0)], MB, 2, [0, 1, 1]).kind == 21
-    assert raised(Refused, run, [task(), task(0), task(0)], MB, 2, [0, 1]).kind == 23
+    assert raised(GraphRefused, run, [task(), task(1)], MB, 2).task == 1, "a task waits for itself"
+    assert raised(Refused, run, [task(1), task(0)], MB, 2).kind == 17, "two wait for each other"
+    assert raised(GraphRefused, run, [task(1), task(), task(1)], MB, 2).place == 0, "the first task waits for the second"
+    assert raised(GraphRefused, run, [task(), task(0), task(0)], MB, 2, [0, 1, 1]).place == 2, "a task stands twice"
+    assert raised(GraphRefused, run, [task(), task(0), task(0)], MB, 2, [0, 1]).kind == 23, "a task is missing"
     assert "there is none" in str(raised(ValueError, run, [task(1)], MB, 2))
 
 
@@ -118,6 +130,7 @@ CHECKS = [
     ),
     ("threads: shared results are held until their last consumer is finished", shared_results_are_held),
     ("threads: bounds below the peak are refused", bounds_below_the_peak_are_refused),
+    ("threads: sizes that are no whole numbers are refused", fractions_are_refused),
     ("threads: wrong graphs are refused", wrong_graphs_are_refused),
     ("threads: what a task raises ends the run", what_a_task_raises_ends_the_run),
 ]

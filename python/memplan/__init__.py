@@ -1,19 +1,21 @@
 """memplan for Python: orders of least memory for the fronts of a sparse factorization, or for any tree of tasks, with proof.
 
 The calls are those of ``libmemplan.so`` (see ``memplan.h``), which is proved; this module, which hands arrays over and back, is not.
-Arrays may be lists or numpy arrays; where numpy is there, arrays come back as numpy arrays, else as lists.
+Arrays may be lists or numpy arrays; where numpy is there, arrays come back as numpy arrays of int64, else as lists.
+
+A number is a whole one: an int, or of a type with ``__index__``, as numpy's integers. A float, a bool, text and the like are a `TypeError`,
+and a number that is negative or too great for the library's field an `OverflowError`; both name the value, as ``extra[3]: 2.9 is no whole
+number``. Places in these names count from 0. What fits its field is judged by the library, which raises `Refused`.
 """
 
 from __future__ import annotations
 
 import ctypes
 import os
-from typing import Any, NamedTuple, Optional, Sequence, Tuple
+from array import array
+from typing import Any, Dict, List, NamedTuple, NoReturn, Optional, Sequence, Tuple, Type
 
-try:
-    import numpy
-except ImportError:
-    numpy = None  # type: ignore[assignment]
+from ._numbers import BOOLS, U32, U64, back, column, columns_of, numbers, structures, view, whole
 
 __all__ = [
     "Certificate",
@@ -117,6 +119,9 @@ _KINDS = {
 }
 
 
+_USAGE, _NO_MEMORY, _CLAIM_ROOM = 2, 8, 3
+
+
 class Refused(ValueError):
     """A call was refused.
 
@@ -138,7 +143,7 @@ class Certificate(NamedTuple):
 
     order: Any
     peak: int
-    claims: list
+    claims: List[Tuple[int, int, int, int]]
 
 
 class Fronts(NamedTuple):
@@ -156,9 +161,11 @@ class Fronts(NamedTuple):
     front_of: Any
 
 
-def _library() -> ctypes.CDLL:
-    path = os.environ.get("MEMPLAN_LIBRARY", "libmemplan.so.1")
-    library = ctypes.CDLL(path)
+_Signature = Tuple[Any, List[Any]]
+
+
+def _signatures() -> Tuple[Dict[str, _Signature], Dict[str, _Signature]]:
+    """The result and the arguments of each call: of those that plan or begin a core, and of those on a core."""
     size, u32, u64 = ctypes.c_size_t, ctypes.c_uint32, ctypes.c_uint64
     nodes = [ctypes.POINTER(_Node), size]
     order = [ctypes.POINTER(u32), size]
@@ -167,7 +174,7 @@ def _library() -> ctypes.CDLL:
     number, fault = [ctypes.POINTER(u64)], [ctypes.POINTER(_Fault)]
     options = [ctypes.POINTER(_FrontOptions)]
     core = [ctypes.c_void_p]
-    calls = {
+    plans = {
         "plan_tree": (u32, nodes + order + number + fault),
         "best_postorder": (u32, nodes + order + number + fault),
         "replay_tree": (u32, nodes + order + number + fault),
@@ -176,11 +183,13 @@ def _library() -> ctypes.CDLL:
         "spill_tree": (u32, nodes + order + [u64, ctypes.POINTER(u64), size] + number + fault),
         "fronts": (u32, [u32] + order + order + order + options + nodes + number + order + fault),
         "replay_system": (u32, system + order + number + fault),
+        "core_begin": (u32, core + nodes + order + [u64, u32] + fault),
+        "core_begin_system": (u32, core + system + order + [u64, u32] + fault),
+    }
+    steps = {
         "core_size": (size, []),
         "core_new": (None, core),
         "core_end": (None, core),
-        "core_begin": (u32, core + nodes + order + [u64, u32] + fault),
-        "core_begin_system": (u32, core + system + order + [u64, u32] + fault),
         "core_activate": (u32, core),
         "core_start": (u32, core + [u32]),
         "core_finish": (u32, core + [u32]),
@@ -189,94 +198,61 @@ def _library() -> ctypes.CDLL:
         "core_used": (u64, core),
         "core_booked": (u64, core),
     }
-    for name, (result, arguments) in calls.items():
-        call = getattr(library, "memplan_" + name)
-        call.restype = result
-        call.argtypes = arguments
+    return plans, steps
+
+
+_HOW_TO_LOAD = """memplan cannot load its library: {}.
+Set MEMPLAN_LIBRARY to the path of libmemplan.so, or put libmemplan.so.1 where the system's loader looks (LD_LIBRARY_PATH, or ldconfig).
+`make -C c` in memplan's repository builds it, as c/build/libmemplan.so."""
+
+
+def _loaded(loader: Type[ctypes.CDLL], calls: Dict[str, _Signature]) -> ctypes.CDLL:
+    path = os.environ.get("MEMPLAN_LIBRARY") or "libmemplan.so.1"
+    try:
+        library = loader(path)
+        for name, (result, arguments) in calls.items():
+            call = getattr(library, "memplan_" + name)
+            call.restype = result
+            call.argtypes = arguments
+    except (OSError, AttributeError) as error:
+        raise ImportError(_HOW_TO_LOAD.format(error), name="memplan", path=path) from error
     return library
 
 
-_lib = _library()
+# Plans take long, and let other threads run meanwhile; so does the beginning of a core, which no other thread has yet. The calls on a core
+# are short, and keep the interpreter's lock: so they are made one at a time, as the library needs it, whichever threads make them.
+_PLANS, _STEPS = _signatures()
+_plans, _steps = _loaded(ctypes.CDLL, _PLANS), _loaded(ctypes.PyDLL, _STEPS)
 
 
-_NODE_FIELDS = ("parent", "out", "extra", "share", "time")
-
-
-def _node_table(count: int) -> Any:
-    """So many nodes for numpy, laid out as C has them."""
-    formats, offsets = ["<u4", "<u8", "<u8", "<u8", "<u8"], [0, 8, 16, 24, 32]
-    layout = {"names": list(_NODE_FIELDS), "formats": formats, "offsets": offsets, "itemsize": 40}
-    return numpy.zeros(max(count, 1), numpy.dtype(layout))
-
-
-def _unsigned(values: Sequence[int], bits: int) -> Any:
-    """The values, which have to be integers that are not negative and fit so many bits."""
-    if numpy is None:
-        for value in values:
-            if not 0 <= int(value) < 1 << bits:
-                raise OverflowError(f"{value} does not fit {bits} bits without a sign")
-        return values
-    plain = numpy.asarray(values)
-    if plain.size == 0:
-        return plain.astype("<u8")
-    if plain.dtype.kind not in "iu":
-        raise TypeError("integers are wanted")
-    if int(plain.min()) < 0 or int(plain.max()) >= 1 << bits:
-        raise OverflowError(f"a number does not fit {bits} bits without a sign")
-    return plain
-
-
-def _nodes(parent: Sequence[int], out: Sequence[int], extra: Sequence[int], share: Optional[Sequence[int]]) -> Any:
-    """The nodes as C has them; as many as there are parents."""
-    count = len(parent)
-    if len(out) != count or len(extra) != count or (share is not None and len(share) != count):
+def _nodes(parent: Sequence[int], out: Sequence[int], extra: Sequence[int], share: Optional[Sequence[int]]) -> Tuple[Any, int]:
+    """The nodes as C has them, and how many they are."""
+    columns = {"parent": column("parent[{}]", parent, U32), "out": column("out[{}]", out, U64), "extra": column("extra[{}]", extra, U64)}
+    if share is not None:
+        columns["share"] = column("share[{}]", share, U64)
+    count = len(columns["parent"])
+    if any(len(values) != count for values in columns.values()):
         raise ValueError("parent, out, extra and share have different lengths")
-    parent, out, extra = _unsigned(parent, 32), _unsigned(out, 64), _unsigned(extra, 64)
-    share = None if share is None else _unsigned(share, 64)
-    if numpy is not None:
-        table = _node_table(count)
-        table["parent"][:count], table["out"][:count], table["extra"][:count] = parent, out, extra
-        table["share"][:count] = 0 if share is None else share
-        table["time"] = 1
-        return (_Node * len(table)).from_buffer(table)
-    array = (_Node * max(count, 1))()
-    for i in range(count):
-        array[i] = _Node(int(parent[i]), int(out[i]), int(extra[i]), int(share[i]) if share is not None else 0, 1)
-    return array
+    return structures(_Node, count, **columns, time=_ones(count)), count
 
 
-def _amount(value: int) -> int:
-    """A number for C, which would take one that is negative or too great for another."""
-    return int(_unsigned([value], 64)[0])
-
-
-def _numbers(values: Sequence[int]) -> Any:
-    plain = _unsigned(values, 32)
-    if numpy is not None:
-        table = numpy.zeros(max(len(plain), 1), "<u4")
-        table[: len(plain)] = plain
-        return (ctypes.c_uint32 * len(table)).from_buffer(table)
-    return (ctypes.c_uint32 * max(len(plain), 1))(*[int(v) for v in plain])
-
-
-def _back(array: Any, count: int) -> Any:
-    if numpy is not None:
-        return numpy.ctypeslib.as_array(array)[:count].copy()
-    return list(array[:count])
+def _ones(count: int) -> memoryview:
+    """The times of so many tasks, which no call uses."""
+    return memoryview(array(U64.letter, [1]) * count)
 
 
 def _answer(status: int, fault: _Fault) -> None:
-    if status == 8:
+    if status == _NO_MEMORY:
         raise MemoryError("memplan: memory ran out")
     if status:
         raise Refused(status, fault)
 
 
 def _order_of(call: Any, parent: Any, out: Any, extra: Any, share: Any) -> Tuple[Any, int]:
-    nodes, count = _nodes(parent, out, extra, share), len(parent)
+    nodes, count = _nodes(parent, out, extra, share)
     order, peak, fault = (ctypes.c_uint32 * max(count, 1))(), ctypes.c_uint64(), _Fault()
     _answer(call(nodes, count, order, count, ctypes.byref(peak), ctypes.byref(fault)), fault)
-    return _back(order, count), peak.value
+    return back(view(order, count)), peak.value
 
 
 def plan(parent: Sequence[int], out: Sequence[int], extra: Sequence[int], share: Optional[Sequence[int]] = None) -> Tuple[Any, int]:
@@ -285,23 +261,23 @@ def plan(parent: Sequence[int], out: Sequence[int], extra: Sequence[int], share:
     ``parent`` has the number of each node's parent, 0 at a root; ``out`` what it leaves to its parent; ``extra`` what it needs beside
     that while it runs; ``share`` what it takes over from the blocks of its children.
     """
-    return _order_of(_lib.memplan_plan_tree, parent, out, extra, share)
+    return _order_of(_plans.memplan_plan_tree, parent, out, extra, share)
 
 
 def best_postorder(
     parent: Sequence[int], out: Sequence[int], extra: Sequence[int], share: Optional[Sequence[int]] = None
 ) -> Tuple[Any, int]:
     """The best postorder of a tree, and its peak."""
-    return _order_of(_lib.memplan_best_postorder, parent, out, extra, share)
+    return _order_of(_plans.memplan_best_postorder, parent, out, extra, share)
 
 
 def replay(
     parent: Sequence[int], out: Sequence[int], extra: Sequence[int], order: Sequence[int], share: Optional[Sequence[int]] = None
 ) -> int:
     """The peak of an order of a tree; `Refused` with the first place at which it is no traversal."""
-    nodes, count, numbers = _nodes(parent, out, extra, share), len(parent), _numbers(order)
+    (nodes, count), (places, length) = _nodes(parent, out, extra, share), numbers("order[{}]", order)
     peak, fault = ctypes.c_uint64(), _Fault()
-    _answer(_lib.memplan_replay_tree(nodes, count, numbers, len(order), ctypes.byref(peak), ctypes.byref(fault)), fault)
+    _answer(_plans.memplan_replay_tree(nodes, count, places, length, ctypes.byref(peak), ctypes.byref(fault)), fault)
     return peak.value
 
 
@@ -309,20 +285,20 @@ def certify(
     parent: Sequence[int], out: Sequence[int], extra: Sequence[int], share: Optional[Sequence[int]] = None
 ) -> Certificate:
     """A traversal of least peak with the claims that certify it, which `check` accepts."""
-    nodes, count = _nodes(parent, out, extra, share), len(parent)
+    nodes, count = _nodes(parent, out, extra, share)
     order, peak, written, fault = (ctypes.c_uint32 * max(count, 1))(), ctypes.c_uint64(), ctypes.c_uint64(), _Fault()
     room = count + 1
     while True:
         claims = (_Claim * room)()
-        status = _lib.memplan_certify_tree(
+        status = _plans.memplan_certify_tree(
             nodes, count, order, count, ctypes.byref(peak), claims, room, ctypes.byref(written), ctypes.byref(fault)
         )
-        if status != 2 or fault.kind != 3:
+        if status != _USAGE or fault.kind != _CLAIM_ROOM:
             break
-        room = fault.value
+        room = fault.value  # is enough
     _answer(status, fault)
-    told = [(c.position, c.backward, c.bound, c.rest) for c in claims[: written.value]]
-    return Certificate(_back(order, count), peak.value, told)
+    fields = [view(claims, written.value, name).tolist() for name, _ in _Claim._fields_]
+    return Certificate(back(view(order, count)), peak.value, list(zip(*fields)))
 
 
 def check(
@@ -332,23 +308,17 @@ def check(
     certificate: Certificate,
     share: Optional[Sequence[int]] = None,
 ) -> None:
-    """Judges a plan of a tree by its claims, whoever made it; `Refused` with the first objection."""
-    nodes, count, numbers = _nodes(parent, out, extra, share), len(parent), _numbers(certificate.order)
-    claims = (_Claim * max(len(certificate.claims), 1))(*[_Claim(*c) for c in certificate.claims])
-    fault = _Fault()
-    _answer(
-        _lib.memplan_check_tree(
-            nodes,
-            count,
-            numbers,
-            len(certificate.order),
-            certificate.peak,
-            claims,
-            len(certificate.claims),
-            ctypes.byref(fault),
-        ),
-        fault,
-    )
+    """Judges a plan of a tree by its claims, whoever made it; `Refused` with the first objection.
+
+    All numbers are judged as they stand: one that does not fit is an error, and is not taken for another.
+    """
+    if not isinstance(certificate, Certificate):
+        raise TypeError(f"certificate: a {type(certificate).__name__} is no Certificate")
+    (nodes, count), (places, length) = _nodes(parent, out, extra, share), numbers("order[{}]", certificate.order)
+    peak, claims = whole("peak", certificate.peak, U64), columns_of("claims", certificate.claims, _Claim)
+    told, fault = len(claims[0]), _Fault()
+    made = structures(_Claim, told, **dict(zip(dict(_Claim._fields_), claims)))
+    _answer(_plans.memplan_check_tree(nodes, count, places, length, peak, made, told, ctypes.byref(fault)), fault)
 
 
 def spill(
@@ -360,15 +330,14 @@ def spill(
     share: Optional[Sequence[int]] = None,
 ) -> Tuple[Any, int]:
     """What has to go to disk where an order of a tree runs within a bound: the amount of each node's block, and all together."""
-    nodes, count, numbers = _nodes(parent, out, extra, share), len(parent), _numbers(order)
+    (nodes, count), (places, length) = _nodes(parent, out, extra, share), numbers("order[{}]", order)
+    bound = whole("bound", bound, U64)
     amounts, volume, fault = (ctypes.c_uint64 * max(count, 1))(), ctypes.c_uint64(), _Fault()
     _answer(
-        _lib.memplan_spill_tree(
-            nodes, count, numbers, len(order), _amount(bound), amounts, count, ctypes.byref(volume), ctypes.byref(fault)
-        ),
+        _plans.memplan_spill_tree(nodes, count, places, length, bound, amounts, count, ctypes.byref(volume), ctypes.byref(fault)),
         fault,
     )
-    return _back(amounts, count), volume.value
+    return back(view(amounts, count)), volume.value
 
 
 _SHAPES = {"triangle": 0, "square": 1}
@@ -376,12 +345,24 @@ _SHAPES = {"triangle": 0, "square": 1}
 
 def _columns(matrix: Any) -> Tuple[Any, Any]:
     """Where the columns start, and the rows of their entries."""
-    if isinstance(matrix, tuple):
+    if isinstance(matrix, tuple) and len(matrix) == 2:
         return matrix
-    if matrix.shape[0] != matrix.shape[1]:
-        raise ValueError("the matrix is not square")
+    if not hasattr(matrix, "tocsc"):
+        raise TypeError(
+            f"matrix: taken is a sparse matrix of scipy, or the pair (indptr, indices) of its columns, and not this {type(matrix).__name__}"
+        )
+    if len(matrix.shape) != 2 or matrix.shape[0] != matrix.shape[1]:
+        raise ValueError("matrix: it is not square")
     columns = matrix.tocsc()
     return columns.indptr, columns.indices
+
+
+def _options(shape: str, in_place: bool, zeros: Optional[int]) -> _FrontOptions:
+    if shape not in tuple(_SHAPES):
+        raise ValueError(f"shape: {shape!r} is neither 'triangle' nor 'square'")
+    if not isinstance(in_place, BOOLS):
+        raise TypeError(f"in_place: {in_place!r} is no bool")
+    return _FrontOptions(_SHAPES[shape], bool(in_place), zeros is not None, 0 if zeros is None else whole("zeros", zeros, U64))
 
 
 def fronts(
@@ -398,21 +379,22 @@ def fronts(
     ``shape`` says what is kept of fronts and blocks, ``"triangle"`` or ``"square"``; ``in_place``, that a front is built over the greatest
     block of its children; ``zeros``, how many explicit zeros a merge of two fronts may add, and with none no fronts are merged.
     """
-    starts, rows = _columns(matrix)
-    count, places = max(len(starts) - 1, 0), 0 if order is None else len(order)
-    if order is not None and places == 0 and count > 0:
-        raise ValueError("an order without places")
-    options = _FrontOptions(_SHAPES[shape], in_place, zeros is not None, 0 if zeros is None else _amount(zeros))
+    given, options = _columns(matrix), _options(shape, in_place, zeros)
+    (starts, ends), (rows, entries) = numbers("indptr[{}]", given[0]), numbers("indices[{}]", given[1])
+    places, length = numbers("order[{}]", () if order is None else order)
+    count = max(ends - 1, 0)
+    if order is not None and length == 0 and count > 0:
+        raise ValueError("order: it has no place")
     nodes, made, fault = (_Node * max(count, 1))(), ctypes.c_uint64(), _Fault()
     front_of = (ctypes.c_uint32 * max(count, 1))()
-    status = _lib.memplan_fronts(
+    status = _plans.memplan_fronts(
         0,
-        _numbers(starts),
-        len(starts),
-        _numbers(rows),
-        len(rows),
-        _numbers(() if order is None else order),
+        starts,
+        ends,
+        rows,
+        entries,
         places,
+        length,
         ctypes.byref(options),
         nodes,
         count,
@@ -422,43 +404,40 @@ def fronts(
         ctypes.byref(fault),
     )
     _answer(status, fault)
-    if numpy is not None:
-        table = numpy.frombuffer(nodes, _node_table(0).dtype)[: made.value]
-        fields = [table[name].copy() for name in _NODE_FIELDS]
-    else:
-        fields = [[getattr(node, name) for node in nodes[: made.value]] for name in _NODE_FIELDS]
-    return Fronts(*fields, _back(front_of, count))
+    fields = [back(view(nodes, made.value, name)) for name, _ in _Node._fields_]
+    return Fronts(*fields, back(view(front_of, count)))
 
 
-def _system(tasks: Sequence[int], items: Sequence[Tuple[int, int, int]]) -> Tuple[Any, Any]:
-    made = (_Task * max(len(tasks), 1))(*[_Task(int(extra), 0, 1) for extra in tasks])
-    given = (_Item * max(len(items), 1))(*[_Item(*map(int, item)) for item in items])
-    return made, given
+def _system(tasks: Sequence[int], items: Sequence[Tuple[int, int, int]]) -> Tuple[Any, int, Any, int]:
+    """The tasks and the items as C has them, and how many they are."""
+    extras, (sizes, suppliers, consumers) = column("tasks[{}]", tasks, U64), columns_of("items", items, _Item)
+    made = structures(_Task, len(extras), extra=extras, time=_ones(len(extras)))
+    return made, len(extras), structures(_Item, len(sizes), size=sizes, from_=suppliers, to=consumers), len(sizes)
 
 
 def replay_system(tasks: Sequence[int], items: Sequence[Tuple[int, int, int]], order: Sequence[int]) -> int:
     """The peak of an order of tasks that hand items to each other: the extra of each task, and items (size, from, to), 0 for none."""
-    made, given = _system(tasks, items)
-    numbers, peak, fault = _numbers(order), ctypes.c_uint64(), _Fault()
-    _answer(
-        _lib.memplan_replay_system(
-            made, len(tasks), given, len(items), numbers, len(order), ctypes.byref(peak), ctypes.byref(fault)
-        ),
-        fault,
-    )
+    system, (places, length) = _system(tasks, items), numbers("order[{}]", order)
+    peak, fault = ctypes.c_uint64(), _Fault()
+    _answer(_plans.memplan_replay_system(*system, places, length, ctypes.byref(peak), ctypes.byref(fault)), fault)
     return peak.value
 
 
 class Core:
-    """The activation core: tasks on several workers within a bound on memory. Calls are made one at a time.
+    """The activation core: tasks on several workers within a bound on memory.
 
     >>> core = Core.of_tree(parent, out, extra, order, bound, workers=4)
+
+    Several threads may call one core: its calls keep the interpreter's lock, so that each is made by itself. A core cannot be copied.
     """
 
+    _end = _steps.memplan_core_end
+
     def __init__(self) -> None:
-        self._room = (ctypes.c_uint64 * (_lib.memplan_core_size() // 8 + 1))()
-        self._at = ctypes.addressof(self._room)
-        _lib.memplan_core_new(self._at)
+        self._room = (ctypes.c_uint64 * (_steps.memplan_core_size() // 8 + 1))()
+        at = ctypes.addressof(self._room)
+        _steps.memplan_core_new(at)
+        self._at = at
 
     @classmethod
     def of_tree(
@@ -472,15 +451,7 @@ class Core:
         share: Optional[Sequence[int]] = None,
     ) -> "Core":
         """A core for a tree, activated in an order; `Refused` where the order is none, or the bound is below its peak."""
-        core, fault = cls(), _Fault()
-        nodes, numbers = _nodes(parent, out, extra, share), _numbers(order)
-        _answer(
-            _lib.memplan_core_begin(
-                core._at, nodes, len(parent), numbers, len(order), _amount(bound), workers, ctypes.byref(fault)
-            ),
-            fault,
-        )
-        return core
+        return cls._begun(_plans.memplan_core_begin, _nodes(parent, out, extra, share), order, bound, workers)
 
     @classmethod
     def of_system(
@@ -492,56 +463,51 @@ class Core:
         workers: int,
     ) -> "Core":
         """A core for tasks that hand items to each other, as in `replay_system`."""
+        return cls._begun(_plans.memplan_core_begin_system, _system(tasks, items), order, bound, workers)
+
+    @classmethod
+    def _begun(cls, begin: Any, work: Tuple[Any, ...], order: Sequence[int], bound: int, workers: int) -> "Core":
+        places, length = numbers("order[{}]", order)
+        limits = whole("bound", bound, U64), whole("workers", workers, U32)
         core, fault = cls(), _Fault()
-        made, given = _system(tasks, items)
-        numbers = _numbers(order)
-        _answer(
-            _lib.memplan_core_begin_system(
-                core._at,
-                made,
-                len(tasks),
-                given,
-                len(items),
-                numbers,
-                len(order),
-                _amount(bound),
-                workers,
-                ctypes.byref(fault),
-            ),
-            fault,
-        )
+        _answer(begin(core._at, *work, places, length, *limits, ctypes.byref(fault)), fault)
         return core
 
     def activate(self) -> int:
         """Activates the next task of the order, where its need fits: its number, or 0."""
-        return _lib.memplan_core_activate(self._at)
+        return _steps.memplan_core_activate(self._at)
 
     def start(self, task: int) -> bool:
         """Starts a task, where it may start."""
-        return _lib.memplan_core_start(self._at, task) == 1
+        return _steps.memplan_core_start(self._at, whole("task", task, U32)) == 1
 
     def finish(self, task: int) -> bool:
         """Ends a task, where it runs."""
-        return _lib.memplan_core_finish(self._at, task) == 1
+        return _steps.memplan_core_finish(self._at, whole("task", task, U32)) == 1
 
     def is_startable(self, task: int) -> bool:
         """Whether `start` would answer yes."""
-        return _lib.memplan_core_is_startable(self._at, task) == 1
+        return _steps.memplan_core_is_startable(self._at, whole("task", task, U32)) == 1
 
     def is_done(self, task: int) -> bool:
         """Whether a task is done."""
-        return _lib.memplan_core_is_done(self._at, task) == 1
+        return _steps.memplan_core_is_done(self._at, whole("task", task, U32)) == 1
 
     @property
     def used(self) -> int:
         """The items that are present, and the needs of the running tasks."""
-        return _lib.memplan_core_used(self._at)
+        return _steps.memplan_core_used(self._at)
 
     @property
     def booked(self) -> int:
         """The items that are present, and the needs of the activated tasks that are not done."""
-        return _lib.memplan_core_booked(self._at)
+        return _steps.memplan_core_booked(self._at)
+
+    def __reduce_ex__(self, protocol: Any) -> NoReturn:
+        """What copies and pickles ask for: a copy would be the same place in memory, which both would free."""
+        raise TypeError("a Core cannot be copied or pickled: it is a place in memory that it frees itself")
 
     def __del__(self) -> None:
-        if hasattr(self, "_at"):
-            _lib.memplan_core_end(self._at)
+        at = self.__dict__.pop("_at", None)  # none where its making was cut short
+        if at is not None:
+            self._end(at)

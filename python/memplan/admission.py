@@ -2,19 +2,28 @@
 
 A task leaves one result, which any number of other tasks consume. A runner reports what happens (`Admission.start`, `done`, `gone`), and is
 told what may start (`ready`); the core decides. This module, which words the one in terms of the other, is tested and not proved.
+
+Numbers are checked as everywhere in `memplan`: one that is no whole number is a `TypeError`, one that is negative or too great an
+`OverflowError`, and both name it, as ``sizes[0]: 2.9 is no whole number``. Lengths that differ, and inputs of tasks that are none, are a
+`ValueError`. A graph or an order that the library refuses is a `GraphRefused`, and a bound `BoundTooLow`.
 """
 
 from __future__ import annotations
 
+import reprlib
+from itertools import islice
 from typing import Collection, Dict, List, Optional, Sequence, Set, Tuple
 
 from . import Core, Refused, plan, replay_system
+from ._numbers import U32, U64, column, whole
 
-__all__ = ["MOST_RUNNING", "Admission", "BoundTooLow", "Graph"]
+__all__ = ["MOST_RUNNING", "Admission", "BoundTooLow", "Graph", "GraphRefused"]
 
 MOST_RUNNING = 4095
 """How many tasks may run at once: of the 4,096 workers of a core one is left for the tasks that hold shared results."""
 
+_FORMAT = 3
+_CYCLE = 17
 _BOUND_BELOW_PEAK = 30
 
 
@@ -27,29 +36,117 @@ class BoundTooLow(ValueError):
         self.least = least
 
 
+class GraphRefused(Refused):
+    """A graph or an order was refused, in the caller's tasks and places, which count from 0.
+
+    ======  ====================================================================  ============================
+    kind    what is wrong                                                         what is told
+    ======  ====================================================================  ============================
+    10      there is no task, and a plan is asked for                             neither
+    11      the tasks and the results with several consumers are over 1,000,000   neither
+    14, 52  the extra of a task, or the size of its result, is over 2^40          ``task``
+    16      all sizes and extras together are over 2^60                           neither
+    17      tasks wait for each other, or one for itself                          ``task``, the first of these
+    20      the order has a number that is no task's                              ``place``
+    21      the order has a task twice                                            ``place``, ``task``
+    22      the order has a task before one whose result it consumes              ``place``, ``task``
+    23      the order ends, and has not every task                                ``place``, the order's length
+    50      the results, and what makes tasks wait for them, are over 4,000,001   neither
+    ======  ====================================================================  ============================
+
+    No other kind comes of a graph. ``task`` and ``place`` are None where they are not told. ``status`` and ``kind`` are those of
+    ``memplan.h``; ``at`` is the place, or else the task, counted from 1 as in every `Refused`, and 0 where there is neither.
+    """
+
+    def __init__(self, refusal: Tuple[int, int], words: str, task: Optional[int] = None, place: Optional[int] = None) -> None:
+        ValueError.__init__(self, words)
+        self.status, self.kind = refusal
+        self.task = task
+        self.place = place
+        found = place if place is not None else task
+        self.at = 0 if found is None else found + 1
+        self.value = 0
+
+
+_WORDS = {
+    10: "there is no task",
+    11: "there are more than 1,000,000 tasks and results with several consumers",
+    14: "task {task}: its extra, or the size of its result, is greater than 2^40",
+    20: "order[{place}]: there is no task {task}",
+    21: "order[{place}]: task {task} stands there again",
+    22: "order[{place}]: task {task} stands before one whose result it consumes",
+    23: "order[{place}]: the order ends here, and has not every task",
+    52: "task {task}: its extra, or the size of its result, is greater than 2^40",
+}
+
+
+def _tasks(name: str, tasks: Collection[int]) -> List[int]:
+    """Tasks of which it does not matter which comes first."""
+    return column(name, list(tasks) if isinstance(tasks, (set, frozenset)) else tasks, U32).tolist()
+
+
+def _inputs_of(inputs: Sequence[Collection[int]]) -> List[Tuple[int, ...]]:
+    """The inputs of each task, each once. They are looked at all together, which is faster, and by tasks to name one that is wrong."""
+    try:
+        results: Optional[List[int]] = column("{}", [result for consumed in inputs for result in consumed], U32).tolist()
+    except (TypeError, OverflowError):
+        results = None
+    if results is None:
+        return [tuple(dict.fromkeys(_tasks(f"inputs[{task}][{{}}]", consumed))) for task, consumed in enumerate(inputs)]
+    left = iter(results)
+    return [tuple(dict.fromkeys(islice(left, len(consumed)))) for consumed in inputs]
+
+
 class Graph:
     """Tasks, numbered from 0 as they stand, that leave one result each.
 
     ``inputs`` has for each task those whose results it consumes; ``sizes`` what each result takes; ``extras`` what each task needs beside
     that and its inputs while it runs. The results of the tasks in ``kept``, and those that no task consumes, stay to the end.
+    `GraphRefused` where tasks wait for each other.
     """
 
     def __init__(
         self, inputs: Sequence[Sequence[int]], sizes: Sequence[int], extras: Sequence[int], kept: Collection[int] = ()
     ) -> None:
-        if not len(inputs) == len(sizes) == len(extras):
+        self.sizes = column("sizes[{}]", sizes, U64).tolist()
+        self.extras = column("extras[{}]", extras, U64).tolist()
+        if not len(inputs) == len(self.sizes) == len(self.extras):
             raise ValueError("inputs, sizes and extras have different lengths")
-        self.inputs = [tuple(dict.fromkeys(consumed)) for consumed in inputs]
-        self.sizes = sizes
-        self.extras = extras
-        self.consumers: List[List[int]] = [[] for _ in sizes]
+        self.inputs = _inputs_of(inputs)
+        self.consumers: List[List[int]] = [[] for _ in self.sizes]
         for task, consumed in enumerate(self.inputs):
             for result in consumed:
-                if not 0 <= result < len(sizes):
+                if result >= len(self.sizes):
                     raise ValueError(f"task {task} consumes the result of task {result}, and there is none")
                 self.consumers[result].append(task)
-        self.kept = {*kept, *(task for task, users in enumerate(self.consumers) if not users)}
+        self.kept = {*_tasks("kept[{}]", kept), *(task for task, users in enumerate(self.consumers) if not users)}
+        if self.kept and max(self.kept) >= len(self.sizes):
+            raise ValueError(f"the result of task {max(self.kept)} is to be kept, and there is none")
+        self._refuse_circles()
         self.owners = self._owners()
+
+    def _refuse_circles(self) -> None:
+        """Lets every task run that waits for none; those that are left wait for each other, or for such ones."""
+        waits = [len(consumed) for consumed in self.inputs]
+        free = [task for task, count in enumerate(waits) if count == 0]
+        for task in free:
+            for user in self.consumers[task]:
+                waits[user] -= 1
+                if waits[user] == 0:
+                    free.append(user)
+        if len(free) < len(waits):
+            circle = self._circle({task for task, count in enumerate(waits) if count})
+            words = f"the tasks {reprlib.repr(circle)} wait for each other" if circle[1:] else f"task {circle[0]} waits for itself"
+            raise GraphRefused((_FORMAT, _CYCLE), words, circle[0])
+
+    def _circle(self, left: Set[int]) -> List[int]:
+        """Tasks that wait for each other, of those that are left."""
+        task = min(left)
+        places: Dict[int, int] = {}
+        while task not in places:
+            places[task] = len(places)
+            task = next(result for result in self.inputs[task] if result in left)
+        return sorted(it for it, place in places.items() if place >= places[task])
 
     def _owners(self) -> List[int]:
         """For each result the task of the core, from 1, that takes it out of memory: its one consumer or, where there are several, a task
@@ -74,13 +171,19 @@ class Graph:
         """An order of least peak of a forest."""
         if not self.is_forest:
             raise ValueError("a result has several consumers: there is no plan, so give an order")
-        order, _ = plan(self.owners, self.sizes, self.extras)
+        try:
+            order, _ = plan(self.owners, self.sizes, self.extras)
+        except Refused as refusal:
+            raise self.told(refusal) from None
         return [int(task) - 1 for task in order]
 
     def least_bound(self, order: Sequence[int]) -> int:
         """The peak of an order, which is the least bound along it."""
         tasks, items = self.system()
-        return replay_system(tasks, items, self.with_holders(order))
+        try:
+            return replay_system(tasks, items, self.with_holders(order))
+        except Refused as refusal:
+            raise self.told(refusal, order) from None
 
     def system(self) -> Tuple[List[int], List[Tuple[int, int, int]]]:
         """The extras and the items for the core. A shared result goes to its holder, and items of size 0 make its consumers come after
@@ -96,35 +199,51 @@ class Graph:
         return extras, items
 
     def with_holders(self, order: Sequence[int]) -> List[int]:
-        """The order for the core: each holder comes right after the last consumer of its result."""
-        left = [len(users) for users in self.consumers]
+        """The order for the core: each holder comes right after the last consumer of its result. 0 stands for what is no task, which
+        could be the number of a holder."""
+        left, count = [len(users) for users in self.consumers], len(self.sizes)
         whole = []
-        for task in order:
-            whole.append(task + 1)
-            for result in self.inputs[task] if 0 <= task < len(self.inputs) else ():
+        for task in column("order[{}]", order, U32).tolist():
+            whole.append(task + 1 if task < count else 0)
+            for result in self.inputs[task] if task < count else ():
                 left[result] -= 1
-                if left[result] == 0 and self.owners[result] > len(self.sizes):
+                if left[result] == 0 and self.owners[result] > count:
                     whole.append(self.owners[result])
         return whole
+
+    def told(self, refusal: Refused, order: Sequence[int] = ()) -> GraphRefused:
+        """What the library says of `system` and `with_holders`, in words of the graph and the order."""
+        kind, at = refusal.kind, refusal.at
+        task: Optional[int] = None
+        place: Optional[int] = None
+        if kind == 14:
+            task = at - 1
+        elif kind == 52:
+            task = self.system()[1][at - 1][1] - 1
+        elif 20 <= kind <= 23:
+            place = sum(number <= len(self.sizes) for number in self.with_holders(order)[: at - 1])
+            task = int(order[place]) if place < len(order) else None
+        words = _WORDS.get(kind, str(refusal)).format(task=task, place=place)
+        return GraphRefused((refusal.status, kind), words, None if kind == 20 else task, place)
 
 
 class Admission:
     """The tasks of a graph within a bound, along an order; without one, along the plan of a forest. Calls are made one at a time.
 
-    `BoundTooLow` where the order's peak is above the bound; `memplan.Refused` where the order is none, or a limit is passed.
+    `BoundTooLow` where the order's peak is above the bound; `GraphRefused` where the order is none, or a limit is passed.
     """
 
     def __init__(self, graph: Graph, bound: int, order: Optional[Sequence[int]] = None) -> None:
         self._graph = graph
         self._tasks = len(graph.sizes)
         extras, items = graph.system()
-        whole = graph.with_holders(graph.planned() if order is None else order)
+        order = graph.planned() if order is None else order
         try:
-            self._core = Core.of_system(extras, items, whole, bound, MOST_RUNNING + 1)
+            self._core = Core.of_system(extras, items, graph.with_holders(order), bound, MOST_RUNNING + 1)
         except Refused as refusal:
             if refusal.kind == _BOUND_BELOW_PEAK:
                 raise BoundTooLow(bound, refusal.value) from None
-            raise
+            raise graph.told(refusal, order) from None
         self._successors: Dict[int, Set[int]] = {}
         for _, supplier, consumer in items:
             if consumer:
@@ -155,7 +274,7 @@ class Admission:
         """Starts a task that is ready; no where as many run as may (`MOST_RUNNING`): then it may start once another has finished."""
         if self._running == MOST_RUNNING:
             return False
-        self._must(self._core.start(task + 1))
+        self._must(self._core.start(whole("task", task, U32) + 1))
         self._running += 1
         return True
 

@@ -1,0 +1,153 @@
+"""Whole numbers on their way to C and back. C would take a fraction, a bool, or a number that does not fit its field, for another number:
+such values are refused here, by their names. The same holds with numpy and without it."""
+
+from __future__ import annotations
+
+import ctypes
+import reprlib
+from array import array
+from collections.abc import Mapping, Set
+from operator import index
+from typing import Any, List, NamedTuple, Optional, Sequence, Tuple, Type
+
+try:
+    import numpy
+except ImportError:
+    numpy = None  # type: ignore[assignment]
+
+
+class Width(NamedTuple):
+    """Which numbers a field of C holds, and its letter for `array.array`, `memoryview` and numpy."""
+
+    letter: str
+    least: int
+    most: int
+    words: str
+
+
+U32 = Width("I", 0, (1 << 32) - 1, "32 bits")
+U64 = Width("Q", 0, (1 << 64) - 1, "64 bits")
+I64 = Width("q", -(1 << 63), (1 << 63) - 1, "64 bits with a sign")
+
+_WIDTHS = {ctypes.c_uint32: U32, ctypes.c_uint64: U64, ctypes.c_int64: I64}
+
+BOOLS: Tuple[type, ...] = (bool,) if numpy is None else (bool, numpy.bool_)
+_ROWS: Tuple[type, ...] = (tuple, list) if numpy is None else (tuple, list, numpy.ndarray)
+
+
+def whole(name: str, value: Any, width: Width) -> int:
+    """The value as an int, where it is a whole number that fits."""
+    number = value if type(value) is int else _index(value)
+    if number is None:
+        raise TypeError(f"{name}: {reprlib.repr(value)} is no whole number")
+    if width.least <= number <= width.most:
+        return number
+    raise OverflowError(f"{name}: {_unfit(number, width)}{_hint(name, number)}")
+
+
+def _index(value: Any) -> Optional[int]:
+    """The whole number that a value is, if it is one."""
+    if not _is_whole(type(value)):
+        return None
+    try:
+        return index(value)
+    except TypeError:
+        return None  # as of an array of numpy
+
+
+def _unfit(number: int, width: Width) -> str:
+    if number.bit_length() > 128:
+        return f"a number of {number.bit_length()} bits does not fit {width.words}"
+    return f"{number} is negative" if width.least == 0 > number else f"{number} does not fit {width.words}"
+
+
+def _hint(name: str, number: int) -> str:
+    return "; the parent of a root is 0" if number == -1 and name.startswith("parent[") else ""
+
+
+def column(name: str, values: Sequence[int], width: Width) -> memoryview:
+    """The values as C has them, a copy. ``name`` is that of the value at a place, which stands for its braces: ``extra[{}]``."""
+    if numpy is not None and isinstance(values, numpy.ndarray) and _is_column(values, width):
+        return memoryview(values.astype(width.letter, order="C"))
+    given = _listed(name, values)
+    kinds = set(map(type, given))
+    if all(map(_is_whole, kinds)):
+        try:
+            return memoryview(array(width.letter, given if kinds == {int} else map(index, given)))
+        except (OverflowError, TypeError):
+            pass  # which value it is, and why, is told below
+    return memoryview(array(width.letter, [whole(name.format(at), value, width) for at, value in enumerate(given)]))
+
+
+def _is_column(values: Any, width: Width) -> bool:
+    """Whether an array of numpy has whole numbers alone, which fit."""
+    if values.ndim != 1 or values.dtype.kind not in "iu":
+        return False
+    return values.size == 0 or width.least <= int(values.min()) <= int(values.max()) <= width.most
+
+
+def _is_whole(kind: type) -> bool:
+    """Whether the values of a type are whole numbers, and not bools."""
+    return kind is int or (hasattr(kind, "__index__") and not issubclass(kind, BOOLS))
+
+
+def _listed(name: str, values: Any) -> Sequence[Any]:
+    if isinstance(values, (list, tuple)):
+        return values
+    if hasattr(values, "__len__") and not isinstance(values, (str, bytes, Mapping, Set)):
+        try:
+            return list(values)
+        except TypeError:
+            pass  # as of an array of numpy without dimensions
+    whole_name, _, _ = name.partition("[{}]")
+    raise TypeError(f"{whole_name}: {reprlib.repr(values)} is no list or array of whole numbers")
+
+
+def columns_of(name: str, rows: Sequence[Sequence[int]], kind: Type[ctypes.Structure]) -> List[memoryview]:
+    """The columns of rows that have a number for each field of a structure."""
+    fields = [(field.rstrip("_"), _WIDTHS[its]) for field, its in kind._fields_]
+    wanted = "(" + ", ".join(field for field, _ in fields) + ")"
+    if not isinstance(rows, _ROWS):
+        raise TypeError(f"{name}: {reprlib.repr(rows)} is no list of tuples {wanted}")
+    for at, row in enumerate(rows):
+        if not isinstance(row, _ROWS):
+            raise TypeError(f"{name}[{at}]: {reprlib.repr(row)} is no tuple {wanted}")
+        if len(row) != len(fields):
+            raise ValueError(f"{name}[{at}]: {reprlib.repr(row)} has not the {len(fields)} numbers {wanted}")
+    turned = list(zip(*rows)) or [()] * len(fields)
+    return [column(f"{name}[{{}}].{field}", values, width) for (field, width), values in zip(fields, turned)]
+
+
+def structures(kind: Type[ctypes.Structure], count: int, **columns: memoryview) -> Any:
+    """So many structures for C, from the columns of their fields; what has no column is 0. There is room for one at least."""
+    made = (kind * max(count, 1))()
+    for name, values in columns.items():
+        field: Any = view(made, count, name)
+        if numpy is not None:
+            field = numpy.asarray(field)  # the same memory, which numpy fills some five times as fast
+        field[:] = values
+    return made
+
+
+def numbers(name: str, values: Sequence[int]) -> Tuple[Any, int]:
+    """An array of C of numbers of 32 bits, with room for one at least, and how many they are."""
+    given = column(name, values, U32)
+    made = (ctypes.c_uint32 * max(len(given), 1))()
+    view(made, len(given))[:] = given
+    return made, len(given)
+
+
+def view(made: Any, count: int, name: Optional[str] = None) -> memoryview:
+    """The first elements of an array of C where they are: its numbers, or a field of its structures."""
+    kind, offset = made._type_, 0
+    if name is not None:
+        kind, offset = dict(kind._fields_)[name], getattr(kind, name).offset
+    size, width = ctypes.sizeof(kind), _WIDTHS[kind]
+    step = ctypes.sizeof(made._type_) // size
+    return memoryview(made).cast("B").cast(width.letter)[offset // size : count * step : step]
+
+
+def back(seen: memoryview) -> Any:
+    """What C wrote, for Python. With numpy it is signed, so that ``parent - 1`` is -1 at a root; no number is lost by that, as the library's
+    sizes are at most 2^60 together."""
+    return seen.tolist() if numpy is None else numpy.array(seen, "int64")

@@ -1,0 +1,169 @@
+"""The calls on trees, matrices and systems that are worked by hand."""
+
+from __future__ import annotations
+
+import pathlib
+import re
+import unittest
+from typing import Any
+from unittest import mock
+
+import memplan
+from samples import ACROSS, ARROW, EXTRA, IN_TURN, ITEMS, OUT, PARENT, TASKS, Case, numpy
+
+try:
+    import scipy.sparse
+except ImportError:
+    scipy = None
+
+PAGE = pathlib.Path(__file__).resolve().parents[2] / "c" / "README.md"
+
+
+class Trees(Case):
+    def test_a_plan_has_the_least_peak(self) -> None:
+        order, peak = memplan.plan(PARENT, OUT, EXTRA)
+        self.assertEqual(peak, 11)
+        self.assertEqual(memplan.replay(PARENT, OUT, EXTRA, order), 11)
+
+    def test_a_best_postorder(self) -> None:
+        order, peak = memplan.best_postorder(PARENT, OUT, EXTRA)
+        self.assertEqual((peak, list(order)), (15, IN_TURN))
+
+    def test_a_share_is_taken_over(self) -> None:
+        self.assertEqual(memplan.replay([2, 0], [4, 4], [0, 0], [1, 2]), 8)
+        self.assertEqual(memplan.replay([2, 0], [4, 4], [0, 0], [1, 2], share=[0, 3]), 5)
+        self.assertEqual(memplan.plan([2, 0], [4, 4], [0, 0], [0, 3])[1], 5)
+
+    def test_what_is_no_tree_is_refused(self) -> None:
+        self.assertEqual(self.refused(memplan.plan, [2, 5, 4, 6, 0], OUT, EXTRA), (3, 12, 4, 0))
+        self.assertEqual(self.refused(memplan.plan, [], [], []), (3, 10, 0, 0))
+        self.assertEqual(self.refused(memplan.replay, PARENT, OUT, EXTRA, [1, 4, 3, 2, 5]), (1, 22, 2, 0))
+
+    def test_what_goes_to_disk(self) -> None:
+        amounts, volume = memplan.spill(PARENT, OUT, EXTRA, IN_TURN, 11)
+        self.assertEqual((volume, list(amounts)), (4, [0, 4, 0, 0, 0]))
+        self.assertEqual(self.refused(memplan.spill, PARENT, OUT, EXTRA, IN_TURN, 9), (10, 31, 1, 10))
+
+    def test_arrays_of_different_lengths(self) -> None:
+        words = "parent, out, extra and share have different lengths"
+        self.says(ValueError, words, memplan.plan, PARENT, OUT, EXTRA[:4])
+        self.says(ValueError, words, memplan.plan, PARENT, OUT, EXTRA, [0])
+
+
+class Certificates(Case):
+    def test_a_certificate_is_accepted(self) -> None:
+        certificate = memplan.certify(PARENT, OUT, EXTRA)
+        self.assertEqual((certificate.peak, len(certificate.claims)), (11, 4))
+        self.assertEqual({type(number) for claim in certificate.claims for number in claim}, {int})
+        memplan.check(PARENT, OUT, EXTRA, certificate)
+
+    def test_another_peak_is_refused(self) -> None:
+        certificate = memplan.certify(PARENT, OUT, EXTRA)
+        self.assertEqual(self.refused(memplan.check, PARENT, OUT, EXTRA, certificate._replace(peak=10)), (1, 44, 0, 11))
+
+    # This tree, whose second node alone needs 8 + 4, has more claims than nodes and one, the first room. The library tells a room that is
+    # enough: here the least one, and a greater one.
+    def test_claims_for_which_the_first_room_is_too_small(self) -> None:
+        tree = [4, 5, 4, 5, 0], [2, 4, 4, 0, 3], [3, 8, 2, 0, 4]
+        call = memplan._plans.memplan_certify_tree
+        for more in (0, 50):
+
+            def asked(*arguments: Any) -> int:
+                status = call(*arguments)
+                if status:
+                    arguments[-1]._obj.value += more
+                return status
+
+            with mock.patch.object(memplan._plans, "memplan_certify_tree", side_effect=asked) as calls:
+                certificate = memplan.certify(*tree)
+            self.assertEqual((calls.call_count, certificate.peak), (2, 12))
+            self.assertGreater(len(certificate.claims), 6)
+            memplan.check(*tree, certificate)
+
+
+class Fronts(Case):
+    def check_arrow(self, arrow: Any) -> None:
+        for order in ([1, 2, 0, 3], None):
+            made = memplan.fronts(arrow, order)
+            found = [list(field) for field in made]
+            self.assertEqual(found, [[3, 3, 0], [1, 1, 0], [2, 2, 3], [0, 0, 0], [1, 1, 2], [3, 1, 2, 3]])
+            self.assertEqual(memplan.plan(made.parent, made.out, made.extra, made.share)[1], 5)
+        made = memplan.fronts(arrow, [1, 2, 0, 3], shape="square", in_place=True)
+        self.assertEqual((list(made.extra), list(made.share)), ([3, 3, 4], [0, 0, 1]))
+        made = memplan.fronts(arrow, [1, 2, 0, 3], zeros=1)
+        self.assertEqual((list(made.parent), list(made.columns), list(made.front_of)), ([2, 0], [1, 3], [2, 2, 1, 2]))
+        self.assertEqual(self.refused(memplan.fronts, arrow, [1, 2, 0, 1]), (3, 69, 4, 0))
+
+    def test_of_columns(self) -> None:
+        self.check_arrow(ARROW)
+        self.assertEqual(self.refused(memplan.fronts, ([0, 3, 3, 3, 3], [1, 2, 4])), (3, 66, 3, 0))
+
+    @unittest.skipUnless(scipy, "there is no scipy")
+    def test_of_sparse_matrices(self) -> None:
+        self.check_arrow(scipy.sparse.csc_matrix([[1, 0, 0, 0], [5, 1, 0, 0], [5, 0, 1, 0], [5, 0, 0, 1]]))
+        self.check_arrow(scipy.sparse.coo_matrix([[1, 5, 5, 5], [5, 1, 0, 0], [5, 0, 1, 0], [5, 0, 0, 1]]))
+        self.says(ValueError, "matrix: it is not square", memplan.fronts, scipy.sparse.csc_matrix((2, 3)))
+
+    def test_what_is_no_sparse_matrix(self) -> None:
+        taken = "matrix: taken is a sparse matrix of scipy, or the pair (indptr, indices) of its columns, and not this"
+        self.says(TypeError, f"{taken} list", memplan.fronts, [[1, 0], [0, 1]])
+        self.says(TypeError, f"{taken} tuple", memplan.fronts, (*ARROW, []))
+        self.says(TypeError, f"{taken} NoneType", memplan.fronts, None)
+        if numpy:
+            self.says(TypeError, f"{taken} ndarray", memplan.fronts, numpy.eye(2))
+
+    def test_options_that_are_none(self) -> None:
+        self.says(ValueError, "shape: 'rect' is neither 'triangle' nor 'square'", memplan.fronts, ARROW, shape="rect")
+        self.says(ValueError, "shape: ['square'] is neither 'triangle' nor 'square'", memplan.fronts, ARROW, shape=["square"])
+        for value in (1, 0, None, "no"):
+            self.says(TypeError, f"in_place: {value!r} is no bool", memplan.fronts, ARROW, in_place=value)
+        self.says(ValueError, "order: it has no place", memplan.fronts, ARROW, order=[])
+
+    @unittest.skipUnless(scipy, "there is no scipy")
+    def test_the_lines_of_the_page(self) -> None:
+        scope = {"matrix": scipy.sparse.csc_matrix([[1, 0, 0, 0], [5, 1, 0, 0], [5, 0, 1, 0], [5, 0, 0, 1]])}
+        found = re.search(r"```python\n(.*?)```", PAGE.read_text(encoding="utf-8"), re.DOTALL)
+        exec(found[1], scope)
+        self.assertEqual((scope["peak"], len(scope["order"])), (5, 3))
+
+
+class Systems(Case):
+    def test_the_peak_of_an_order(self) -> None:
+        self.assertEqual(memplan.replay_system(TASKS, ITEMS, [1, 2, 3, 4]), 13)
+        self.assertEqual(memplan.replay_system(TASKS, ITEMS, [1, 3, 2, 4]), 14)
+        self.assertEqual(memplan.replay_system(TASKS, [list(item) for item in ITEMS], [1, 2, 3, 4]), 13)
+        self.assertEqual(memplan.replay_system([7], [], [1]), 7)
+        self.assertEqual(memplan.replay_system([], [], []), 0)
+
+    def test_what_is_no_item(self) -> None:
+        fields = "(size, from, to)"
+        short, long = put_item((4, 1)), put_item((4, 1, 3, 0))
+        self.says(ValueError, f"items[2]: (4, 1) has not the 3 numbers {fields}", memplan.replay_system, TASKS, short, [1, 2, 3, 4])
+        self.says(ValueError, f"items[2]: (4, 1, 3, 0) has not the 3 numbers {fields}", memplan.replay_system, TASKS, long, [1, 2, 3, 4])
+        self.says(ValueError, f"items[2]: (4, 1) has not the 3 numbers {fields}", memplan.Core.of_system, TASKS, short, ACROSS, 20, 2)
+        self.says(TypeError, f"items[2]: 4 is no tuple {fields}", memplan.replay_system, TASKS, put_item(4), [1, 2, 3, 4])
+        self.says(TypeError, f"items: None is no list of tuples {fields}", memplan.replay_system, TASKS, None, [1, 2, 3, 4])
+
+
+def put_item(item: Any) -> Any:
+    return [*ITEMS[:2], item, *ITEMS[3:]]
+
+
+class Results(Case):
+    @unittest.skipUnless(numpy, "there is no numpy")
+    def test_arrays_are_signed(self) -> None:
+        fronts = memplan.fronts(ARROW, [1, 2, 0, 3])
+        self.assertEqual((fronts.parent - 1).tolist(), [2, 2, -1])
+        order, _ = memplan.plan(fronts.parent, fronts.out, fronts.extra, fronts.share)
+        amounts, _ = memplan.spill(PARENT, OUT, EXTRA, IN_TURN, 11)
+        arrays = [*fronts, order, memplan.best_postorder(PARENT, OUT, EXTRA)[0], memplan.certify(PARENT, OUT, EXTRA).order, amounts]
+        self.assertEqual({str(array.dtype) for array in arrays}, {"int64"})
+
+    @unittest.skipIf(numpy, "there is numpy")
+    def test_lists_come_where_numpy_is_not(self) -> None:
+        fronts = memplan.fronts(ARROW, [1, 2, 0, 3])
+        self.assertEqual({type(value) for value in (*fronts, memplan.plan(PARENT, OUT, EXTRA)[0])}, {list})
+
+
+if __name__ == "__main__":
+    unittest.main()

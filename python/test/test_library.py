@@ -1,0 +1,35 @@
+"""Where the library is not found, the import says what to do."""
+
+from __future__ import annotations
+
+import os
+import subprocess
+import sys
+import unittest
+
+
+def error_of_import(library: str) -> str:
+    """What Python says on its way out."""
+    done = subprocess.run(
+        [sys.executable, "-c", "import memplan"], env={**os.environ, "MEMPLAN_LIBRARY": library}, stderr=subprocess.PIPE, text=True
+    )
+    return done.stderr
+
+
+class Library(unittest.TestCase):
+    def check(self, said: str, cause: str, reason: str) -> None:
+        before, _, last = said.partition("The above exception was the direct cause of the following exception")
+        self.assertIn(cause, before)
+        self.assertIn(f"ImportError: memplan cannot load its library: {reason}", last)
+        for word in ("MEMPLAN_LIBRARY", "LD_LIBRARY_PATH", "libmemplan.so.1", "make -C c"):
+            self.assertIn(word, last)
+
+    def test_no_library(self) -> None:
+        self.check(error_of_import("/nowhere/libmemplan.so"), "OSError: ", "/nowhere/libmemplan.so: cannot open shared object file")
+
+    def test_a_library_without_the_calls(self) -> None:
+        self.check(error_of_import("libc.so.6"), "AttributeError: ", "")
+
+
+if __name__ == "__main__":
+    unittest.main()
