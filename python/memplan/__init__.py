@@ -13,6 +13,7 @@ from __future__ import annotations
 import ctypes
 import os
 from array import array
+from pathlib import Path
 from typing import Any, Dict, List, NamedTuple, NoReturn, Optional, Sequence, Tuple, Type
 
 from ._numbers import BOOLS, U32, U64, back, column, columns_of, numbers, structures, view, whole
@@ -22,6 +23,7 @@ __all__ = [
     "Core",
     "Fronts",
     "Refused",
+    "__version__",
     "best_postorder",
     "certify",
     "check",
@@ -175,6 +177,7 @@ def _signatures() -> Tuple[Dict[str, _Signature], Dict[str, _Signature]]:
     options = [ctypes.POINTER(_FrontOptions)]
     core = [ctypes.c_void_p]
     plans = {
+        "version": (ctypes.c_char_p, []),
         "plan_tree": (u32, nodes + order + number + fault),
         "best_postorder": (u32, nodes + order + number + fault),
         "replay_tree": (u32, nodes + order + number + fault),
@@ -206,8 +209,17 @@ Set MEMPLAN_LIBRARY to the path of libmemplan.so, or put libmemplan.so.1 where t
 `make -C c` in memplan's repository builds it, as c/build/libmemplan.so."""
 
 
+def _library() -> str:
+    """The library that MEMPLAN_LIBRARY names; else the one that lies where this package lies: beside it, as in the repository (once `make -C c`
+    has built it), as in a tarball, or as `make install` puts both; else what the system's loader finds."""
+    here, name = Path(__file__).resolve().parent, "libmemplan.so.1"
+    near = [here, here.parents[1] / "c/build", here.parents[1] / "lib", *(above / "lib" for above in here.parents[3:4])]
+    found = (str(folder / name) for folder in near if (folder / name).is_file())
+    return os.environ.get("MEMPLAN_LIBRARY") or next(found, name)
+
+
 def _loaded(loader: Type[ctypes.CDLL], calls: Dict[str, _Signature]) -> ctypes.CDLL:
-    path = os.environ.get("MEMPLAN_LIBRARY") or "libmemplan.so.1"
+    path = _library()
     try:
         library = loader(path)
         for name, (result, arguments) in calls.items():
@@ -223,6 +235,9 @@ def _loaded(loader: Type[ctypes.CDLL], calls: Dict[str, _Signature]) -> ctypes.C
 # are short, and keep the interpreter's lock: so they are made one at a time, as the library needs it, whichever threads make them.
 _PLANS, _STEPS = _signatures()
 _plans, _steps = _loaded(ctypes.CDLL, _PLANS), _loaded(ctypes.PyDLL, _STEPS)
+
+__version__: str = _plans.memplan_version().decode()
+"""The version of the library."""
 
 
 def _nodes(parent: Sequence[int], out: Sequence[int], extra: Sequence[int], share: Optional[Sequence[int]]) -> Tuple[Any, int]:

@@ -1,8 +1,10 @@
 """Installing, removing and packing: of a copy of the repository, by its Makefiles, with a C compiler and no toolchain."""
 
 import os
+import re
 import shutil
 import subprocess
+import sys
 import tempfile
 import unittest
 from pathlib import Path
@@ -54,6 +56,12 @@ class Installing(unittest.TestCase):
         self.run_words("cc", "-o", caller, str(self.folder / "caller.c"), *flags)
         self.run_words(caller)
 
+    def check_python(self, folder: Path) -> None:
+        """The package finds the library that was installed with it."""
+        words = "import sys; sys.path[0] = sys.argv[1]; import memplan; print(memplan.__version__, memplan.plan([0], [7], [2])[1])"
+        version = re.search(r'MEMPLAN_VERSION "(.*)"', (ROOT / "c/memplan.h").read_text())[1]
+        self.assertEqual(self.run_words(sys.executable, "-Bc", words, str(folder)), f"{version} 9\n")
+
     def files_below(self, folder: Path) -> List[str]:
         return sorted(str(it.relative_to(folder)) for it in folder.rglob("*") if not it.is_dir())
 
@@ -64,7 +72,7 @@ class Installing(unittest.TestCase):
         self.check_caller(f"-I{put}/include", f"{put}/lib/libmemplan.a")
         self.check_caller(f"-I{put}/include", f"-L{put}/lib", "-lmemplan", f"-Wl,-rpath,{put}/lib")
         self.assertIn(f"prefix={put}\n", (put / "lib/pkgconfig/memplan.pc").read_text())
-        self.assertIn("share/memplan/python/memplan/__init__.py", self.files_below(put))
+        self.check_python(put / "share/memplan/python")
         self.make("uninstall", f"PREFIX={put}")
         self.assertEqual(self.files_below(put), [])
 
@@ -103,6 +111,7 @@ class Installing(unittest.TestCase):
         self.run_words("sha256sum", "--check", "--status", "SHA256SUMS", where=str(put))
         self.assertEqual(self.run_words(str(put / "bin/memplan"), "post", "--tree", "examples/five.tree"), POSTORDER)
         self.check_caller(f"-I{put}/include", f"{put}/lib/libmemplan.a")
+        self.check_python(put / "python")
         if shutil.which("pkg-config", path=SYSTEM):
             put.rename(self.folder / "put")
             flags = self.run_words("pkg-config", "--cflags", "--libs", "memplan").split()
