@@ -131,8 +131,15 @@ static void spills(void)
     CHECK(is_fault(fault, MEMPLAN_KIND_ROOM, 0, 5) && volume == 76);
 }
 
+/* The library is that of the header. */
+static void versions(void)
+{
+    CHECK(strcmp(memplan_version(), MEMPLAN_VERSION) == 0);
+}
+
 int main(void)
 {
+    versions();
     orders();
     refused_nodes();
     refused_counts();
