@@ -10,8 +10,9 @@ usage: check_repository.py [PROGRAM]
 - Each file or folder that a page names, in a link or as code, is in the repository; of other
   blocks each that stands in tools/, bench/, docs/ or examples/.
 - docs/PROVED.md names what is proved: each function and each clause of its tables stands in a public
-  contract of the crate; its table of a function has every clause of it, and its table of crates
-  every crate of crates.txt.
+  contract of the crate; its table of a function has every clause of it, its table of a definition
+  every line of it with the words that the line cites, and its table of crates every crate of
+  crates.txt.
 - docs/DEFINITIONS.md: each quoted block (```antt) stands in a file of specs/ as it is; the tables of
   files have exactly what the contract of the top call reaches, and the examples that they name are
   computed in specs/.
@@ -366,6 +367,26 @@ def check_function(table: Table) -> Iterator[Finding]:
     yield from check_all_named(f"clause of {function}", contracts.of(function), table)
 
 
+def cited_by(text: str, definition: str) -> set[tuple[str, str]]:
+    """For each line `DEFINITION (CASE ..) .. = ..` its case, with each fact that the line cites."""
+    found = re.findall(rf"^{definition} \((\w+).*? =((?:.|\n +)*)", text, re.M)
+    return {(case, word) for case, line in found for word in re.findall(r"(?<![\w.])[A-Z]\w+", line)}
+
+
+def check_definition(table: Table) -> Iterator[Finding]:
+    """The line before the table names a crate, its file and the definition."""
+    crate, file, definition = SPAN.findall(table.before)[:3]
+    text = (ROOT / "crates" / crate / file).read_text(encoding="utf-8")
+    cited = cited_by(text, definition)
+    rows = [(SPAN.findall(cells[0]), SPAN.findall(cells[-1])) for _, cells in table.rows]
+    named = {(case, word) for cases, words in rows for case in cases for word in words}
+    for case, word in sorted(cited | named):
+        fault = None if (case, word) in named else "no row names it"
+        if (case, word) not in cited:
+            fault = "the definition has no such line"
+        yield Finding(f"{PROVED}: {definition} of {case}: {word}", fault)
+
+
 def check_proved() -> Iterator[Finding]:
     """Each kind of table stands there once at least, or nothing would be looked up."""
     file = ROOT / PROVED
@@ -373,12 +394,16 @@ def check_proved() -> Iterator[Finding]:
     found = list(tables(page))
     crates = [it for it in found if it.head[0] == "crate" and it.head[-1].startswith("clauses")]
     functions = [it for it in found if it.head[0] == "clause"]
-    for what, some in (("of crates", crates), ("of a function", functions)):
-        yield Finding(f"{PROVED}: a table {what}", None if some else "there is none")
+    definitions = [it for it in found if it.head[0] == "line"]
+    kinds = (("crates", crates), ("a function", functions), ("a definition", definitions))
+    for what, some in kinds:
+        yield Finding(f"{PROVED}: a table of {what}", None if some else "there is none")
     for table in crates:
         yield from check_crates(table)
     for table in functions:
         yield from check_function(table)
+    for table in definitions:
+        yield from check_definition(table)
 
 
 # What is defined

@@ -16,12 +16,13 @@ use Rattle.matrix_market.specs.MatrixFile.{RefusesPattern}
 use Rattle.plan_text.specs.PlanFile.{RefusesPlan}
 use Rattle.memplan.specs.Commands.{IsAnswer, IsReport}
 use Rattle.memplan.specs.Files.{Answer, IsRefusedAs, IsRefusedFile, IsRefusedPerm, IsRefusedPlanPriority, IsRefused, IsFirstRefusal, IsTooLarge}
+use Rattle.memplan.specs.Promises.{IsPossible, Says}
 use Rattle.memplan.specs.Clauses.{AreTold, IsAnswered, IsCutShort}
 use Rattle.sp_terms.specs.Kinds.{word_of as workflow_word}
 use Rattle.ordering.specs.Kinds.{perm_word}
 use Rattle.ordering.specs.Kinds.{order_file_word}
 use Rattle.plan_text.specs.Kinds.{word_of as plan_word}
-use Rattle.memplan.specs.Request.{Ordering, natural, min_degree, perm_named, Request, FileRole, NamedFile, tree_file, workflow_file, graph_file, matrix_file, perm_file, order_file, plan_file, priority_file, plan_priority_file, files_of}
+use Rattle.memplan.specs.Request.{Ordering, natural, min_degree, perm_named, Request, FileRole, NamedFile, tree_file, workflow_file, graph_file, matrix_file, perm_file, order_file, plan_file, priority_file, plan_priority_file, files_of, simulate, demo, IsInRange}
 use Rattle.memplan.specs.declared.status.Status.{Status}
 use Rattle.memplan.specs.declared.status.Status.TheVariants as status
 
@@ -82,13 +83,18 @@ module _ (ended : Status) (reports : IsOfReports ended) where
   first_refused (file ∷ files) earlier (text ∷ texts) answer (inl r) at = refused file.role earlier text answer r at
   first_refused (file ∷ files) earlier (text ∷ texts) answer (inr (accepted, r)) at = first_refused files (earlier ++ text ∷ []) texts answer r at
 
--- no refusal is done, and none is of a graph without a term
-pub first_refusal : (files : List NamedFile) (earlier texts : List (List ℕ)) (answer : Answer) → IsFirstRefusal files earlier texts answer → answer.status ≡ status.Done → ⊥
-first_refusal = first_refused status.Done (record { not_format = λ e. cc; not_limit = λ e. cc })
+  -- so an answer with it is a report
+  is_report : (request : Request) (texts : List (List ℕ)) (answer : Answer) → IsAnswer request texts answer → answer.status ≡ ended → IsReport request texts answer
+  is_report request texts answer (inl refusal) at = absurd (first_refused (files_of request) [] texts answer refusal at)
+  is_report request texts answer (inr report) at = report
 
-pub first_refusal_rest : (files : List NamedFile) (earlier texts : List (List ℕ)) (answer : Answer) → IsFirstRefusal files earlier texts answer
-    → answer.status ≡ status.NotSeriesParallel → ⊥
-first_refusal_rest = first_refused status.NotSeriesParallel (record { not_format = λ e. cc; not_limit = λ e. cc })
+-- no refusal is done, and none tells of a graph without a term
+pub report_when_done : (request : Request) (texts : List (List ℕ)) (answer : Answer) → IsAnswer request texts answer → answer.status ≡ status.Done → IsReport request texts answer
+report_when_done = is_report status.Done (record { not_format = λ e. cc; not_limit = λ e. cc })
+
+pub report_of_rest : (request : Request) (texts : List (List ℕ)) (answer : Answer) → IsAnswer request texts answer → answer.status ≡ status.NotSeriesParallel
+    → IsReport request texts answer
+report_of_rest = is_report status.NotSeriesParallel (record { not_format = λ e. cc; not_limit = λ e. cc })
 
 -- ---- a page that answers
 
@@ -104,6 +110,16 @@ pub was_refused : (told : List ℕ → Option (List ℕ)) (request : Request) (a
     → ((texts : List (List ℕ)) → AreTold told (files_of request) texts → IsFirstRefusal (files_of request) [] texts answer) → Answers told request answer
 was_refused told request answer h texts are = inl (h texts are)
 
+-- the law on what answers say
+abbrev pub WhatAnswersSay : Type 0
+WhatAnswersSay =
+    (request : Request) (texts : List (List ℕ)) (answer : Answer) → IsPossible request → IsAnswer request texts answer → Says request texts answer.status answer.text
+
+possible : (request : Request) → IsInRange request → IsPossible request
+possible (simulate input source simulation) range = range.0
+possible (demo made) range = range
+possible request range = tt
+
 module _ (told : List ℕ → Option (List ℕ)) (request : Request) (answer : Answer) (answering : Answers told request answer) where
   pub answers : (ended : Status) (old new : Option (List ℕ)) → ended ≡ answer.status → Appended old new answer.text → IsAnswered told request ended old new
   answers ended old new is appended = λ texts are. (answer, answering texts are, (sym is, appended))
@@ -111,6 +127,9 @@ module _ (told : List ℕ → Option (List ℕ)) (request : Request) (answer : A
   pub is_cut : (old new : Option (List ℕ)) → ((n : ℕ) × (n < length answer.text) × Appended old new (take n answer.text)) → IsCutShort told request old new
   is_cut old new prefix = λ texts are. (answer, answering texts are, prefix)
 
-  -- it answers what was asked
-  pub says : (asked : Request) → request ≡ asked → Answers told asked answer
-  says asked is = subst (λ (r : Request). Answers told r answer) is answering
+  -- what an answer says, the text says that was written with its status, of what was asked
+  pub says : WhatAnswersSay → IsInRange request → (asked : Request) → request ≡ asked → (texts : List (List ℕ)) → AreTold told (files_of asked) texts
+      → (ended : Status) → ended ≡ answer.status → Says asked texts ended answer.text
+  says law range asked is texts are ended same =
+      let answers_asked = subst (λ (r : Request). Answers told r answer) is answering in
+      subst (λ e. Says asked texts e answer.text) (sym same) (law asked texts answer (possible asked (subst IsInRange is range)) (answers_asked texts are))

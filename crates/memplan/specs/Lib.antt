@@ -16,6 +16,7 @@ pub mod Segments
 pub mod Fronts
 pub mod Reduce
 pub mod Commands
+pub mod Promises
 pub mod Clauses
 pub mod Pages
 pub mod Judged

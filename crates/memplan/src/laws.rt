@@ -7,22 +7,17 @@ ghost use Rattle.sp_terms.specs.declared.position.Position.{Position};
 ghost use Rattle.tree_input.specs.Tree.{IsTree};
 ghost use Rattle.tree_input.specs.declared.node.Node.{Node};
 ghost use Rattle.memplan.specs.Commands.{IsAnswer, IsDecided};
-ghost use Rattle.memplan.specs.Check.{IsCertified};
 ghost use Rattle.memplan.specs.Files.{Answer, HasValue, IsRefused, IsSystemOf, IsOrderedMatrix, IsSystemWithTerm, IsTreeOf};
 ghost use Rattle.memplan.specs.Demo.{IsDemoOf, IsShown};
 ghost use Rattle.memplan.specs.Judged.{AreWithin};
 ghost use Rattle.memplan.specs.Fronts.{IsFactored, IsFrontsOf};
-ghost use Rattle.memplan.specs.Plan.{IsBestPlan};
-ghost use Rattle.memplan.specs.Request.{FileRole, IsInRange, IsMakeable, Input, OrderedMatrix, Ordering, OrderSource, PlanFormat, Request};
-ghost use Rattle.memplan.specs.Request.{Simulation, TreeInput, Upgrade, check, demo, fronts, input_files, planning, reduce, segments};
-ghost use Rattle.memplan.specs.Request.{simulate, spill, tree_input_files, upgrade};
-ghost use Rattle.memplan.specs.Reduce.{HasIrreducibleRest, IsReduced};
-ghost use Rattle.memplan.specs.Segments.{IsNumberedTerm, IsReached};
-ghost use Rattle.memplan.specs.Simulate.{IsSimulated};
-ghost use Rattle.memplan.specs.Spill.{IsSpilled};
-ghost use Rattle.memplan.specs.Upgrade.{IsFileOf, IsUpgraded, IsUpgradedFrom, Versioned, text_2, upgrade_again};
+ghost use Rattle.memplan.specs.Promises.{IsPossible, Says};
+ghost use Rattle.memplan.specs.Request.{FileRole, IsInRange, IsMakeable, Input, OrderedMatrix, Ordering, Request, TreeInput, Upgrade};
+ghost use Rattle.memplan.specs.Request.{input_files, tree_input_files, upgrade};
+ghost use Rattle.memplan.specs.Segments.{IsNumberedTerm};
+ghost use Rattle.memplan.specs.Upgrade.{IsFileOf, IsUpgradedFrom, Versioned, text_2, upgrade_again};
 ghost use Rattle.memplan.specs.declared.commands.demo.Demo.{Demo};
-ghost use Rattle.memplan.specs.declared.status.Status.TheVariants.{Done, NotSeriesParallel};
+ghost use Rattle.memplan.specs.declared.status.Status.TheVariants.{Done};
 
 use activation::laws as run_laws;
 use claim_check::laws as claim_laws;
@@ -177,31 +172,13 @@ pub fn one_answer()
     one_fronts();
 }
 
-/// What an answer says: a yes certifies, a plan is best, a trace is of a run that was simulated, what was upgraded is what the printed
-/// file says, what is spilled is a spill plan of least volume, printed levels are reached, and none below them, the rows of a front are a
-/// structure of the filled graph, the workflow of a task graph has the graph's traversals, and a graph whose rest is told has no term. It
-/// follows from being an answer.
+/// An answer says what its request promises, command by command: a yes certifies, a plan is best, a trace is of a run that was simulated,
+/// what was upgraded is what the printed file says, what is spilled is a spill plan of least volume, printed levels are reached, and none
+/// below them, the rows of a front are a structure of the filled graph, the workflow of a task graph has the graph's traversals, and a
+/// graph whose rest is told has no term. It follows from being an answer.
 pub fn what_answers_say()
-    ensures certified { (input : Input) (plan : List ℕ) (workers : ℕ) (texts : List (List ℕ)) (answer : Answer) →
-        IsAnswer (check input plan workers) texts answer → answer.status ≡ Done → IsCertified input texts answer.text }
-    ensures planned { (input : Input) (format : PlanFormat) (texts : List (List ℕ)) (answer : Answer) →
-        IsAnswer (planning input format) texts answer → answer.status ≡ Done → IsBestPlan input format texts answer.text }
-    ensures simulated { (input : Input) (source : OrderSource) (s : Simulation) (texts : List (List ℕ)) (answer : Answer) → 1 ≤ s.workers →
-        IsAnswer (simulate input source s) texts answer → answer.status ≡ Done → IsSimulated input source s texts answer.text }
-    ensures shown { (made : Demo) (texts : List (List ℕ)) (answer : Answer) → IsMakeable made →
-        IsAnswer (demo made) texts answer → answer.status ≡ Done → IsShown made answer.text }
-    ensures upgraded { (u : Upgrade) (texts : List (List ℕ)) (answer : Answer) →
-        IsAnswer (upgrade u) texts answer → answer.status ≡ Done → IsUpgraded u texts answer.text }
-    ensures spilled { (input : Input) (source : OrderSource) (bound : ℕ) (texts : List (List ℕ)) (answer : Answer) →
-        IsAnswer (spill input source bound) texts answer → answer.status ≡ Done → IsSpilled input source bound texts answer.text }
-    ensures reached { (input : Input) (texts : List (List ℕ)) (answer : Answer) →
-        IsAnswer (segments input) texts answer → answer.status ≡ Done → IsReached input texts answer.text }
-    ensures factored { (m : OrderedMatrix) (bound workers : ℕ) (texts : List (List ℕ)) (answer : Answer) →
-        IsAnswer (fronts m bound workers) texts answer → answer.status ≡ Done → IsFactored m bound workers texts answer.text }
-    ensures reduced { (name : List ℕ) (texts : List (List ℕ)) (answer : Answer) →
-        IsAnswer (reduce name) texts answer → answer.status ≡ Done → IsReduced texts answer.text }
-    ensures irreducible { (name : List ℕ) (texts : List (List ℕ)) (answer : Answer) →
-        IsAnswer (reduce name) texts answer → answer.status ≡ NotSeriesParallel → HasIrreducibleRest texts answer.text }
+    ensures { (request : Request) (texts : List (List ℕ)) (answer : Answer) → IsPossible request →
+        IsAnswer request texts answer → Says request texts answer.status answer.text }
 {
     one_input();
     tree_laws::tree_term();

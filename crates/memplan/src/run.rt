@@ -1,16 +1,7 @@
 ghost use Rattle.std.specs.Prelude.{◌≡◌, ◌⊎◌, ◌<◌, ◌≤◌, ℕ, List, length, take};
 ghost use Rattle.mp_outside.specs.Outside.{Rose, Appended};
-ghost use Rattle.memplan.specs.Request.{Input, OrderedMatrix, OrderSource, PlanFormat, Request, Simulation, check, demo, fronts, planning};
-ghost use Rattle.memplan.specs.Request.{reduce, segments, simulate, spill, files_of};
-ghost use Rattle.memplan.specs.Check.{IsCertified};
-ghost use Rattle.memplan.specs.Demo.{IsShown};
-ghost use Rattle.memplan.specs.Fronts.{IsFactored};
-ghost use Rattle.memplan.specs.Plan.{IsBestPlan};
-ghost use Rattle.memplan.specs.Reduce.{HasIrreducibleRest, IsReduced};
-ghost use Rattle.memplan.specs.Segments.{IsReached};
-ghost use Rattle.memplan.specs.Simulate.{IsSimulated};
-ghost use Rattle.memplan.specs.Spill.{IsSpilled};
-ghost use Rattle.memplan.specs.declared.commands.demo.Demo.{Demo};
+ghost use Rattle.memplan.specs.Request.{Request, files_of};
+ghost use Rattle.memplan.specs.Promises.{Says};
 ghost use Rattle.memplan.specs.Pages.{answer_of, status_of};
 ghost use Rattle.memplan.specs.Clauses.{Asks, AsksNothing, AreTold, HasText, IsAnswered, IsCutShort, HasFailed, AreQuiet};
 
@@ -40,63 +31,10 @@ pub fn run_words<R: Threads + Sync, F: Files, S: Sink, G: Gate>(
     ensures answered { HasText result → (request : Request) × Asks words.now request
         × IsAnswered (F.bytes_of files.old) request result (S.written sink.old) (S.written sink.new) }
 
-    // where a plan was checked and accepted, its order is a traversal of the input's system, its peak is the one that it states and that
-    // was printed, and no traversal has a lower one
-    ensures certified { result ≡ Status.Done → (input : Input) (plan : List ℕ) (workers : ℕ)
-        → Asks words.now (check input plan workers)
-        → (texts : List (List ℕ)) → AreTold (F.bytes_of files.old) (files_of (check input plan workers)) texts
-        → (printed : List ℕ) × IsCertified input texts printed × Appended (S.written sink.old) (S.written sink.new) printed }
-
-    // where a plan was made, what was printed is a plan file, or the JSON of its plan: the order is a traversal of the input's system, its
-    // peak is the one that the plan states, no traversal has a lower one, and `check` says yes to the file
-    ensures planned { result ≡ Status.Done → (input : Input) (format : PlanFormat) → Asks words.now (planning input format)
-        → (texts : List (List ℕ)) → AreTold (F.bytes_of files.old) (files_of (planning input format)) texts
-        → (printed : List ℕ) × IsBestPlan input format texts printed × Appended (S.written sink.old) (S.written sink.new) printed }
-
-    // where a run was simulated to its end, its events are one activation, one start and one finish of each task of the input's system, and
-    // memory stayed within the bound, which is at least the peak of the order
-    ensures simulated { result ≡ Status.Done → (input : Input) (source : OrderSource) (s : Simulation)
-        → Asks words.now (simulate input source s)
-        → (texts : List (List ℕ)) → AreTold (F.bytes_of files.old) (files_of (simulate input source s)) texts
-        → (printed : List ℕ) × IsSimulated input source s texts printed × Appended (S.written sink.old) (S.written sink.new) printed }
-
-    // where amounts were printed, they are a spill plan of the input's system, the order and the bound, whose volume is the printed one,
-    // and no spill plan of these has a lower one
-    ensures spilled { result ≡ Status.Done → (input : Input) (source : OrderSource) (bound : ℕ)
-        → Asks words.now (spill input source bound)
-        → (texts : List (List ℕ)) → AreTold (F.bytes_of files.old) (files_of (spill input source bound)) texts
-        → (printed : List ℕ) × IsSpilled input source bound texts printed × Appended (S.written sink.old) (S.written sink.new) printed }
-
-    // where staircases were printed, of every printed pair the level is the memory of a state that is reached within the bound, and none
-    // that is reached within it has a lower one; so it is for every bound
-    ensures reached { result ≡ Status.Done → (input : Input) → Asks words.now (segments input)
-        → (texts : List (List ℕ)) → AreTold (F.bytes_of files.old) (files_of (segments input)) texts
-        → (printed : List ℕ) × IsReached input texts printed × Appended (S.written sink.old) (S.written sink.new) printed }
-
-    // where the rows of the fronts of a matrix were printed, each list is the structure of the first column of its supernode in the filled
-    // graph, and of each further column the structure is the list from there on; the printed rounds are those of the activation machine,
-    // and along them the rows that are used are at most the bound
-    ensures factored { result ≡ Status.Done → (m : OrderedMatrix) (bound workers : ℕ)
-        → Asks words.now (fronts m bound workers)
-        → (texts : List (List ℕ)) → AreTold (F.bytes_of files.old) (files_of (fronts m bound workers)) texts
-        → (printed : List ℕ) × IsFactored m bound workers texts printed × Appended (S.written sink.old) (S.written sink.new) printed }
-
-    // where a task graph was reduced, a workflow file was printed, with names: the traversals of its system are those of the graph under
-    // these names, with the same peaks, and so are the least peaks
-    ensures reduced { result ≡ Status.Done → (name : List ℕ) → Asks words.now (reduce name)
-        → (texts : List (List ℕ)) → AreTold (F.bytes_of files.old) (files_of (reduce name)) texts
-        → (printed : List ℕ) × IsReduced texts printed × Appended (S.written sink.old) (S.written sink.new) printed }
-
-    // where it is told that a task graph is not series-parallel, no term has the system of the completed graph, and the arcs of an
-    // irreducible rest of it were printed
-    ensures irreducible { result ≡ Status.NotSeriesParallel → (name : List ℕ) → Asks words.now (reduce name)
-        → (texts : List (List ℕ)) → AreTold (F.bytes_of files.old) (files_of (reduce name)) texts
-        → (printed : List ℕ) × HasIrreducibleRest texts printed × Appended (S.written sink.old) (S.written sink.new) printed }
-
-    // where a demo was made, what was printed is its summary: the checker says yes, and no traversal of the made system has a lower peak
-    // than the one that was printed
-    ensures shown { result ≡ Status.Done → (made : Demo) → Asks words.now (demo made)
-        → (printed : List ℕ) × IsShown made printed × Appended (S.written sink.old) (S.written sink.new) printed }
+    // and what was appended says what the request promises: `Says` has a line for each command
+    ensures says { HasText result → (request : Request) → Asks words.now request
+        → (texts : List (List ℕ)) → AreTold (F.bytes_of files.old) (files_of request) texts
+        → (printed : List ℕ) × Says request texts result printed × Appended (S.written sink.old) (S.written sink.new) printed }
 
     // nothing is appended at usage, read fault and want of memory
     ensures silent { (result ≡ Status.Usage) ⊎ ((result ≡ Status.ReadFault) ⊎ (result ≡ Status.NoMemory))

@@ -24,27 +24,25 @@ use Rattle.assembly_tree.specs.Samples.{node}
 use Rattle.activation.specs.Machine.{phase_in, with_phase}
 use Rattle.activation.specs.Samples.{setting, wide}
 use Rattle.memplan.specs.declared.status.Status.TheVariants as status
-use Rattle.memplan.specs.Request.{Request, upgrade, tree_upgrade, as_json}
+use Rattle.memplan.specs.Request.{Request, Input, check, reduce, upgrade, tree_upgrade, as_json}
 use Rattle.memplan.specs.Files.{Answer, format_refused, limit_refused, order_refused, bound_refused}
 use Rattle.memplan.specs.Replay.{peak_answer, IsReplayAnswer}
 use Rattle.memplan.specs.Tree.{tree_answer}
 use Rattle.memplan.specs.Post.{post_answer}
-use Rattle.memplan.specs.Check.{verdict_answer, IsCheck}
+use Rattle.memplan.specs.Check.{verdict_answer, IsCheck, IsCertified}
 use Rattle.memplan.specs.Plan.{plan_answer}
 use Rattle.memplan.specs.Simulate.{simulation_answer, setting_of, IsSimulation}
 use Rattle.memplan.specs.Spill.{spill_answer, working_set_refused}
 use Rattle.memplan.specs.Segments.{no_steps, node_positions, rows_of, segments_answer}
-use Rattle.memplan.specs.Reduce.{rest_answer}
+use Rattle.memplan.specs.Reduce.{rest_answer, HasIrreducibleRest}
 use Rattle.memplan.specs.Fronts.{fronts_answer}
 use Rattle.memplan.specs.Demo.{demo_lines}
 use Rattle.memplan.specs.Upgrade.{upgrade_answer, tree_value}
 use Rattle.memplan.specs.Commands.{IsAnswer}
+use Rattle.memplan.specs.Promises.{Says, done_answer as done}
 use Rattle.memplan.specs.Clauses.{IsAnswered}
 use Rattle.memplan.specs.Samples.Graphs.{bridge}
 use Rattle.memplan.specs.Samples.Plans.{system, positions, plan, claims, is_not_cut, nothing_is_a_traversal, yes_to_the_plan, another_peak}
-
-abbrev pub done : List ℕ → Answer
-done text = record { status = status.Done; text = text }
 
 -- ---- reports
 
@@ -191,3 +189,13 @@ is_answered (text ∷ []) tells =
     ((answer.status ≡ status.Format) × (refused.text ≡ [] ++ answer.text)))
     (ap (λ o. unwrap_or o []) (tells.0)) (refused, is_refused, (refl, refl))
 is_answered (text ∷ more ∷ texts) tells = absurd (tells.1)
+
+-- ---- promises: what a line says at the status of which it speaks
+
+pub a_yes_certifies : (input : Input) (plan : List ℕ) (workers : ℕ) (texts : List (List ℕ)) (printed : List ℕ)
+    → Says (check input plan workers) texts status.Done printed → IsCertified input texts printed
+a_yes_certifies input plan workers texts printed says = says refl
+
+pub a_rest_has_no_term : (name : List ℕ) (texts : List (List ℕ)) (printed : List ℕ)
+    → Says (reduce name) texts status.NotSeriesParallel printed → HasIrreducibleRest texts printed
+a_rest_has_no_term name texts printed says = says.1 refl
