@@ -107,7 +107,7 @@ enum memplan_shape {
 enum memplan_kind {
     MEMPLAN_KIND_NO_MEMORY = 1,
     MEMPLAN_KIND_ROOM = 2,       /* value: the length that is needed */
-    MEMPLAN_KIND_CLAIM_ROOM = 3, /* value: how many claims there must be room for */
+    MEMPLAN_KIND_CLAIM_ROOM = 3, /* value: room for how many claims is always enough */
     MEMPLAN_KIND_WORKERS = 4,    /* not from 1 to 4,096 */
 
     /* nodes, or tasks of a system: the first of these tests that fails, with the lowest node that fails it (at) */
@@ -180,8 +180,8 @@ uint32_t memplan_plan_tree(const memplan_node *nodes, size_t count, uint32_t *or
                            memplan_fault *fault);
 
 /* The same, with claims that certify it, which memplan_check_tree accepts. *claim_count says how many were written at the front of claims;
- * what lies past them is left as it was. Where there is room for fewer than there are, the answer is MEMPLAN_USAGE, and the fault's value
- * says how many there are. */
+ * what lies past them is left as it was. Room for 3 count + 1 claims is always enough. Where there is room for fewer than there are, the
+ * answer is MEMPLAN_USAGE, and the fault's value is 3 count + 1: with room for so many, the call is not refused for want of it. */
 uint32_t memplan_certify_tree(const memplan_node *nodes, size_t count, uint32_t *order, size_t places, uint64_t *peak,
                               memplan_claim *claims, size_t claim_room, uint64_t *claim_count, memplan_fault *fault);
 

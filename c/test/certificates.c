@@ -10,11 +10,12 @@ int main(void)
     memset(claims, 0x5a, sizeof claims);
     const memplan_claim blank = claims[0];
 
-    /* no room: how many claims there are, and nothing else */
+    /* no room for the 4 claims that there are: how many there always is room enough for, 3 for a node and 1, and nothing else */
     CHECK(memplan_certify_tree(five, 5, order, 5, &peak, claims, 3, &count, &fault) == MEMPLAN_USAGE);
-    CHECK(is_fault(fault, MEMPLAN_KIND_CLAIM_ROOM, 0, 4));
+    CHECK(is_fault(fault, MEMPLAN_KIND_CLAIM_ROOM, 0, 16));
     CHECK(peak == 76 && count == 75 && order[0] == 0 && memcmp(&claims[0], &blank, sizeof blank) == 0);
 
+    /* room for as many as were told */
     fault = untouched;
     CHECK(memplan_certify_tree(five, 5, order, 5, &peak, claims, 16, &count, &fault) == MEMPLAN_DONE);
     CHECK(peak == 11 && count == 4 && is_fault(fault, 77, 78, 79));

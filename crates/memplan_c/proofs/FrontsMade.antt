@@ -1,5 +1,5 @@
 -- An analysis, merged and laid out, has the fronts of the definition.
-use Rattle.std.proofs.Common.{◌≡◌, ◌∙◌, ℕ, suc, Bool, ◌+◌, ◌-◌, ◌<◌, ◌≤◌, All, Option, Some, None, List, [], ◌∷◌, length, get_or, sym, ap, subst, arith}
+use Rattle.std.proofs.Common.{◌≡◌, ◌∙◌, ℕ, suc, Bool, ◌+◌, ◌-◌, ◌≤◌, All, Option, Some, None, List, [], ◌∷◌, length, get_or, sym, ap, subst, arith}
 use Rattle.std.specs.List.{sum_by}
 use Rattle.std.proofs.lemmas.List.{length-map}
 use Rattle.std.proofs.lemmas.List.Elements.{All-from_get_or}

@@ -1,6 +1,7 @@
 -- The fronts of a matrix of compressed columns: what the call for matrices answers, and why it is refused.
-use Rattle.std.specs.Prelude.{◌≡◌, ◌==◌, ℕ, ◌<◌, ◌≤◌, not, if◌then◌else◌, Option, Some, None, List, [], ◌∷◌, length, map}
+use Rattle.std.specs.Prelude.{◌≡◌, ◌≢◌, ◌==◌, ℕ, ◌<◌, ◌≤◌, not, if◌then◌else◌, Option, Some, None, List, [], ◌∷◌, length, map}
 use Rattle.std.specs.List.{range_with_len}
+use Rattle.limits.specs.Limits.{most_mindeg}
 use Rattle.matrix_market.specs.Pattern.{IsPatternOf, is_joined}
 use Rattle.matrix_input.specs.Columns.{AreColumns, IsColumnsRefusal, columns_in, pairs_given}
 use Rattle.matrix_input.specs.Order.{IsPermRefusal, order_given}
@@ -45,9 +46,9 @@ options_given options = record {
 
 -- ---- what is answered
 
--- the order in which a matrix of these rows is eliminated: the one that is given, or where none is, that of minimum degree
+-- the order in which a matrix of these rows is eliminated: the one that is given, or where none is, that of minimum degree, up to a limit
 abbrev pub IsMatrixOrder : ℕ → List ℕ → List (List ℕ) → List ℕ → Type 0
-IsMatrixOrder base [] rows order = IsMinimumDegreeOrder (is_joined rows) (length rows) order
+IsMatrixOrder base [] rows order = (length rows ≤ most_mindeg) × IsMinimumDegreeOrder (is_joined rows) (length rows) order
 IsMatrixOrder base (number ∷ numbers) rows order = order ≡ order_given base (number ∷ numbers)
 
 -- the matrix has these rows, and is eliminated in this order
@@ -91,7 +92,7 @@ pub record IsNodeRoomRefused (m : GivenMatrix) (options : FrontOptions) (room ne
 
 -- numbers, counted from a base, that are no order of n columns; or none, and there is no order of minimum degree
 abbrev pub IsMatrixOrderRefusal : ℕ → List ℕ → ℕ → Refusal → Type 0
-IsMatrixOrderRefusal base numbers n (refusals.Perm refusal) = IsPermRefusal base n numbers refusal
+IsMatrixOrderRefusal base numbers n (refusals.Perm refusal) = (numbers ≢ []) × IsPermRefusal base n numbers refusal
 IsMatrixOrderRefusal base numbers n (refusals.Degree refusal) = (numbers ≡ []) × IsMindegRefusal n refusal
 IsMatrixOrderRefusal base numbers n refusals.NoMemory = Unit {0}
 IsMatrixOrderRefusal base numbers n other = ⊥

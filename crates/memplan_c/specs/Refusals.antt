@@ -1,5 +1,5 @@
 -- Why each call is refused: what a refusal of it says. Want of memory says nothing, and a refusal that a call does not name has no cause.
-use Rattle.std.specs.Prelude.{◌≡◌, ◌≢◌, ℕ, ◌-◌, ◌<◌, ◌≤◌, All, List, length, map, take}
+use Rattle.std.specs.Prelude.{◌≡◌, ◌≢◌, ℕ, ◌+◌, ◌-◌, ◌*◌, ◌<◌, ◌≤◌, All, List, length, map, take}
 use Rattle.limits.specs.Limits.{most_tasks, most_positions, most_total, most_workers}
 use Rattle.mp_system.specs.Refusal.{IsOrderRefusal}
 use Rattle.mp_system.specs.System.{IsSystem}
@@ -11,7 +11,7 @@ use Rattle.sp_terms.specs.declared.position.Position.{Position}
 use Rattle.tree_input.specs.declared.node.Node.{Node}
 use Rattle.tree_input.specs.Judged.{IsNodesRefusal}
 use Rattle.tree_input.specs.Tree.{IsTree, system_of_nodes}
-use Rattle.plan_text.specs.Plan.{PlanText, IsClaimWithin, RiseFrom}
+use Rattle.plan_text.specs.Plan.{PlanText, IsClaimWithin, IsPlan, RiseFrom}
 use Rattle.claim_check.specs.Accepted.{IsObjection}
 use Rattle.claim_check.specs.declared.objection.Objection.{Objection}
 use Rattle.activation.specs.Refusal.{IsCoreRefusal}
@@ -99,13 +99,19 @@ IsCheckRefusal nodes order peak claims (refusals.Objection objection) = IsObject
 IsCheckRefusal nodes order peak claims refusals.NoMemory = Unit {0}
 IsCheckRefusal nodes order peak claims other = ⊥
 
--- there is a plan that is certified by so many claims, for which there is no room
+-- how many claims a certificate of so many nodes has at most: one at each position of their term, which has up to three for a node (its
+-- block, its task, and what joins the terms of its children), and one that joins those of the roots
+abbrev pub most_claims : ℕ → ℕ
+most_claims nodes = 3 * nodes + 1
+
+-- a plan within the limits is certified by more claims than there is room for; what is told is how many are always enough
 pub record NeedsClaims (nodes : List Node) (room needed : ℕ) : Type 0 where
   pub tree : IsTree nodes
   pub plan : PlanText
+  pub within : IsPlan plan
   pub certificate : IsCertificate nodes plan
-  pub count : length plan.claims ≡ needed
-  pub past : room < needed
+  pub past : room < length plan.claims
+  pub needed_is : needed ≡ most_claims (length nodes)
 
 -- a plan with claims, with room for an order and for claims
 abbrev pub IsCertifyRefusal : List Node → ℕ → ℕ → Refusal → Type 0

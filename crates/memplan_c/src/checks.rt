@@ -77,16 +77,17 @@ fn certified(
     let tree = tree_of_nodes(alloc, nodes)?;
     let problem = Problem::of_tree(tree);
     let plan = problem.into_plan(alloc)?;
-    let needed = plan.claims().len();
-    if claim_room < needed {
+    if claim_room < plan.claims().len() {
+        // Room for so many is enough for every certificate of these nodes.
         return Err(Refusal::ClaimRoom {
-            needed: needed as u64,
+            needed: 3 * nodes.len() as u64 + 1,
         });
     }
     Ok(plan)
 }
 
 /// A traversal of least peak of the tree of these nodes, with claims that certify it at the front of their array, and how many they are.
+/// Room for three claims for each node, and one, is always enough (`laws::room_for_claims`).
 #[unsafe(no_mangle)]
 pub extern "C" fn memplan_certify_tree(
     alloc: Global,

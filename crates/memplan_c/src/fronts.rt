@@ -1,6 +1,6 @@
 //! The fronts of a matrix.
 
-ghost use Rattle.std.specs.Prelude.{◌≡◌, ◌≢◌, ◌≤◌, ◌<◌, length, take, drop, IfOk, IfErr};
+ghost use Rattle.std.specs.Prelude.{◌≡◌, ◌≢◌, ◌≤◌, ◌<◌, length, take, drop, IfOk, IfErr, OnOk};
 ghost use Rattle.limits.specs.Limits.{most_order};
 ghost use Rattle.ordering.specs.Perm.{IsPerm};
 ghost use Rattle.symbolic.specs.FrontTree.{relaxed};
@@ -38,6 +38,7 @@ pub struct GivenOptions {
 
 fn shape_of(shape: u32) -> Result<Shape, Refusal>
     ensures shape { IfOk result (λ made. made ≡ shape_given shape) }
+    ensures known { OnOk result (shape ≤ 1) }
     ensures refused { IfErr result (λ e. (1 < shape) × (e ≡ refusals.Shape)) }
 {
     match shape {
@@ -49,6 +50,7 @@ fn shape_of(shape: u32) -> Result<Shape, Refusal>
 
 fn options_of(given: GivenOptions) -> Result<FrontOptions, Refusal>
     ensures options { IfOk result (λ options. options ≡ options_given given) }
+    ensures shape { OnOk result (given.shape ≤ 1) }
     ensures refused { IfErr result (λ e. (1 < given.shape) × (e ≡ refusals.Shape)) }
 {
     let shape = shape_of(given.shape)?;
@@ -136,6 +138,7 @@ fn fronts_of_arrays(
 ) -> Result<Fronts, Refusal>
     ensures fronts { IfOk result (λ made.
         AreFronts (matrix_given base starts.now rows.now numbers.now) (options_given given) made.tree made.of_columns.items) }
+    ensures shape { OnOk result (given.shape ≤ 1) }
     ensures fits { IfOk result (λ made. length made.tree ≤ room) }
     ensures len { IfOk result (λ made. length made.of_columns.items ≡ columns) }
     ensures few { IfOk result (λ made. length made.tree ≤ columns) }
@@ -185,6 +188,8 @@ pub extern "C" fn memplan_fronts(
     // 0: the first nodes are the tree of the fronts of the matrix, and the front of each column is that of its supernode
     ensures fronts { result ≡ 0 →
         AreFronts (matrix_given base starts.now rows.now order.now) (options_given options.now) (take count.new nodes.new) front_of.new }
+    // the shape is one that there is
+    ensures shape { result ≡ 0 → options.now.shape ≤ 1 }
     ensures counted { result ≡ 0 → count.new ≤ length nodes.new }
     // there are at most as many as columns
     ensures few { result ≡ 0 → count.new ≤ length front_of.new }

@@ -2,7 +2,7 @@
 //!
 //! A refused call answers a status that is not 0 and writes a fault, and nothing else. The definitions stand in specs/: `Answers`, what the
 //! calls answer, and `Refusals`, why they are refused; `Fronts`, both of the call for matrices; `Slots`, what a call leaves in the place of
-//! a core; `Faults`, with which status and which fault.
+//! a core; `Faults`, with which status and which fault. `laws` says how much room for claims is always enough.
 #![tactic(auto)]
 
 mod checks;
@@ -13,6 +13,7 @@ mod faults;
 mod front_tests;
 mod fronts;
 mod kinds;
+pub mod laws;
 mod plans;
 mod refusal;
 mod replays;

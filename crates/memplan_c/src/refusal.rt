@@ -31,7 +31,7 @@ pub enum PlanFault {
 pub enum Refusal {
     /// An array that is to be written has not the length that is needed.
     Room { needed: u64 },
-    /// There is room for fewer claims than are needed.
+    /// There is room for fewer claims than the plan has; so many are always enough.
     ClaimRoom { needed: u64 },
     /// There is room for fewer nodes than there are fronts.
     NodeRoom { needed: u64 },
