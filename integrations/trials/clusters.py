@@ -2,18 +2,21 @@
 
 from __future__ import annotations
 
+import gc
 import logging
 import socket
 import subprocess
 import sys
+import threading
 import time
 from contextlib import contextmanager
 from pathlib import Path
-from typing import Any, Dict, Iterator, List, Sequence, Tuple
+from typing import Any, Callable, Dict, Iterator, List, Sequence, Tuple
 
 import blocks
 import dask
 from distributed import Client, LocalCluster
+from harness import eventually
 from memplan_dask import Task
 
 HERE = Path(__file__).resolve().parent
@@ -27,21 +30,24 @@ dask.config.set({f"distributed.worker.memory.{what}": False for what in ("target
 
 
 @contextmanager
-def cluster(processes: bool, workers: int = 4, saturation: float = 1.1) -> Iterator[Client]:
+def cluster(processes: bool, workers: int = 4, saturation: float = 1.1, memory_limit: int = 0) -> Iterator[Client]:
     """Workers of one thread each: threads of this process, or processes. ``saturation`` is how many tasks Dask hands to a thread at once
-    that are ready from the start: a number is its default since 2022.11, infinity what it did before."""
+    that are ready from the start: a number is its default since 2022.11, infinity what it did before. A ``memory_limit`` of 0 is none."""
     with dask.config.set({"distributed.scheduler.worker-saturation": saturation}):
         made = LocalCluster(
             n_workers=workers,
             threads_per_worker=1,
             processes=processes,
-            memory_limit=0,
+            memory_limit=memory_limit,
             dashboard_address=f"{LOOPBACK}:0",
             worker_dashboard_address=f"{LOOPBACK}:0",
             silence_logs=50,
             **({"host": LOOPBACK} if processes else {}),
         )
     with made, Client(made) as client:
+        # The modules stay, so no trial has to look for garbage among them: that took most of its time.
+        gc.freeze()
+        client.run(gc.freeze)
         yield client
 
 
@@ -88,6 +94,42 @@ def separate_scheduler() -> Iterator[Tuple[Client, subprocess.Popen]]:
         client.wait_for_workers(1, timeout=60)
         yield client, begun[0]
         client.close(timeout=5)
+
+
+def once_it_runs(client: Client, act: Callable[[], Any]) -> threading.Thread:
+    """Does something soon after a run has begun."""
+
+    def wait_and_act() -> None:
+        if eventually(lambda: any(key.startswith("memplan") for key in list(client.futures)), 60):
+            time.sleep(0.3)
+            act()
+
+    thread = threading.Thread(target=wait_and_act)
+    thread.start()
+    return thread
+
+
+def is_clean(client: Client) -> bool:
+    """Whether neither client, scheduler nor workers have anything of a run."""
+
+    def names(dask_scheduler: Any) -> List[str]:
+        tables = (dask_scheduler.tasks, dask_scheduler.plugins, dask_scheduler.events, dask_scheduler.event_subscriber)
+        return [str(name) for table in tables for name in table]
+
+    def busy(dask_worker: Any) -> List[str]:
+        return [*dask_worker.state.tasks, *dask_worker.data, *dask_worker.active_threads.values(), *dask_worker.plugins]
+
+    told = [*client.run_on_scheduler(names), *client.futures, *client._event_handlers]
+    for worker in client.run(busy).values():
+        told += worker
+    return not any(str(name).startswith("memplan") for name in told)
+
+
+def leaves_nothing(client: Client) -> None:
+    """No worker is busy, no future is left, and the cluster is usable."""
+    assert not any(client.run(lambda dask_worker: list(dask_worker.active_threads)).values()), "a worker is busy"
+    assert eventually(lambda: is_clean(client)), "something of the run is left"
+    assert client.submit(sum, [1, 2], pure=False).result() == 3
 
 
 def records(client: Client) -> List[List[blocks.Record]]:

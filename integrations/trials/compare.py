@@ -25,7 +25,7 @@ import blocks
 import dask
 import distributed
 import workloads
-from clusters import cluster, digests, settled_records
+from clusters import cluster, digests, records, settled_records
 from distributed import Client, wait
 from memplan.admission import Admission, Graph
 from memplan_dask import Task, run
@@ -88,7 +88,7 @@ def by_priority(client: Client, case: Case) -> Futures:
 def measured(client: Client, turns: int, way: Callable[[], Futures]) -> Cell:
     top, seconds, told = 0, float("inf"), {}
     for _ in range(turns):
-        settled_records(client)
+        records(client)
         began = time.monotonic()
         futures = way()
         wait(list(futures.values()))
@@ -153,7 +153,7 @@ def told(cell: Cell, ideal: Optional[int] = None) -> str:
     return f"{cell.top / 1e6:.1f} / {cell.seconds:.2f}{beside}"
 
 
-def compared(processes: bool, some: List[Case], turns: int, program: Optional[Path]) -> str:
+def compared(processes: bool, some: List[Case], factors: Sequence[float], turns: int, program: Optional[Path]) -> str:
     others = WORKERS - 1 if processes else 0
     graphs = [graph_of(case.load.tasks, others) for case in some]
     least = [graph.least_bound(order_of(graph)) for graph in graphs]
@@ -165,7 +165,7 @@ def compared(processes: bool, some: List[Case], turns: int, program: Optional[Pa
     with cluster(processes, WORKERS) as client:
         rows.append(["Dask", *(told(measured(client, turns, lambda: plain(client, case))) for case in some)])
         rows.append(["Dask, the order as priority", *(told(measured(client, turns, lambda: by_priority(client, case))) for case in some)])
-        for factor in FACTORS:
+        for factor in factors:
             row = [f"the core, within {factor} times that"]
             for case, graph, peak, wanted in zip(some, graphs, least, plain_cells):
                 bound = int(factor * peak)
@@ -245,15 +245,15 @@ def main() -> None:
     parser.add_argument("--turns", type=int, default=2)
     parser.add_argument("--slowness", type=int, default=4)
     parser.add_argument("--program", type=Path)
-    parser.add_argument("--quick", action="store_true", help="small cases, whose figures mean nothing")
+    parser.add_argument("--quick", action="store_true", help="small cases within one bound, whose figures mean nothing")
     parser.add_argument("--only", choices=("threads", "processes", "costs"), help="one of the tables")
     asked = parser.parse_args()
-    some = cases(asked.slowness, asked.quick)
+    some, factors = cases(asked.slowness, asked.quick), FACTORS[:1] if asked.quick else FACTORS
     print("MB at most at once / seconds (of the simulated run)\n", flush=True)
     if asked.only in (None, "threads"):
-        print(compared(False, some, asked.turns, asked.program), flush=True)
+        print(compared(False, some, factors, asked.turns, asked.program), flush=True)
     if asked.only in (None, "processes"):
-        print(compared(True, some, asked.turns, asked.program), flush=True)
+        print(compared(True, some, factors, asked.turns, asked.program), flush=True)
     if asked.only in (None, "costs"):
         print(costs(asked.quick), flush=True)
     print(machine())
