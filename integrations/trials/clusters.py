@@ -9,13 +9,13 @@ import subprocess
 import sys
 import threading
 import time
-from contextlib import contextmanager
+from contextlib import contextmanager, suppress
 from pathlib import Path
 from typing import Any, Callable, Dict, Iterator, List, Sequence, Tuple
 
 import blocks
 import dask
-from distributed import Client, LocalCluster
+from distributed import Client, LocalCluster, TimeoutError
 from harness import eventually
 from memplan_dask import Task
 
@@ -93,7 +93,9 @@ def separate_scheduler() -> Iterator[Tuple[Client, subprocess.Popen]]:
         client = Client(scheduler, timeout=60)
         client.wait_for_workers(1, timeout=60)
         yield client, begun[0]
-        client.close(timeout=5)
+        # Without its scheduler a client may take longer to close, which is Dask's affair.
+        with suppress(TimeoutError):
+            client.close(timeout=5)
 
 
 def once_it_runs(client: Client, act: Callable[[], Any]) -> threading.Thread:
