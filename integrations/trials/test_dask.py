@@ -27,6 +27,7 @@ from clusters import (
     separate_scheduler,
     settled_records,
 )
+from dask.delayed import delayed
 from distributed import Client, Future, LocalCluster
 from harness import raised, run_all
 from memplan import Refused
@@ -89,7 +90,25 @@ def computes_what_dask_computes(client: Client) -> None:
         result = rebuild(run(tasks, least_bound(tasks, client), client))
         assert numpy.array_equal(result.compute(), client.compute(collection).result())
         del result
-    assert raised(TypeError, of_collection, client.persist(x), lambda key: (0, 0)), "what is on the cluster already is not booked"
+    leaves_nothing(client)
+
+
+def several_collections_are_computed_together(client: Client) -> None:
+    read: List[int] = []
+    x = dask.array.arange(400, chunks=50).reshape(20, 20)
+    total, mean, doubled = x.sum(), x.mean(axis=0), delayed(lambda value: 2 * value)(x.sum(), dask_key_name="doubled")
+
+    def computed(given: Any) -> Any:
+        tasks, rebuild = of_collection(given, lambda key: (100_000, 1_000_000))
+        read.append(sum("arange" in str(task.key) for task in tasks))
+        return dask.compute(rebuild(run(tasks, least_bound(tasks, client), client)))[0]
+
+    assert computed([total, 5, total]) == [79800, 5, 79800]
+    both = computed((total, mean, doubled))
+    assert type(both) is tuple and both[0] == 79800 and both[2] == 159600 and numpy.array_equal(both[1], 190 + numpy.arange(20))
+    assert computed({"total": total, "more": [doubled]}) == {"total": 79800, "more": [159600]}
+    assert set(read) == {read[0]}, "what they share is one task each"
+    assert "no Dask collection" in str(raised(TypeError, of_collection, [1, "two"], lambda key: (0, 0)))
     leaves_nothing(client)
 
 
@@ -345,6 +364,7 @@ CHECKS_ON_ANY_CLUSTER: List[Tuple[str, Check]] = [
     ),
     ("an array's graph within its least bound", keeps_the_bound_of_an_array),
     ("arrays are what Dask computes", computes_what_dask_computes),
+    ("several collections are computed together", several_collections_are_computed_together),
     ("what a task raises ends the run", what_a_task_raises_ends_the_run),
     ("a task is tried again within the bound", a_task_is_tried_again_within_the_bound),
     ("a result greater than stated ends the run", a_result_greater_than_stated_ends_the_run),

@@ -47,6 +47,20 @@ def watch(run: str) -> WorkerPlugin:
     return Watch()
 
 
+TABLES = ("plugins", "events", "event_counts", "event_subscriber")
+"""Of the scheduler, where a run leaves something that it takes back at its end."""
+
+
+def lacking() -> Callable[..., List[str]]:
+    """Which of these tables a scheduler, of another version, has not."""
+    names = TABLES
+
+    def lacks(dask_scheduler: Any) -> List[str]:
+        return [name for name in names if not hasattr(dask_scheduler, name)]
+
+    return lacks
+
+
 def losses(run: str) -> SchedulerPlugin:
     """Tells over the topic of a run which workers leave the cluster."""
 
@@ -69,8 +83,10 @@ def holder(run: str) -> Callable[..., bool]:
 def eraser(run: str) -> Callable[..., None]:
     """Takes what a run registered from the scheduler, and the log of its topic."""
 
+    names = TABLES
+
     def erase(dask_scheduler: Any) -> None:
-        for table in (dask_scheduler.plugins, dask_scheduler.events, dask_scheduler.event_counts, dask_scheduler.event_subscriber):
-            table.pop(run, None)
+        for name in names:
+            getattr(dask_scheduler, name).pop(run, None)
 
     return erase

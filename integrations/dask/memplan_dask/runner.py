@@ -2,6 +2,7 @@
 
 from __future__ import annotations
 
+import operator
 import time
 import uuid
 from functools import partial
@@ -9,12 +10,14 @@ from heapq import heappop, heappush
 from queue import Empty, SimpleQueue
 from typing import Any, Dict, List, Optional, Sequence, Set, Tuple
 
+import dask
 from distributed import Client, Future
 from memplan.admission import Admission
 
 from . import remote
-from .errors import EngineStopped, ResultTooLarge, TaskFailed, WorkerLost
-from .tasks import Task, graph_of, home_of, order_of
+from .errors import EngineStopped, ResultTooLarge, TaskFailed, WorkerLost, keys_told, named
+from .tasks import Task, graph_of, home_of, order_of, refuse_annotations, refuse_cycles, refuse_unbooked
+from .versions import require_scheduler
 
 _SECONDS_BETWEEN_LOOKS = 0.02
 _SECONDS_OF_SILENCE = 1.0
@@ -35,17 +38,36 @@ def run(
     workers the tasks run; without it on all that there are now.
 
     Raises `memplan.admission.BoundTooLow` where the bound is below the peak of the order, `memplan.Refused` where the order is none or a
-    limit of the library is passed, and one of `errors` where the run fails. By then what ran has come to its end, and nothing is left.
+    limit of the library is passed, `UnbookedData` where a task has a future or a Dask collection inside, and one of `errors` where the
+    run fails. By then what ran has come to its end, and nothing is left.
     """
-    return _Run(tasks, bound, client, order, retries, workers).results()
+    try:
+        bound = operator.index(bound)
+    except TypeError:
+        raise TypeError(f"the bound is a whole number of bytes, as an int, and not {bound!r}") from None
+    _check(tasks, client)
+    require_scheduler(client.run_on_scheduler(remote.lacking()))
+    refuse_annotations(dask.config.get("annotations", None))
+    return _Run(tasks, bound, client, order, retries, workers).results() if tasks else {}
 
 
 def least_bound(
     tasks: Sequence[Task], client: Client, order: Optional[Sequence[int]] = None, workers: Optional[Sequence[str]] = None
 ) -> int:
     """The least bound that `run` takes for these tasks on these workers."""
-    graph = graph_of(tasks, _others(_threads(client, workers)))
-    return graph.least_bound(order_of(graph) if order is None else order)
+    _check(tasks, client)
+    if not tasks:
+        return 0
+    with keys_told([task.key for task in tasks]):
+        graph = graph_of(tasks, _others(_threads(client, workers)))
+        return graph.least_bound(order_of(graph) if order is None else order)
+
+
+def _check(tasks: Sequence[Task], client: Client) -> None:
+    if client.asynchronous:
+        raise TypeError(f"a run waits for its tasks, and {client} is asynchronous: give it one that is not, from another thread")
+    refuse_unbooked(tasks)
+    refuse_cycles(tasks)
 
 
 def _threads(client: Client, workers: Optional[Sequence[str]]) -> Dict[str, int]:
@@ -78,9 +100,10 @@ class _Run:
         self.tasks, self.client, self.retries = tasks, client, retries
         self.free = _threads(client, workers)
         self.others = _others(self.free)
-        graph = graph_of(tasks, self.others)
-        order = order_of(graph) if order is None else order
-        self.admission = Admission(graph, bound, order)
+        with keys_told([task.key for task in tasks]):
+            graph = graph_of(tasks, self.others)
+            order = order_of(graph) if order is None else order
+            self.admission = Admission(graph, bound, order)
         self.ranks = {task: rank for rank, task in enumerate(order)}
         self.call = remote.caller()
         self.events: SimpleQueue[Tuple[Any, ...]] = SimpleQueue()
@@ -170,7 +193,7 @@ class _Run:
         """A result is in a worker's memory: its task has run there, or it was copied."""
         task = self._task_of(key)
         if size > self.tasks[task].size:
-            raise ResultTooLarge(task, size, self.tasks[task].size)
+            raise ResultTooLarge(task, self.tasks[task].key, size, self.tasks[task].size)
         self.holders[task].add(worker)
         if task in self.running:
             self.free[self.running.pop(task)] += 1
@@ -183,7 +206,7 @@ class _Run:
         if self.holders[task]:
             return
         if task in self.futures:
-            raise EngineStopped(f"the result of task {task} was taken from the cluster")
+            raise EngineStopped(f"the result of {self._named(task)} was taken from the cluster")
         self.admission.gone(task)
 
     def _failed(self, task: int) -> None:
@@ -191,16 +214,19 @@ class _Run:
             return  # its result was there, and was given back, before its future had word of it
         future = self.futures[task]
         if future.status != "error":
-            raise EngineStopped(f"task {task} was {future.status}")
+            raise EngineStopped(f"{self._named(task)} was {future.status}")
         error = future.exception()
-        raise TaskFailed(task, error) from error
+        raise TaskFailed(task, self.tasks[task].key, error) from error
 
     def _lost(self, worker: str) -> None:
         if worker in self.free:
-            raise WorkerLost(worker)
+            raise WorkerLost(worker, {task: self.tasks[task].key for task, place in self.running.items() if place == worker})
 
     def _task_of(self, key: str) -> int:
         return int(key.rsplit("-", 1)[1])
+
+    def _named(self, task: int) -> str:
+        return named(task, self.tasks[task].key)
 
     # The end
 
