@@ -160,7 +160,7 @@ def top_of_late_release(run_class: Any, client: Client) -> Tuple[int, int]:
         tasks = late_release(folder)
         bound = least_bound(tasks, client, range(6))
         records(client)
-        futures = run_class(tasks, bound, client, range(6), 0, None).results()
+        futures = run_class(tasks, bound, client, range(6)).results()
         assert futures[5].result().data.nbytes == MB
         futures.clear()
         return blocks.top_and_rest(settled_records(client))[0], bound

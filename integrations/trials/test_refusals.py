@@ -8,7 +8,7 @@ import importlib
 import sys
 from functools import partial
 from types import SimpleNamespace
-from typing import Any, Callable, List, NamedTuple, Tuple
+from typing import Any, Callable, Dict, List, NamedTuple, Optional, Tuple
 
 import dask
 import dask.array
@@ -21,6 +21,7 @@ from memplan import Refused
 from memplan_dask import (
     AnnotationRefused,
     ResultTooLarge,
+    Standstill,
     Task,
     TaskFailed,
     TasksInACycle,
@@ -259,6 +260,22 @@ def a_lost_worker_is_told_with_its_tasks(client: Client) -> None:
     assert str(WorkerLost("tcp://a:1", {})) == "the worker tcp://a:1 left the cluster"
 
 
+def a_standstill_tells_what_it_knows(client: Client) -> None:
+    waiting: Dict[int, List[str]] = {7: ["tcp://a:1"], 8: [], 9: [], 11: [], 12: []}
+    keys: Dict[int, Optional[str]] = {**dict.fromkeys(waiting), 7: "total"}
+    error = Standstill(30.2, {"tcp://a:1": "paused"}, {"tcp://a:1": 400}, waiting, keys)
+    assert (error.seconds, error.statuses, error.held, error.waiting) == (30.2, {"tcp://a:1": "paused"}, {"tcp://a:1": 400}, waiting)
+    for part in (
+        "nothing has moved for 30 seconds",
+        "tcp://a:1 is paused and holds 400 bytes",
+        "task 7 (total) can start only on tcp://a:1",
+        "task 8 can start on any worker",
+        "2 more tasks wait",
+        "more memory",
+    ):
+        assert part in str(error), part
+
+
 # Versions
 
 
@@ -305,6 +322,7 @@ CHECKS: List[Tuple[str, Callable[[Client], None]]] = [
     ("the default size is told where it is too small", the_default_size_is_told_where_it_is_too_small),
     ("errors have the keys of a collection", errors_have_the_keys_of_a_collection),
     ("a lost worker is told with its tasks", a_lost_worker_is_told_with_its_tasks),
+    ("a standstill tells what it knows", a_standstill_tells_what_it_knows),
     ("a Dask without what is needed is refused at import", a_dask_without_what_is_needed_is_refused_at_import),
     ("a scheduler without what is needed is refused", a_scheduler_without_what_is_needed_is_refused),
 ]

@@ -3,7 +3,7 @@
 from __future__ import annotations
 
 from contextlib import contextmanager
-from typing import Any, Hashable, Iterator, Mapping, Optional, Sequence
+from typing import Any, Dict, Hashable, Iterator, List, Mapping, Optional, Sequence
 
 from memplan import Refused
 
@@ -116,6 +116,39 @@ class WorkerLost(RunError):
         super().__init__(f"the worker {worker} left the cluster" + (f" while it ran {ran}" if ran else ""))
         self.worker = worker
         self.tasks = list(tasks)
+
+
+class Standstill(RunError):
+    """Nothing has moved for so many ``seconds``, though not every task has run.
+
+    ``statuses`` has the workers that start nothing, and why (``paused``, ``closing_gracefully``, ..); ``held`` the bytes of the run's
+    results on these; ``waiting``, for each task that could start, the workers where it can, which is everywhere where there are none.
+    """
+
+    _NAMED = 3
+    """So many tasks are named in the message."""
+
+    def __init__(
+        self,
+        seconds: float,
+        statuses: Mapping[str, str],
+        held: Mapping[str, int],
+        waiting: Mapping[int, Sequence[str]],
+        keys: Mapping[int, Optional[Hashable]],
+    ) -> None:
+        told = [f"nothing has moved for {seconds:.0f} seconds"]
+        told += [f"{worker} is {status} and holds {held[worker]} bytes of the run" for worker, status in statuses.items()]
+        for task, places in list(waiting.items())[: self._NAMED]:
+            told.append(f"{named(task, keys[task])} can start " + (f"only on {', '.join(places)}" if places else "on any worker"))
+        if len(waiting) > self._NAMED:
+            told.append(f"{len(waiting) - self._NAMED} more tasks wait like these")
+        if "paused" in statuses.values():
+            told.append("Dask pauses a worker near its memory limit: give workers more memory or take more of them, or keep fewer results")
+        super().__init__("; ".join(told))
+        self.seconds = seconds
+        self.statuses: Dict[str, str] = dict(statuses)
+        self.held: Dict[str, int] = dict(held)
+        self.waiting: Dict[int, List[str]] = {task: list(places) for task, places in waiting.items()}
 
 
 class EngineStopped(RunError):
