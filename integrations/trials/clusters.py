@@ -135,10 +135,10 @@ def leaves_nothing(client: Client) -> None:
 
 
 def records(client: Client) -> List[List[blocks.Record]]:
-    """Of all processes, those of this one first, since they were asked for last."""
-    here = blocks.taken_records()
-    there = client.run(blocks.taken_records)
-    return [here, *(told for worker, told in there.items() if not worker.startswith("inproc"))]
+    """Of all processes, each asked once; those of this one first, since they were asked for last."""
+    others = [worker for worker in client.nthreads() if not worker.startswith("inproc")]
+    there = client.run(blocks.taken_records, workers=others) if others else {}
+    return [blocks.taken_records(), *there.values()]
 
 
 def settled_records(client: Client) -> List[List[blocks.Record]]:
@@ -161,4 +161,6 @@ def plain_digests(client: Client, tasks: Sequence[Task], kept: Sequence[int]) ->
 
 
 def digests(client: Client, futures: Dict[int, Any]) -> Dict[int, Any]:
-    return {index: client.submit(blocks.digest, future, pure=False).result() for index, future in sorted(futures.items())}
+    """What tells the results apart, in the order of their tasks."""
+    told = {index: client.submit(blocks.digest, future, pure=False) for index, future in sorted(futures.items())}
+    return dict(zip(told, client.gather(list(told.values()))))
