@@ -65,7 +65,8 @@ def keeps_its_bound(name: str, factor: float, client: Client) -> None:
     bound = int(factor * least_bound(tasks, client))
     if name not in WANTED:
         WANTED[name] = plain_digests(client, tasks, sorted(graph_of(tasks, 0).kept))
-    settled_records(client)
+        settled_records(client)
+    records(client)
     futures = run(tasks, bound, client)
     assert digests(client, futures) == WANTED[name]
     del futures

@@ -321,17 +321,25 @@ def hold_the_lock(seconds: float, *_: Any) -> None:
     ctypes.PyDLL(None).usleep(int(seconds * 1e6))
 
 
-# Without word of what is at work each of the three would end after 1.6 seconds, at the second look.
+# Without word of what is at work each of these runs, at the same time, would end after 1.6 seconds, at the second look.
 def a_task_that_runs_long_is_no_standstill(client: Client) -> None:
-    for long in (
+    tasks = [
         Task(after, (2.5,), (), KB),
         Task(paused_by_its_task, (KB, 2.2), (), 2 * KB),
         Task(hold_the_lock, (2.2,), (), KB),
-    ):
-        with all_start_again(client):
-            futures = run([long], KB * KB, client, patience=0.8)
-            assert list(futures) == [0]
-            del futures
+    ]
+    ends: List[List[int]] = []
+
+    def run_long(task: Task, worker: str) -> None:
+        ends.append(list(run([task], KB * KB, client, workers=[worker], patience=0.8)))
+
+    with all_start_again(client):
+        runs = [threading.Thread(target=run_long, args=pair) for pair in zip(tasks, sorted(client.nthreads()))]
+        for it in runs:
+            it.start()
+        for it in runs:
+            it.join()
+        assert ends == [[0]] * 3, "a run did not come to its end"
     leaves_nothing(client)
 
 
