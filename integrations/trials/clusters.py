@@ -2,18 +2,21 @@
 
 from __future__ import annotations
 
+import gc
 import logging
 import socket
 import subprocess
 import sys
+import threading
 import time
-from contextlib import contextmanager
+from contextlib import contextmanager, suppress
 from pathlib import Path
-from typing import Any, Dict, Iterator, List, Sequence, Tuple
+from typing import Any, Callable, Dict, Iterator, List, Sequence, Tuple
 
 import blocks
 import dask
-from distributed import Client, LocalCluster
+from distributed import Client, LocalCluster, TimeoutError
+from harness import eventually
 from memplan_dask import Task
 
 HERE = Path(__file__).resolve().parent
@@ -27,21 +30,24 @@ dask.config.set({f"distributed.worker.memory.{what}": False for what in ("target
 
 
 @contextmanager
-def cluster(processes: bool, workers: int = 4, saturation: float = 1.1) -> Iterator[Client]:
+def cluster(processes: bool, workers: int = 4, saturation: float = 1.1, memory_limit: int = 0) -> Iterator[Client]:
     """Workers of one thread each: threads of this process, or processes. ``saturation`` is how many tasks Dask hands to a thread at once
-    that are ready from the start: a number is its default since 2022.11, infinity what it did before."""
+    that are ready from the start: a number is its default since 2022.11, infinity what it did before. A ``memory_limit`` of 0 is none."""
     with dask.config.set({"distributed.scheduler.worker-saturation": saturation}):
         made = LocalCluster(
             n_workers=workers,
             threads_per_worker=1,
             processes=processes,
-            memory_limit=0,
+            memory_limit=memory_limit,
             dashboard_address=f"{LOOPBACK}:0",
             worker_dashboard_address=f"{LOOPBACK}:0",
             silence_logs=50,
             **({"host": LOOPBACK} if processes else {}),
         )
     with made, Client(made) as client:
+        # The modules stay, so no trial has to look for garbage among them: that took most of its time.
+        gc.freeze()
+        client.run(gc.freeze)
         yield client
 
 
@@ -87,14 +93,52 @@ def separate_scheduler() -> Iterator[Tuple[Client, subprocess.Popen]]:
         client = Client(scheduler, timeout=60)
         client.wait_for_workers(1, timeout=60)
         yield client, begun[0]
-        client.close(timeout=5)
+        # Without its scheduler a client may take longer to close, which is Dask's affair.
+        with suppress(TimeoutError):
+            client.close(timeout=5)
+
+
+def once_it_runs(client: Client, act: Callable[[], Any]) -> threading.Thread:
+    """Does something soon after a run has begun."""
+
+    def wait_and_act() -> None:
+        if eventually(lambda: any(key.startswith("memplan") for key in list(client.futures)), 60):
+            time.sleep(0.3)
+            act()
+
+    thread = threading.Thread(target=wait_and_act)
+    thread.start()
+    return thread
+
+
+def is_clean(client: Client) -> bool:
+    """Whether neither client, scheduler nor workers have anything of a run."""
+
+    def names(dask_scheduler: Any) -> List[str]:
+        tables = (dask_scheduler.tasks, dask_scheduler.plugins, dask_scheduler.events, dask_scheduler.event_subscriber)
+        return [str(name) for table in tables for name in table]
+
+    def busy(dask_worker: Any) -> List[str]:
+        return [*dask_worker.state.tasks, *dask_worker.data, *dask_worker.active_threads.values(), *dask_worker.plugins]
+
+    told = [*client.run_on_scheduler(names), *client.futures, *client._event_handlers]
+    for worker in client.run(busy).values():
+        told += worker
+    return not any(str(name).startswith("memplan") for name in told)
+
+
+def leaves_nothing(client: Client) -> None:
+    """No worker is busy, no future is left, and the cluster is usable."""
+    assert not any(client.run(lambda dask_worker: list(dask_worker.active_threads)).values()), "a worker is busy"
+    assert eventually(lambda: is_clean(client)), "something of the run is left"
+    assert client.submit(sum, [1, 2], pure=False).result() == 3
 
 
 def records(client: Client) -> List[List[blocks.Record]]:
-    """Of all processes, those of this one first, since they were asked for last."""
-    here = blocks.taken_records()
-    there = client.run(blocks.taken_records)
-    return [here, *(told for worker, told in there.items() if not worker.startswith("inproc"))]
+    """Of all processes, each asked once; those of this one first, since they were asked for last."""
+    others = [worker for worker in client.nthreads() if not worker.startswith("inproc")]
+    there = client.run(blocks.taken_records, workers=others) if others else {}
+    return [blocks.taken_records(), *there.values()]
 
 
 def settled_records(client: Client) -> List[List[blocks.Record]]:
@@ -117,4 +161,6 @@ def plain_digests(client: Client, tasks: Sequence[Task], kept: Sequence[int]) ->
 
 
 def digests(client: Client, futures: Dict[int, Any]) -> Dict[int, Any]:
-    return {index: client.submit(blocks.digest, future, pure=False).result() for index, future in sorted(futures.items())}
+    """What tells the results apart, in the order of their tasks."""
+    told = {index: client.submit(blocks.digest, future, pure=False) for index, future in sorted(futures.items())}
+    return dict(zip(told, client.gather(list(told.values()))))

@@ -25,7 +25,7 @@ import blocks
 import dask
 import distributed
 import workloads
-from clusters import cluster, digests, settled_records
+from clusters import cluster, digests, records, settled_records
 from distributed import Client, wait
 from memplan.admission import Admission, Graph
 from memplan_dask import Task, run
@@ -88,7 +88,7 @@ def by_priority(client: Client, case: Case) -> Futures:
 def measured(client: Client, turns: int, way: Callable[[], Futures]) -> Cell:
     top, seconds, told = 0, float("inf"), {}
     for _ in range(turns):
-        settled_records(client)
+        records(client)
         began = time.monotonic()
         futures = way()
         wait(list(futures.values()))
@@ -153,7 +153,7 @@ def told(cell: Cell, ideal: Optional[int] = None) -> str:
     return f"{cell.top / 1e6:.1f} / {cell.seconds:.2f}{beside}"
 
 
-def compared(processes: bool, some: List[Case], turns: int, program: Optional[Path]) -> str:
+def compared(processes: bool, some: List[Case], factors: Sequence[float], turns: int, program: Optional[Path]) -> str:
     others = WORKERS - 1 if processes else 0
     graphs = [graph_of(case.load.tasks, others) for case in some]
     least = [graph.least_bound(order_of(graph)) for graph in graphs]
@@ -165,7 +165,7 @@ def compared(processes: bool, some: List[Case], turns: int, program: Optional[Pa
     with cluster(processes, WORKERS) as client:
         rows.append(["Dask", *(told(measured(client, turns, lambda: plain(client, case))) for case in some)])
         rows.append(["Dask, the order as priority", *(told(measured(client, turns, lambda: by_priority(client, case))) for case in some)])
-        for factor in FACTORS:
+        for factor in factors:
             row = [f"the core, within {factor} times that"]
             for case, graph, peak, wanted in zip(some, graphs, least, plain_cells):
                 bound = int(factor * peak)
@@ -202,10 +202,10 @@ def by_dask(client: Client, tasks: List[Task]) -> None:
     wait(client.get(graph, [(run_name, index) for index in graph_of(tasks, 0).kept], sync=False))
 
 
-def milliseconds(count: int, work: Callable[[], Any]) -> float:
-    """For each of so many tasks, the least of three times."""
+def milliseconds(count: int, turns: int, work: Callable[[], Any]) -> float:
+    """For each of so many tasks, the least of so many times."""
     best = float("inf")
-    for _ in range(3):
+    for _ in range(turns):
         began = time.monotonic()
         work()
         best = min(best, time.monotonic() - began)
@@ -218,16 +218,16 @@ def through_admission(tasks: List[Task]) -> None:
 
 
 def costs(quick: bool) -> str:
-    count = 20 if quick else 300
+    count, turns = (5, 1) if quick else (300, 3)
     rows = []
     for processes in (False, True):
         with cluster(processes, WORKERS) as client:
             for name, tasks in (("a chain", chain(count)), ("side by side", [Task(quick_task)] * count)):
-                core = milliseconds(count, lambda: run(tasks, 0, client))
-                dask_alone = milliseconds(count, lambda: by_dask(client, tasks))
+                core = milliseconds(count, turns, lambda: run(tasks, 0, client))
+                dask_alone = milliseconds(count, turns, lambda: by_dask(client, tasks))
                 rows.append([f"{name}, {'processes' if processes else 'threads'}", f"{dask_alone:.1f}", f"{core:.1f}"])
     many = workloads.random_tree(1000 if quick else 100_000).tasks
-    alone = milliseconds(len(many), lambda: through_admission(many))
+    alone = milliseconds(len(many), turns, lambda: through_admission(many))
     rows.append([f"no engine at all: {len(many):,} tasks are planned, admitted, started and finished", "", f"{alone:.3f}"])
     return table(["tasks that take no time", "Dask, ms a task", "the core, ms a task"], rows)
 
@@ -245,15 +245,15 @@ def main() -> None:
     parser.add_argument("--turns", type=int, default=2)
     parser.add_argument("--slowness", type=int, default=4)
     parser.add_argument("--program", type=Path)
-    parser.add_argument("--quick", action="store_true", help="small cases, whose figures mean nothing")
+    parser.add_argument("--quick", action="store_true", help="few small cases within one bound, whose figures mean nothing")
     parser.add_argument("--only", choices=("threads", "processes", "costs"), help="one of the tables")
     asked = parser.parse_args()
-    some = cases(asked.slowness, asked.quick)
+    some, factors = cases(asked.slowness, asked.quick), FACTORS[:1] if asked.quick else FACTORS
     print("MB at most at once / seconds (of the simulated run)\n", flush=True)
     if asked.only in (None, "threads"):
-        print(compared(False, some, asked.turns, asked.program), flush=True)
+        print(compared(False, some, factors, asked.turns, asked.program), flush=True)
     if asked.only in (None, "processes"):
-        print(compared(True, some, asked.turns, asked.program), flush=True)
+        print(compared(True, some[::3] if asked.quick else some, factors, asked.turns, asked.program), flush=True)
     if asked.only in (None, "costs"):
         print(costs(asked.quick), flush=True)
     print(machine())

@@ -16,9 +16,20 @@ import blocks
 import dask.array
 import numpy
 import workloads
-from clusters import bare_workers, cluster, digests, plain_digests, records, separate_scheduler, settled_records
+from clusters import (
+    bare_workers,
+    cluster,
+    digests,
+    leaves_nothing,
+    once_it_runs,
+    plain_digests,
+    records,
+    separate_scheduler,
+    settled_records,
+)
+from dask.delayed import delayed
 from distributed import Client, Future, LocalCluster
-from harness import eventually, raised, run_all
+from harness import raised, run_all
 from memplan import Refused
 from memplan_dask import (
     BoundTooLow,
@@ -35,49 +46,29 @@ from memplan_dask import (
 from memplan_dask.tasks import graph_of
 from workloads import MB
 
-# Nothing is left
-
-
-def is_clean(client: Client) -> bool:
-    """Whether neither client, scheduler nor workers have anything of a run."""
-
-    def names(dask_scheduler: Any) -> List[str]:
-        tables = (dask_scheduler.tasks, dask_scheduler.plugins, dask_scheduler.events, dask_scheduler.event_subscriber)
-        return [str(name) for table in tables for name in table]
-
-    def busy(dask_worker: Any) -> List[str]:
-        return [*dask_worker.state.tasks, *dask_worker.data, *dask_worker.active_threads.values(), *dask_worker.plugins]
-
-    told = [*client.run_on_scheduler(names), *client.futures, *client._event_handlers]
-    for worker in client.run(busy).values():
-        told += worker
-    return not any(str(name).startswith("memplan") for name in told)
-
-
-def leaves_nothing(client: Client) -> None:
-    """No worker is busy, no future is left, and the cluster is usable."""
-    assert not any(client.run(lambda dask_worker: list(dask_worker.active_threads)).values()), "a worker is busy"
-    assert eventually(lambda: is_clean(client)), "something of the run is left"
-    assert client.submit(sum, [1, 2], pure=False).result() == 3
-
-
 # Bounds are kept
 
 LOADS: Dict[str, Callable[[], workloads.Load]] = {
-    "fork-join": lambda: workloads.fork_join(24),
-    "random tree": lambda: workloads.random_tree(80),
-    "random graph": lambda: workloads.random_graph(80),
+    "fork-join": lambda: workloads.fork_join(16),
+    "random tree": lambda: workloads.random_tree(40),
+    "random graph": lambda: workloads.random_graph(40),
     "fronts": lambda: workloads.fronts(12),
 }
 
 
-def keeps_its_bound(make: Callable[[], workloads.Load], factor: float, client: Client) -> None:
-    tasks = make().tasks
+WANTED: Dict[str, Any] = {}
+"""What a run without any bound leaves of each load."""
+
+
+def keeps_its_bound(name: str, factor: float, client: Client) -> None:
+    tasks = LOADS[name]().tasks
     bound = int(factor * least_bound(tasks, client))
-    wanted = plain_digests(client, tasks, sorted(graph_of(tasks, 0).kept))
-    settled_records(client)
+    if name not in WANTED:
+        WANTED[name] = plain_digests(client, tasks, sorted(graph_of(tasks, 0).kept))
+        settled_records(client)
+    records(client)
     futures = run(tasks, bound, client)
-    assert digests(client, futures) == wanted
+    assert digests(client, futures) == WANTED[name]
     del futures
     top, rest = blocks.top_and_rest(settled_records(client))
     assert rest == 0 and 0 < top <= bound, (top, rest, bound)
@@ -99,13 +90,39 @@ def keeps_the_bound_of_an_array(client: Client) -> None:
 
 
 def computes_what_dask_computes(client: Client) -> None:
-    x = dask.array.arange(400, chunks=50).reshape(20, 20).rechunk(5)
+    x = dask.array.arange(400, chunks=50).reshape(20, 20).rechunk(10)
     for collection in ((x - x.mean()).std(), (x.T + x).sum(axis=0), (x @ x)[3:7, :2]):
         tasks, rebuild = of_collection(collection, lambda key: (100_000, 1_000_000))
         result = rebuild(run(tasks, least_bound(tasks, client), client))
         assert numpy.array_equal(result.compute(), client.compute(collection).result())
         del result
-    assert raised(TypeError, of_collection, client.persist(x), lambda key: (0, 0)), "what is on the cluster already is not booked"
+    leaves_nothing(client)
+
+
+def marked(path: str) -> int:
+    """Leaves a mark each time it runs."""
+    with open(path, "a") as file:
+        file.write(".")
+    return 5
+
+
+def several_collections_are_computed_together(client: Client) -> None:
+    def computed(given: Any) -> Any:
+        tasks, rebuild = of_collection(given, lambda key: (100_000, 1_000_000))
+        return dask.compute(rebuild(run(tasks, least_bound(tasks, client), client)))[0]
+
+    x = dask.array.arange(400, chunks=200).reshape(20, 20)
+    total, mean = x.sum(), x.mean(axis=0)
+    assert computed([total, 5, total]) == [79800, 5, 79800]
+    both = computed((total, mean))
+    assert type(both) is tuple and both[0] == 79800 and numpy.array_equal(both[1], 190 + numpy.arange(20))
+    with tempfile.TemporaryDirectory() as folder:
+        path = Path(folder) / "marks"
+        source = delayed(marked)(str(path))
+        doubled, next_one = delayed(lambda value: 2 * value)(source), delayed(lambda value: value + 1)(source)
+        assert computed({"doubled": doubled, "more": [next_one, total]}) == {"doubled": 10, "more": [6, 79800]}
+        assert path.read_text() == ".", "what they share runs once"
+    assert "no Dask collection" in str(raised(TypeError, of_collection, [1, "two"], lambda key: (0, 0)))
     leaves_nothing(client)
 
 
@@ -151,42 +168,30 @@ class HastyRun(runner._Run):
         pass
 
 
-def top_of_late_release(run_class: Any) -> Tuple[int, int]:
-    with cluster(processes=True, workers=2) as client, tempfile.TemporaryDirectory() as folder:
-        client.submit(blocks.taken_records, pure=False).result()
+def top_of_late_release(run_class: Any, client: Client) -> Tuple[int, int]:
+    client.run(blocks.taken_records)
+    with tempfile.TemporaryDirectory() as folder:
         tasks = late_release(folder)
         bound = least_bound(tasks, client, range(6))
         records(client)
-        futures = run_class(tasks, bound, client, range(6), 0, None).results()
+        futures = run_class(tasks, bound, client, range(6)).results()
         assert futures[5].result().data.nbytes == MB
         futures.clear()
         return blocks.top_and_rest(settled_records(client))[0], bound
 
 
-def keeps_its_bound_where_memory_is_released_late() -> None:
-    top, bound = top_of_late_release(runner._Run)
+def keeps_its_bound_where_memory_is_released_late(client: Client) -> None:
+    top, bound = top_of_late_release(runner._Run, client)
     assert top <= bound, (top, bound)
+    leaves_nothing(client)
 
 
-def would_pass_its_bound_if_tasks_finished_when_futures_are_done() -> None:
-    top, bound = top_of_late_release(HastyRun)
+def would_pass_its_bound_if_tasks_finished_when_futures_are_done(client: Client) -> None:
+    top, bound = top_of_late_release(HastyRun, client)
     assert top > bound, "the case is no case of a late release"
 
 
 # What ends a run
-
-
-def once_it_runs(client: Client, act: Callable[[], Any]) -> threading.Thread:
-    """Does something soon after a run has begun."""
-
-    def wait_and_act() -> None:
-        if eventually(lambda: any(key.startswith("memplan") for key in list(client.futures)), 60):
-            time.sleep(0.3)
-            act()
-
-    thread = threading.Thread(target=wait_and_act)
-    thread.start()
-    return thread
 
 
 def fails(*inputs: blocks.Block) -> None:
@@ -306,7 +311,7 @@ def workers_have_bounds_of_their_own(client: Client) -> None:
 
 def a_lost_worker_ends_the_run() -> None:
     with bare_workers(3) as (client, programs):
-        tasks = workloads.random_tree(60, slowness=8).tasks
+        tasks = workloads.random_tree(40, slowness=6).tasks
         bound = 2 * least_bound(tasks, client)
         killer = once_it_runs(client, programs[0].kill)
         error = raised(WorkerLost, run, tasks, bound, client)
@@ -363,14 +368,17 @@ def listens_on_the_loopback_address_alone(client: Client) -> None:
     assert found and set(found) == {"0100007F"}, found
 
 
-CHECKS_ON_ANY_CLUSTER: List[Tuple[str, Callable[[Client], None]]] = [
+Check = Callable[[Client], None]
+
+CHECKS_ON_ANY_CLUSTER: List[Tuple[str, Check]] = [
     *(
-        (f"{name} within {factor} times the least peak", partial(keeps_its_bound, make, factor))
-        for name, make in LOADS.items()
+        (f"{name} within {factor} times the least peak", partial(keeps_its_bound, name, factor))
+        for name in LOADS
         for factor in (1, 1.2, 2)
     ),
     ("an array's graph within its least bound", keeps_the_bound_of_an_array),
     ("arrays are what Dask computes", computes_what_dask_computes),
+    ("several collections are computed together", several_collections_are_computed_together),
     ("what a task raises ends the run", what_a_task_raises_ends_the_run),
     ("a task is tried again within the bound", a_task_is_tried_again_within_the_bound),
     ("a result greater than stated ends the run", a_result_greater_than_stated_ends_the_run),
@@ -381,18 +389,14 @@ CHECKS_ON_ANY_CLUSTER: List[Tuple[str, Callable[[Client], None]]] = [
     ("nothing listens but on the loopback address", listens_on_the_loopback_address_alone),
 ]
 
-def on_processes(check: Callable[[Client], None]) -> Callable[[], None]:
-    def on_cluster() -> None:
-        with cluster(processes=True) as client:
-            check(client)
+CHECKS_ON_PROCESSES: List[Tuple[str, Check]] = [("workers have bounds of their own", workers_have_bounds_of_their_own)]
 
-    return on_cluster
-
+CHECKS_ON_TWO_PROCESSES: List[Tuple[str, Check]] = [
+    ("a late release keeps the bound", keeps_its_bound_where_memory_is_released_late),
+    ("it would pass it if tasks finished when futures are done", would_pass_its_bound_if_tasks_finished_when_futures_are_done),
+]
 
 CHECKS_OF_THEIR_OWN: List[Tuple[str, Callable[[], None]]] = [
-    ("Dask's processes: a late release keeps the bound", keeps_its_bound_where_memory_is_released_late),
-    ("Dask's processes: it would pass it if tasks finished when futures are done", would_pass_its_bound_if_tasks_finished_when_futures_are_done),
-    ("Dask's processes: workers have bounds of their own", on_processes(workers_have_bounds_of_their_own)),
     ("Dask's processes: a lost worker ends the run", a_lost_worker_ends_the_run),
     ("Dask's threads: a closed client ends the run", a_closed_client_ends_the_run),
     ("Dask's processes: a dead scheduler ends the run", a_dead_scheduler_ends_the_run),
@@ -401,10 +405,13 @@ CHECKS_OF_THEIR_OWN: List[Tuple[str, Callable[[], None]]] = [
 
 def main() -> int:
     status = 0
-    for processes in (False, True):
-        kind = "Dask's processes" if processes else "Dask's threads"
-        with cluster(processes) as client:
-            status |= run_all([(f"{kind}: {name}", partial(check, client)) for name, check in CHECKS_ON_ANY_CLUSTER])
+    for kind, processes, workers, checks in (
+        ("threads", False, 4, CHECKS_ON_ANY_CLUSTER),
+        ("processes", True, 4, CHECKS_ON_ANY_CLUSTER + CHECKS_ON_PROCESSES),
+        ("processes", True, 2, CHECKS_ON_TWO_PROCESSES),
+    ):
+        with cluster(processes, workers) as client:
+            status |= run_all([(f"Dask's {kind}: {name}", partial(check, client)) for name, check in checks])
     return status | run_all(CHECKS_OF_THEIR_OWN)
 
 

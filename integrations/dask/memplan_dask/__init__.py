@@ -1,18 +1,36 @@
 """Tasks on a Dask cluster that keep within a bound on memory. What may start is decided by memplan's core, which is proved."""
 
-from memplan.admission import BoundTooLow
+from .versions import require_dask
 
-from .errors import EngineStopped, ResultTooLarge, RunError, TaskFailed, WorkerLost
-from .runner import least_bound, run
-from .tasks import Task, of_collection
+require_dask()  # before what follows takes names from Dask
+
+from memplan.admission import BoundTooLow  # noqa: E402
+
+from .errors import (  # noqa: E402
+    AnnotationRefused,
+    EngineStopped,
+    ResultTooLarge,
+    RunError,
+    Standstill,
+    TaskFailed,
+    TasksInACycle,
+    UnbookedData,
+    WorkerLost,
+)
+from .runner import least_bound, run  # noqa: E402
+from .tasks import Task, of_collection  # noqa: E402
 
 __all__ = [
+    "AnnotationRefused",
     "BoundTooLow",
     "EngineStopped",
     "ResultTooLarge",
     "RunError",
+    "Standstill",
     "Task",
     "TaskFailed",
+    "TasksInACycle",
+    "UnbookedData",
     "WorkerLost",
     "least_bound",
     "of_collection",

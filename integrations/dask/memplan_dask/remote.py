@@ -6,7 +6,8 @@ Classes and functions stand inside functions here, since Dask sends such ones wh
 from __future__ import annotations
 
 import traceback
-from typing import Any, Callable, List
+from time import time
+from typing import Any, Callable, Dict, List, Sequence
 
 from distributed import SchedulerPlugin, WorkerPlugin
 
@@ -47,14 +48,61 @@ def watch(run: str) -> WorkerPlugin:
     return Watch()
 
 
-def losses(run: str) -> SchedulerPlugin:
-    """Tells over the topic of a run which workers leave the cluster."""
+TABLES = ("plugins", "events", "event_counts", "event_subscriber")
+"""Of the scheduler, where a run leaves something that it takes back at its end."""
 
-    class Losses(SchedulerPlugin):
+
+def lacking() -> Callable[..., List[str]]:
+    """Which of these tables a scheduler, of another version, has not."""
+    names = TABLES
+
+    def lacks(dask_scheduler: Any) -> List[str]:
+        return [name for name in names if not hasattr(dask_scheduler, name)]
+
+    return lacks
+
+
+def changes(run: str) -> SchedulerPlugin:
+    """Tells over the topic of a run which workers leave the cluster, and which come to start no tasks, or to start them again."""
+
+    class Changes(SchedulerPlugin):
+        async def start(self, scheduler: Any) -> None:
+            self.scheduler = scheduler
+
+        def log_event(self, topic: str, message: Any) -> None:
+            if isinstance(message, dict) and message.get("action") == "worker-status-change":
+                self.scheduler.log_event(run, ("turned", topic, message["status"]))
+
         def remove_worker(self, scheduler: Any, worker: str) -> None:
             scheduler.log_event(run, ("lost", worker))
 
-    return Losses()
+    return Changes()
+
+
+def statuses() -> Callable[..., Dict[str, str]]:
+    """The status of each worker, which is ``running`` where it starts tasks."""
+
+    def told(dask_scheduler: Any) -> Dict[str, str]:
+        return {address: worker.status.name for address, worker in dask_scheduler.workers.items()}
+
+    return told
+
+
+def mover(keys: Sequence[str], workers: Sequence[str], seconds: float) -> Callable[..., bool]:
+    """Whether one of these tasks gets on, or may: unless no worker can have it, or one that starts no tasks has it and does not execute it.
+    And whether one of the workers has not been heard of for so long, as where a task holds its interpreter's lock; one that is dead is
+    told as lost."""
+
+    def moves(dask_scheduler: Any) -> bool:
+        there = [dask_scheduler.workers[worker] for worker in workers if worker in dask_scheduler.workers]
+        return any(time() - worker.last_seen > seconds for worker in there) or not all(map(stands, map(dask_scheduler.tasks.get, keys)))
+
+    def stands(task: Any) -> bool:
+        if task is None or task.state != "processing":
+            return task is not None and task.state == "no-worker"
+        return task.processing_on.status.name != "running" and task not in task.processing_on.executing
+
+    return moves
 
 
 def holder(run: str) -> Callable[..., bool]:
@@ -69,8 +117,10 @@ def holder(run: str) -> Callable[..., bool]:
 def eraser(run: str) -> Callable[..., None]:
     """Takes what a run registered from the scheduler, and the log of its topic."""
 
+    names = TABLES
+
     def erase(dask_scheduler: Any) -> None:
-        for table in (dask_scheduler.plugins, dask_scheduler.events, dask_scheduler.event_counts, dask_scheduler.event_subscriber):
-            table.pop(run, None)
+        for name in names:
+            getattr(dask_scheduler, name).pop(run, None)
 
     return erase

@@ -2,19 +2,26 @@
 
 from __future__ import annotations
 
+import operator
 import time
 import uuid
 from functools import partial
-from heapq import heappop, heappush
 from queue import Empty, SimpleQueue
-from typing import Any, Dict, List, Optional, Sequence, Set, Tuple
+from typing import Any, Collection, Dict, List, Optional, Sequence, Tuple
 
+import dask
 from distributed import Client, Future
 from memplan.admission import Admission
 
 from . import remote
-from .errors import EngineStopped, ResultTooLarge, TaskFailed, WorkerLost
-from .tasks import Task, graph_of, home_of, order_of
+from .errors import EngineStopped, ResultTooLarge, Standstill, TaskFailed, WorkerLost, keys_told, named
+from .placement import Placement
+from .tasks import Task, graph_of, home_of, order_of, refuse_annotations, refuse_cycles, refuse_unbooked
+from .versions import require_scheduler
+
+PATIENCE = 30.0
+"""For so many seconds nothing moves before a run says so. Dask looks at the memory of a worker ten times a second, and what it writes to
+disk is there within seconds: where nothing ran for half a minute, and a worker is still paused, it waits for nothing that will come."""
 
 _SECONDS_BETWEEN_LOOKS = 0.02
 _SECONDS_OF_SILENCE = 1.0
@@ -27,25 +34,46 @@ def run(
     order: Optional[Sequence[int]] = None,
     retries: int = 0,
     workers: Optional[Sequence[str]] = None,
+    patience: float = PATIENCE,
 ) -> Dict[int, Future]:
     """Runs the tasks with at most ``bound`` bytes of results and extras on all workers together; the futures of the results that stay.
 
     The tasks run along ``order`` (tasks, from 0). Without one they run along an order of least peak where each result has one consumer,
     and else along Dask's. ``retries`` says how often a task that raises is tried again, and ``workers``, by their addresses, on which
-    workers the tasks run; without it on all that there are now.
+    workers the tasks run; without it on all that there are now. After ``patience`` seconds in which nothing moves, and no task of the run
+    is at work, `Standstill` is raised: so it is where what is left can run only on workers that Dask has paused.
 
     Raises `memplan.admission.BoundTooLow` where the bound is below the peak of the order, `memplan.Refused` where the order is none or a
-    limit of the library is passed, and one of `errors` where the run fails. By then what ran has come to its end, and nothing is left.
+    limit of the library is passed, `UnbookedData` where a task has a future or a Dask collection inside, and one of `errors` where the
+    run fails. By then what ran has come to its end, and nothing is left.
     """
-    return _Run(tasks, bound, client, order, retries, workers).results()
+    try:
+        bound = operator.index(bound)
+    except TypeError:
+        raise TypeError(f"the bound is a whole number of bytes, as an int, and not {bound!r}") from None
+    _check(tasks, client)
+    require_scheduler(client.run_on_scheduler(remote.lacking()))
+    refuse_annotations(dask.config.get("annotations", None))
+    return _Run(tasks, bound, client, order, retries, workers, patience).results() if tasks else {}
 
 
 def least_bound(
     tasks: Sequence[Task], client: Client, order: Optional[Sequence[int]] = None, workers: Optional[Sequence[str]] = None
 ) -> int:
     """The least bound that `run` takes for these tasks on these workers."""
-    graph = graph_of(tasks, _others(_threads(client, workers)))
-    return graph.least_bound(order_of(graph) if order is None else order)
+    _check(tasks, client)
+    if not tasks:
+        return 0
+    with keys_told([task.key for task in tasks]):
+        graph = graph_of(tasks, _others(_threads(client, workers)))
+        return graph.least_bound(order_of(graph) if order is None else order)
+
+
+def _check(tasks: Sequence[Task], client: Client) -> None:
+    if client.asynchronous:
+        raise TypeError(f"a run waits for its tasks, and {client} is asynchronous: give it one that is not, from another thread")
+    refuse_unbooked(tasks)
+    refuse_cycles(tasks)
 
 
 def _threads(client: Client, workers: Optional[Sequence[str]]) -> Dict[str, int]:
@@ -70,25 +98,29 @@ class _Run:
         tasks: Sequence[Task],
         bound: int,
         client: Client,
-        order: Optional[Sequence[int]],
-        retries: int,
-        workers: Optional[Sequence[str]],
+        order: Optional[Sequence[int]] = None,
+        retries: int = 0,
+        workers: Optional[Sequence[str]] = None,
+        patience: float = PATIENCE,
     ) -> None:
         self.name = "memplan-" + uuid.uuid4().hex
-        self.tasks, self.client, self.retries = tasks, client, retries
-        self.free = _threads(client, workers)
-        self.others = _others(self.free)
-        graph = graph_of(tasks, self.others)
-        order = order_of(graph) if order is None else order
-        self.admission = Admission(graph, bound, order)
-        self.ranks = {task: rank for rank, task in enumerate(order)}
+        self.tasks, self.client, self.retries, self.patience = tasks, client, retries, patience
+        threads = _threads(client, workers)
+        with keys_told([task.key for task in tasks]):
+            graph = graph_of(tasks, _others(threads))
+            order = order_of(graph) if order is None else order
+            self.admission = Admission(graph, bound, order)
+        self.placement = Placement(threads, {task: rank for rank, task in enumerate(order)})
         self.call = remote.caller()
         self.events: SimpleQueue[Tuple[Any, ...]] = SimpleQueue()
         self.futures: Dict[int, Future] = {}
         self.running: Dict[int, str] = {}  # the worker of each task that runs
-        self.holders: List[Set[str]] = [set() for _ in tasks]  # the workers that have each result
-        # What may start, by rank: at a certain worker, or (None) at any.
-        self.waiting: Dict[Optional[str], List[Tuple[int, int]]] = {None: [], **{worker: [] for worker in self.free}}
+        self.holders: List[Dict[str, int]] = [{} for _ in tasks]  # for each result its bytes on the workers that have it
+        # For each task the result where it has to run, if the others are copied there, as that is booked; and the other way round.
+        self.homes = [home_of(tasks, task) if _others(threads) else None for task in tasks]
+        self.at_home: Dict[Optional[int], List[int]] = {}
+        for task, home in enumerate(self.homes):
+            self.at_home.setdefault(home, []).append(task)
 
     def results(self) -> Dict[int, Future]:
         try:
@@ -110,31 +142,19 @@ class _Run:
 
     def _start_ready(self) -> None:
         for task in self.admission.ready():
-            heappush(self.waiting[self._place_of(task)], (self.ranks[task], task))
-        while (worker := self._idlest()) is not None:
-            queue = min(queue for queue in (self.waiting[worker], self.waiting[None]) if queue)
-            _, task = queue[0]
-            if not self.admission.start(task):
-                return
-            heappop(queue)
-            self._submit(task, worker)
+            self.placement.add(task, self._places_of(task))
+        while (found := self.placement.next()) is not None and self.admission.start(found[0]):
+            self._submit(*found)
 
-    def _place_of(self, task: int) -> Optional[str]:
-        """The worker where a task has to run: where its greatest input is, if the others are copied there, as that is booked."""
-        home = home_of(self.tasks, self.tasks[task])
-        if home is None or not self.others:
-            return None
-        return min(self.holders[home], key=lambda worker: len(self.waiting[worker]) - self.free[worker])
-
-    def _idlest(self) -> Optional[str]:
-        """Of the workers with a free thread, and a task to start on it, the one with most free threads."""
-        able = (worker for worker, threads in self.free.items() if threads and (self.waiting[worker] or self.waiting[None]))
-        return max(able, key=self.free.__getitem__, default=None)
+    def _places_of(self, task: int) -> Optional[Collection[str]]:
+        """The workers where a task may run, as they are at any time; None where all are."""
+        home = self.homes[task]
+        return None if home is None else self.holders[home].keys()
 
     def _submit(self, task: int, worker: str) -> None:
         future = self._future_of(task, worker)
         future.add_done_callback(lambda future: future.status == "finished" or self.events.put(("failed", task)))
-        self.free[worker] -= 1
+        self.placement.start(task, worker, self.tasks[task].size)
         self.running[task] = worker
         self.futures[task] = future
         # The scheduler keeps what a task needs, and drops it as soon as that is done: no need to wait for word of it here.
@@ -145,45 +165,61 @@ class _Run:
         function, arguments, inputs = self.tasks[task][:3]
         words = partial(function, *arguments), [self.futures[result] for result in inputs]
         place = {"workers": [worker], "allow_other_workers": False}
-        return self.client.submit(self.call, *words, key=f"{self.name}-{task}", retries=self.retries, pure=False, **place)
+        return self.client.submit(self.call, *words, key=self._key_of(task), retries=self.retries, pure=False, **place)
 
     # What happens
 
     def _listen(self) -> None:
         self.client.subscribe_topic(self.name, lambda event: self.events.put(tuple(event[1])))
-        self.client.register_scheduler_plugin(remote.losses(self.name), name=self.name)
+        self.client.register_scheduler_plugin(remote.changes(self.name), name=self.name)
         self.client.register_worker_plugin(remote.watch(self.name), name=self.name)
+        for worker, status in self.client.run_on_scheduler(remote.statuses()).items():
+            self._turned(worker, status)
 
     def _next_event(self) -> Tuple[Any, ...]:
+        last, stood = time.monotonic(), False
         while True:
             try:
-                return self.events.get(timeout=_SECONDS_OF_SILENCE)
+                return self.events.get(timeout=min(_SECONDS_OF_SILENCE, self.patience))
             except Empty:
                 if self.client.status != "running":
                     raise EngineStopped(f"the client is {self.client.status}") from None
+            silence = time.monotonic() - last
+            if silence < self.patience:
+                continue
+            if self._is_at_work(silence):
+                last, stood = time.monotonic(), False
+            elif stood:
+                raise self._standstill(silence)
+            else:
+                stood = True  # word of what has just happened may be on its way: it is looked twice
 
     def _handle(self, event: Tuple[Any, ...]) -> None:
         what, *told = event
-        {"entered": self._entered, "left": self._left, "failed": self._failed, "lost": self._lost}[what](*told)
+        calls = {"entered": self._entered, "left": self._left, "failed": self._failed, "turned": self._turned, "lost": self._lost}
+        calls[what](*told)
 
     def _entered(self, key: str, worker: str, size: int) -> None:
         """A result is in a worker's memory: its task has run there, or it was copied."""
         task = self._task_of(key)
-        if size > self.tasks[task].size:
-            raise ResultTooLarge(task, size, self.tasks[task].size)
-        self.holders[task].add(worker)
+        stated = self.tasks[task].size
+        if size > stated:
+            raise ResultTooLarge(task, self.tasks[task].key, size, stated)
+        self.placement.hold(worker, size - self.holders[task].get(worker, 0))
+        self.holders[task][worker] = size
+        self.placement.widen(self.at_home.get(task, ()), worker)
         if task in self.running:
-            self.free[self.running.pop(task)] += 1
+            self.placement.end(self.running.pop(task), stated)
             self.admission.done(task)
 
     def _left(self, key: str, worker: str) -> None:
         """A result has left a worker's memory. Where no other worker has it, its memory is free again, and not before."""
         task = self._task_of(key)
-        self.holders[task].discard(worker)
+        self.placement.hold(worker, -self.holders[task].pop(worker, 0))
         if self.holders[task]:
             return
         if task in self.futures:
-            raise EngineStopped(f"the result of task {task} was taken from the cluster")
+            raise EngineStopped(f"the result of {self._named(task)} was taken from the cluster")
         self.admission.gone(task)
 
     def _failed(self, task: int) -> None:
@@ -191,16 +227,42 @@ class _Run:
             return  # its result was there, and was given back, before its future had word of it
         future = self.futures[task]
         if future.status != "error":
-            raise EngineStopped(f"task {task} was {future.status}")
+            raise EngineStopped(f"{self._named(task)} was {future.status}")
         error = future.exception()
-        raise TaskFailed(task, error) from error
+        raise TaskFailed(task, self.tasks[task].key, error) from error
+
+    def _turned(self, worker: str, status: str) -> None:
+        """A worker starts no tasks from now on, or starts them again."""
+        if status == "running":
+            self.placement.resting.pop(worker, None)
+        elif worker in self.placement.free:
+            self.placement.resting[worker] = status
 
     def _lost(self, worker: str) -> None:
-        if worker in self.free:
-            raise WorkerLost(worker)
+        if worker in self.placement.free:
+            raise WorkerLost(worker, {task: self.tasks[task].key for task, place in self.running.items() if place == worker})
+
+    def _is_at_work(self, seconds: float) -> bool:
+        """Whether a task of the run gets on, however long it may take, though nothing has been heard of it for so many seconds. A worker
+        tells the scheduler every few seconds that it is there: one that has not for half this time has its interpreter held."""
+        keys = [self._key_of(task) for task in self.running]
+        return self.client.run_on_scheduler(remote.mover(keys, list(self.placement.free), seconds / 2))
+
+    def _standstill(self, seconds: float) -> Standstill:
+        resting = self.placement.resting
+        held = {worker: sum(sizes.get(worker, 0) for sizes in self.holders) for worker in resting}
+        waiting = {task: [worker] for task, worker in self.running.items()}
+        waiting.update((task, list(places or ())) for task, places in self.placement.places.items())
+        return Standstill(seconds, resting, held, waiting, {task: self.tasks[task].key for task in waiting})
+
+    def _key_of(self, task: int) -> str:
+        return f"{self.name}-{task}"
 
     def _task_of(self, key: str) -> int:
         return int(key.rsplit("-", 1)[1])
+
+    def _named(self, task: int) -> str:
+        return named(task, self.tasks[task].key)
 
     # The end
 

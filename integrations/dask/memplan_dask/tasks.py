@@ -2,19 +2,26 @@
 
 from __future__ import annotations
 
-from typing import Any, Callable, Dict, Hashable, List, NamedTuple, Optional, Sequence, Tuple
+from graphlib import CycleError, TopologicalSorter
+from typing import Any, Callable, Dict, Hashable, List, Mapping, NamedTuple, Optional, Sequence, Tuple
 
 import dask
 import dask.order
+from dask.base import unpack_collections
 from dask.core import flatten, get_dependencies
+from dask.highlevelgraph import HighLevelGraph
 from dask.optimization import SubgraphCallable
 from distributed import Future
 from memplan.admission import Graph
 
+from .errors import AnnotationRefused, TasksInACycle, UnbookedData
+from .inside import unbooked
+
 
 class Task(NamedTuple):
     """``function(*arguments, *results of inputs)`` leaves a result of at most ``size`` bytes, and needs at most ``extra`` more beside
-    that and its inputs while it runs. ``inputs`` are tasks, counted from 0; a result that no task consumes, or that is ``kept``, stays."""
+    that and its inputs while it runs. ``inputs`` are tasks, counted from 0; a result that no task consumes, or that is ``kept``, stays.
+    ``key`` is what errors call the task, beside its number."""
 
     function: Callable[..., Any]
     arguments: Tuple[Any, ...] = ()
@@ -22,6 +29,7 @@ class Task(NamedTuple):
     size: int = 0
     extra: int = 0
     kept: bool = False
+    key: Optional[Hashable] = None
 
 
 def home_of(tasks: Sequence[Task], task: Task) -> Optional[int]:
@@ -56,29 +64,73 @@ def order_of(graph: Graph) -> List[int]:
     return sorted(ranks, key=ranks.__getitem__)
 
 
+def refuse_cycles(tasks: Sequence[Task]) -> None:
+    """`TasksInACycle` where tasks wait for each other."""
+    try:
+        TopologicalSorter({index: task.inputs for index, task in enumerate(tasks)}).prepare()
+    except CycleError as error:
+        cycle = error.args[1]
+        raise TasksInACycle(cycle, [tasks[task].key for task in cycle]) from None
+
+
+def refuse_unbooked(tasks: Sequence[Task]) -> None:
+    """`UnbookedData` where a task has a future or a Dask collection inside."""
+    for index, task in enumerate(tasks):
+        found = unbooked(task.arguments, "arguments") or unbooked(task.function, "function")
+        if found is not None:
+            raise UnbookedData(index, task.key, *found)
+
+
+def refuse_annotations(annotations: Optional[Mapping[str, Any]], layer: Optional[str] = None) -> None:
+    """`AnnotationRefused` where there is any."""
+    for annotation, value in (annotations or {}).items():
+        raise AnnotationRefused(annotation, value, layer)
+
+
 def of_collection(
     collection: Any, sizes: Callable[[Hashable], Tuple[int, int]]
 ) -> Tuple[List[Task], Callable[[Dict[int, Future]], Any]]:
     """The tasks of a Dask collection, and a function that makes a collection of their results, as `dask.persist` does.
 
-    The collection is optimized first, so that small tasks are fused. ``sizes`` tells for each key of the graph that comes of it
-    the size and the extra of its task.
+    Several collections are given as `dask.compute` takes them, in a tuple, a list or a dict, and come back as they were given. They are
+    optimized first, together, so that small tasks are fused. ``sizes`` tells for each key of the graph that comes of it the size and the
+    extra of its task.
+
+    Raises `AnnotationRefused` where a layer has annotations, and `UnbookedData` where the graph has futures, as those of a collection do
+    that is persisted.
     """
-    (collection,) = dask.optimize(collection)
-    graph = dict(collection.__dask_graph__())
-    wanted = set(flatten(collection.__dask_keys__()))
+    given, repack = unpack_collections(collection)
+    if not given:
+        raise TypeError(f"there is no Dask collection in {collection!r}")
+    for one in given:
+        _refuse_annotated_layers(one.__dask_graph__())
+    collections = dask.optimize(*given)
+    graph: Dict[Hashable, Any] = {}
+    for one in collections:
+        graph.update(one.__dask_graph__())
+    wanted = set(flatten([one.__dask_keys__() for one in collections]))
     index = {key: number for number, key in enumerate(graph)}
     tasks = []
     for key, value in graph.items():
-        if isinstance(value, Future):
-            raise TypeError(f"{key} is on the cluster already, in memory that no run books")
+        found = unbooked(value, f"graph[{key!r}]")
+        if found is not None:
+            raise UnbookedData(index[key], key, *found)
         inputs = sorted(get_dependencies(graph, key), key=index.__getitem__)
         size, extra = sizes(key)
         function = SubgraphCallable({key: value}, key, inputs)
-        tasks.append(Task(function, (), tuple(index[it] for it in inputs), size, extra, key in wanted))
+        tasks.append(Task(function, (), tuple(index[it] for it in inputs), size, extra, key in wanted, key))
 
     def rebuild(futures: Dict[int, Future]) -> Any:
-        finish, arguments = collection.__dask_postpersist__()
-        return finish({key: futures[index[key]] for key in wanted}, *arguments)
+        return repack([_of_results(one, {key: futures[index[key]] for key in flatten(one.__dask_keys__())}) for one in collections])[0]
 
     return tasks, rebuild
+
+
+def _of_results(collection: Any, futures: Dict[Hashable, Future]) -> Any:
+    finish, arguments = collection.__dask_postpersist__()
+    return finish(futures, *arguments)
+
+
+def _refuse_annotated_layers(graph: Any) -> None:
+    for name, layer in graph.layers.items() if isinstance(graph, HighLevelGraph) else ():
+        refuse_annotations(layer.annotations, name)
