@@ -1,7 +1,8 @@
 # memplan: the program, the libraries, the Python package; their installation, a tarball of them, and the tests that need no toolchain.
 #
 #   make                      the program and the libraries
-#   make install PREFIX=..    them, memplan.h, memplan.pc, the Python package and the Fortran module; DESTDIR= for packages
+#   make install PREFIX=..    them, memplan.h, memplan.pc, the Python package and the Fortran module, the man page, completions for bash and zsh;
+#                             DESTDIR= for packages
 #   make uninstall PREFIX=..
 #   make dist                 dist/memplan-VERSION-Linux-x86_64.tar.gz, and its checksum beside it
 #   make test                 tests of the program and of all that is around it; the last line is 'N passed, M failed'
@@ -11,6 +12,9 @@
 PREFIX ?= /usr/local
 BINDIR ?= $(PREFIX)/bin
 PYTHONDIR ?= $(PREFIX)/share/memplan/python
+MANDIR ?= $(PREFIX)/share/man
+BASHDIR ?= $(PREFIX)/share/bash-completion/completions
+ZSHDIR ?= $(PREFIX)/share/zsh/site-functions
 DESTDIR ?=
 
 VERSION := $(shell sed -n 's/^\#define MEMPLAN_VERSION "\(.*\)"$$/\1/p' c/memplan.h)
@@ -23,12 +27,16 @@ all:
 	$(MAKE) -C c
 
 install: all
-	install -d $(DESTDIR)$(BINDIR) $(DESTDIR)$(PYTHONDIR)/memplan
+	install -d $(DESTDIR)$(BINDIR) $(DESTDIR)$(PYTHONDIR)/memplan $(DESTDIR)$(MANDIR)/man1 $(DESTDIR)$(BASHDIR) $(DESTDIR)$(ZSHDIR)
 	bash -uc '$(SETTLED); install -m 755 "$$program" $(DESTDIR)$(BINDIR)/memplan'
 	install -m 644 $(PYTHON:%=python/memplan/%) $(DESTDIR)$(PYTHONDIR)/memplan/
+	install -m 644 docs/memplan.1 $(DESTDIR)$(MANDIR)/man1/memplan.1
+	install -m 644 tools/completion/memplan.bash $(DESTDIR)$(BASHDIR)/memplan
+	install -m 644 tools/completion/_memplan $(DESTDIR)$(ZSHDIR)/_memplan
 	$(MAKE) -C c install
 
 uninstall:
+	rm -f $(DESTDIR)$(MANDIR)/man1/memplan.1 $(DESTDIR)$(BASHDIR)/memplan $(DESTDIR)$(ZSHDIR)/_memplan
 	rm -f $(DESTDIR)$(BINDIR)/memplan $(PYTHON:%=$(DESTDIR)$(PYTHONDIR)/memplan/%)
 	[ ! -d $(DESTDIR)$(PYTHONDIR)/memplan ] || rmdir --ignore-fail-on-non-empty $(DESTDIR)$(PYTHONDIR)/memplan
 	$(MAKE) -C c uninstall

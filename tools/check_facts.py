@@ -6,12 +6,16 @@ usage: check_facts.py [FOLDER]      (the repository; the one that this script is
 - The numbers of the statuses: the program and its specification, the header for C, the module for Fortran, docs/FORMATS.md; and what the
   program says on standard error, as tools/check_repository.py takes it.
 - The numbers of the kinds of faults: the crate for C and its specification, the header, and the Python package.
+- The commands with their options, the words and the numbers that these take, and the statuses: tools/commands.py, of which help and pages are made.
+- The limits of files, as tools/explain tells them.
 
 The last line is 'N passed, M failed', and the status is 0 where none failed.
 """
+import importlib.util
 import re
 import sys
 from pathlib import Path
+from types import ModuleType
 from typing import Dict, Iterator, Tuple
 
 Numbers = Dict[str, int]
@@ -73,6 +77,45 @@ class Facts:
         numbers = re.findall(r"\banswer \d+ (\d+) ", specified) + re.findall(r"\bkind_of_order \S+ = (\d+)", specified)
         yield "crates/memplan_c/specs/Faults.antt", {number: int(number) for number in numbers}, plain
 
+    def table(self) -> ModuleType:
+        """tools/commands.py, loaded from where it stands."""
+        sys.dont_write_bytecode = True
+        spec = importlib.util.spec_from_file_location("commands", self.top / "tools/commands.py")
+        module = importlib.util.module_from_spec(spec)
+        spec.loader.exec_module(module)
+        return module
+
+    def values(self) -> Dict[str, str]:
+        """What options take, as the program reads them: `a|b`, or `LEAST to MOST`."""
+        files = [self.top / "crates/memplan/src/request.rt", *sorted((self.top / "crates/memplan/src/commands").glob("*.rt"))]
+        code = "".join(file.read_text(encoding="utf-8") for file in files)
+        limits = re.findall(r"pub const (\w+): u\d+ = ([\d_]+);", self.text("crates/limits/src/lib.rt"))
+        most = {name: int(number.replace("_", "")) for name, number in limits}
+        said = {name: f"{first}|{second}" for name, first, second in re.findall(r'is_second\(line\.value\("(\w+)"\), "(\w+)", "(\w+)"\)', code)}
+        for option, function in (("ordering", "fn ordering_named"), ("kind", "fn made_of")):
+            said[option] = "|".join(re.findall(r'^ +"(\w+)" =>', part_of(code, function, "\n}"), re.M))
+        for limit, option in re.findall(r'number_up_to\((MOST_\w+), line\.value\("(\w+)"\)\)', code):
+            said[option] = f"1 to {most[limit]}"
+        said["workers"] = f"1 to {most[part_of(part_of(code, 'pub fn workers_of', chr(10) + '}'), 'u64::from(', ')')]}"
+        said["amalgamate"] = f"0 to {1 << int(part_of(part_of(code, 'fn zeros_of', chr(10) + '}'), 'zeros <= 1 << ', ' '))}"
+        return {**said, **{option: f"0 to {2**64 - 1}" for option in re.findall(r'number_given\(line\.value\("(\w+)"\)\)', code)}}
+
+    def commands(self) -> Iterator[Tuple[str, dict, dict]]:
+        place, table = "tools/commands.py", self.table()
+        shapes = re.findall(r'name: "(\w+)",\s*options: &\[([^\]]*)\]', part_of(self.text("crates/memplan/src/commands.rt"), "static COMMANDS", "];"))
+        wanted = {name: " ".join(sorted(re.findall(r'"(\w+)"', options))) for name, options in shapes}
+        yield place, {command.name: " ".join(sorted(option.name for option in command.options)) for command in table.COMMANDS}, wanted
+        options = [option for command in table.COMMANDS for option in command.options if option.value != table.FILE]
+        yield place, {option.name: option.value if option.words() else f"{option.least} to {option.most}" for option in options}, self.values()
+        code = numbers_in(part_of(self.text("crates/memplan/src/status.rt"), "pub fn code_of", "\n}"), r"Status::(\w+) => (\d+)")
+        yield place, {number: number for number in table.STATUSES}, {number: number for number in code.values()}
+
+    def limits(self) -> Iterator[Tuple[str, Numbers, Numbers]]:
+        most = re.findall(r"pub const MOST_(\w+): u\d+ = ([\d_]+);", self.text("crates/limits/src/lib.rt"))
+        told = re.findall(r'"(\w+)": ([\d_]+)', part_of(self.text("tools/explaining/judged.py"), "LIMITS = {", "}"))
+        wanted = {name.lower(): int(number) for name, number in most if name != "WORKERS"}
+        yield "tools/explaining/judged.py", {name: int(number) for name, number in told}, wanted
+
 
 def difference(found: dict, wanted: dict) -> str:
     """What is told otherwise than it has to be; nothing where all is the same. Where nothing was found there is nothing to compare."""
@@ -85,7 +128,7 @@ def difference(found: dict, wanted: dict) -> str:
 def main() -> int:
     facts = Facts(Path(sys.argv[1]) if sys.argv[1:] else Path(__file__).resolve().parent.parent)
     passed = failed = 0
-    for what in ("statuses", "complaints", "kinds"):
+    for what in ("statuses", "complaints", "kinds", "commands", "limits"):
         for place, found, wanted in getattr(facts, what)():
             fault = difference(found, wanted)
             passed, failed = passed + (not fault), failed + bool(fault)

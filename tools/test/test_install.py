@@ -62,6 +62,13 @@ class Installing(unittest.TestCase):
         version = re.search(r'MEMPLAN_VERSION "(.*)"', (ROOT / "c/memplan.h").read_text())[1]
         self.assertEqual(self.run_words(sys.executable, "-Bc", words, str(folder)), f"{version} 9\n")
 
+    def check_help(self, put: Path) -> None:
+        """The man page and the completions lie where they are looked for, and bash's completes a word."""
+        self.assertIn(".TH MEMPLAN 1", (put / "share/man/man1/memplan.1").read_text())
+        self.assertTrue((put / "share/zsh/site-functions/_memplan").read_text().startswith("#compdef memplan\n"))
+        words = 'COMP_WORDS=(memplan sim) COMP_CWORD=1; . "$0"; _memplan; echo "${COMPREPLY[@]}"'
+        self.assertEqual(self.run_words("bash", "-c", words, str(put / "share/bash-completion/completions/memplan")), "simulate\n")
+
     def files_below(self, folder: Path) -> List[str]:
         return sorted(str(it.relative_to(folder)) for it in folder.rglob("*") if not it.is_dir())
 
@@ -73,6 +80,7 @@ class Installing(unittest.TestCase):
         self.check_caller(f"-I{put}/include", f"-L{put}/lib", "-lmemplan", f"-Wl,-rpath,{put}/lib")
         self.assertIn(f"prefix={put}\n", (put / "lib/pkgconfig/memplan.pc").read_text())
         self.check_python(put / "share/memplan/python")
+        self.check_help(put)
         self.make("uninstall", f"PREFIX={put}")
         self.assertEqual(self.files_below(put), [])
 

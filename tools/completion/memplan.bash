@@ -1,0 +1,45 @@
+# Completion of the words of memplan, for bash: source it, or put it where bash-completion looks.
+# Made by tools/make_help.py of tools/commands.py.
+_memplan() {
+    local word=${COMP_WORDS[COMP_CWORD]} before=${COMP_WORDS[COMP_CWORD - 1]} words= option
+    COMPREPLY=()
+    # bash cuts `--name=value` into three words
+    [ "$before" != = ] || before=${COMP_WORDS[COMP_CWORD - 2]}
+    [ "$word" != = ] || word=
+    case $before in
+        --ordering) words="natural mindeg" ;;
+        --shape) words="triangle square" ;;
+        --inplace) words="no yes" ;;
+        --print) words="text json" ;;
+        --kind) words="tree workflow grid" ;;
+        --tree | --workflow | --matrix | --perm | --plan | --order | --priority | --graph)
+            compopt -o filenames 2>/dev/null
+            mapfile -t COMPREPLY < <(compgen -f -- "$word")
+            return
+            ;;
+        --amalgamate | --workers | --bound | --seed | --tasks | --rows | --cols) return ;;
+        *)
+            case ${COMP_WORDS[1]} in
+                plan) words="--tree --workflow --matrix --perm --ordering --shape --amalgamate --inplace --print" ;;
+                check) words="--tree --workflow --matrix --perm --ordering --shape --amalgamate --inplace --plan --workers" ;;
+                replay) words="--tree --workflow --matrix --perm --ordering --shape --amalgamate --inplace --order --plan" ;;
+                post) words="--tree --matrix --perm --ordering --shape --amalgamate --inplace" ;;
+                tree) words="--matrix --perm --ordering --shape --amalgamate --inplace" ;;
+                fronts) words="--matrix --perm --ordering --bound --workers" ;;
+                simulate) words="--tree --workflow --matrix --perm --ordering --shape --amalgamate --inplace --order --plan --bound --workers --priority" ;;
+                spill) words="--tree --workflow --matrix --perm --ordering --shape --amalgamate --inplace --order --plan --bound" ;;
+                segments) words="--tree --workflow --matrix --perm --ordering --shape --amalgamate --inplace" ;;
+                reduce) words="--graph" ;;
+                upgrade) words="--tree --workflow --plan --priority" ;;
+                demo) words="--kind --seed --tasks --rows --cols" ;;
+            esac
+            [ "$COMP_CWORD" -gt 1 ] || words="plan check replay post tree fronts simulate spill segments reduce upgrade demo"
+            # each option once
+            for option in "${COMP_WORDS[@]:2}"; do
+                [ "$option" = "$word" ] || words=" $words " words=${words/ $option / }
+            done
+            ;;
+    esac
+    mapfile -t COMPREPLY < <(compgen -W "$words" -- "$word")
+}
+complete -F _memplan memplan ./memplan

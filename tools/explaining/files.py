@@ -1,0 +1,145 @@
+"""The files that refusals speak of: their lines, what they should hold, and what else they may be."""
+
+import re
+from itertools import islice
+from typing import Dict, Iterator, List, NamedTuple, Tuple
+
+WIDTH = 100  # of a line that is shown
+KINDS = ("tree", "workflow", "graph", "matrix", "perm", "order", "plan", "priority")
+FORMS = {
+    "tree": "a tree file has the lines `tree 1`, `nodes N`, N lines `parent out extra time` (`tree 2`: `parent out extra share time`), and `end`",
+    "workflow": "a workflow file has the lines `workflow 1`, `tasks N`, lines `data D`, `task EXTRA TIME` and `par K`, and `end`",
+    "graph": "a graph file has the lines `graph 1`, `tasks N`, N lines `extra share time`, `arcs M`, M lines `from to size`, and `end`",
+    "matrix": "a matrix file begins with `%%MatrixMarket matrix coordinate FIELD SYMMETRY`, then `ROWS COLUMNS ENTRIES`",
+    "perm": "a permutation file has each row from 1 on once, the first one to go first",
+    "order": "an order file has the numbers of the tasks, in order, and nothing else",
+    "plan": "a plan file has the lines `plan 1`, `order N`, N tasks, `peak P`, `claims C`, C claims, and `end`",
+    "priority": "a priority file has each task from 1 on once, the first one to be preferred",
+}
+# What else a file may be, by its first word: a file that another option takes, or what no option takes.
+OTHER_FILES = {"tree": "tree", "workflow": "workflow", "graph": "graph", "plan": "plan", "%%matrixmarket": "matrix"}
+OTHER_TEXTS = {
+    "peak": "is the report of `post` or `replay`.",
+    "refused": "is a refusal, which an earlier run wrote; did `> FILE` write over the input?",
+    "no": "is a refusal, which an earlier run wrote; did `> FILE` write over the input?",
+}
+MAGIC = {
+    b"\x1f\x8b": "is compressed by gzip: `gunzip` it first.",
+    b"BZh": "is compressed by bzip2: `bunzip2` it first.",
+    b"\xfd7zXZ": "is compressed by xz: `unxz` it first.",
+    b"\x28\xb5\x2f\xfd": "is compressed by zstd: `unzstd` it first.",
+    b"PK\x03\x04": "is a zip archive: `unzip` it first.",
+    b"\xff\xfe": "is written in UTF-16, two bytes a letter: `iconv -f UTF-16 -t UTF-8` makes plain text of it.",
+    b"\xfe\xff": "is written in UTF-16, two bytes a letter: `iconv -f UTF-16 -t UTF-8` makes plain text of it.",
+    b"\xef\xbb\xbf": "begins with a byte order mark, three bytes that no editor shows: `tail -c +4` gives the file without it.",
+    b"<": "is a web page, or XML: was the right link downloaded?",
+    b"{": "is JSON, which no command reads: `plan` without `--print json` prints a plan file.",
+}
+
+
+class File:
+    """A file of a kind, by its lines, numbered from 1; it may be a great one, and is read anew for each question."""
+
+    def __init__(self, kind: str, name: str) -> None:
+        self.kind, self.name = kind, name
+        with open(name, "rb") as file:
+            self.head = file.read(65536)
+
+    def lines(self) -> Iterator[bytes]:
+        with open(self.name, "rb") as file:
+            yield from file
+
+    def text(self, number: int) -> str:
+        return next(islice(self.lines(), number - 1, None), b"").decode("utf-8", "replace").rstrip("\r\n")
+
+    def tokens(self, number: int) -> List[str]:
+        return self.text(number).split()
+
+    def rows(self) -> Iterator[Tuple[int, List[str]]]:
+        """The lines that count, with their numbers."""
+        comments = ("%",) if self.kind == "matrix" else ("%", "#")
+        for number, line in enumerate(self.lines(), 1):
+            tokens = line.decode("utf-8", "replace").split()
+            if tokens and (not tokens[0].startswith(comments) or (number, self.kind) == (1, "matrix")):
+                yield number, tokens
+
+    def numbered(self) -> Iterator[Tuple[int, str]]:
+        """The tokens of all lines, each with the number of its line; of a plan those of its order."""
+        rows = islice(self.rows(), 2, 2 + self.stated("order")) if self.kind == "plan" else self.rows()
+        return ((number, token) for number, tokens in rows for token in tokens)
+
+    def stated(self, word: str) -> int:
+        """The number behind a word, as in `nodes 5`."""
+        return next(int(tokens[1]) for _, tokens in self.rows() if tokens[0] == word and len(tokens) == 2)
+
+    def nodes(self) -> List[Tuple[int, List[int]]]:
+        """The lines of a tree's nodes, or a graph's tasks and arcs."""
+        return [(number, [int(it) for it in tokens]) for number, tokens in islice(self.rows(), 2, None) if len(tokens) > 2 and all(map(is_number, tokens))]
+
+    def place(self, number: int) -> str:
+        count = sum(1 for _ in self.lines())
+        if number > count:
+            return f"{self.name} ends after line {count}"
+        shown = "".join(it if it.isprintable() else "?" for it in self.text(number).expandtabs(1))
+        return f"{self.name}, line {number}: {shown if len(shown) <= WIDTH else shown[:WIDTH] + ' ..'}"
+
+
+class Case(NamedTuple):
+    """A refusal of a file: where, and all files that are there."""
+
+    file: File
+    line: int
+    files: Dict[str, File]
+
+    @property
+    def tokens(self) -> List[str]:
+        return self.file.tokens(self.line)
+
+
+def is_number(token: str) -> bool:
+    return re.fullmatch(r"[0-9]+", token) is not None
+
+
+def many(count: int, what: str) -> str:
+    return f"{count} {what}{'' if count == 1 else 's'}"
+
+
+def form_of(kind: str) -> str:
+    """What a file of this kind holds, as a sentence."""
+    return f"{FORMS[kind][0].upper()}{FORMS[kind][1:]}."
+
+
+def wrong_token(token: str) -> str:
+    """Why a token is no number; nothing where it is one."""
+    if is_number(token):
+        return f"`{token}` is 2^64 or more" if int(token) >= 2**64 else ""
+    if "," in token or ";" in token:
+        return f"`{token}` has a comma or a semicolon: blanks stand between numbers"
+    if re.fullmatch(r"[+-]?[0-9.]+[eEdD][+-]?[0-9]+", token):
+        return f"`{token}` has an exponent: numbers are written out, in digits alone"
+    if re.fullmatch(r"[+-]?[0-9]*\.[0-9]*", token):
+        return f"`{token}` has a point: sizes are whole numbers, of entries or bytes"
+    if token.startswith(("-", "+")):
+        return f"`{token}` has a sign: numbers are digits alone, from 0 on"
+    return f"`{token}` is no number"
+
+
+def foreign(file: File, line: int) -> str:
+    """What a file is, where it is none of its kind; nothing where it seems to be one."""
+    if not file.head.strip():
+        return f"{file.name} is empty."
+    for first, says in MAGIC.items():
+        if file.head.startswith(first):
+            return f"{file.name} {says}"
+    if b"\0" in file.head:
+        return f"{file.name} is no text, or is written in UTF-16."
+    if b"\r" in file.head and b"\n" not in file.head:
+        return f"{file.name} has lines that end with a carriage return alone: `tr '\\r' '\\n'` makes lines of them."
+    for number in (1, line):
+        word = (file.tokens(number) or [""])[0].lower()
+        option = OTHER_FILES.get(word, file.kind)
+        if option != file.kind:
+            return f"{file.name} is a {option} file, which is given by `--{option}`."
+        if word in OTHER_TEXTS:
+            return f"{file.name} {OTHER_TEXTS[word]}"
+    return ""

@@ -1,0 +1,283 @@
+"""What is wrong with a file that is not of its format."""
+
+from typing import Callable, Dict, List
+
+from explaining.files import KINDS, Case, File, foreign, form_of, is_number, many, wrong_token
+
+SECOND_LINES = {"tree": "nodes N", "workflow": "tasks N"}
+
+def numbers(case: Case, names: str, tokens: List[str], is_timed: bool = False) -> str:
+    """What is wrong with numbers that should be those of these names."""
+    wanted = names.split()
+    for token in tokens[len(wanted) :]:
+        if token.startswith(("#", "%")):
+            return "A comment stands on a line of its own, and not behind numbers."
+    for at, token in enumerate(tokens):
+        wrong = wrong_token(token)
+        if wrong and wanted[:1] == ["parent"] and at == 0 and token == "-1":
+            wrong += "; the parent of a root is 0. Does the file count from 0? Then add 1 to every parent"
+        if wrong:
+            return f"{wrong}."
+    if len(tokens) != len(wanted):
+        version = {("tree", 5): " Five are those of `tree 2`, which has a share.", ("tree", 4): " Four are those of `tree 1`, without a share."}
+        hint = version.get((case.file.kind, len(tokens)), "")
+        return f"The line has {many(len(tokens), 'number')}, and {many(len(wanted), 'number')} are wanted: `{names}`.{hint}"
+    return "The time is 0: it is 1 at least." if is_timed and tokens[-1].strip("0") == "" else "A number is too great, or out of place."
+
+
+def tree_number(case: Case) -> str:
+    if case.tokens[:1] == ["nodes"]:
+        return numbers(case, "N", case.tokens[1:])
+    is_second = next(case.file.rows())[1][1:] == ["2"]
+    return numbers(case, "parent out extra share time" if is_second else "parent out extra time", case.tokens, True)
+
+
+def workflow_number(case: Case) -> str:
+    is_second = next(case.file.rows())[1][1:] == ["2"]
+    names = {"task": "EXTRA SHARE TIME" if is_second else "EXTRA TIME", "par": "K", "end": ""}.get(case.tokens[0], "D")
+    if case.tokens[0] == "par" and case.tokens[1:] in (["0"], ["1"]):
+        return "`par` puts two terms or more side by side."
+    return numbers(case, names, case.tokens[1:], case.tokens[0] == "task")
+
+
+def graph_number(case: Case) -> str:
+    if case.tokens[0] in ("tasks", "arcs"):
+        return numbers(case, "N", case.tokens[1:])
+    arcs = [number for number, tokens in case.file.rows() if tokens[0] == "arcs"]
+    if not arcs or case.line < arcs[0]:
+        return numbers(case, "extra share time", case.tokens, True)
+    if case.tokens == ["end"]:
+        found = sum(number > arcs[0] for number, _ in case.file.rows()) - 1
+        return f"`end` comes after {many(found, 'arc')}, and there is `arcs {case.file.stated('arcs')}` above: is that the right number?"
+    return numbers(case, "from to size", case.tokens)
+
+
+# ---- trees and graphs
+
+
+def tree_count(case: Case) -> str:
+    stated = case.file.stated("nodes")
+    found = sum(1 for number, tokens in case.file.rows() if tokens != ["end"]) - 2
+    if case.tokens[:1] == ["nodes"]:
+        return "A tree has one node at least."
+    ends = [number for number, tokens in case.file.rows() if tokens == ["end"]]
+    if ends and ends[0] < case.line:
+        return "Nothing comes after `end`."
+    return f"There is `nodes {stated}` above, and the file has {many(found, 'line')} for nodes: is that the right number?"
+
+
+def tree_parent(case: Case) -> str:
+    stated, found = case.file.stated("nodes"), len(case.file.nodes())
+    if found > stated:
+        return f"There is `nodes {stated}` above, and the file has {many(found, 'line')} for nodes: is that the right number?"
+    return f"The parent is {case.tokens[0]}, and there are {many(stated, 'node')}."
+
+
+def ring(case: Case, suppliers: Callable[[int], List[int]], task: int) -> str:
+    seen: List[int] = []
+    while task not in seen:
+        seen.append(task)
+        task = (suppliers(task) or [task])[0]
+    names = [*seen[seen.index(task) :], task]
+    return ", ".join(str(it) for it in (names if len(names) <= 8 else names[:8])) + ("" if len(names) <= 8 else ", ..")
+
+
+def tree_cycle(case: Case) -> str:
+    nodes = case.file.nodes()
+    node = [number for number, _ in nodes].index(case.line) + 1
+    if nodes[node - 1][1][0] == node:
+        return f"Node {node} is its own parent."
+    return f"The parents of node {node} lead round in a ring and to no root: {ring(case, lambda it: [nodes[it - 1][1][0]], node)}."
+
+
+def graph_cycle(case: Case) -> str:
+    tasks = case.file.stated("tasks")
+    rows = case.file.nodes()
+    arcs = [(row[0], row[1]) for _, row in rows[tasks:]]
+    left = {task: [one for one, other in arcs if other == task and one] for task in range(1, tasks + 1)}
+    while done := [task for task, before in left.items() if not any(it in left for it in before)]:
+        for task in done:
+            del left[task]
+    task = [number for number, _ in rows].index(case.line) + 1
+    found = ring(case, lambda it: [one for one in left.get(it, []) if one in left], task)
+    return f"Each task of a ring waits for the next one: {found}."
+
+
+def tree_share(case: Case) -> str:
+    nodes = case.file.nodes()
+    node = [number for number, _ in nodes].index(case.line) + 1
+    _, (_, out, extra, share, _) = nodes[node - 1]
+    blocks = sum(row[1] for _, row in nodes if row[0] == node)
+    if share > blocks:
+        return f"The share of node {node} is {share}, and the blocks of its children are {blocks} together."
+    return f"The share of node {node} is {share}, and its own extra and out are {extra + out} together."
+
+
+def graph_arc(case: Case) -> str:
+    one, other = case.tokens[:2]
+    if one == other:
+        return f"The arc leads from task {one} to itself."
+    return f"The arc leads from {one} to {other}, and there are {many(case.file.stated('tasks'), 'task')}."
+
+
+# ---- matrices
+
+
+def banner(case: Case) -> str:
+    first = case.file.tokens(1)
+    if first and first[0].lower() == "%matrixmarket":
+        return "The first line begins with two percent signs."
+    return "The first line of a matrix file is `%%MatrixMarket matrix coordinate pattern symmetric`, or with another field and symmetry."
+
+
+def matrix_field(case: Case) -> str:
+    return case.file.tokens(1)[3].lower()
+
+
+def entry(case: Case) -> str:
+    values = {"pattern": 0, "complex": 2}.get(matrix_field(case), 1)
+    for token in case.tokens[:2]:
+        if wrong_token(token):
+            return f"{wrong_token(token)}."
+    return f"An entry of a `{matrix_field(case)}` matrix is its row, its column and {many(values, 'value')}; the line has {many(len(case.tokens), 'word')}."
+
+
+def size_line(case: Case) -> str:
+    if case.tokens and case.tokens[0].startswith("#"):
+        return "A comment in a matrix file begins with `%`."
+    return "After the first line and comments comes the line `ROWS COLUMNS ENTRIES`, three numbers, rows and columns from 1 on."
+
+
+def rows_of_matrix(file: File) -> List[str]:
+    return (list(file.rows())[1:2] or [(0, ["-1", "-1", "-1"])])[0][1]
+
+
+def index(case: Case) -> str:
+    order = rows_of_matrix(case.file)[0]
+    if "0" in case.tokens[:2]:
+        return f"Rows and columns are numbered from 1 to {order}: does the file count from 0?"
+    return f"The entry is in row {case.tokens[0]} and column {case.tokens[1]}, and the matrix has {order} of each."
+
+
+def entries(case: Case) -> str:
+    found = sum(1 for _ in case.file.rows()) - 2
+    return f"The size line says {rows_of_matrix(case.file)[2]} entries, and the file has {found}: was it cut off, or put together by hand?"
+
+
+# ---- permutations and orders
+
+
+def size_of_permutation(case: Case) -> int:
+    """How many rows, where the matrix is there; else as many as there are numbers."""
+    if case.file.kind == "perm" and "matrix" in case.files:
+        return int(rows_of_matrix(case.files["matrix"])[0])
+    if "plan" in case.files:
+        return case.files["plan"].stated("order")
+    if "tree" in case.files:
+        return case.files["tree"].stated("nodes")
+    return sum(1 for _ in case.file.numbered())
+
+
+def odd_one(case: Case) -> str:
+    """The token of a permutation's line at which its reading stopped."""
+    most, seen, at, last = size_of_permutation(case), set(), 0, 0
+    for count, (number, token) in enumerate(case.file.numbered(), 1):
+        at = at + 1 if number == last else 1
+        last = number
+        place = f"Number {at} of line {number} is {token}"
+        if wrong_token(token):
+            return f"{wrong_token(token)}."
+        if count > most:
+            return f"{place}, and it is one more than the {most} that are wanted."
+        if not 1 <= int(token) <= most:
+            return f"{place}, and they are from 1 to {most}."
+        if int(token) in seen:
+            return f"{place}, which stood before."
+        seen.add(int(token))
+    missing = next((it for it in range(1, most + 1) if it not in seen), 0)
+    return f"There are {many(len(seen), 'number')}, and {most} are wanted; {missing} is missing."
+
+
+def permutation_cause(case: Case) -> str:
+    numbers_there = [token for _, token in case.file.numbered()]
+    if all(map(is_number, numbers_there)) and sorted(map(int, numbers_there)) == list(range(len(numbers_there))):
+        if case.file.kind == "priority":
+            return "The file counts from 0: add 1 to every number."
+        return (
+            "The file counts from 0: add 1 to every number. What METIS writes is the inverse besides, its k-th number is the place of row k; "
+            f"this turns it: awk '{{print $1, NR}}' {case.file.name} | sort -n | awk '{{print $2}}'"
+        )
+    return form_of(case.file.kind)
+
+
+def header(case: Case) -> str:
+    kind = case.file.kind
+    if len(case.tokens) == 2 and case.tokens[0] == kind:
+        return f"There are the versions {'1' if kind == 'graph' else '1 and 2'} of this format."
+    first = next(case.file.rows(), (case.line, []))[0]
+    if case.line != first:
+        return f"This line is not `{SECOND_LINES[kind]}`."
+    return f"The first line, `{kind} 1`, is not there."
+
+
+# ---- what each refusal of a file's form means: a sentence, or what finds one
+
+COUNT_FROM_0 = "The parent of a root is 0, and nodes are numbered from 1: does the file count from 0?"
+NO_END = "The last line, `end`, is not there: was the file cut off?"
+TERMS = "A `task` takes two terms from the stack and `par K` takes K; each puts one there, and so does `data`."
+ONE_TERM = "At `end` there is more than one term, or none: a `par` is missing, or a task, which would join them."
+SHARES = "The share is what the task takes over from what it takes up, and no more than that or than its own need."
+SECTIONS = "A line such as `{}` stands between the parts: was a line left out, or is one too many?"
+Says = Callable[[Case], str]
+MEANINGS: Dict[str, object] = {
+    "tree number": tree_number,
+    "tree count": tree_count,
+    "tree parent": tree_parent,
+    "tree cycle": (tree_cycle, COUNT_FROM_0),
+    "tree share": (tree_share, SHARES),
+    "workflow number": workflow_number,
+    "workflow word": "A line begins with `data`, `task`, `par` or `end`, in small letters, and nothing comes after `end`.",
+    "workflow stack-short": ("There are too few terms before this line: a line above it, such as a `data`, is missing.", TERMS),
+    "workflow task-count": lambda case: f"There is `tasks {case.file.stated('tasks')}` above, and the lines for tasks are "
+    f"{sum(tokens[0] == 'task' for _, tokens in case.file.rows())}: is that the right number?",
+    "workflow not-one-term": (ONE_TERM, TERMS),
+    "workflow share": SHARES,
+    "graph number": graph_number,
+    "graph section": SECTIONS.format("arcs M"),
+    "graph arc": (graph_arc, "Tasks are numbered from 1; 0 says that no task makes it, or takes it up."),
+    "graph cycle": graph_cycle,
+    "graph share": SHARES,
+    "matrix banner": banner,
+    "matrix not-matrix": "The second word of the first line is `matrix`: vectors and other objects are not read.",
+    "matrix array-format": "`array` is the format of dense matrices; sparse ones are written in `coordinate` format, entry by entry.",
+    "matrix field": "The fourth word of the first line is `pattern`, `real`, `double`, `integer`, `unsigned-integer` or `complex`.",
+    "matrix symmetry": "The fifth word of the first line is `general`, `symmetric`, `hermitian` or `skew-symmetric`.",
+    "matrix size-line": size_line,
+    "matrix not-square": "The matrix is not square: fronts are those of A and its transpose together.",
+    "matrix too-many": entries,
+    "matrix too-few": entries,
+    "matrix entry": entry,
+    "matrix index": index,
+    "order number": lambda case: next((f"{wrong_token(it)}." for it in case.tokens if wrong_token(it)), "A number is 2^32 or more."),
+    "plan section": SECTIONS.format("order N`, `peak P` or `claims C"),
+    "plan order": "The order has one task on each line: is the number behind `order` right?",
+    "plan number": lambda case: next((f"{wrong_token(it)}." for it in case.tokens if it not in "FR" and wrong_token(it)), "A number is too great."),
+    "plan priority": "The priority is empty, or has each task once.",
+    "plan claim": "A claim is `POSITION F|R BOUND REST`, by rising positions: is the number behind `claims` right?",
+}
+for kind in KINDS:
+    MEANINGS.setdefault(f"{kind} header", header)
+    MEANINGS.setdefault(f"{kind} no-end", NO_END)
+for kind in ("perm", "priority"):
+    for word in ("number", "count", "range", "repeated"):
+        MEANINGS[f"{kind} {word}"] = (odd_one, permutation_cause)
+
+
+def of_format(case: Case, word: str) -> List[str]:
+    form = form_of(case.file.kind)
+    is_other = foreign(case.file, case.line)
+    if is_other:
+        return [is_other, form]
+    found = MEANINGS[f"{case.file.kind} {word}"]
+    parts = found if isinstance(found, tuple) else (found, form)
+    return [case.file.place(case.line), *(part(case) if callable(part) else part for part in parts)]

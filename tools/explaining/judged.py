@@ -1,0 +1,112 @@
+"""What is said of limits that are passed, of bounds, and of orders and plans that are judged."""
+
+from typing import Dict, List, Optional
+
+from explaining.files import FORMS, File, is_number, many
+
+LIMITS = {
+    "bytes": 268_435_456,
+    "order": 1_000_000,
+    "entries": 10_000_000,
+    "mindeg": 50_000,
+    "tasks": 1_000_000,
+    "positions": 4_000_001,
+    "size": 1_099_511_627_776,
+    "total": 1_152_921_504_606_846_976,
+    "time": 1_099_511_627_776,
+    "arcs": 2_000_001,
+    "steps": 10_000_000,
+}
+
+
+def line_of_limit(file: File, limit: str) -> Optional[int]:
+    """The first line that passes a limit."""
+    total, is_arc = 0, False
+    for number, tokens in file.rows():
+        is_arc = is_arc or tokens[0] == "arcs"
+        columns = {"tree": tokens[1:3], "graph": tokens[2:3] if is_arc else tokens[:1]}.get(file.kind, tokens[1:2])
+        if limit == "total" and tokens[0] not in FORMS and tokens[0] not in ("nodes", "tasks", "arcs"):
+            total += sum(int(it) for it in columns if is_number(it))
+        if total > LIMITS["total"] or limit != "total" and any(is_number(it) and int(it) > LIMITS[limit] for it in tokens):
+            return number
+    return None
+
+
+def of_limit(kind: str, limit: str, files: Dict[str, File]) -> List[str]:
+    means = f"It passes the limit `{limit}`, which is {LIMITS[limit]:,}."
+    cause = "docs/FORMATS.md, 'Limits', has all limits, and of what they are."
+    if limit == "mindeg":
+        means = f"Minimum degree takes at most {LIMITS[limit]:,} rows."
+        cause = "Give an order from elsewhere by `--perm`, or leave `--ordering mindeg` out."
+    elif limit == "total":
+        means = "All sizes together, up to this line, pass 2^60."
+    elif limit in ("size", "time"):
+        means = f"A {limit} is more than 2^40, which is {LIMITS[limit]:,}."
+        cause = "Take greater units: thousands of bytes, or milliseconds in place of nanoseconds."
+    number = line_of_limit(files[kind], "order" if limit == "mindeg" else limit) if kind in files and limit not in ("bytes", "steps") else None
+    return [*([files[kind].place(number)] if number else []), means, cause]
+
+
+def of_bound(words: List[str]) -> List[str]:
+    if words[0] == "bound":
+        means = f"Within {words[1]} this order cannot run: its peak is {words[2]}."
+        return [means, f"Give --bound {words[2]} or more, or another order: that of `plan` has the least peak."]
+    means = f"The task at place {words[1]} of the order needs {words[2]} by itself, with what it takes up and what it makes."
+    return [means, f"Whatever goes to disk, --bound has to be {words[2]} or more."]
+
+
+def of_graph(count: int) -> List[str]:
+    means = f"The graph is not series-parallel: {many(count, 'arc')} are left, by which no tasks can be put together any more."
+    return [means, "They stand below this line, as `FROM TO`: see what runs across there. `plan` takes series-parallel tasks alone."]
+
+
+def tasks_left(files: Dict[str, File], task: int, before: List[int]) -> List[int]:
+    """The tasks that have to run before a task and did not yet; none where no tree is there."""
+    if "tree" not in files:
+        return []
+    return [node for node, (_, row) in enumerate(files["tree"].nodes(), 1) if row[0] == task and node not in before]
+
+
+def tasks_missing(files: Dict[str, File], order: List[int]) -> List[int]:
+    """The tasks that an order has not; none where no tree is there."""
+    return sorted(set(range(1, files["tree"].stated("nodes") + 1)) - set(order)) if "tree" in files else []
+
+
+def of_order(place: int, word: str, files: Dict[str, File]) -> List[str]:
+    file = files.get("order") or files.get("plan")
+    tokens = list(file.numbered()) if file else []
+    if word == "missing":
+        missing = tasks_missing(files, [int(it) for _, it in tokens])
+        which = f"task {missing[0]}" if missing else "a task"
+        means = f"The order ends after {many(place - 1, 'place')}, and {which} is missing."
+        return [means, "Each task of the input stands in it once: is it the order of another input?"]
+    number, token = tokens[place - 1] if tokens else (0, "a number")
+    where = [file.place(number)] if file and number else []
+    before = [int(it) for _, it in tokens[: place - 1]]
+    if word == "unknown":
+        means = f"Place {place} of the order has {token}, and no task has this number: tasks are numbered from 1."
+        counts_from_0 = any(it == "0" for _, it in tokens)
+        cause = "Does the order count from 0? Then add 1 to every number." if counts_from_0 else "Is it the order of another input?"
+    elif word == "repeated":
+        means, cause = f"Place {place} of the order has task {token}, which stood before.", "Each task stands in it once."
+    else:
+        left = tasks_left(files, int(token), before) if is_number(token) else []
+        waits = f": task {left[0]} comes first" if left else ""
+        means = f"Place {place} of the order has task {token}, before a task whose data it takes up{waits}."
+        cause = "A node comes after its children. Is the order turned round, or that of another input?"
+    return [*where, means, cause]
+
+
+def of_claim(words: List[str], files: Dict[str, File]) -> List[str]:
+    other = "Was the plan changed, or made of another input, or with other options, as `--ordering` and `--inplace`?"
+    file = files.get("plan")
+    if words[0] == "peak":
+        return [f"The order of the plan has the peak {words[1]}, and the plan says {words[2]}.", other]
+    if words[0] == "root":
+        means = f"No claim at position {words[1]}, the last one, has a bound of the peak less 1, so none says that the peak is least."
+        return [means, f"The last claim is lost. {other}"]
+    rows = [number for number, tokens in (file.rows() if file else ()) if len(tokens) == 4 and tokens[0] == words[1]]
+    means = f"The claim at position {words[1]} does not follow from those above it, by the rules of `{words[2]}`."
+    if words[2] == "outside":
+        means = f"The input has no position {words[1]}."
+    return [*([file.place(rows[0])] if file and rows else []), means, f"A claim above it is lost, or is another. {other}"]
