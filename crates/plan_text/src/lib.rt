@@ -15,7 +15,7 @@ mod stage;
 mod tests;
 
 pub use claim::{Claim, Dir, PlanKind};
-pub use json_text::plan_json;
+pub use json_text::{PlanJson, plan_json, send_claim};
 pub use parts::is_plan;
 pub use plan::{PlanFile, read_plan};
 pub use printing::{print_plan, print_plan_2};

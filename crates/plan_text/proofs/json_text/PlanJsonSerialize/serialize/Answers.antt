@@ -1,12 +1,12 @@
 use Rattle.std.proofs.lemmas.Result.{on_ok_weaker}
 use Rattle.plan_text.proofs.JsonLemmas.{claims-sent, order-sent}
-use Rattle.plan_text.proofs.json_text.PlanFileSerialize.serialize.Goals as goal
+use Rattle.plan_text.proofs.json_text.PlanJsonSerialize.serialize.Goals as goal
 
 pub returns : goal.returns
 returns g c =
-    let claims = rw c.claims.ensures at (claims-sent c.claims.result.now _ _ c.in_ok-serialize.ensures) in
-    let order = rw c.order.ensures.value at (order-sent c.order.result.now _ _ c.in_ok-serialize-2.ensures) in
-    let peak = rw c.peak.ensures at c.in_ok-serialize-3.ensures in
+    let claims = rw c.claims.ensures at (claims-sent c.claims.result.now _ _ c.in_ok-send_claims.ensures) in
+    let order = rw c.order.ensures.value at (order-sent c.order.result.now _ _ c.in_ok-serialize.ensures) in
+    let peak = rw c.peak.ensures at c.in_ok-serialize-2.ensures in
     on_ok_weaker c.end_map.result (λ ended. (
       _,
       c.in_ok-begin_map.ensures,
