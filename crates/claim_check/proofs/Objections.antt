@@ -10,8 +10,8 @@ use Rattle.mp_system.specs.System.{TaskSystem}
 use Rattle.mp_system.specs.Traversal.{IsTraversal, first_fault}
 use Rattle.sp_terms.specs.declared.position.Position.{Position}
 use Rattle.claim_rules.specs.Claims.{Claim as RuleClaim}
-use Rattle.plan_text.specs.declared.claim.Claim.{Claim}
-use Rattle.plan_text.specs.Plan.{PlanText, claim_at}
+use Rattle.plans.specs.declared.claim.Claim.{Claim}
+use Rattle.plans.specs.Plan.{PlanText, claim_at}
 use Rattle.claim_check.specs.Accepted.{HasRoot, IsAccepted, IsObjection}
 use Rattle.claim_check.specs.Judged.{PassesAt}
 use Rattle.claim_check.specs.Shapes.{shape_at}

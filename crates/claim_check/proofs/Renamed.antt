@@ -8,7 +8,7 @@ use Rattle.mp_system.specs.Traversal.{IsTraversal, IsLeast}
 use Rattle.sp_terms.specs.declared.position.Position.{Position}
 use Rattle.sp_terms.specs.SystemOfTerm.{system_of_term}
 use Rattle.sp_terms.specs.Values.{IsTerms, term_of}
-use Rattle.plan_text.specs.Plan.{PlanText}
+use Rattle.plans.specs.Plan.{PlanText}
 use Rattle.claim_check.specs.Accepted.{IsAccepted}
 
 -- what the law of renaming says, and what is known of the term's own system

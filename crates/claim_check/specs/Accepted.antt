@@ -5,7 +5,7 @@ use Rattle.mp_system.specs.System.{TaskSystem}
 use Rattle.mp_system.specs.Traversal.{IsTraversal, first_fault}
 use Rattle.sp_terms.specs.declared.position.Position.{Position}
 use Rattle.claim_rules.specs.Claims.{Claim}
-use Rattle.plan_text.specs.Plan.{PlanText, claim_at}
+use Rattle.plans.specs.Plan.{PlanText, claim_at}
 use Rattle.claim_check.specs.declared.objection.Objection.{Objection}
 use Rattle.claim_check.specs.declared.objection.Objection.TheVariants as objections
 use Rattle.claim_check.specs.Judged.{PassesAt}

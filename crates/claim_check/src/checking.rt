@@ -10,7 +10,7 @@ use crate::verdict::Verdict;
 use crate::view::View;
 use mp_outside::Gate;
 use mp_system::{ReplayRefusal, System, replay};
-use plan_text::{Claim, PlanFile};
+use plans::{Claim, PlanFile};
 use sp_terms::Terms;
 use std::alloc::{AllocError, Global};
 use std::thread::Threads;

@@ -6,7 +6,7 @@ ghost use Rattle.mp_system.specs.Traversal.{IsLeast};
 ghost use Rattle.sp_terms.specs.declared.position.Position.{Position};
 ghost use Rattle.sp_terms.specs.SystemOfTerm.{system_of_term};
 ghost use Rattle.sp_terms.specs.Values.{IsTerms, term_of};
-ghost use Rattle.plan_text.specs.Plan.{PlanText};
+ghost use Rattle.plans.specs.Plan.{PlanText};
 ghost use Rattle.claim_check.specs.Accepted.{IsAccepted, IsObjection};
 ghost use Rattle.claim_check.specs.Verdicts.{IsVerdict};
 ghost use Rattle.claim_check.specs.declared.objection.Objection.{Objection};

@@ -3,12 +3,12 @@ ghost use Rattle.sp_terms.specs.declared.position.Position.{Position};
 ghost use Rattle.sp_terms.specs.declared.position.Position.TheVariants.{Par};
 ghost use Rattle.claim_rules.specs.Placed.{claims_at};
 ghost use Rattle.claim_rules.specs.Rules.{values_in, HaveRoom, SomeClaim};
-ghost use Rattle.plan_text.specs.Plan.{claim_at, direction_of};
+ghost use Rattle.plans.specs.Plan.{claim_at, direction_of};
 ghost use Rattle.claim_check.specs.Judgeable.{IsPlaced, parts_at};
 
 use crate::rules::{has_room, value_in};
 use crate::view::View;
-use plan_text::{Claim, Dir};
+use plans::{Claim, Dir};
 
 /// The parts of a `par` taken together.
 #[derive(Clone, Copy)]

@@ -4,10 +4,10 @@ ghost use Rattle.sp_terms.specs.Term.{Term, least_of, hill_of};
 ghost use Rattle.sp_terms.specs.Values.{values_of};
 ghost use Rattle.claim_rules.specs.Rules.{MeetsData, MeetsSeries, Has, HasRoom, value_in, is_same, passed_first, passed_last};
 ghost use Rattle.claim_rules.specs.Claims.{Claim as RuleClaim};
-ghost use Rattle.plan_text.specs.Plan.{claim_of, direction_of};
+ghost use Rattle.plans.specs.Plan.{claim_of, direction_of};
 
 use crate::view::Part;
-use plan_text::{Claim, Dir};
+use plans::{Claim, Dir};
 
 /// Whether a claim on a data item of this size meets its rule.
 pub fn meets_data(size: u64, claim: &Claim) -> bool

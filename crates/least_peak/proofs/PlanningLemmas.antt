@@ -9,8 +9,8 @@ use Rattle.mp_system.specs.Traversal.{IsTraversal, IsLeast}
 use Rattle.sp_terms.specs.declared.position.Position.{Position}
 use Rattle.sp_terms.specs.SystemOfTerm.{system_of_term}
 use Rattle.sp_terms.specs.Values.{IsTerms, term_of}
-use Rattle.plan_text.specs.declared.claim.Claim.{Claim}
-use Rattle.plan_text.specs.Plan.{PlanText, IsPlan, IsClaimWithin, RiseFrom, claim_at}
+use Rattle.plans.specs.declared.claim.Claim.{Claim}
+use Rattle.plans.specs.Plan.{PlanText, IsPlan, IsClaimWithin, RiseFrom, claim_at}
 use Rattle.claim_check.specs.Accepted.{IsAccepted, HasRoot}
 use Rattle.claim_check.specs.Judged.{PassesAt}
 use Rattle.least_peak.specs.Best.{IsBestTraversal}

@@ -4,7 +4,7 @@ ghost use Rattle.std.specs.Prelude.{◌≡◌, ◌<◌, [], map, IfOk};
 ghost use Rattle.claim_check.specs.Accepted.{IsAccepted};
 ghost use Rattle.mp_system.specs.Renaming.{name_in};
 ghost use Rattle.mp_system.specs.System.{TaskSystem};
-ghost use Rattle.plan_text.specs.Plan.{IsPlan};
+ghost use Rattle.plans.specs.Plan.{IsPlan};
 ghost use Rattle.least_peak.specs.Best.{IsBestTraversal};
 ghost use Rattle.least_peak.specs.Named.{IsNamedTerm, order_named};
 
@@ -12,7 +12,7 @@ use crate::NoMemory;
 use claim_check::laws::accepted_law;
 use mp_system::laws::{renaming_law, traversal_law};
 use plan_claims::claims_of;
-use plan_text::PlanFile;
+use plans::PlanFile;
 use sp_cuts::{Plan, plan_terms};
 use sp_terms::Terms;
 use sp_terms::laws::terms_law;

@@ -3,7 +3,7 @@
 use crate::Problem;
 use claim_check::Verdict;
 use mp_outside::NoGate;
-use plan_text::PlanFile;
+use plans::PlanFile;
 use sp_terms::read_workflow;
 use std::alloc::Global;
 use std::process::Abort;

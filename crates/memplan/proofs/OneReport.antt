@@ -13,7 +13,7 @@ use Rattle.mp_system.specs.Traversal.{IsTraversal, first_fault}
 use Rattle.ordering.specs.OrderFile.{ReadsOrder}
 use Rattle.ordering.specs.Perm.{IsPerm}
 use Rattle.ordering.specs.PermFile.{ReadsPerm}
-use Rattle.plan_text.specs.Plan.{PlanText, IsPlan, IsPriority}
+use Rattle.plans.specs.Plan.{PlanText, IsPlan, IsPriority}
 use Rattle.plan_text.specs.PlanFile.{ReadsPlan}
 use Rattle.postorder_best.specs.BestPostorder.{IsBestPostorder}
 use Rattle.sp_terms.specs.declared.position.Position.{Position}

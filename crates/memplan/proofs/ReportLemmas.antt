@@ -3,7 +3,7 @@ use Rattle.std.proofs.Common.{◌≡◌, ℕ, List, [], ◌∷◌, ◌++◌, ref
 use Rattle.least_peak.specs.Problem.{system_of, IsTermOf}
 use Rattle.least_peak.specs.declared.problem.Origin.{Origin}
 use Rattle.sp_terms.specs.declared.position.Position.{Position}
-use Rattle.plan_text.specs.Plan.{PlanText, IsPlan}
+use Rattle.plans.specs.Plan.{PlanText, IsPlan}
 use Rattle.claim_check.specs.Accepted.{IsAccepted}
 use Rattle.claim_check.specs.Verdicts.{IsVerdict}
 use Rattle.claim_check.specs.declared.verdict.Verdict.{Verdict}

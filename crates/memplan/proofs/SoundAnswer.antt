@@ -10,7 +10,7 @@ use Rattle.limits.specs.Limits.{most_bytes}
 use Rattle.mp_system.specs.Renaming.{IsRenamed}
 use Rattle.mp_system.specs.System.{TaskSystem, IsSystem}
 use Rattle.mp_system.specs.Traversal.{IsLeast}
-use Rattle.plan_text.specs.Plan.{PlanText, IsPlan}
+use Rattle.plans.specs.Plan.{PlanText, IsPlan}
 use Rattle.plan_text.specs.PlanFile.{ReadsPlan}
 use Rattle.plan_text.specs.Printed.{text_of}
 use Rattle.sp_terms.specs.declared.position.Position.{Position}

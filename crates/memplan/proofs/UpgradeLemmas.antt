@@ -3,7 +3,7 @@ use Rattle.std.proofs.Common.{◌≡◌, ◌∙◌, ◌≤◌, ℕ, List, [], �
 use Rattle.limits.specs.Limits.{most_bytes}
 use Rattle.ordering.specs.Perm.{IsPerm}
 use Rattle.ordering.specs.PermFile.{ReadsPerm}
-use Rattle.plan_text.specs.Plan.{PlanText, IsPlan, IsPriority}
+use Rattle.plans.specs.Plan.{PlanText, IsPlan, IsPriority}
 use Rattle.plan_text.specs.PlanFile.{ReadsPlan}
 use Rattle.plan_text.specs.Printed.{text2_of as plan_text}
 use Rattle.sp_terms.specs.declared.position.Position.{Position}

@@ -21,7 +21,7 @@ use Rattle.sp_terms.specs.WorkflowFile.{ReadsWorkflow, RefusesWorkflow}
 use Rattle.ordering.specs.OrderFile.{ReadsOrder, RefusesOrder}
 use Rattle.ordering.specs.MinimumDegree.{IsMinimumDegreeOrder}
 use Rattle.ordering.specs.PermFile.{ReadsPerm, RefusesPerm}
-use Rattle.plan_text.specs.Plan.{PlanText}
+use Rattle.plans.specs.Plan.{PlanText}
 use Rattle.plan_text.specs.PlanFile.{ReadsPlan, RefusesPlan}
 use Rattle.symbolic.specs.FrontTree.{IsFrontTree}
 use Rattle.task_graph.specs.Graph.{TaskGraph}

@@ -5,7 +5,7 @@ use Rattle.mp_system.specs.System.{TaskSystem}
 use Rattle.mp_system.specs.Memory.{peak_of}
 use Rattle.mp_system.specs.Traversal.{IsTraversal, IsLeast}
 use Rattle.sp_terms.specs.declared.position.Position.{Position}
-use Rattle.plan_text.specs.Plan.{PlanText, IsPlan}
+use Rattle.plans.specs.Plan.{PlanText, IsPlan}
 use Rattle.command_line.specs.Words.{Given, value_of}
 use Rattle.plan_text.specs.Json.{json_of}
 use Rattle.memplan.specs.Request.{Request, planning, Input, input_of, PlanFormat, as_file, as_json, is_second, format_of}

@@ -4,7 +4,7 @@ use Rattle.sp_terms.specs.declared.position.Position.{Position}
 use Rattle.sp_terms.specs.WorkflowText.{text2_of as workflow_text}
 use Rattle.tree_input.specs.declared.node.Node.{Node}
 use Rattle.tree_input.specs.TreeText.{text2_of as tree_text}
-use Rattle.plan_text.specs.Plan.{PlanText}
+use Rattle.plans.specs.Plan.{PlanText}
 use Rattle.plan_text.specs.Printed.{text2_of as plan_text}
 use Rattle.command_line.specs.Words.{Given, value_of}
 use Rattle.memplan.specs.Request.{Request, upgrade, Upgrade, tree_upgrade, workflow_upgrade, plan_upgrade}

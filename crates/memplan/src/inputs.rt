@@ -5,7 +5,7 @@ ghost use Rattle.std.specs.Prelude.{◌≡◌, ◌≤◌, ℕ, List, [], ◌∷�
 ghost use Rattle.activation.specs.Schedule.{HoldsEach};
 ghost use Rattle.mp_system.specs.System.{TaskSystem};
 ghost use Rattle.mp_system.specs.Traversal.{IsTraversal};
-ghost use Rattle.plan_text.specs.Plan.{IsPlan};
+ghost use Rattle.plans.specs.Plan.{IsPlan};
 ghost use Rattle.memplan.specs.Files.{IsOrderOf, IsMatrixTree, IsTreeOf, IsFirstRefusal};
 ghost use Rattle.memplan.specs.Simulate.{priority_or};
 ghost use Rattle.memplan.specs.Judged.{AreJudged, IsRefusingPage, IsRefusedOrder, IsMatrixRead, IsProblemOf, IsOrderedOf, IsOrderRead};
@@ -27,7 +27,7 @@ use mp_outside::Files;
 use mp_system::laws::traversal_law;
 use ordering::laws::read_is_perm;
 use ordering::{MindegRefusal, Perm, identity, min_degree};
-use plan_text::PlanFile;
+use plans::PlanFile;
 use sp_terms::laws::terms_law;
 use std::alloc::{AllocError, Global};
 use symbolic::front_tree;

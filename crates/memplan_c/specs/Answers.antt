@@ -9,9 +9,9 @@ use Rattle.system_input.specs.Given.{system_given}
 use Rattle.sp_terms.specs.declared.position.Position.{Position}
 use Rattle.tree_input.specs.declared.node.Node.{Node}
 use Rattle.tree_input.specs.Tree.{IsTree, system_of_nodes}
-use Rattle.plan_text.specs.declared.claim.Claim.{Claim as PlanClaim}
-use Rattle.plan_text.specs.declared.claim.Dir.TheVariants.{F, R}
-use Rattle.plan_text.specs.Plan.{PlanText, IsPlan}
+use Rattle.plans.specs.declared.claim.Claim.{Claim as PlanClaim}
+use Rattle.plans.specs.declared.claim.Dir.TheVariants.{F, R}
+use Rattle.plans.specs.Plan.{PlanText, IsPlan}
 use Rattle.claim_check.specs.Accepted.{IsAccepted}
 use Rattle.postorder_best.specs.Postorder.{IsTreePostorder}
 use Rattle.postorder_best.specs.BestPostorder.{IsBestPostorder}

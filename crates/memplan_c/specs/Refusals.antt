@@ -11,7 +11,7 @@ use Rattle.sp_terms.specs.declared.position.Position.{Position}
 use Rattle.tree_input.specs.declared.node.Node.{Node}
 use Rattle.tree_input.specs.Judged.{IsNodesRefusal}
 use Rattle.tree_input.specs.Tree.{IsTree, system_of_nodes}
-use Rattle.plan_text.specs.Plan.{PlanText, IsClaimWithin, IsPlan, RiseFrom}
+use Rattle.plans.specs.Plan.{PlanText, IsClaimWithin, IsPlan, RiseFrom}
 use Rattle.claim_check.specs.Accepted.{IsObjection}
 use Rattle.claim_check.specs.declared.objection.Objection.{Objection}
 use Rattle.activation.specs.Refusal.{IsCoreRefusal}

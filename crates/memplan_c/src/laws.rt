@@ -3,7 +3,7 @@
 ghost use Rattle.std.specs.Prelude.{◌≡◌, ◌≢◌, ◌<◌, ◌≤◌, ℕ, List, length};
 ghost use Rattle.tree_input.specs.declared.node.Node.{Node};
 ghost use Rattle.tree_input.specs.Tree.{IsTree};
-ghost use Rattle.plan_text.specs.Plan.{PlanText, IsPlan};
+ghost use Rattle.plans.specs.Plan.{PlanText, IsPlan};
 ghost use Rattle.memplan_c.specs.declared.faults.Fault.{Fault};
 ghost use Rattle.memplan_c.specs.declared.kinds.TheConstants.{CLAIM_ROOM};
 ghost use Rattle.memplan_c.specs.Answers.{IsCertificate};

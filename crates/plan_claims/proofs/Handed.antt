@@ -12,9 +12,9 @@ use Rattle.sp_terms.specs.Term.{Term, hold, series, par, Parts, no_parts, part, 
 use Rattle.sp_term_laws.specs.Moves.{other}
 use Rattle.claim_rules.specs.Claims.{Claim}
 use Rattle.claim_rules.specs.Rules.{MeetsData, MeetsSeries, first_is_stuck, first_is_closed, hill_is_above, last_is_stuck, passed_first, passed_last}
-use Rattle.plan_text.specs.declared.claim.Dir.{Dir}
-use Rattle.plan_text.specs.declared.claim.Dir.TheVariants.{F, R}
-use Rattle.plan_text.specs.Plan.{direction_of}
+use Rattle.plans.specs.declared.claim.Dir.{Dir}
+use Rattle.plans.specs.declared.claim.Dir.TheVariants.{F, R}
+use Rattle.plans.specs.Plan.{direction_of}
 use Rattle.cut_laws.specs.Cuts.{Cut, hold_cut, cut_first, cut_second, top_of, lowest_of}
 use Rattle.sp_cuts.specs.declared.notes.PartNote.{PartNote}
 use Rattle.sp_cuts.specs.declared.notes.SeriesNote.{SeriesNote}

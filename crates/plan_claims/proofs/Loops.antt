@@ -9,8 +9,8 @@ use Rattle.side_laws.specs.Segments.{Segment, net_sum, lowest, last_up}
 use Rattle.hill_valley.specs.declared.numbers.Numbers.{Numbers}
 use Rattle.hill_valley.specs.Numbers.{segments_of}
 use Rattle.sp_terms.specs.Term.{Direction}
-use Rattle.plan_text.specs.declared.claim.Dir.{Dir}
-use Rattle.plan_text.specs.Plan.{direction_of}
+use Rattle.plans.specs.declared.claim.Dir.{Dir}
+use Rattle.plans.specs.Plan.{direction_of}
 use Rattle.sp_cuts.specs.declared.notes.PartNote.{PartNote}
 use Rattle.plan_claims.specs.declared.wanted.Wanted.{Wanted}
 use Rattle.plan_claims.specs.Levels.{kept_level, noted_level, counted, HasPlace, HavePlaces, left_over, wanted_at, wanted_each}

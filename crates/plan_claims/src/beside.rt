@@ -5,7 +5,7 @@ ghost use Rattle.limits.specs.Limits.{most_total};
 ghost use Rattle.side_laws.specs.Segments.{net_sum};
 ghost use Rattle.hill_valley.specs.Numbers.{segments_of};
 ghost use Rattle.sp_terms.specs.Term.{par, Parts, count};
-ghost use Rattle.plan_text.specs.Plan.{direction_of};
+ghost use Rattle.plans.specs.Plan.{direction_of};
 ghost use Rattle.sp_cuts.specs.Notes.{Noted, noted_in, cut_at};
 ghost use Rattle.plan_claims.specs.declared.wanted.Wanted.{Wanted};
 ghost use Rattle.plan_claims.specs.Handing.{HasLastPar, IsHandedDown};
@@ -16,7 +16,7 @@ use crate::NoMemory;
 use crate::laws::below;
 use crate::wanted::{Wanted, over_of};
 use hill_valley::Numbers;
-use plan_text::Dir;
+use plans::Dir;
 use sp_cuts::{Notes, PartNote};
 
 // The last position sets so many parts side by side: takes their notes, and puts what is wanted of them behind the others.

@@ -5,7 +5,7 @@ ghost use Rattle.side_laws.specs.Segments.{lowest, last_up};
 ghost use Rattle.hill_valley.specs.Numbers.{segments_of};
 ghost use Rattle.sp_terms.specs.Term.{Term, Direction, series};
 ghost use Rattle.sp_term_laws.specs.Moves.{other};
-ghost use Rattle.plan_text.specs.Plan.{direction_of};
+ghost use Rattle.plans.specs.Plan.{direction_of};
 ghost use Rattle.cut_laws.specs.Cuts.{Cut};
 ghost use Rattle.sp_cuts.specs.Notes.{Noted, noted_in, cut_at};
 ghost use Rattle.plan_claims.specs.declared.wanted.Wanted.{Wanted};
@@ -19,7 +19,7 @@ use crate::laws::below;
 use crate::wanted::{Wanted, over_of};
 use hill_valley::Numbers;
 use mp_system::Task;
-use plan_text::Dir;
+use plans::Dir;
 use sp_cuts::{Notes, SeriesNote};
 use sp_terms::Position;
 

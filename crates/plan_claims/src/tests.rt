@@ -7,7 +7,7 @@ use crate::{NoMemory, claims_of};
 use claim_check::{Verdict, check};
 use mp_gen::{gen_tree, gen_workflow};
 use mp_outside::NoGate;
-use plan_text::{Claim, PlanFile, is_plan};
+use plans::{Claim, PlanFile, is_plan};
 use sp_cuts::{Plan, plan_terms};
 use sp_terms::{Position, TermBuilder, Terms, read_workflow, system_of};
 use std::alloc::Global;

@@ -2,7 +2,7 @@
 
 ghost use Rattle.std.specs.Prelude.{◌≡◌, ◌-◌};
 
-use plan_text::Dir;
+use plans::Dir;
 
 // A claim that is wanted of a term: in a direction, below a limit, with the lowest level of the side in that direction.
 #[derive(Clone, Copy)]

@@ -18,14 +18,14 @@ use Rattle.serde_json.specs.Written.{compact_text, items_text, has_float, items_
 use Rattle.serde_json.proofs.FreeTexts.{text_of_value}
 use Rattle.serde_json.proofs.OnLiterals.{serde_json_on_literals}
 use Rattle.mp_text.specs.Report.{is_plain, is_token}
-use Rattle.plan_text.specs.Plan.{PlanText, most_number, IsClaimWithin, IsPlan}
+use Rattle.plans.specs.Plan.{PlanText, most_number, IsClaimWithin, IsPlan}
 use Rattle.plan_text.specs.Printed.{dir_word}
 use Rattle.plan_text.specs.Json.{array_json, word_json, claim_json, json_of}
 use Rattle.plan_text.specs.JsonValues.{claim_value, task_value, plan_value}
 use Rattle.plan_text.proofs.PrintedLemmas.{bound-fits}
-use Rattle.plan_text.specs.declared.claim.Claim.{Claim}
-use Rattle.plan_text.specs.declared.claim.Dir.{Dir}
-use Rattle.plan_text.specs.declared.claim.Dir.TheVariants.{F, R}
+use Rattle.plans.specs.declared.claim.Claim.{Claim}
+use Rattle.plans.specs.declared.claim.Dir.{Dir}
+use Rattle.plans.specs.declared.claim.Dir.TheVariants.{F, R}
 
 -- ---- what is sent
 

@@ -13,11 +13,11 @@ use Rattle.limits.specs.Limits.{most_bytes, most_tasks, most_positions, most_tot
 use Rattle.mp_text.specs.declared.words.Version.{Version}
 use Rattle.mp_text.specs.declared.words.Version.TheVariants.{One, Two}
 use Rattle.mp_text.specs.Report.{line_text, text_of_lines}
-use Rattle.plan_text.specs.Plan.{PlanText, most_number, IsPlan, IsClaimWithin, IsTaskNumber, IsPriority}
+use Rattle.plans.specs.Plan.{PlanText, most_number, IsPlan, IsClaimWithin, IsTaskNumber, IsPriority}
 use Rattle.plan_text.specs.Printed.{header_line, section_line, task_line, claim_line, dir_word, end_line, task_lines, claim_lines, priority_lines, last_lines, text_in}
-use Rattle.plan_text.specs.declared.claim.Claim.{Claim}
-use Rattle.plan_text.specs.declared.claim.Dir.{Dir}
-use Rattle.plan_text.specs.declared.claim.Dir.TheVariants.{F, R}
+use Rattle.plans.specs.declared.claim.Claim.{Claim}
+use Rattle.plans.specs.declared.claim.Dir.{Dir}
+use Rattle.plans.specs.declared.claim.Dir.TheVariants.{F, R}
 
 -- ---- texts of lines
 

@@ -19,17 +19,17 @@ use Rattle.mp_text.specs.Words.{after_word, version_of}
 use Rattle.mp_text.specs.Ahead.{rows_of_bytes, past_of_bytes}
 use Rattle.mp_text.specs.Grammar.{first_failure, ArePassed}
 use Rattle.mp_text.specs.Report.{is_counted, numbered_from, text_of_lines, is_token}
-use Rattle.plan_text.specs.Plan.{PlanText, most_number, IsPlan, IsClaimWithin, RiseFrom, IsTaskNumber, IsPriority, times}
+use Rattle.plans.specs.Plan.{PlanText, most_number, IsPlan, IsClaimWithin, RiseFrom, IsTaskNumber, IsPriority, times}
 use Rattle.plan_text.specs.PlanFile.{Stated, stated, nothing, plan_format, tests_after, plan_stated, end_tests_after, peak_tests, dir_named, last_position, ReadsPlan}
 use Rattle.plan_text.specs.Printed.{header_line, section_line, task_line, claim_line, dir_word, end_line, task_lines, claim_lines, priority_lines, last_lines, lines_in, text_in, version_for, text_of, text2_of}
 use Rattle.plan_text.specs.Reader.{next, peak_next}
 use Rattle.plan_text.proofs.ReaderLaws.{stated_push, at_claims, at_peak, at_ranks, at_order}
-use Rattle.plan_text.specs.declared.claim.Claim.{Claim}
-use Rattle.plan_text.specs.declared.claim.Dir.{Dir}
-use Rattle.plan_text.specs.declared.claim.Dir.TheVariants.{F, R}
+use Rattle.plans.specs.declared.claim.Claim.{Claim}
+use Rattle.plans.specs.declared.claim.Dir.{Dir}
+use Rattle.plans.specs.declared.claim.Dir.TheVariants.{F, R}
 use Rattle.plan_text.specs.declared.stage.Stage.TheVariants as stages
 use Rattle.plan_text.proofs.FormLemmas.{last-rises}
-use Rattle.plan_text.proofs.RankLemmas.{times-before}
+use Rattle.plans.proofs.RankLemmas.{times-before}
 
 -- what the laws of printed numbers and files say
 pub record AreLaws : Type 0 where

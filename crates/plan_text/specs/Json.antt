@@ -2,9 +2,9 @@
 use Rattle.std.specs.Prelude.{ℕ, List, [], ◌∷◌, ◌++◌, map, codes}
 use Rattle.std.specs.List.{join_with_byte}
 use Rattle.std.specs.Fmt.{decimal, signed_decimal}
-use Rattle.plan_text.specs.Plan.{PlanText}
+use Rattle.plans.specs.Plan.{PlanText}
 use Rattle.plan_text.specs.Printed.{dir_word}
-use Rattle.plan_text.specs.declared.claim.Claim.{Claim}
+use Rattle.plans.specs.declared.claim.Claim.{Claim}
 
 -- an array of values of these texts, with a comma between two of them
 abbrev pub array_json : List (List ℕ) → List ℕ

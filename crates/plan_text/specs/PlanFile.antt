@@ -17,12 +17,12 @@ use Rattle.mp_text.specs.Words.{after_word, version_of}
 use Rattle.mp_text.specs.Ahead.{rows_of_bytes, past_of_bytes}
 use Rattle.mp_text.specs.Grammar.{Test, test, Format, IsWellFormed, Refuses, fault, fault_at, token_at}
 use Rattle.mp_text.specs.Reading.{IsRefusal}
-use Rattle.plan_text.specs.Plan.{PlanText, most_number, times}
-use Rattle.plan_text.specs.declared.claim.Claim.{Claim}
-use Rattle.plan_text.specs.declared.claim.Dir.{Dir}
-use Rattle.plan_text.specs.declared.claim.Dir.TheVariants.{F, R}
-use Rattle.plan_text.specs.declared.claim.PlanKind.{PlanKind}
-use Rattle.plan_text.specs.declared.claim.PlanKind.TheVariants as kinds
+use Rattle.plans.specs.Plan.{PlanText, most_number, times}
+use Rattle.plans.specs.declared.claim.Claim.{Claim}
+use Rattle.plans.specs.declared.claim.Dir.{Dir}
+use Rattle.plans.specs.declared.claim.Dir.TheVariants.{F, R}
+use Rattle.plan_text.specs.declared.kind.PlanKind.{PlanKind}
+use Rattle.plan_text.specs.declared.kind.PlanKind.TheVariants as kinds
 use Rattle.plan_text.specs.declared.stage.Stage.{Stage}
 use Rattle.plan_text.specs.declared.stage.Stage.TheVariants as stages
 

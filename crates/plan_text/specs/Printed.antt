@@ -5,10 +5,10 @@ use Rattle.mp_text.specs.declared.words.Version.{Version}
 use Rattle.mp_text.specs.declared.words.Version.TheVariants.{One, Two}
 use Rattle.mp_text.specs.Words.{version_word}
 use Rattle.mp_text.specs.Report.{text_of_lines}
-use Rattle.plan_text.specs.Plan.{PlanText}
-use Rattle.plan_text.specs.declared.claim.Claim.{Claim}
-use Rattle.plan_text.specs.declared.claim.Dir.{Dir}
-use Rattle.plan_text.specs.declared.claim.Dir.TheVariants.{F, R}
+use Rattle.plans.specs.Plan.{PlanText}
+use Rattle.plans.specs.declared.claim.Claim.{Claim}
+use Rattle.plans.specs.declared.claim.Dir.{Dir}
+use Rattle.plans.specs.declared.claim.Dir.TheVariants.{F, R}
 
 -- line 1
 abbrev pub header_line : Version → List (List ℕ)

@@ -8,10 +8,9 @@ ghost use Rattle.plan_text.specs.Json.{json_of};
 ghost use Rattle.plan_text.specs.JsonValues.{claim_value, plan_value};
 
 use crate::NoMemory;
-use crate::claim::Claim;
-use crate::plan::PlanFile;
 use crate::printing::dir_word;
 use mp_text::laws::printed_number;
+use plans::{Claim, PlanFile};
 use serde::{Described, Serialize, Serializer};
 use std::alloc::{AllocError, Global};
 

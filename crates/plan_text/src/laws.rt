@@ -3,12 +3,12 @@
 ghost use Rattle.std.specs.Prelude.{◌≡◌, ◌⊎◌, ◌≤◌, ℕ, List, length};
 ghost use Rattle.limits.specs.Limits.{most_bytes};
 ghost use Rattle.mp_text.specs.declared.refusals.Refusal.{Refusal};
-ghost use Rattle.plan_text.specs.declared.claim.PlanKind.{PlanKind};
-ghost use Rattle.plan_text.specs.Plan.{PlanText, IsPlan};
+ghost use Rattle.plan_text.specs.declared.kind.PlanKind.{PlanKind};
+ghost use Rattle.plans.specs.Plan.{PlanText, IsPlan};
 ghost use Rattle.plan_text.specs.PlanFile.{ReadsPlan, RefusesPlan};
 ghost use Rattle.plan_text.specs.Printed.{text_of, text2_of};
 
-use crate::claim::PlanKind;
+use crate::kind::PlanKind;
 use mp_text::laws as text_laws;
 
 /// A file is read as a plan or refused, never both; it is read as one plan only, and refused with one refusal only.

@@ -6,10 +6,9 @@ ghost use Rattle.plan_text.specs.Printed.{task_line, dir_word, claim_line, task_
 ghost use Rattle.plan_text.specs.Printed.{version_for, text_of, text2_of};
 
 use crate::NoMemory;
-use crate::claim::{Claim, Dir};
-use crate::plan::PlanFile;
 use mp_text::laws::printed_lines;
 use mp_text::{Report, Token, Version};
+use plans::{Claim, Dir, PlanFile};
 
 /// The word for a direction.
 pub fn dir_word(dir: Dir) -> &'static str

@@ -1,7 +1,6 @@
-use crate::{
-    Claim, Dir, PlanFile, PlanKind, is_plan, plan_json, print_plan, print_plan_2, read_plan,
-};
+use crate::{PlanKind, plan_json, print_plan, print_plan_2, read_plan};
 use mp_text::{Report, fault};
+use plans::{Claim, Dir, PlanFile};
 use std::alloc::Global;
 use std::process::Abort;
 use std::test::Fail;
@@ -162,38 +161,6 @@ fn passes_over_what_says_nothing(rt: HostRuntime) -> Result<(), Fail> {
     let plan = read_plan(rt.alloc(), LOOSE)?;
     check_tasks(&rt, &plan, &[7], &[]);
     check_claims(&rt, &plan, 0, &[claim(1, Dir::F, 0, 0)]);
-    Ok(())
-}
-
-#[test]
-fn a_plan_of_no_tasks(rt: HostRuntime) {
-    let alloc = rt.alloc();
-    let plan = PlanFile::new(Vec::new(alloc), 0, Vec::new(alloc), Vec::new(alloc));
-    assert!(rt; plan.order().is_empty());
-}
-
-#[test]
-fn tells_which_parts_make_a_plan(rt: HostRuntime) -> Result<(), Fail> {
-    let claims = [claim(2, Dir::F, -5, 0), claim(7, Dir::R, 0, MOST)];
-    let low = claim(2, Dir::F, LEAST_BOUND - 1, 0);
-    let high = claim(2, Dir::F, 0, MOST + 1);
-    let rows: [(u64, &[Claim], &[u32], bool); 11] = [
-        (MOST, &claims, &[2, 3, 1], true),
-        (0, &[], &[], true),
-        (MOST + 1, &claims, &[], false),
-        (9, &[claims[1], claims[0]], &[], false),
-        (9, &[claims[0], claims[0]], &[], false),
-        (9, &[claim(0, Dir::F, 0, 0)], &[], false),
-        (9, &[low], &[], false),
-        (9, &[high], &[], false),
-        (9, &claims, &[2, 3], false),
-        (9, &claims, &[2, 3, 2], false),
-        (9, &claims, &[2, 3, 4], false),
-    ];
-    for (peak, claims, priority, want) in rows {
-        let told = is_plan(rt.alloc(), &[3, 1, 2], peak, claims, priority)?;
-        assert_eq!(rt; told, want, "{claims:?} {priority:?}");
-    }
     Ok(())
 }
 

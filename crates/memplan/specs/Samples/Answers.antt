@@ -14,8 +14,8 @@ use Rattle.tree_input.specs.Samples.{five}
 use Rattle.sp_terms.specs.declared.position.Position.{Position}
 use Rattle.sp_terms.specs.declared.position.Position.TheVariants.{Hold}
 use Rattle.sp_terms.specs.declared.position.Position.TheVariants as at
-use Rattle.plan_text.specs.declared.claim.Dir.TheVariants.{R}
-use Rattle.plan_text.specs.Plan.{PlanText}
+use Rattle.plans.specs.declared.claim.Dir.TheVariants.{R}
+use Rattle.plans.specs.Plan.{PlanText}
 use Rattle.claim_check.specs.declared.shape.Shape.TheVariants as shapes
 use Rattle.claim_check.specs.declared.objection.Objection.TheVariants as objections
 use Rattle.claim_check.specs.declared.verdict.Verdict.TheVariants.{Yes, No}

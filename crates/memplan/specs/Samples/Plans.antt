@@ -14,9 +14,9 @@ use Rattle.sp_terms.specs.Term.{hold, forward}
 use Rattle.sp_terms.specs.SystemOfTerm.{system_of_term}
 use Rattle.claim_rules.specs.Claims.{Claim as RuleClaim}
 use Rattle.claim_rules.specs.Placed.{MeetsAt}
-use Rattle.plan_text.specs.declared.claim.Claim.{Claim}
-use Rattle.plan_text.specs.declared.claim.Dir.TheVariants.{F}
-use Rattle.plan_text.specs.Plan.{PlanText, claim_at}
+use Rattle.plans.specs.declared.claim.Claim.{Claim}
+use Rattle.plans.specs.declared.claim.Dir.TheVariants.{F}
+use Rattle.plans.specs.Plan.{PlanText, claim_at}
 use Rattle.claim_check.specs.declared.shape.Shape.TheVariants as shapes
 use Rattle.claim_check.specs.declared.objection.Objection.TheVariants as objections
 use Rattle.claim_check.specs.declared.verdict.Verdict.TheVariants.{Yes, No}

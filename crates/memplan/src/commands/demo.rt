@@ -25,7 +25,7 @@ use mp_text::Report;
 use mp_text::Token::Word;
 use mp_text::laws::printed_lines;
 use ordering::{MindegRefusal, min_degree};
-use plan_text::PlanFile;
+use plans::PlanFile;
 use postorder_best::best_postorder;
 use sp_terms::Terms;
 use std::alloc::{AllocError, Global};

@@ -15,7 +15,8 @@ use command_line::Line;
 use mp_outside::Files;
 use mp_text::Report;
 use mp_text::Token::Word;
-use plan_text::{PlanFile, plan_json, print_plan};
+use plan_text::{plan_json, print_plan};
+use plans::PlanFile;
 use std::alloc::{AllocError, Global};
 
 /// `plan`, an input, and `--print text` or `--print json` if it is given.

@@ -2,8 +2,8 @@ use Rattle.std.proofs.Common.{ap, sym, ◌∙◌}
 use Rattle.std.specs.Prelude.{option_map}
 use Rattle.sp_terms.specs.Values.{values_of}
 use Rattle.claim_rules.specs.Rules.{passed_first, passed_last}
-use Rattle.plan_text.specs.Plan.{claim_of, direction_of}
-use Rattle.plan_text.specs.declared.claim.Dir.{Dir}
+use Rattle.plans.specs.Plan.{claim_of, direction_of}
+use Rattle.plans.specs.declared.claim.Dir.{Dir}
 use Rattle.claim_check.proofs.rules.meets_series.Goals as goal
 
 pub returns-in-F : goal.returns-in-F

@@ -3,7 +3,7 @@ use Rattle.std.specs.Prelude.{pos, ◌+ℤ◌, ◌≤ℤ◌}
 use Rattle.claim_rules.specs.Claims.{Claim}
 use Rattle.claim_check.specs.Accepted.{HasRoot}
 use Rattle.claim_check.specs.Judged.{PassesAt}
-use Rattle.plan_text.specs.Plan.{PlanText, claim_at}
+use Rattle.plans.specs.Plan.{PlanText, claim_at}
 use Rattle.least_peak.proofs.PlanningLemmas.{plan_within, plan_accepted}
 use Rattle.least_peak.proofs.planning.plan_counted.Goals as goal
 

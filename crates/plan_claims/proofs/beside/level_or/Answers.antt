@@ -2,7 +2,7 @@ use Rattle.std.proofs.Common.{◌+◌, ◌≤◌, ◌∙◌, ap, sym, subst}
 use Rattle.limits.specs.Limits.{most_total}
 use Rattle.side_laws.specs.Segments.{net_sum}
 use Rattle.sp_terms.specs.Term.{forward, backward}
-use Rattle.plan_text.specs.Plan.{direction_of}
+use Rattle.plans.specs.Plan.{direction_of}
 use Rattle.plan_claims.specs.Levels.{kept_level}
 use Rattle.plan_claims.proofs.Loops.{segments_take, back_side, level_read}
 use Rattle.plan_claims.proofs.beside.level_or.Goals as goal

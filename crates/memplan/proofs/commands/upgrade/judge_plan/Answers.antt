@@ -1,7 +1,7 @@
 use Rattle.std.proofs.Common.{ℕ, List, [], ◌∷◌, length, sym, subst, inl, option_map}
 use Rattle.std.specs.Prelude.{codes}
 use Rattle.plan_text.specs.Kinds.{word_of as plan_word}
-use Rattle.plan_text.specs.Plan.{PlanText}
+use Rattle.plans.specs.Plan.{PlanText}
 use Rattle.plan_text.specs.PlanFile.{RefusesPlan}
 use Rattle.memplan.specs.Files.{IsRefusedFile, IsFirstRefusal}
 use Rattle.memplan.specs.Judged.{IsStop, IsPriorityOf, IsRefusedRanking, IsRanking}

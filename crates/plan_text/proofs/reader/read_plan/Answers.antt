@@ -1,10 +1,10 @@
 use Rattle.std.proofs.Common.{refl, sym, ap, subst, ◌∙◌}
 use Rattle.mp_text.specs.declared.layout.Layout.TheVariants.{Commented}
 use Rattle.mp_text.specs.Ahead.{rows_of_bytes}
-use Rattle.plan_text.specs.Plan.{IsPlan}
+use Rattle.plans.specs.Plan.{IsPlan}
 use Rattle.plan_text.specs.PlanFile.{stated, plan_stated}
 use Rattle.plan_text.proofs.FormLemmas.{reads-is_plan}
-use Rattle.plan_text.proofs.plan.read_plan.Goals as goal
+use Rattle.plan_text.proofs.reader.read_plan.Goals as goal
 
 pub read_with-requires : goal.read_with-requires
 unfolding stated

@@ -1,9 +1,8 @@
--- No public clause names this.
--- The priority lines so far, as the reader keeps them: the tasks in order, and a table of marks of those that were there.
+-- A priority as it is ranked task by task: the tasks so far in order, and a table of marks of those that were there.
 use Rattle.std.specs.Prelude.{◌≡◌, ◌==◌, ℕ, ◌-◌, ◌≤◌, Bool, false, not, List, length, slice_index_or}
-use Rattle.plan_text.specs.Plan.{times}
+use Rattle.plans.specs.Plan.{times}
 
--- how many tasks are ranked, and those of the lines so far
+-- how many tasks are to be ranked, and those that are
 pub record RankingState : Type 0 where
   pub tasks : ℕ
   pub ranked : List ℕ

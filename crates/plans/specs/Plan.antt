@@ -5,9 +5,9 @@ use Rattle.std.specs.List.{count_by}
 use Rattle.limits.specs.Limits.{most_tasks, most_positions, most_total}
 use Rattle.sp_terms.specs.Term.{Direction, forward, backward}
 use Rattle.claim_rules.specs.Claims.{Claim as RuleClaim}
-use Rattle.plan_text.specs.declared.claim.Claim.{Claim}
-use Rattle.plan_text.specs.declared.claim.Dir.{Dir}
-use Rattle.plan_text.specs.declared.claim.Dir.TheVariants.{F, R}
+use Rattle.plans.specs.declared.claim.Claim.{Claim}
+use Rattle.plans.specs.declared.claim.Dir.{Dir}
+use Rattle.plans.specs.declared.claim.Dir.TheVariants.{F, R}
 
 -- what a plan file says
 pub record PlanText : Type 0 where

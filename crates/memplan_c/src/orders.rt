@@ -9,7 +9,7 @@ use crate::faults::{Fault, refuse};
 use crate::refusal::Refusal;
 use least_peak::Problem;
 use mp_system::laws::traversal_law;
-use plan_text::PlanFile;
+use plans::PlanFile;
 use postorder_best::{Post, best_postorder};
 use std::alloc::Global;
 use tree_input::{Node, tree_of_nodes};

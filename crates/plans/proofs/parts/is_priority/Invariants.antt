@@ -1,6 +1,6 @@
 use Rattle.std.proofs.Common.{◌≡◌, take}
-use Rattle.plan_text.proofs.RankLemmas.{IsPart}
-use Rattle.plan_text.proofs.parts.is_priority.Given as goal
+use Rattle.plans.proofs.RankLemmas.{IsPart}
+use Rattle.plans.proofs.parts.is_priority.Given as goal
 
 abbrev pub invariant-loop-task : goal.invariant-loop-task
 invariant-loop-task l = record {

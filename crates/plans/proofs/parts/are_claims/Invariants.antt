@@ -1,6 +1,6 @@
 use Rattle.std.proofs.Common.{◌↔◌, drop, All}
-use Rattle.plan_text.specs.Plan.{IsClaimWithin, RiseFrom}
-use Rattle.plan_text.proofs.parts.are_claims.Given as goal
+use Rattle.plans.specs.Plan.{IsClaimWithin, RiseFrom}
+use Rattle.plans.proofs.parts.are_claims.Given as goal
 
 abbrev pub invariant-loop-claim : goal.invariant-loop-claim
 invariant-loop-claim l =

@@ -1,12 +1,12 @@
 ghost use Rattle.std.specs.Prelude.{◌≡◌, ◌==◌, ◌&&◌, [], ◌∷◌, ◌++◌, ◌≤◌, length, nat_le, IsTrue, OnOk};
-ghost use Rattle.plan_text.specs.Plan.{IsTaskNumber, most_number, times};
-ghost use Rattle.plan_text.specs.Ranking.{RankingState, AreMarks};
+ghost use Rattle.plans.specs.Plan.{IsTaskNumber, most_number, times};
+ghost use Rattle.plans.specs.Ranking.{RankingState, AreMarks};
 
 use crate::NoMemory;
 use std::alloc::Global;
 use std::marker::Model;
 
-/// The tasks of the priority lines so far, with a table of marks, so that each line is judged at once.
+/// The tasks that a priority has ranked so far, with a table of marks, so that the next is judged at once.
 #[derive(Drop)]
 pub struct Ranking {
     tasks: u32,

@@ -1,10 +1,10 @@
 use Rattle.std.proofs.Common.{◌↔◌, ℕ, ◌+◌, ◌<◌, ◌∷◌, List, drop, All}
 use Rattle.std.proofs.lemmas.List.{drop_more}
 use Rattle.std.proofs.lemmas.List.Elements.{All-cons, All-tail}
-use Rattle.plan_text.specs.Plan.{IsClaimWithin, RiseFrom}
-use Rattle.plan_text.specs.declared.claim.Claim.{Claim}
-use Rattle.plan_text.proofs.FormLemmas.{no_claim}
-use Rattle.plan_text.proofs.parts.are_claims.Goals as goal
+use Rattle.plans.specs.Plan.{IsClaimWithin, RiseFrom}
+use Rattle.plans.specs.declared.claim.Claim.{Claim}
+use Rattle.plans.proofs.Rising.{no_claim}
+use Rattle.plans.proofs.parts.are_claims.Goals as goal
 
 abbrev Are : ℕ → List Claim → Type 0
 Are n claims = All IsClaimWithin claims × RiseFrom n claims

@@ -5,7 +5,7 @@ use Rattle.std.proofs.lemmas.Bool.{and_from, and_parts, cases_eq, eq-eqb, eqb-tr
 use Rattle.std.proofs.lemmas.List.{drop_more, take_more, take-append-drop}
 use Rattle.std.proofs.lemmas.List.Elements.{All-nil, All-head, All-tail, All-push}
 use Rattle.std.proofs.lemmas.List.Sums.{sum_by-cons, sum_by_push, sum_by-append}
-use Rattle.plan_text.specs.Plan.{IsTaskNumber, RanksAll, times}
+use Rattle.plans.specs.Plan.{IsTaskNumber, RanksAll, times}
 
 times-cons : (x v : ℕ) (xs : List ℕ) → times (x ∷ xs) v ≡ cond (eqb x v) 1 0 + times xs v
 times-cons x v xs = sum_by-cons (λ y. cond (eqb y v) 1 0) x xs

@@ -1,7 +1,7 @@
 //! Whether some parts make a plan within the limits.
 
 ghost use Rattle.std.specs.Prelude.{◌≡◌, ◌<◌, ◌↔◌, All, IsTrue, IfOk};
-ghost use Rattle.plan_text.specs.Plan.{IsClaimWithin, RiseFrom, IsPriority, IsPlan};
+ghost use Rattle.plans.specs.Plan.{IsClaimWithin, RiseFrom, IsPriority, IsPlan};
 
 use crate::NoMemory;
 use crate::claim::Claim;

@@ -1,5 +1,5 @@
 use Rattle.memplan_c.proofs.Lengths.{plan_long}
-use Rattle.memplan_c.proofs.plans.plan_of.Goals as goal
+use Rattle.memplan_c.proofs.orders.plan_of.Goals as goal
 
 pub returns-clause-long : goal.returns-clause-long
 returns-clause-long c =

@@ -1,11 +1,7 @@
-ghost use Rattle.std.specs.Prelude.{◌≡◌, length, MatchResult};
-ghost use Rattle.plan_text.specs.Plan.{PlanText, IsPriority, IsPlan};
-ghost use Rattle.plan_text.specs.PlanFile.{ReadsPlan, IsPlanRefusal};
+ghost use Rattle.std.specs.Prelude.{◌≡◌, length};
+ghost use Rattle.plans.specs.Plan.{PlanText, IsPriority, IsPlan};
 
-use crate::claim::{Claim, PlanKind};
-use crate::reader::PlanReader;
-use mp_text::{Layout, Refusal, read_with};
-use std::alloc::Global;
+use crate::claim::Claim;
 use std::marker::Model;
 
 /// A plan within the limits: an order of at most 10^6 tasks, its peak of at most 2^60, at most 4,000,001 claims whose positions rise, and a
@@ -90,20 +86,4 @@ impl PlanFile {
     {
         &self.priority
     }
-}
-
-/// The plan that a file of version 1 or 2 states, or why it is refused: the first test that fails in the first line that fails, or that
-/// the text ends early. Linear in the bytes.
-pub fn read_plan(alloc: Global, bytes: &[u8]) -> Result<PlanFile, Refusal<PlanKind>>
-    ensures { MatchResult result (λ plan. ReadsPlan bytes.now plan) (IsPlanRefusal bytes.now) }
-{
-    let reader = read_with(bytes, Layout::Commented, PlanReader::new(alloc))?;
-    let PlanReader {
-        order,
-        ranking,
-        peak,
-        claims,
-        ..
-    } = reader;
-    Ok(PlanFile::new(order, peak, claims, ranking.into_ranked()))
 }

@@ -1,8 +1,8 @@
 use Rattle.std.proofs.Common.{inl, inr, refl, sym, ap, subst, length, ◌∙◌, arith}
 use Rattle.std.proofs.lemmas.Bool.{eqb-true, eq-eqb}
 use Rattle.std.proofs.lemmas.List.{take_all, take_more}
-use Rattle.plan_text.proofs.RankLemmas.{IsPart, part-more, next-ranked, ranks_from_part}
-use Rattle.plan_text.proofs.parts.is_priority.Goals as goal
+use Rattle.plans.proofs.RankLemmas.{IsPart, part-more, next-ranked, ranks_from_part}
+use Rattle.plans.proofs.parts.is_priority.Goals as goal
 
 pub returns-then-not-takes : goal.returns-then-not-takes
 returns-then-not-takes c =
