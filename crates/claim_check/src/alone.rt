@@ -12,7 +12,7 @@ use crate::objection::Objection;
 use crate::verdict::Verdict;
 use crate::view::View;
 use mp_system::{ReplayRefusal, System, replay};
-use plans::PlanFile;
+use plans::Plan;
 use sp_terms::Terms;
 use std::alloc::{AllocError, Global};
 
@@ -33,7 +33,7 @@ pub fn check_alone(
     alloc: Global,
     system: &System,
     terms: &Terms,
-    plan: &PlanFile,
+    plan: &Plan,
 ) -> Result<Verdict, NoMemory>
     ensures verdict { IfOk result (λ verdict. IsVerdict system.now terms.now plan.now verdict) }
 {

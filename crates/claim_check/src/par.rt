@@ -8,7 +8,7 @@ ghost use Rattle.claim_check.specs.Judgeable.{IsPlaced, parts_at};
 
 use crate::rules::{has_room, value_in};
 use crate::view::View;
-use plans::{Claim, Dir};
+use plans::{Claim, Direction};
 
 /// The parts of a `par` taken together.
 #[derive(Clone, Copy)]
@@ -20,7 +20,7 @@ pub struct Sum {
 }
 
 /// The sum of the values of all parts, from the last one back: each says by its width where the one before it ends.
-pub fn sum_of_parts(view: &View<'_>, position: u32, parts: u32, dir: Dir) -> Sum
+pub fn sum_of_parts(view: &View<'_>, position: u32, parts: u32, dir: Direction) -> Sum
     requires at { (1 ≤ position) × (position ≤ length view.now.positions) }
     requires placed { IsPlaced view.now.positions position }
     requires par { (d : Position) → slice_index_or view.now.positions (position - 1) d ≡ Par parts }

@@ -5,7 +5,7 @@ use crate::{Objection, Shape, Verdict, View, are_claims, check, check_alone, che
 use mp_outside::{Gate, NoGate};
 use mp_system::{OrderFault, OrderKind};
 use plan_text::read_plan;
-use plans::{Claim, Dir};
+use plans::{Claim, Direction};
 use sp_terms::{read_workflow, system_of};
 use std::alloc::Global;
 use std::process::Abort;
@@ -21,7 +21,7 @@ const FIVE: &[u8] = b"workflow 1\ntasks 5\ndata 0\ndata 1\ntask 9 1\ndata 5\ntas
 const PLAN: &[u8] =
     b"plan 1\norder 5\n1\n3\n2\n4\n5\npeak 11\nclaims 4\n5 R 5 5\n10 R 5 5\n11 R 10 10\n13 R 10 0\nend\n";
 
-fn claim(position: u32, dir: Dir, bound: i64, rest: u64) -> Claim {
+fn claim(position: u32, dir: Direction, bound: i64, rest: u64) -> Claim {
     Claim {
         position,
         dir,
@@ -33,15 +33,15 @@ fn claim(position: u32, dir: Dir, bound: i64, rest: u64) -> Claim {
 // The claims of the plan.
 fn certificate() -> [Claim; 4] {
     [
-        claim(5, Dir::R, 5, 5),
-        claim(10, Dir::R, 5, 5),
-        claim(11, Dir::R, 10, 10),
-        claim(13, Dir::R, 10, 0),
+        claim(5, Direction::Backward, 5, 5),
+        claim(10, Direction::Backward, 5, 5),
+        claim(11, Direction::Backward, 10, 10),
+        claim(13, Direction::Backward, 10, 0),
     ]
 }
 
 fn claim_at(position: u32) -> Claim {
-    claim(position, Dir::F, 0, 0)
+    claim(position, Direction::Forward, 0, 0)
 }
 
 #[test]
@@ -70,7 +70,7 @@ fn check_outside(rt: &impl Abort, view: &View<'_>) {
 fn a_claim_past_the_last_position_is_outside(rt: HostRuntime) -> Result<(), Fail> {
     let terms = read_workflow(rt.alloc(), FIVE)?;
     let [a, b, c, d] = certificate();
-    let claims = [a, b, c, d, claim(99, Dir::R, 0, 0)];
+    let claims = [a, b, c, d, claim(99, Direction::Backward, 0, 0)];
     assert!(rt; are_claims(&claims));
     let view = View::new(rt.alloc(), &terms, &claims)?;
     assert_eq!(rt; view.len(), 13);
@@ -89,23 +89,23 @@ fn lowest(view: &View<'_>) -> Option<(u32, Shape)> {
 }
 
 // One claim of the plan is altered. Whether the bound of the last claim is great enough for a peak isn't judged here.
-const ALTERED: [(usize, u32, Dir, i64, u64, Option<(u32, Shape)>); 16] = [
-    (0, 5, Dir::R, 6, 5, Some((5, Shape::Series))),
-    (0, 5, Dir::R, 4, 5, Some((11, Shape::Par))),
-    (0, 5, Dir::R, 5, 6, Some((5, Shape::Series))),
-    (0, 5, Dir::R, 5, 4, Some((11, Shape::Par))),
-    (0, 5, Dir::F, 5, 5, Some((5, Shape::Series))),
-    (0, 4, Dir::R, 5, 5, Some((4, Shape::Hold))),
-    (0, 4, Dir::R, 4, 6, Some((4, Shape::Hold))),
-    (2, 11, Dir::R, 11, 10, Some((11, Shape::Par))),
-    (2, 11, Dir::R, 9, 10, Some((13, Shape::Series))),
-    (2, 11, Dir::R, 10, 9, None),
-    (2, 11, Dir::R, 10, 11, Some((11, Shape::Par))),
-    (2, 11, Dir::F, 10, 10, Some((11, Shape::Par))),
-    (3, 13, Dir::R, 11, 0, Some((13, Shape::Series))),
-    (3, 13, Dir::R, 9, 0, None),
-    (3, 13, Dir::R, 10, 1, Some((13, Shape::Series))),
-    (3, 13, Dir::F, 10, 0, None),
+const ALTERED: [(usize, u32, Direction, i64, u64, Option<(u32, Shape)>); 16] = [
+    (0, 5, Direction::Backward, 6, 5, Some((5, Shape::Series))),
+    (0, 5, Direction::Backward, 4, 5, Some((11, Shape::Par))),
+    (0, 5, Direction::Backward, 5, 6, Some((5, Shape::Series))),
+    (0, 5, Direction::Backward, 5, 4, Some((11, Shape::Par))),
+    (0, 5, Direction::Forward, 5, 5, Some((5, Shape::Series))),
+    (0, 4, Direction::Backward, 5, 5, Some((4, Shape::Hold))),
+    (0, 4, Direction::Backward, 4, 6, Some((4, Shape::Hold))),
+    (2, 11, Direction::Backward, 11, 10, Some((11, Shape::Par))),
+    (2, 11, Direction::Backward, 9, 10, Some((13, Shape::Series))),
+    (2, 11, Direction::Backward, 10, 9, None),
+    (2, 11, Direction::Backward, 10, 11, Some((11, Shape::Par))),
+    (2, 11, Direction::Forward, 10, 10, Some((11, Shape::Par))),
+    (3, 13, Direction::Backward, 11, 0, Some((13, Shape::Series))),
+    (3, 13, Direction::Backward, 9, 0, None),
+    (3, 13, Direction::Backward, 10, 1, Some((13, Shape::Series))),
+    (3, 13, Direction::Forward, 10, 0, None),
 ];
 
 #[test]

@@ -15,7 +15,7 @@ ghost use Rattle.memplan.specs.Request.{input_files, source_file, priority_files
 ghost use Rattle.memplan.specs.RequestViews.{ordering_view, matrix_view, ordered_matrix_view, tree_input_view, input_view, source_view};
 
 use crate::files::{
-    MatrixFile, OrderFile, PermFile, PlanTextFile, Ranked, TreeFile, WorkflowFile, judge,
+    MatrixFile, OrderFile, PermFile, PlanFile, Ranked, TreeFile, WorkflowFile, judge,
 };
 use crate::page::limit_page;
 use crate::request::{Input, Matrix, OrderSource, OrderedMatrix, Ordering, TreeInput};
@@ -27,7 +27,7 @@ use mp_outside::Files;
 use mp_system::laws::traversal_law;
 use ordering::laws::read_is_perm;
 use ordering::{MindegRefusal, Perm, identity, min_degree};
-use plans::PlanFile;
+use plans::Plan;
 use sp_terms::laws::terms_law;
 use std::alloc::{AllocError, Global};
 use symbolic::front_tree;
@@ -162,7 +162,7 @@ pub fn judge_input<F: Files>(
 #[derive(Drop)]
 pub enum Order {
     Listed(Vec<u32>),
-    Planned(PlanFile),
+    Planned(Plan),
 }
 
 impl Order {
@@ -190,7 +190,7 @@ impl Order {
 }
 
 // The priority of a plan that has one, else its order.
-fn priority_of(plan: &PlanFile) -> &[u32]
+fn priority_of(plan: &Plan) -> &[u32]
     ensures value { result.now ≡ priority_or plan.now.order plan.now.priority }
     ensures plan { IsPlan plan.now }
 {
@@ -220,7 +220,7 @@ fn judge_order<F: Files>(
             Ok(Order::Listed(numbers))
         }
         OrderSource::Plan(name) => {
-            let plan = judge(alloc, files, name, &PlanTextFile)?;
+            let plan = judge(alloc, files, name, &PlanFile)?;
             Ok(Order::Planned(plan))
         }
     }

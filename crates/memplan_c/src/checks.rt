@@ -13,7 +13,7 @@ use crate::refusal::Refusal;
 use claim_check::Verdict;
 use least_peak::Problem;
 use mp_system::laws::traversal_law;
-use plans::PlanFile;
+use plans::Plan;
 use std::alloc::Global;
 use tree_input::{Node, tree_of_nodes};
 
@@ -58,12 +58,7 @@ pub extern "C" fn memplan_check_tree(
     }
 }
 
-fn certified(
-    alloc: Global,
-    nodes: &[Node],
-    room: usize,
-    claim_room: usize,
-) -> Result<PlanFile, Refusal>
+fn certified(alloc: Global, nodes: &[Node], room: usize, claim_room: usize) -> Result<Plan, Refusal>
     ensures best { IfOk result (λ plan. IsBestOrder nodes.now plan.order plan.peak) }
     ensures certificate { IfOk result (IsCertificate nodes.now) }
     ensures within { IfOk result IsPlan }

@@ -8,7 +8,7 @@ ghost use Rattle.memplan_c.specs.Refusals.{AreClaims, IfClaim, IsFirstWrong, IsG
 
 use crate::refusal::{PlanFault, Refusal};
 use limits::{MOST_POSITIONS, MOST_TASKS, MOST_TOTAL};
-use plans::{Dir, PlanFile};
+use plans::{Direction, Plan};
 use std::alloc::{AllocError, Global};
 
 /// A claim on the part of the tree's term that ends at a position.
@@ -30,7 +30,11 @@ fn given(claim: Claim) -> plans::Claim
 {
     plans::Claim {
         position: claim.position,
-        dir: if claim.backward == 0 { Dir::F } else { Dir::R },
+        dir: if claim.backward == 0 {
+            Direction::Forward
+        } else {
+            Direction::Backward
+        },
         bound: claim.bound,
         rest: claim.rest,
     }
@@ -42,8 +46,8 @@ fn handed(claim: plans::Claim) -> Claim
     Claim {
         position: claim.position,
         backward: match claim.dir {
-            Dir::F => 0,
-            Dir::R => 1,
+            Direction::Forward => 0,
+            Direction::Backward => 1,
         },
         bound: claim.bound,
         rest: claim.rest,
@@ -105,14 +109,14 @@ pub fn plan_of_arrays(
     order: &[u32],
     peak: u64,
     claims: &[Claim],
-) -> Result<PlanFile, Refusal>
+) -> Result<Plan, Refusal>
     ensures plan { IfOk result (λ plan. plan ≡ plan_given order.now peak claims.now) }
     ensures refused { IfErr result (IsGivenPlanRefusal order.now peak claims.now) }
 {
     check_limits(order, peak, claims)?;
     let order = Vec::from_slice(alloc, order)?;
     let claims = given_claims(alloc, claims)?;
-    Ok(PlanFile::new(order, peak, claims, Vec::new(alloc)))
+    Ok(Plan::new(order, peak, claims, Vec::new(alloc)))
 }
 
 /// Writes claims at the front of the room, and leaves what lies past them.

@@ -9,7 +9,7 @@ use crate::faults::{Fault, refuse};
 use crate::refusal::Refusal;
 use least_peak::Problem;
 use mp_system::laws::traversal_law;
-use plans::PlanFile;
+use plans::Plan;
 use postorder_best::{Post, best_postorder};
 use std::alloc::Global;
 use tree_input::{Node, tree_of_nodes};
@@ -27,7 +27,7 @@ pub fn check_room(needed: usize, room: usize) -> Result<(), Refusal>
     Ok(())
 }
 
-fn plan_of(alloc: Global, nodes: &[Node], room: usize) -> Result<PlanFile, Refusal>
+fn plan_of(alloc: Global, nodes: &[Node], room: usize) -> Result<Plan, Refusal>
     ensures best { IfOk result (λ plan. IsBestOrder nodes.now plan.order plan.peak) }
     ensures long { IfOk result (λ plan. length plan.order ≡ room) }
     ensures refused { IfErr result (IsPlanningRefusal nodes.now room) }

@@ -19,7 +19,7 @@ use crate::NoMemory;
 use crate::handing::hand_down;
 use crate::laws::below;
 use crate::wanted::Wanted;
-use plans::{Claim, Dir};
+use plans::{Claim, Direction};
 use sp_cuts::{Notes, Part};
 use sp_terms::Terms;
 use std::alloc::Global;
@@ -63,9 +63,9 @@ fn want_whole(whole: &Part) -> Wanted
     below();
     let bound = whole.peak as i64 - 1;
     let (dir, low) = if whole.peak <= whole.front.top(whole.initial) {
-        (Dir::F, whole.front.lowest(whole.initial, bound))
+        (Direction::Forward, whole.front.lowest(whole.initial, bound))
     } else {
-        (Dir::R, whole.back.lowest(whole.fin, bound))
+        (Direction::Backward, whole.back.lowest(whole.fin, bound))
     };
     Wanted {
         dir,

@@ -13,7 +13,7 @@ use Rattle.mp_text.specs.declared.words.Version.{Version}
 use Rattle.mp_text.specs.declared.words.Version.TheVariants.{One, Two}
 use Rattle.mp_text.specs.Ahead.{rows_of_bytes}
 use Rattle.mp_text.specs.Grammar.{test, first_failure, ArePassed, token_at}
-use Rattle.plans.specs.Plan.{PlanText, most_number, IsPlan, IsClaimWithin, RiseFrom, IsTaskNumber, RanksAll, IsPriority, times}
+use Rattle.plans.specs.Plan.{PlanValue, most_number, IsPlan, IsClaimWithin, RiseFrom, IsTaskNumber, RanksAll, IsPriority, times}
 use Rattle.plan_text.specs.PlanFile.{Stated, stated, plan_format, staged_tests, is_ended, is_number_up_to, is_bound, bound_of, value_of, task_on, stated_on, claim_on, last_position, claim_tests, order_tests, peak_tests, priority_tests, priority_section_tests, tests_after_order, last_tests, ReadsPlan}
 use Rattle.plan_text.specs.Reader.{staged_next, with_task, with_rank, with_claim, peak_next, ranks_next, after_order_next}
 use Rattle.plan_text.proofs.ReaderLaws.{stated_push}
@@ -201,7 +201,7 @@ ended-ranked : (stage : Stage) (s : Stated) → is_ended stage ≡ true → At s
 ended-ranked stages.Ended s e at = at
 ended-ranked _ s e at = absurd cc
 
-pub reads-is_plan : (bytes : List ℕ) (plan : PlanText) → ReadsPlan bytes plan → IsPlan plan
+pub reads-is_plan : (bytes : List ℕ) (plan : PlanValue) → ReadsPlan bytes plan → IsPlan plan
 reads-is_plan bytes plan reads =
     let rows = rows_of_bytes Commented bytes in
     let s = stated rows in

@@ -10,7 +10,7 @@ ghost use Rattle.plan_text.specs.JsonValues.{claim_value, plan_value};
 use crate::NoMemory;
 use crate::printing::dir_word;
 use mp_text::laws::printed_number;
-use plans::{Claim, PlanFile};
+use plans::{Claim, Plan};
 use serde::{Described, Serialize, Serializer};
 use std::alloc::{AllocError, Global};
 
@@ -35,7 +35,7 @@ fn send_claims<S: Serializer>(claims: &[Claim], out: &mut S) -> Result<(), S::Er
 
 /// A plan, for a writer: an object of its claims, its order and its peak.
 #[derive(Drop)]
-pub struct PlanJson<'a>(pub &'a PlanFile);
+pub struct PlanJson<'a>(pub &'a Plan);
 
 impl Described for PlanJson<'_> {
     ghost writes = { λ sent. SendsValue (plan_value sent.0.now) };
@@ -57,7 +57,7 @@ impl Serialize for PlanJson<'_> {
 
 /// A plan as JSON without blanks: an object of its claims, each as `[position,"F" or "R",bound,rest]`, its order and its peak, as in
 /// `{"claims":[[3,"R",8,7]],"order":[1],"peak":9}`. A priority is no member. Linear in the tasks and the claims.
-pub fn plan_json(alloc: Global, plan: &PlanFile) -> Result<String, NoMemory>
+pub fn plan_json(alloc: Global, plan: &Plan) -> Result<String, NoMemory>
     ensures text { IfOk result (λ text. string_bytes text ≡ json_of plan.now) }
     ensures token { IfOk result (λ text. IsTrue (is_token (string_bytes text))) }
 {

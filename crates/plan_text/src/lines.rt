@@ -15,7 +15,7 @@ use limits::{LimitName, MOST_POSITIONS, MOST_TASKS, MOST_TOTAL};
 use mp_text::{
     Line, Refusal, Version, after_word, fault, is_word, number, signed, tokens, version_of,
 };
-use plans::{Claim, Dir, Ranking};
+use plans::{Claim, Direction, Ranking};
 
 // The greatest number of a task or a position.
 const MOST_NUMBER: u64 = 4_294_967_295;
@@ -38,14 +38,14 @@ fn bound_of(token: &[u8]) -> Option<i64>
 
 // The direction that a token names.
 #[tactic(auto, unfolding(crate::specs::PlanFile::dir_named))]
-fn dir_named(token: &[u8]) -> Option<Dir>
+fn dir_named(token: &[u8]) -> Option<Direction>
     ensures { result ≡ dir_named token.now }
 {
     if token == b"F".as_slice() {
-        return Some(Dir::F);
+        return Some(Direction::Forward);
     }
     if token == b"R".as_slice() {
-        return Some(Dir::R);
+        return Some(Direction::Backward);
     }
     None
 }

@@ -12,7 +12,7 @@ use crate::lines::{
 };
 use crate::stage::Stage;
 use mp_text::{Layout, Line, Reader, Refusal, Version, fault, read_with};
-use plans::{Claim, PlanFile, Ranking};
+use plans::{Claim, Plan, Ranking};
 use std::alloc::Global;
 use std::marker::Model;
 
@@ -185,7 +185,7 @@ impl Reader for PlanReader {
 
 /// The plan that a file of version 1 or 2 states, or why it is refused: the first test that fails in the first line that fails, or that
 /// the text ends early. Linear in the bytes.
-pub fn read_plan(alloc: Global, bytes: &[u8]) -> Result<PlanFile, Refusal<PlanKind>>
+pub fn read_plan(alloc: Global, bytes: &[u8]) -> Result<Plan, Refusal<PlanKind>>
     ensures { MatchResult result (λ plan. ReadsPlan bytes.now plan) (IsPlanRefusal bytes.now) }
 {
     let reader = read_with(bytes, Layout::Commented, PlanReader::new(alloc))?;
@@ -196,5 +196,5 @@ pub fn read_plan(alloc: Global, bytes: &[u8]) -> Result<PlanFile, Refusal<PlanKi
         claims,
         ..
     } = reader;
-    Ok(PlanFile::new(order, peak, claims, ranking.into_ranked()))
+    Ok(Plan::new(order, peak, claims, ranking.into_ranked()))
 }

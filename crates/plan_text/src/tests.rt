@@ -1,6 +1,6 @@
 use crate::{PlanKind, plan_json, print_plan, print_plan_2, read_plan};
 use mp_text::{Report, fault};
-use plans::{Claim, Dir, PlanFile};
+use plans::{Claim, Direction, Plan};
 use std::alloc::Global;
 use std::process::Abort;
 use std::test::Fail;
@@ -26,7 +26,7 @@ const MOST: u64 = 1_152_921_504_606_846_976;
 
 const LEAST_BOUND: i64 = -1_152_921_504_606_846_976;
 
-fn claim(position: u32, dir: Dir, bound: i64, rest: u64) -> Claim {
+fn claim(position: u32, dir: Direction, bound: i64, rest: u64) -> Claim {
     Claim {
         position,
         dir,
@@ -35,13 +35,13 @@ fn claim(position: u32, dir: Dir, bound: i64, rest: u64) -> Claim {
     }
 }
 
-fn printed(alloc: Global, plan: &PlanFile) -> Result<Report, Fail> {
+fn printed(alloc: Global, plan: &Plan) -> Result<Report, Fail> {
     let mut report = Report::new(alloc);
     print_plan(plan, &mut report)?;
     Ok(report)
 }
 
-fn printed_2(alloc: Global, plan: &PlanFile) -> Result<Report, Fail> {
+fn printed_2(alloc: Global, plan: &Plan) -> Result<Report, Fail> {
     let mut report = Report::new(alloc);
     print_plan_2(plan, &mut report)?;
     Ok(report)
@@ -108,12 +108,12 @@ fn writes_json(rt: HostRuntime) -> Result<(), Fail> {
     Ok(())
 }
 
-fn check_tasks(rt: &impl Abort, plan: &PlanFile, order: &[u32], priority: &[u32]) {
+fn check_tasks(rt: &impl Abort, plan: &Plan, order: &[u32], priority: &[u32]) {
     assert_eq!(rt; plan.order(), order);
     assert_eq!(rt; plan.priority(), priority);
 }
 
-fn check_claims(rt: &impl Abort, plan: &PlanFile, peak: u64, claims: &[Claim]) {
+fn check_claims(rt: &impl Abort, plan: &Plan, peak: u64, claims: &[Claim]) {
     assert_eq!(rt; plan.peak(), peak);
     assert_eq!(rt; plan.claims(), claims);
 }
@@ -122,10 +122,10 @@ fn check_claims(rt: &impl Abort, plan: &PlanFile, peak: u64, claims: &[Claim]) {
 fn gives_the_parts(rt: HostRuntime) -> Result<(), Fail> {
     let plan = read_plan(rt.alloc(), FIVE)?;
     let claims = [
-        claim(5, Dir::R, 5, 5),
-        claim(10, Dir::R, 5, 5),
-        claim(11, Dir::R, 10, 10),
-        claim(13, Dir::R, 10, 0),
+        claim(5, Direction::Backward, 5, 5),
+        claim(10, Direction::Backward, 5, 5),
+        claim(11, Direction::Backward, 10, 10),
+        claim(13, Direction::Backward, 10, 0),
     ];
     check_tasks(&rt, &plan, &[1, 3, 2, 4, 5], &[]);
     check_claims(&rt, &plan, 11, &claims);
@@ -144,8 +144,8 @@ fn gives_a_priority(rt: HostRuntime) -> Result<(), Fail> {
 fn gives_claims_at_the_limits(rt: HostRuntime) -> Result<(), Fail> {
     let plan = read_plan(rt.alloc(), LEAST)?;
     let claims = [
-        claim(1, Dir::F, -1, 0),
-        claim(4_294_967_295, Dir::F, LEAST_BOUND, MOST),
+        claim(1, Direction::Forward, -1, 0),
+        claim(4_294_967_295, Direction::Forward, LEAST_BOUND, MOST),
     ];
     check_tasks(&rt, &plan, &[], &[]);
     check_claims(&rt, &plan, MOST, &claims);
@@ -160,7 +160,7 @@ const LOOSE: &[u8] =
 fn passes_over_what_says_nothing(rt: HostRuntime) -> Result<(), Fail> {
     let plan = read_plan(rt.alloc(), LOOSE)?;
     check_tasks(&rt, &plan, &[7], &[]);
-    check_claims(&rt, &plan, 0, &[claim(1, Dir::F, 0, 0)]);
+    check_claims(&rt, &plan, 0, &[claim(1, Direction::Forward, 0, 0)]);
     Ok(())
 }
 

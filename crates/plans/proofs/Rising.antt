@@ -2,7 +2,7 @@
 use Rattle.std.proofs.Common.{◌≡◌, ℕ, suc, ◌-◌, ◌<◌, List, [], ◌∷◌, ◌++◌, length, get_or, refl, ap, ◌∙◌, arith, pos}
 use Rattle.plans.specs.Plan.{RiseFrom}
 use Rattle.plans.specs.declared.claim.Claim.{Claim}
-use Rattle.plans.specs.declared.claim.Dir.TheVariants.{F}
+use Rattle.plans.specs.declared.claim.Direction.TheVariants.{Forward}
 
 -- the last position, or this one where there is none
 unfoldable pub last_from : ℕ → List Claim → ℕ
@@ -20,7 +20,7 @@ rise_at n [] c ds rise = rise.0
 rise_at n (d ∷ cs) c ds rise = rise_at d.position cs c ds rise.1
 
 abbrev pub no_claim : Claim
-no_claim = record { position = 0; dir = F; bound = pos 0; rest = 0 }
+no_claim = record { position = 0; dir = Forward; bound = pos 0; rest = 0 }
 
 pub last_is : (n : ℕ) (c : Claim) (cs : List Claim) → (get_or (c ∷ cs) (length (c ∷ cs) - 1) no_claim).position ≡ last_from n (c ∷ cs)
 unfolding last_from

@@ -1,26 +1,26 @@
 -- Plans: an order of the tasks of a term, its peak, claims on the term that certify that no order has a lower peak, and a priority of the
--- tasks. Plan files are this project's own format.
+-- tasks. They are this project's own.
 use Rattle.std.specs.Prelude.{◌≡◌, ◌==◌, ℕ, ◌<◌, ◌≤◌, All, List, [], ◌∷◌, length, if◌then◌else◌, Option, Some, None, unsigned_abs, ◌⊎◌}
 use Rattle.std.specs.List.{count_by}
 use Rattle.limits.specs.Limits.{most_tasks, most_positions, most_total}
-use Rattle.sp_terms.specs.Term.{Direction, forward, backward}
+use Rattle.sp_terms.specs.Term.{Direction as TermDirection, forward, backward}
 use Rattle.claim_rules.specs.Claims.{Claim as RuleClaim}
 use Rattle.plans.specs.declared.claim.Claim.{Claim}
-use Rattle.plans.specs.declared.claim.Dir.{Dir}
-use Rattle.plans.specs.declared.claim.Dir.TheVariants.{F, R}
+use Rattle.plans.specs.declared.claim.Direction.{Direction}
+use Rattle.plans.specs.declared.claim.Direction.TheVariants.{Forward, Backward}
 
--- what a plan file says
-pub record PlanText : Type 0 where
+-- a plan, as clauses see it
+pub record PlanValue : Type 0 where
   pub order : List ℕ
   pub peak : ℕ
   pub claims : List Claim
   pub priority : List ℕ
 
--- ---- claims of a file, as claims on a term
+-- ---- claims of a plan, as claims on a term
 
-abbrev pub direction_of : Dir → Direction
-direction_of F = forward
-direction_of R = backward
+abbrev pub direction_of : Direction → TermDirection
+direction_of Forward = forward
+direction_of Backward = backward
 
 abbrev pub claim_of : Claim → RuleClaim
 claim_of c = record { direction = direction_of c.dir; bound = c.bound; rest = c.rest }
@@ -64,7 +64,7 @@ pub record RanksAll (n : ℕ) (priority : List ℕ) : Type 0 where
 abbrev pub IsPriority : ℕ → List ℕ → Type 0
 IsPriority n priority = (priority ≡ []) ⊎ RanksAll n priority
 
-pub record IsPlan (plan : PlanText) : Type 0 where
+pub record IsPlan (plan : PlanValue) : Type 0 where
   pub few_tasks : length plan.order ≤ most_tasks
   pub tasks : All (λ v. v ≤ most_number) plan.order
   pub peak : plan.peak ≤ most_total

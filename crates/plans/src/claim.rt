@@ -4,21 +4,21 @@ ghost use Rattle.plans.specs.Plan.{direction_of};
 
 /// The direction in which a claim is meant.
 #[derive(Clone, Copy, Debug, PartialEq, Eq)]
-pub enum Dir {
+pub enum Direction {
     /// Forwards, from the first state on.
-    F,
+    Forward,
     /// Backwards, from the last state back.
-    R,
+    Backward,
 }
 
-impl Dir {
+impl Direction {
     /// The opposite direction.
-    pub fn opposite(self) -> Dir
+    pub fn opposite(self) -> Direction
         ensures { direction_of result ≡ other (direction_of self) }
     {
         match self {
-            Dir::F => Dir::R,
-            Dir::R => Dir::F,
+            Direction::Forward => Direction::Backward,
+            Direction::Backward => Direction::Forward,
         }
     }
 }
@@ -30,7 +30,7 @@ pub struct Claim {
     /// The position, from 1.
     pub position: u32,
     /// The direction.
-    pub dir: Dir,
+    pub dir: Direction,
     /// The bound, from -2^60 to 2^60.
     pub bound: i64,
     /// The rest, at most 2^60.

@@ -8,9 +8,9 @@ mod ranking;
 #[cfg(test)]
 mod tests;
 
-pub use claim::{Claim, Dir};
+pub use claim::{Claim, Direction};
 pub use parts::is_plan;
-pub use plan::PlanFile;
+pub use plan::Plan;
 pub use ranking::Ranking;
 use std::alloc::AllocError;
 

@@ -47,7 +47,7 @@ fn is_priority(alloc: Global, tasks: u32, priority: &[u32]) -> Result<bool, NoMe
     Ok(priority.len() == tasks as usize)
 }
 
-/// Whether these parts make a plan: what `PlanFile::new` asks for. Linear in the parts.
+/// Whether these parts make a plan: what `Plan::new` asks for. Linear in the parts.
 pub fn is_plan(
     alloc: Global,
     order: &[u32],

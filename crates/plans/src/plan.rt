@@ -1,5 +1,5 @@
 ghost use Rattle.std.specs.Prelude.{◌≡◌, length};
-ghost use Rattle.plans.specs.Plan.{PlanText, IsPriority, IsPlan};
+ghost use Rattle.plans.specs.Plan.{PlanValue, IsPriority, IsPlan};
 
 use crate::claim::Claim;
 use std::marker::Model;
@@ -7,15 +7,15 @@ use std::marker::Model;
 /// A plan within the limits: an order of at most 10^6 tasks, its peak of at most 2^60, at most 4,000,001 claims whose positions rise, and a
 /// priority, which is empty or ranks each task of the order once.
 #[derive(Drop)]
-pub struct PlanFile {
+pub struct Plan {
     order: Vec<u32>,
     peak: u64,
     claims: Vec<Claim>,
     priority: Vec<u32>,
 }
 
-impl Model for PlanFile {
-    ghost Value = { PlanText };
+impl Model for Plan {
+    ghost Value = { PlanValue };
 
     ghost view = { λ p. record { order = p.order.items; peak = p.peak; claims = p.claims.items; priority = p.priority.items } };
 
@@ -23,13 +23,13 @@ impl Model for PlanFile {
         IsPlan (record { order = p.order.items; peak = p.peak; claims = p.claims.items; priority = p.priority.items }) };
 }
 
-impl PlanFile {
+impl Plan {
     /// A plan of these parts. `is_plan` tells whether they make one.
-    pub fn new(order: Vec<u32>, peak: u64, claims: Vec<Claim>, priority: Vec<u32>) -> PlanFile
+    pub fn new(order: Vec<u32>, peak: u64, claims: Vec<Claim>, priority: Vec<u32>) -> Plan
         requires { IsPlan (record { order = order.items; peak = peak; claims = claims.items; priority = priority.items }) }
         ensures { result ≡ record { order = order.items; peak = peak; claims = claims.items; priority = priority.items } }
     {
-        PlanFile {
+        Plan {
             order,
             peak,
             claims,
@@ -38,17 +38,17 @@ impl PlanFile {
     }
 
     /// The plan with this priority in place of its own: each task of the order once, or none.
-    pub fn with_priority(self, priority: Vec<u32>) -> PlanFile
+    pub fn with_priority(self, priority: Vec<u32>) -> Plan
         requires { IsPriority (length self.order) priority.items }
         ensures { result ≡ record { order = self.order; peak = self.peak; claims = self.claims; priority = priority.items } }
     {
-        let PlanFile {
+        let Plan {
             order,
             peak,
             claims,
             ..
         } = self;
-        PlanFile::new(order, peak, claims, priority)
+        Plan::new(order, peak, claims, priority)
     }
 
     /// What every plan keeps; a proof that needs it calls it. It does nothing.
