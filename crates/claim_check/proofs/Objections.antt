@@ -10,8 +10,8 @@ use Rattle.mp_system.specs.System.{TaskSystem}
 use Rattle.mp_system.specs.Traversal.{IsTraversal, first_fault}
 use Rattle.sp_terms.specs.declared.position.Position.{Position}
 use Rattle.claim_rules.specs.Claims.{Claim as RuleClaim}
-use Rattle.plan_text.specs.declared.claim.Claim.{Claim}
-use Rattle.plan_text.specs.Plan.{PlanText, claim_at}
+use Rattle.plans.specs.declared.claim.Claim.{Claim}
+use Rattle.plans.specs.Plan.{PlanValue, claim_at}
 use Rattle.claim_check.specs.Accepted.{HasRoot, IsAccepted, IsObjection}
 use Rattle.claim_check.specs.Judged.{PassesAt}
 use Rattle.claim_check.specs.Shapes.{shape_at}
@@ -47,7 +47,7 @@ all_or_lowest ps cs = go (search_below (PassesAt ps (claim_at cs)) (passes ps (c
     go (inl all) = inl (λ k. ⊎_elim (λ low. all k low) (λ high. passes_without ps cs k (none_above cs k (omega arith))) (cases_lt k (top cs + 1)))
     go (inr h) = inr (h.0, h.2, h.3)
 
-has_root : (ps : List Position) (plan : PlanText) → Decided (HasRoot ps plan)
+has_root : (ps : List Position) (plan : PlanValue) → Decided (HasRoot ps plan)
 has_root ps plan = at (claim_at plan.claims (length ps)) refl
   where
     none : {A : Type 0} {x : A} → None ≡ Some x → ⊥
@@ -66,10 +66,10 @@ has_root ps plan = at (claim_at plan.claims (length ps)) refl
 abbrev pub FaultLaw : Type 0
 FaultLaw = (system : TaskSystem) (order : List ℕ) → (first_fault system order ≡ None) ↔ IsTraversal system order
 
-abbrev SomeObjection : TaskSystem → List Position → PlanText → Type 0
+abbrev SomeObjection : TaskSystem → List Position → PlanValue → Type 0
 SomeObjection system ps plan = (objection : Objection) × IsObjection system ps plan objection
 
-pub accepted_or_objected : FaultLaw → (system : TaskSystem) (ps : List Position) (plan : PlanText)
+pub accepted_or_objected : FaultLaw → (system : TaskSystem) (ps : List Position) (plan : PlanValue)
     → IsAccepted system ps plan ⊎ ((objection : Objection) × IsObjection system ps plan objection)
 accepted_or_objected law system ps plan = by_order (first_fault system plan.order) refl
   where
@@ -98,7 +98,7 @@ some_none e = cc
 no_traversal : FaultLaw → (system : TaskSystem) (order : List ℕ) (fault : ℕ × OrderKind) → first_fault system order ≡ Some fault → IsTraversal system order → ⊥
 no_traversal law system order fault e traversal = some_none (sym e ∙ (law system order).1 traversal)
 
-pub not_both : FaultLaw → (system : TaskSystem) (ps : List Position) (plan : PlanText) (objection : Objection)
+pub not_both : FaultLaw → (system : TaskSystem) (ps : List Position) (plan : PlanValue) (objection : Objection)
     → IsAccepted system ps plan → IsObjection system ps plan objection → ⊥
 not_both law system ps plan (objections.Order fault) a o = no_traversal law system plan.order _ o a.traversal
 not_both law system ps plan (objections.Peak replayed printed) a o = o.3 (sym o.1 ∙ a.peak ∙ o.2)
@@ -122,7 +122,7 @@ same_lowest : (P : ℕ → Type 0) (m n : ℕ) → ((k : ℕ) → k < m → P k)
 same_lowest P m n below_m no_m below_n no_n =
     ⊎_elim (λ e. e) (λ ne. ⊎_elim (λ lt. absurd (no_m (below_n m lt))) (λ gt. absurd (no_n (below_m n gt))) ne) (cases_order m n)
 
-pub one_objection : FaultLaw → (system : TaskSystem) (ps : List Position) (plan : PlanText) (one two : Objection)
+pub one_objection : FaultLaw → (system : TaskSystem) (ps : List Position) (plan : PlanValue) (one two : Objection)
     → IsObjection system ps plan one → IsObjection system ps plan two → one ≡ two
 one_objection law system ps plan (objections.Order f) (objections.Order g) o p = same_order f g (sym o ∙ p)
 one_objection law system ps plan (objections.Order f) (objections.Peak r q) o p = absurd (no_traversal law system plan.order _ o p.0)
@@ -147,7 +147,7 @@ one_objection law system ps plan (objections.Claim k s) (objections.Claim m t) o
     let shape : s ≡ t = sym o.5 ∙ ap (shape_at ps) at ∙ p.5 in
     λ i. objections.Claim (at i) (shape i)
 
-pub one_verdict : FaultLaw → (system : TaskSystem) (ps : List Position) (plan : PlanText) (one two : Verdict)
+pub one_verdict : FaultLaw → (system : TaskSystem) (ps : List Position) (plan : PlanValue) (one two : Verdict)
     → IsVerdict system ps plan one → IsVerdict system ps plan two → one ≡ two
 one_verdict law system ps plan (Yes p) (Yes q) one two = ap Yes (sym one.1 ∙ two.1)
 one_verdict law system ps plan (Yes p) (No o) one two = absurd (not_both law system ps plan o one.0 two)

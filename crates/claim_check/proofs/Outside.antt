@@ -4,8 +4,8 @@ use Rattle.std.specs.Prelude.{is_some, nat_lt, option_map}
 use Rattle.std.specs.List.{list_any, find}
 use Rattle.sp_terms.specs.declared.position.Position.{Position}
 use Rattle.claim_rules.specs.Claims.{Claim as RuleClaim}
-use Rattle.plan_text.specs.declared.claim.Claim.{Claim}
-use Rattle.plan_text.specs.Plan.{claim_of, claim_at, RiseFrom}
+use Rattle.plans.specs.declared.claim.Claim.{Claim}
+use Rattle.plans.specs.Plan.{claim_of, claim_at, RiseFrom}
 use Rattle.claim_check.specs.Claimed.{Claimed}
 use Rattle.claim_check.specs.Judged.{PassesAt}
 use Rattle.claim_check.specs.Lowest.{IsLowestFrom}

@@ -6,8 +6,8 @@ use Rattle.mp_system.specs.System.{TaskSystem}
 use Rattle.mp_system.specs.Traversal.{IsTraversal}
 use Rattle.sp_terms.specs.declared.position.Position.{Position}
 use Rattle.claim_rules.specs.Claims.{Claim as RuleClaim}
-use Rattle.plan_text.specs.declared.claim.Claim.{Claim}
-use Rattle.plan_text.specs.Plan.{PlanText, claim_of, claim_at}
+use Rattle.plans.specs.declared.claim.Claim.{Claim}
+use Rattle.plans.specs.Plan.{PlanValue, claim_of, claim_at}
 use Rattle.claim_check.specs.Accepted.{HasRoot, IsAccepted, IsObjection}
 use Rattle.claim_check.specs.Claimed.{Claimed}
 use Rattle.claim_check.specs.Lowest.{IsLowestFrom}
@@ -16,7 +16,7 @@ use Rattle.claim_check.specs.declared.objection.Objection.TheVariants as objecti
 use Rattle.claim_check.specs.declared.shape.Shape.{Shape}
 
 -- the claim that stands at the last position
-pub root_at : (ps : List Position) (plan : PlanText) (cs : List Claim) (last : ℕ) (o : Option Claim) (c : Claim) (peak : ℕ) (answer : Bool)
+pub root_at : (ps : List Position) (plan : PlanValue) (cs : List Claim) (last : ℕ) (o : Option Claim) (c : Claim) (peak : ℕ) (answer : Bool)
     → peak ≡ plan.peak → cs ≡ plan.claims → last ≡ length ps → option_map claim_of o ≡ claim_at cs last → o ≡ Some c
     → IsTrue answer ↔ (pos peak ≤ℤ (c.bound +ℤ pos 1)) → IsTrue answer ↔ HasRoot ps plan
 root_at ps plan cs last o c peak answer peak_is claims is_last at is judged =
@@ -30,13 +30,13 @@ root_at ps plan cs last o c peak answer peak_is claims is_last at is judged =
     same e = cc
 
 -- the order, the peak and the claim on the whole term are as they have to be
-pub record IsSettled (system : TaskSystem) (ps : List Position) (plan : PlanText) (replayed : ℕ) : Type 0 where
+pub record IsSettled (system : TaskSystem) (ps : List Position) (plan : PlanValue) (replayed : ℕ) : Type 0 where
   pub traversal : IsTraversal system plan.order
   pub peak : peak_of system plan.order ≡ plan.peak
   pub replayed_is : plan.peak ≡ replayed
   pub root : HasRoot ps plan
 
-pub settled : (system : TaskSystem) (ps : List Position) (plan : PlanText) (order : List ℕ) (replayed printed : ℕ) (claims : List Claim) (view : Claimed)
+pub settled : (system : TaskSystem) (ps : List Position) (plan : PlanValue) (order : List ℕ) (replayed printed : ℕ) (claims : List Claim) (view : Claimed)
     → order ≡ plan.order → IsTraversal system order × (replayed ≡ peak_of system order) → printed ≡ plan.peak → replayed ≡ printed
     → view ≡ record { positions = ps; claims = claims } → HasRoot view.positions plan → IsSettled system ps plan replayed
 settled system ps plan order replayed printed claims view order_is walked printed_is same view_is root = record {
@@ -47,21 +47,21 @@ settled system ps plan order replayed printed claims view order_is walked printe
 }
 
 -- what is said of the claims of a view is said of those of the plan
-pub of_plan : (ps : List Position) (plan : PlanText) (claims : List Claim) (view : Claimed) (r s : Option ℕ)
+pub of_plan : (ps : List Position) (plan : PlanValue) (claims : List Claim) (view : Claimed) (r s : Option ℕ)
     → claims ≡ plan.claims → view ≡ record { positions = ps; claims = claims } → r ≡ s → IsLowestFrom view.positions (claim_at view.claims) 0 r
     → IsLowestFrom ps (claim_at plan.claims) 0 s
 of_plan ps plan claims view r s claims_is view_is is low =
     subst (IsLowestFrom ps (claim_at plan.claims) 0) is
     (subst (λ cs. IsLowestFrom ps (claim_at cs) 0 r) claims_is (subst (λ (v : Claimed). IsLowestFrom v.positions (claim_at v.claims) 0 r) view_is low))
 
-pub said_yes : (system : TaskSystem) (ps : List Position) (plan : PlanText) (replayed : ℕ) → IsSettled system ps plan replayed
+pub said_yes : (system : TaskSystem) (ps : List Position) (plan : PlanValue) (replayed : ℕ) → IsSettled system ps plan replayed
     → IsLowestFrom ps (claim_at plan.claims) 0 None → IsAccepted system ps plan × (plan.peak ≡ replayed)
 said_yes system ps plan replayed s low = (
   record { traversal = s.traversal; peak = s.peak; root = s.root; claims = λ k. low k (omega arith) },
   s.replayed_is,
 )
 
-pub said_no : (system : TaskSystem) (ps : List Position) (plan : PlanText) (replayed position : ℕ) (shape : Shape) (view : Claimed) (claims : List Claim)
+pub said_no : (system : TaskSystem) (ps : List Position) (plan : PlanValue) (replayed position : ℕ) (shape : Shape) (view : Claimed) (claims : List Claim)
     → IsSettled system ps plan replayed → IsLowestFrom ps (claim_at plan.claims) 0 (Some position)
     → view ≡ record { positions = ps; claims = claims } → shape ≡ shape_at view.positions position → IsObjection system ps plan (objections.Claim position shape)
 said_no system ps plan replayed position shape view claims s low view_is shape_is = (

@@ -3,8 +3,8 @@ use Rattle.std.proofs.Common.{◌≡◌, ◌==◌, refl, sym, ap, ◌∙◌, sub
 use Rattle.std.specs.Prelude.{option_map, slice_get, is_some}
 use Rattle.std.specs.List.{list_any}
 use Rattle.std.proofs.lemmas.Grind.{common_steps}
-use Rattle.plan_text.specs.declared.claim.Claim.{Claim}
-use Rattle.plan_text.specs.Plan.{claim_of, claim_at, RiseFrom}
+use Rattle.plans.specs.declared.claim.Claim.{Claim}
+use Rattle.plans.specs.Plan.{claim_of, claim_at, RiseFrom}
 use Rattle.claim_check.specs.Judgeable.{IsClaimTable, named_claim, entry_of}
 
 -- the claims of the first positions have their entries, and those from `passed` on stand later

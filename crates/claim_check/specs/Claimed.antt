@@ -2,8 +2,8 @@
 use Rattle.std.specs.Prelude.{◌≤◌, List, length}
 use Rattle.limits.specs.Limits.{most_positions}
 use Rattle.sp_terms.specs.declared.position.Position.{Position}
-use Rattle.plan_text.specs.declared.claim.Claim.{Claim}
-use Rattle.plan_text.specs.Plan.{RiseFrom}
+use Rattle.plans.specs.declared.claim.Claim.{Claim}
+use Rattle.plans.specs.Plan.{RiseFrom}
 
 -- the positions of a term, and claims that stand at positions, of this term or past its last
 pub record Claimed : Type 0 where

@@ -9,8 +9,8 @@ use Rattle.sp_terms.specs.declared.position.Values.{Values}
 use Rattle.sp_terms.specs.Places.{term_of_position, parts_of, part_positions, IsTermAt}
 use Rattle.sp_terms.specs.Term.{Term, series, initial_of, final_of, IsAllowed}
 use Rattle.sp_terms.specs.Values.{IsTerms, AreValues}
-use Rattle.plan_text.specs.declared.claim.Claim.{Claim}
-use Rattle.plan_text.specs.Plan.{claim_of, claim_at}
+use Rattle.plans.specs.declared.claim.Claim.{Claim}
+use Rattle.plans.specs.Plan.{claim_of, claim_at}
 use Rattle.claim_check.specs.Claimed.{AreClaims}
 
 -- the parts of the term at a position

@@ -1,7 +1,7 @@
 //! The judge in one thread, for callers that may start none.
 
 ghost use Rattle.std.specs.Prelude.{IfOk};
-ghost use Rattle.plan_text.specs.Plan.{claim_at};
+ghost use Rattle.plans.specs.Plan.{claim_at};
 ghost use Rattle.claim_check.specs.Lowest.{IsLowestFrom};
 ghost use Rattle.claim_check.specs.Verdicts.{IsVerdict};
 
@@ -12,7 +12,7 @@ use crate::objection::Objection;
 use crate::verdict::Verdict;
 use crate::view::View;
 use mp_system::{ReplayRefusal, System, replay};
-use plan_text::PlanFile;
+use plans::Plan;
 use sp_terms::Terms;
 use std::alloc::{AllocError, Global};
 
@@ -33,7 +33,7 @@ pub fn check_alone(
     alloc: Global,
     system: &System,
     terms: &Terms,
-    plan: &PlanFile,
+    plan: &Plan,
 ) -> Result<Verdict, NoMemory>
     ensures verdict { IfOk result (λ verdict. IsVerdict system.now terms.now plan.now verdict) }
 {

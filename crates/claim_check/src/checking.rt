@@ -10,7 +10,7 @@ use crate::verdict::Verdict;
 use crate::view::View;
 use mp_outside::Gate;
 use mp_system::{ReplayRefusal, System, replay};
-use plan_text::{Claim, PlanFile};
+use plans::{Claim, Plan};
 use sp_terms::Terms;
 use std::alloc::{AllocError, Global};
 use std::thread::Threads;
@@ -24,7 +24,7 @@ pub fn check<R: Threads + Sync, G: Gate>(
     alloc: Global,
     system: &System,
     terms: &Terms,
-    plan: &PlanFile,
+    plan: &Plan,
     workers: u32,
     gate: &G,
 ) -> Result<Verdict, NoMemory>
@@ -54,7 +54,7 @@ pub fn check<R: Threads + Sync, G: Gate>(
 }
 
 // Whether the last position has a claim with a bound of at least the plan's peak less 1.
-pub(crate) fn has_root(view: &View<'_>, plan: &PlanFile) -> bool
+pub(crate) fn has_root(view: &View<'_>, plan: &Plan) -> bool
     requires { view.now.claims ≡ plan.now.claims }
     ensures { IsTrue result ↔ HasRoot view.now.positions plan.now }
 {

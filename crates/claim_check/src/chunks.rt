@@ -1,6 +1,6 @@
 ghost use Rattle.std.specs.Prelude.{◌≡◌, ◌+◌, ◌*◌, ◌/◌, ◌%◌, ◌<◌, ◌≤◌, ◌^◌, min, length, IfOk};
 ghost use Rattle.limits.specs.Limits.{most_positions};
-ghost use Rattle.plan_text.specs.Plan.{claim_at};
+ghost use Rattle.plans.specs.Plan.{claim_at};
 ghost use Rattle.claim_check.specs.Lowest.{IsLowestFrom, IsLowestIn, AreLowest, IsFirstOf};
 
 use crate::NoMemory;

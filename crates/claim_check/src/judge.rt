@@ -3,7 +3,7 @@ ghost use Rattle.sp_terms.specs.declared.position.Position.{Position};
 ghost use Rattle.sp_terms.specs.declared.position.Position.TheVariants.{Par};
 ghost use Rattle.sp_terms.specs.Postfix.{at_task};
 ghost use Rattle.claim_rules.specs.Placed.{MeetsAt};
-ghost use Rattle.plan_text.specs.Plan.{claim_of, claim_at};
+ghost use Rattle.plans.specs.Plan.{claim_of, claim_at};
 ghost use Rattle.claim_check.specs.Judged.{PassesAt};
 ghost use Rattle.claim_check.specs.Judgeable.{IsPlaced};
 ghost use Rattle.claim_check.specs.Shapes.{shape_at};
@@ -13,7 +13,7 @@ use crate::rules::{meets_data, meets_series};
 use crate::shape::{Shape, shape_of};
 use crate::view::View;
 use mp_system::Task;
-use plan_text::Claim;
+use plans::Claim;
 use sp_terms::{Position, hill};
 
 /// What is said against the claim at a position: nothing where no claim stands there or the claim meets its rule, else what stands there.

@@ -3,12 +3,12 @@ ghost use Rattle.sp_terms.specs.declared.position.Position.{Position};
 ghost use Rattle.sp_terms.specs.declared.position.Position.TheVariants.{Par};
 ghost use Rattle.claim_rules.specs.Placed.{claims_at};
 ghost use Rattle.claim_rules.specs.Rules.{values_in, HaveRoom, SomeClaim};
-ghost use Rattle.plan_text.specs.Plan.{claim_at, direction_of};
+ghost use Rattle.plans.specs.Plan.{claim_at, direction_of};
 ghost use Rattle.claim_check.specs.Judgeable.{IsPlaced, parts_at};
 
 use crate::rules::{has_room, value_in};
 use crate::view::View;
-use plan_text::{Claim, Dir};
+use plans::{Claim, Direction};
 
 /// The parts of a `par` taken together.
 #[derive(Clone, Copy)]
@@ -20,7 +20,7 @@ pub struct Sum {
 }
 
 /// The sum of the values of all parts, from the last one back: each says by its width where the one before it ends.
-pub fn sum_of_parts(view: &View<'_>, position: u32, parts: u32, dir: Dir) -> Sum
+pub fn sum_of_parts(view: &View<'_>, position: u32, parts: u32, dir: Direction) -> Sum
     requires at { (1 ≤ position) × (position ≤ length view.now.positions) }
     requires placed { IsPlaced view.now.positions position }
     requires par { (d : Position) → slice_index_or view.now.positions (position - 1) d ≡ Par parts }

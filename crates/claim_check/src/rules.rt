@@ -4,10 +4,10 @@ ghost use Rattle.sp_terms.specs.Term.{Term, least_of, hill_of};
 ghost use Rattle.sp_terms.specs.Values.{values_of};
 ghost use Rattle.claim_rules.specs.Rules.{MeetsData, MeetsSeries, Has, HasRoom, value_in, is_same, passed_first, passed_last};
 ghost use Rattle.claim_rules.specs.Claims.{Claim as RuleClaim};
-ghost use Rattle.plan_text.specs.Plan.{claim_of, direction_of};
+ghost use Rattle.plans.specs.Plan.{claim_of, direction_of};
 
 use crate::view::Part;
-use plan_text::{Claim, Dir};
+use plans::{Claim, Direction};
 
 /// Whether a claim on a data item of this size meets its rule.
 pub fn meets_data(size: u64, claim: &Claim) -> bool
@@ -17,14 +17,14 @@ pub fn meets_data(size: u64, claim: &Claim) -> bool
 }
 
 /// Whether two directions are the same.
-pub fn is_same(one: Dir, two: Dir) -> bool
+pub fn is_same(one: Direction, two: Direction) -> bool
     ensures { result ≡ is_same (direction_of one) (direction_of two) }
 {
     one == two
 }
 
 /// Whether there is a claim in this direction, with this bound and at least this rest.
-fn has(claim: Option<Claim>, dir: Dir, bound: i64, rest: u64) -> bool
+fn has(claim: Option<Claim>, dir: Direction, bound: i64, rest: u64) -> bool
     ensures { IsTrue result ↔ Has (direction_of dir) bound rest (option_map claim_of claim) }
 {
     let Some(claim) = claim else {
@@ -69,13 +69,13 @@ pub fn meets_series(left: &Part, right: &Part, hill: u64, claim: &Claim) -> bool
         IsTrue result ↔ MeetsSeries a v b (option_map claim_of left.now.claim) (option_map claim_of right.now.claim) (claim_of claim.now) }
 {
     match claim.dir {
-        Dir::F => is_passed(left, right, hill, claim),
-        Dir::R => is_passed(right, left, hill, claim),
+        Direction::Forward => is_passed(left, right, hill, claim),
+        Direction::Backward => is_passed(right, left, hill, claim),
     }
 }
 
 /// The value of a part in a direction: no way within the bounds of the claims takes the part below it.
-pub fn value_in(part: &Part, dir: Dir) -> u64
+pub fn value_in(part: &Part, dir: Direction) -> u64
     ensures { (t : Term) → part.now.values ≡ values_of t → result ≡ value_in (direction_of dir) t (option_map claim_of part.now.claim) }
 {
     match part.claim {

@@ -4,7 +4,7 @@ ghost use Rattle.limits.specs.Limits.{most_workers};
 use crate::{Objection, Shape, Verdict, View, are_claims, check, check_alone, check_at};
 use mp_outside::{Gate, NoGate};
 use mp_system::{OrderFault, OrderKind};
-use plan_text::{Claim, Dir, read_plan};
+use plans::{Claim, Direction, Plan, is_plan};
 use sp_terms::{read_workflow, system_of};
 use std::alloc::Global;
 use std::process::Abort;
@@ -17,10 +17,7 @@ use std::thread::{Threads, yield_now};
 const FIVE: &[u8] = b"workflow 1\ntasks 5\ndata 0\ndata 1\ntask 9 1\ndata 5\ntask 0 1\n\
     data 0\ndata 1\ntask 9 1\ndata 5\ntask 0 1\npar 2\ndata 0\ntask 0 1\nend\n";
 
-const PLAN: &[u8] =
-    b"plan 1\norder 5\n1\n3\n2\n4\n5\npeak 11\nclaims 4\n5 R 5 5\n10 R 5 5\n11 R 10 10\n13 R 10 0\nend\n";
-
-fn claim(position: u32, dir: Dir, bound: i64, rest: u64) -> Claim {
+fn claim(position: u32, dir: Direction, bound: i64, rest: u64) -> Claim {
     Claim {
         position,
         dir,
@@ -29,18 +26,29 @@ fn claim(position: u32, dir: Dir, bound: i64, rest: u64) -> Claim {
     }
 }
 
+fn forward(position: u32, bound: i64, rest: u64) -> Claim {
+    claim(position, Direction::Forward, bound, rest)
+}
+
+fn backward(position: u32, bound: i64, rest: u64) -> Claim {
+    claim(position, Direction::Backward, bound, rest)
+}
+
+// The order of a plan of the five tasks, of peak 11.
+const ORDER: &[u32] = &[1, 3, 2, 4, 5];
+
 // The claims of the plan.
 fn certificate() -> [Claim; 4] {
     [
-        claim(5, Dir::R, 5, 5),
-        claim(10, Dir::R, 5, 5),
-        claim(11, Dir::R, 10, 10),
-        claim(13, Dir::R, 10, 0),
+        backward(5, 5, 5),
+        backward(10, 5, 5),
+        backward(11, 10, 10),
+        backward(13, 10, 0),
     ]
 }
 
 fn claim_at(position: u32) -> Claim {
-    claim(position, Dir::F, 0, 0)
+    forward(position, 0, 0)
 }
 
 #[test]
@@ -69,7 +77,7 @@ fn check_outside(rt: &impl Abort, view: &View<'_>) {
 fn a_claim_past_the_last_position_is_outside(rt: HostRuntime) -> Result<(), Fail> {
     let terms = read_workflow(rt.alloc(), FIVE)?;
     let [a, b, c, d] = certificate();
-    let claims = [a, b, c, d, claim(99, Dir::R, 0, 0)];
+    let claims = [a, b, c, d, backward(99, 0, 0)];
     assert!(rt; are_claims(&claims));
     let view = View::new(rt.alloc(), &terms, &claims)?;
     assert_eq!(rt; view.len(), 13);
@@ -88,23 +96,23 @@ fn lowest(view: &View<'_>) -> Option<(u32, Shape)> {
 }
 
 // One claim of the plan is altered. Whether the bound of the last claim is great enough for a peak isn't judged here.
-const ALTERED: [(usize, u32, Dir, i64, u64, Option<(u32, Shape)>); 16] = [
-    (0, 5, Dir::R, 6, 5, Some((5, Shape::Series))),
-    (0, 5, Dir::R, 4, 5, Some((11, Shape::Par))),
-    (0, 5, Dir::R, 5, 6, Some((5, Shape::Series))),
-    (0, 5, Dir::R, 5, 4, Some((11, Shape::Par))),
-    (0, 5, Dir::F, 5, 5, Some((5, Shape::Series))),
-    (0, 4, Dir::R, 5, 5, Some((4, Shape::Hold))),
-    (0, 4, Dir::R, 4, 6, Some((4, Shape::Hold))),
-    (2, 11, Dir::R, 11, 10, Some((11, Shape::Par))),
-    (2, 11, Dir::R, 9, 10, Some((13, Shape::Series))),
-    (2, 11, Dir::R, 10, 9, None),
-    (2, 11, Dir::R, 10, 11, Some((11, Shape::Par))),
-    (2, 11, Dir::F, 10, 10, Some((11, Shape::Par))),
-    (3, 13, Dir::R, 11, 0, Some((13, Shape::Series))),
-    (3, 13, Dir::R, 9, 0, None),
-    (3, 13, Dir::R, 10, 1, Some((13, Shape::Series))),
-    (3, 13, Dir::F, 10, 0, None),
+const ALTERED: [(usize, u32, Direction, i64, u64, Option<(u32, Shape)>); 16] = [
+    (0, 5, Direction::Backward, 6, 5, Some((5, Shape::Series))),
+    (0, 5, Direction::Backward, 4, 5, Some((11, Shape::Par))),
+    (0, 5, Direction::Backward, 5, 6, Some((5, Shape::Series))),
+    (0, 5, Direction::Backward, 5, 4, Some((11, Shape::Par))),
+    (0, 5, Direction::Forward, 5, 5, Some((5, Shape::Series))),
+    (0, 4, Direction::Backward, 5, 5, Some((4, Shape::Hold))),
+    (0, 4, Direction::Backward, 4, 6, Some((4, Shape::Hold))),
+    (2, 11, Direction::Backward, 11, 10, Some((11, Shape::Par))),
+    (2, 11, Direction::Backward, 9, 10, Some((13, Shape::Series))),
+    (2, 11, Direction::Backward, 10, 9, None),
+    (2, 11, Direction::Backward, 10, 11, Some((11, Shape::Par))),
+    (2, 11, Direction::Forward, 10, 10, Some((11, Shape::Par))),
+    (3, 13, Direction::Backward, 11, 0, Some((13, Shape::Series))),
+    (3, 13, Direction::Backward, 9, 0, None),
+    (3, 13, Direction::Backward, 10, 1, Some((13, Shape::Series))),
+    (3, 13, Direction::Forward, 10, 0, None),
 ];
 
 #[test]
@@ -122,12 +130,26 @@ fn an_altered_claim_fails_or_is_met_otherwise(rt: HostRuntime) -> Result<(), Fai
     Ok(())
 }
 
+// An order, its peak, and claims on the term.
+type Parts<'a> = (&'a [u32], u64, &'a [Claim]);
+
+// The plan of these parts, without a priority.
+fn plan_of(alloc: Global, parts: Parts<'_>) -> Result<Plan, Fail> {
+    let (order, peak, claims) = parts;
+    if !is_plan(alloc, order, peak, claims, &[])? {
+        return Err(Fail::from("parts of a plan"));
+    }
+    let order = Vec::from_slice(alloc, order)?;
+    let claims = Vec::from_slice(alloc, claims)?;
+    Ok(Plan::new(order, peak, claims, Vec::new(alloc)))
+}
+
 // What is said of a plan for a workflow.
 fn verdict<R: Threads + Sync, G: Gate>(
     rt: &R,
     alloc: Global,
     workflow: &[u8],
-    plan: &[u8],
+    plan: Parts<'_>,
     workers: u32,
     gate: &G,
 ) -> Result<Verdict, Fail>
@@ -135,15 +157,15 @@ fn verdict<R: Threads + Sync, G: Gate>(
 {
     let terms = read_workflow(alloc, workflow)?;
     let system = system_of(alloc, &terms)?;
-    let plan = read_plan(alloc, plan)?;
+    let plan = plan_of(alloc, plan)?;
     Ok(check(rt, alloc, &system, &terms, &plan, workers, gate)?)
 }
 
 // The same in one thread.
-fn verdict_alone(alloc: Global, workflow: &[u8], plan: &[u8]) -> Result<Verdict, Fail> {
+fn verdict_alone(alloc: Global, workflow: &[u8], plan: Parts<'_>) -> Result<Verdict, Fail> {
     let terms = read_workflow(alloc, workflow)?;
     let system = system_of(alloc, &terms)?;
-    let plan = read_plan(alloc, plan)?;
+    let plan = plan_of(alloc, plan)?;
     Ok(check_alone(alloc, &system, &terms, &plan)?)
 }
 
@@ -168,39 +190,47 @@ const IN_PLACE: &[u8] = b"workflow 2\ntasks 1\ndata 4\ndata 3\ntask 2 4 1\nend\n
 fn check_verdicts<R: Threads + Sync + Abort>(
     rt: &R,
     alloc: Global,
-    rows: &[(&[u8], &[u8], Verdict)],
+    rows: &[(&[u8], Parts<'_>, Verdict)],
 ) -> Result<(), Fail> {
     for (workflow, plan, expected) in rows {
         for workers in [1, 4] {
-            let said = verdict(rt, alloc, workflow, plan, workers, &NoGate)?;
+            let said = verdict(rt, alloc, workflow, *plan, workers, &NoGate)?;
             assert_eq!(rt; said, *expected);
         }
-        assert_eq!(rt; verdict_alone(alloc, workflow, plan)?, *expected);
+        assert_eq!(rt; verdict_alone(alloc, workflow, *plan)?, *expected);
     }
     Ok(())
 }
 
 #[test]
 fn small_workflows_have_their_verdicts(rt: HostRuntime) -> Result<(), Fail> {
-    let rows: [(&[u8], &[u8], Verdict); 4] = [
+    let rows: [(&[u8], Parts<'_>, Verdict); 4] = [
         (
             b"workflow 1\ntasks 1\ndata 0\ndata 7\ntask 2 1\nend\n",
-            b"plan 1\norder 1\n1\npeak 9\nclaims 1\n3 R 8 7\nend\n",
+            (&[1], 9, &[backward(3, 8, 7)]),
             Verdict::Yes(9),
         ),
         (
             b"workflow 1\ntasks 1\ndata 0\ndata 0\ntask 0 1\nend\n",
-            b"plan 1\norder 1\n1\npeak 0\nclaims 2\n1 F -1 0\n3 F -1 0\nend\n",
+            (&[1], 0, &[forward(1, -1, 0), forward(3, -1, 0)]),
             Verdict::Yes(0),
         ),
         (
             b"workflow 1\ntasks 0\ndata 10\ndata 10\npar 2\nend\n",
-            b"plan 1\norder 0\npeak 20\nclaims 3\n1 F 9 10\n2 F 9 10\n3 F 19 20\nend\n",
+            (
+                &[],
+                20,
+                &[forward(1, 9, 10), forward(2, 9, 10), forward(3, 19, 20)],
+            ),
             Verdict::Yes(20),
         ),
         (
             b"workflow 1\ntasks 2\ndata 0\ndata 3\ntask 0 1\ndata 0\ndata 4\ntask 1 1\npar 2\nend\n",
-            b"plan 1\norder 2\n2\n1\npeak 7\nclaims 3\n3 R 2 3\n6 R 3 4\n7 R 6 7\nend\n",
+            (
+                &[2, 1],
+                7,
+                &[backward(3, 2, 3), backward(6, 3, 4), backward(7, 6, 7)],
+            ),
             Verdict::Yes(7),
         ),
     ];
@@ -209,25 +239,29 @@ fn small_workflows_have_their_verdicts(rt: HostRuntime) -> Result<(), Fail> {
 
 #[test]
 fn chains_and_shares_have_their_verdicts(rt: HostRuntime) -> Result<(), Fail> {
-    let rows: [(&[u8], &[u8], Verdict); 4] = [
+    let rows: [(&[u8], Parts<'_>, Verdict); 4] = [
         (
             TWO_CHAINS,
-            b"plan 1\norder 4\n1\n3\n2\n4\npeak 13\nclaims 3\n5 R 9 3\n10 R 9 3\n11 R 12 6\nend\n",
+            (
+                &[1, 3, 2, 4],
+                13,
+                &[backward(5, 9, 3), backward(10, 9, 3), backward(11, 12, 6)],
+            ),
             Verdict::Yes(13),
         ),
         (
             TWO_CHAINS,
-            b"plan 1\norder 4\n1\n3\n2\n4\npeak 13\nclaims 3\n5 R 8 3\n10 R 9 3\n11 R 12 6\nend\n",
+            (
+                &[1, 3, 2, 4],
+                13,
+                &[backward(5, 8, 3), backward(10, 9, 3), backward(11, 12, 6)],
+            ),
             Verdict::No(claim_fails(11, Shape::Par)),
         ),
+        (IN_PLACE, (&[1], 5, &[forward(3, 4, 4)]), Verdict::Yes(5)),
         (
             IN_PLACE,
-            b"plan 1\norder 1\n1\npeak 5\nclaims 1\n3 F 4 4\nend\n",
-            Verdict::Yes(5),
-        ),
-        (
-            IN_PLACE,
-            b"plan 1\norder 1\n1\npeak 5\nclaims 1\n3 F 5 4\nend\n",
+            (&[1], 5, &[forward(3, 5, 4)]),
             Verdict::No(claim_fails(3, Shape::Series)),
         ),
     ];
@@ -238,11 +272,11 @@ fn chains_and_shares_have_their_verdicts(rt: HostRuntime) -> Result<(), Fail> {
 fn check_objections<R: Threads + Sync + Abort>(
     rt: &R,
     alloc: Global,
-    rows: &[(&[u8], Objection)],
+    rows: &[(Parts<'_>, Objection)],
 ) -> Result<(), Fail> {
     for (plan, objection) in rows {
         for workers in [1, 2, 3, 13, 4096] {
-            let said = verdict(rt, alloc, FIVE, plan, workers, &NoGate)?;
+            let said = verdict(rt, alloc, FIVE, *plan, workers, &NoGate)?;
             assert_eq!(rt; said, Verdict::No(*objection));
         }
     }
@@ -251,21 +285,24 @@ fn check_objections<R: Threads + Sync + Abort>(
 
 #[test]
 fn an_order_that_is_no_traversal_comes_first(rt: HostRuntime) -> Result<(), Fail> {
-    let rows: [(&[u8], Objection); 4] = [
+    let rows: [(Parts<'_>, Objection); 4] = [
         (
-            b"plan 1\norder 5\n2\n1\n3\n4\n5\npeak 11\nclaims 4\n5 R 5 5\n10 R 5 5\n11 R 10 10\n13 R 10 0\nend\n",
+            (
+                &[2, 1, 3, 4, 5],
+                11,
+                &[
+                    backward(5, 5, 5),
+                    backward(10, 5, 5),
+                    backward(11, 10, 10),
+                    backward(13, 10, 0),
+                ],
+            ),
             no_traversal(1, OrderKind::TooEarly),
         ),
+        ((&[1, 1], 10, &[]), no_traversal(2, OrderKind::Repeated)),
+        ((&[9], 11, &[]), no_traversal(1, OrderKind::Unknown)),
         (
-            b"plan 1\norder 2\n1\n1\npeak 10\nclaims 0\nend\n",
-            no_traversal(2, OrderKind::Repeated),
-        ),
-        (
-            b"plan 1\norder 1\n9\npeak 11\nclaims 0\nend\n",
-            no_traversal(1, OrderKind::Unknown),
-        ),
-        (
-            b"plan 1\norder 4\n1\n2\n3\n4\npeak 1\nclaims 1\n4 R 5 5\nend\n",
+            (&[1, 2, 3, 4], 1, &[backward(4, 5, 5)]),
             no_traversal(5, OrderKind::Missing),
         ),
     ];
@@ -274,27 +311,49 @@ fn an_order_that_is_no_traversal_comes_first(rt: HostRuntime) -> Result<(), Fail
 
 #[test]
 fn then_the_peak_and_the_claim_on_the_whole(rt: HostRuntime) -> Result<(), Fail> {
-    let rows: [(&[u8], Objection); 4] = [
+    let rows: [(Parts<'_>, Objection); 4] = [
         (
-            b"plan 1\norder 5\n1\n3\n2\n4\n5\npeak 10\nclaims 4\n5 R 5 5\n10 R 5 5\n11 R 10 10\n13 R 10 0\nend\n",
+            (
+                ORDER,
+                10,
+                &[
+                    backward(5, 5, 5),
+                    backward(10, 5, 5),
+                    backward(11, 10, 10),
+                    backward(13, 10, 0),
+                ],
+            ),
             Objection::Peak {
                 replayed: 11,
                 printed: 10,
             },
         ),
         (
-            b"plan 1\norder 5\n1\n2\n3\n4\n5\npeak 11\nclaims 1\n5 F 5 5\nend\n",
+            (&[1, 2, 3, 4, 5], 11, &[forward(5, 5, 5)]),
             Objection::Peak {
                 replayed: 15,
                 printed: 11,
             },
         ),
         (
-            b"plan 1\norder 5\n1\n3\n2\n4\n5\npeak 11\nclaims 3\n5 R 5 5\n10 R 5 5\n11 R 10 10\nend\n",
+            (
+                ORDER,
+                11,
+                &[backward(5, 5, 5), backward(10, 5, 5), backward(11, 10, 10)],
+            ),
             Objection::Root { last: 13 },
         ),
         (
-            b"plan 1\norder 5\n1\n3\n2\n4\n5\npeak 11\nclaims 4\n5 F 5 5\n10 R 5 5\n11 R 10 10\n13 R 9 0\nend\n",
+            (
+                ORDER,
+                11,
+                &[
+                    forward(5, 5, 5),
+                    backward(10, 5, 5),
+                    backward(11, 10, 10),
+                    backward(13, 9, 0),
+                ],
+            ),
             Objection::Root { last: 13 },
         ),
     ];
@@ -304,25 +363,75 @@ fn then_the_peak_and_the_claim_on_the_whole(rt: HostRuntime) -> Result<(), Fail>
 // At a position of the term, or past the last.
 #[test]
 fn then_the_lowest_claim_that_fails(rt: HostRuntime) -> Result<(), Fail> {
-    let rows: [(&[u8], Objection); 5] = [
+    let rows: [(Parts<'_>, Objection); 5] = [
         (
-            b"plan 1\norder 5\n1\n3\n2\n4\n5\npeak 11\nclaims 4\n5 R 5 5\n10 R 5 5\n11 R 10 11\n13 R 10 0\nend\n",
+            (
+                ORDER,
+                11,
+                &[
+                    backward(5, 5, 5),
+                    backward(10, 5, 5),
+                    backward(11, 10, 11),
+                    backward(13, 10, 0),
+                ],
+            ),
             claim_fails(11, Shape::Par),
         ),
         (
-            b"plan 1\norder 5\n1\n3\n2\n4\n5\npeak 11\nclaims 5\n4 R 5 5\n5 F 5 5\n10 R 5 5\n11 R 10 11\n13 R 10 0\nend\n",
+            (
+                ORDER,
+                11,
+                &[
+                    backward(4, 5, 5),
+                    forward(5, 5, 5),
+                    backward(10, 5, 5),
+                    backward(11, 10, 11),
+                    backward(13, 10, 0),
+                ],
+            ),
             claim_fails(4, Shape::Hold),
         ),
         (
-            b"plan 1\norder 5\n1\n3\n2\n4\n5\npeak 11\nclaims 5\n5 R 5 5\n10 R 5 5\n11 R 10 10\n13 R 10 0\n99 R 0 0\nend\n",
+            (
+                ORDER,
+                11,
+                &[
+                    backward(5, 5, 5),
+                    backward(10, 5, 5),
+                    backward(11, 10, 10),
+                    backward(13, 10, 0),
+                    backward(99, 0, 0),
+                ],
+            ),
             claim_fails(99, Shape::Outside),
         ),
         (
-            b"plan 1\norder 5\n1\n3\n2\n4\n5\npeak 11\nclaims 6\n5 R 5 5\n10 R 5 5\n11 R 10 10\n13 R 10 0\n14 R 0 0\n99 R 0 0\nend\n",
+            (
+                ORDER,
+                11,
+                &[
+                    backward(5, 5, 5),
+                    backward(10, 5, 5),
+                    backward(11, 10, 10),
+                    backward(13, 10, 0),
+                    backward(14, 0, 0),
+                    backward(99, 0, 0),
+                ],
+            ),
             claim_fails(14, Shape::Outside),
         ),
         (
-            b"plan 1\norder 5\n1\n3\n2\n4\n5\npeak 11\nclaims 5\n5 R 5 5\n10 R 5 5\n11 R 10 10\n13 R 10 1\n99 R 0 0\nend\n",
+            (
+                ORDER,
+                11,
+                &[
+                    backward(5, 5, 5),
+                    backward(10, 5, 5),
+                    backward(11, 10, 10),
+                    backward(13, 10, 1),
+                    backward(99, 0, 0),
+                ],
+            ),
             claim_fails(13, Shape::Series),
         ),
     ];
@@ -352,7 +461,14 @@ fn each_chunk_is_entered_once(rt: HostRuntime) -> Result<(), Fail> {
             entered: AtomicU32::new(0),
             numbers: AtomicU32::new(0),
         };
-        let said = verdict(&rt, rt.alloc(), FIVE, PLAN, workers, &gate)?;
+        let said = verdict(
+            &rt,
+            rt.alloc(),
+            FIVE,
+            (ORDER, 11, &certificate()),
+            workers,
+            &gate,
+        )?;
         assert_eq!(rt; said, Verdict::Yes(11));
         assert_eq!(rt; gate.entered.load(Ordering::SeqCst), chunks);
         assert_eq!(rt;
@@ -390,7 +506,7 @@ fn two_chunks_meet(rt: HostRuntime) -> Result<(), Fail> {
         entered: AtomicU32::new(0),
         gave_up: AtomicBool::new(false),
     };
-    let said = verdict(&rt, rt.alloc(), FIVE, PLAN, 2, &gate)?;
+    let said = verdict(&rt, rt.alloc(), FIVE, (ORDER, 11, &certificate()), 2, &gate)?;
     assert_eq!(rt; said, Verdict::Yes(11));
     assert_eq!(rt; gate.entered.load(Ordering::SeqCst), 0b11);
     assert!(rt; !gate.gave_up.load(Ordering::SeqCst));

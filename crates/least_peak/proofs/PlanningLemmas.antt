@@ -9,8 +9,8 @@ use Rattle.mp_system.specs.Traversal.{IsTraversal, IsLeast}
 use Rattle.sp_terms.specs.declared.position.Position.{Position}
 use Rattle.sp_terms.specs.SystemOfTerm.{system_of_term}
 use Rattle.sp_terms.specs.Values.{IsTerms, term_of}
-use Rattle.plan_text.specs.declared.claim.Claim.{Claim}
-use Rattle.plan_text.specs.Plan.{PlanText, IsPlan, IsClaimWithin, RiseFrom, claim_at}
+use Rattle.plans.specs.declared.claim.Claim.{Claim}
+use Rattle.plans.specs.Plan.{PlanValue, IsPlan, IsClaimWithin, RiseFrom, claim_at}
 use Rattle.claim_check.specs.Accepted.{IsAccepted, HasRoot}
 use Rattle.claim_check.specs.Judged.{PassesAt}
 use Rattle.least_peak.specs.Best.{IsBestTraversal}
@@ -77,7 +77,7 @@ module _
     priority = inl none;
   }
 
-  pub plan_accepted : (plan : PlanText) → plan.order ≡ named → plan.peak ≡ peak → HasRoot positions plan → ((k : ℕ) → PassesAt positions (claim_at plan.claims) k)
+  pub plan_accepted : (plan : PlanValue) → plan.order ≡ named → plan.peak ≡ peak → HasRoot positions plan → ((k : ℕ) → PassesAt positions (claim_at plan.claims) k)
       → IsAccepted system positions plan
   plan_accepted plan same_order same_peak root pass = record {
     traversal = subst (IsTraversal system) (sym same_order) walks_named;
@@ -89,25 +89,25 @@ module _
 -- ---- accepted plans
 
 abbrev Own : Type 0
-Own = (ps : List Position) (plan : PlanText) → IsTerms ps → IsAccepted (system_of_term (term_of ps)) ps plan → IsLeast (system_of_term (term_of ps)) plan.peak
+Own = (ps : List Position) (plan : PlanValue) → IsTerms ps → IsAccepted (system_of_term (term_of ps)) ps plan → IsLeast (system_of_term (term_of ps)) plan.peak
 
 abbrev Renamed : Type 0
 Renamed =
-    (names : List ℕ) (system : TaskSystem) (ps : List Position) (plan : PlanText) → IsTerms ps → IsRenamed names (system_of_term (term_of ps)) system
+    (names : List ℕ) (system : TaskSystem) (ps : List Position) (plan : PlanValue) → IsTerms ps → IsRenamed names (system_of_term (term_of ps)) system
     → IsAccepted system ps plan → IsLeast system plan.peak
 
 least_named : Own → Renamed → (names : Option (List ℕ)) (system : TaskSystem) (ps : List Position) → IsTerms ps → IsNamedBy names (system_of_term (term_of ps)) system
-    → (plan : PlanText) → IsAccepted system ps plan → IsLeast system plan.peak
+    → (plan : PlanValue) → IsAccepted system ps plan → IsLeast system plan.peak
 least_named own renamed None system ps terms same plan accepted =
     subst (λ s. IsLeast s plan.peak) same (own ps plan terms (subst (λ s. IsAccepted s ps plan) (sym same) accepted))
 least_named own renamed (Some names) system ps terms same plan accepted = renamed names system ps plan terms same accepted
 
 -- the peak of a plan that is accepted is least
-pub accepted_is_least : Own → Renamed → (names : Option (List ℕ)) (positions : List Position) (system : TaskSystem) → IsNamedTerm names positions system → (plan : PlanText) → IsAccepted system positions plan → IsLeast system plan.peak
+pub accepted_is_least : Own → Renamed → (names : Option (List ℕ)) (positions : List Position) (system : TaskSystem) → IsNamedTerm names positions system → (plan : PlanValue) → IsAccepted system positions plan → IsLeast system plan.peak
 accepted_is_least own renamed names positions system term plan accepted = least_named own renamed names system positions term.terms term.named plan accepted
 
 pub accepted_is_best : Own → Renamed → (names : Option (List ℕ)) (positions : List Position) (system : TaskSystem) → IsNamedTerm names positions system
-    → (plan : PlanText) → IsAccepted system positions plan → IsBestTraversal system plan.order plan.peak
+    → (plan : PlanValue) → IsAccepted system positions plan → IsBestTraversal system plan.order plan.peak
 accepted_is_best own renamed names positions system term plan accepted = record {
   traversal = accepted.traversal;
   is_peak = accepted.peak;
@@ -117,7 +117,7 @@ accepted_is_best own renamed names positions system term plan accepted = record 
 -- ---- the plan of a workflow
 
 pub workflow_accepted : (origin : Origin) (own : List Position) → origin ≡ origins.Workflow own → IsTerms own → IsSystem (system_of_term (term_of own))
-    → (plan : PlanText) → ((system : TaskSystem) → IsNamedTerm None own system → IsAccepted system own plan)
+    → (plan : PlanValue) → ((system : TaskSystem) → IsNamedTerm None own system → IsAccepted system own plan)
     → (positions : List Position) × IsTermOf origin positions × IsAccepted (system_of origin) positions plan
 workflow_accepted origin own is terms within plan accepted =
     subst (λ (o : Origin). (positions : List Position) × IsTermOf o positions × IsAccepted (system_of o) positions plan) (sym is)

@@ -4,7 +4,7 @@ ghost use Rattle.std.specs.Prelude.{◌≡◌, ◌<◌, [], map, IfOk};
 ghost use Rattle.claim_check.specs.Accepted.{IsAccepted};
 ghost use Rattle.mp_system.specs.Renaming.{name_in};
 ghost use Rattle.mp_system.specs.System.{TaskSystem};
-ghost use Rattle.plan_text.specs.Plan.{IsPlan};
+ghost use Rattle.plans.specs.Plan.{IsPlan};
 ghost use Rattle.least_peak.specs.Best.{IsBestTraversal};
 ghost use Rattle.least_peak.specs.Named.{IsNamedTerm, order_named};
 
@@ -12,8 +12,8 @@ use crate::NoMemory;
 use claim_check::laws::accepted_law;
 use mp_system::laws::{renaming_law, traversal_law};
 use plan_claims::claims_of;
-use plan_text::PlanFile;
-use sp_cuts::{Plan, plan_terms};
+use plans::Plan;
+use sp_cuts::plan_terms;
 use sp_terms::Terms;
 use sp_terms::laws::terms_law;
 use std::alloc::Global;
@@ -66,7 +66,7 @@ fn plan_counted<L: Ledger>(
     blank: Blank,
     terms: &Terms,
     names: Option<Names>,
-) -> Result<PlanFile, NoMemory>
+) -> Result<Plan, NoMemory>
     requires name { blank.name ≡ L.name }
     requires parts { blank.parts ≡ L.parts }
     requires some { 0 < blank.parts }
@@ -80,7 +80,7 @@ fn plan_counted<L: Ledger>(
     terms_law();
     let mut steps = Steps::<L>::new(blank);
     let plan = plan_terms(alloc, terms, &mut steps)?;
-    let Plan {
+    let sp_cuts::Plan {
         order,
         peak,
         part,
@@ -91,12 +91,12 @@ fn plan_counted<L: Ledger>(
     drop(ropes);
     let named = order_in_system(alloc, names, order)?;
     let claims = claims_of(alloc, terms, &part, notes)?;
-    Ok(PlanFile::new(named, peak, claims, Vec::new(alloc)))
+    Ok(Plan::new(named, peak, claims, Vec::new(alloc)))
 }
 
 /// The plan of a term, and of each system that is that of the term: what the tasks of the term are called in the system; without names
 /// each has its own number.
-pub fn plan_term(alloc: Global, terms: &Terms, names: Option<Names>) -> Result<PlanFile, NoMemory>
+pub fn plan_term(alloc: Global, terms: &Terms, names: Option<Names>) -> Result<Plan, NoMemory>
     requires { (system : TaskSystem) × IsNamedTerm names terms.now system }
     ensures accepted { IfOk result (λ plan. (system : TaskSystem) → IsNamedTerm names terms.now system → IsAccepted system terms.now plan) }
     ensures best { IfOk result

@@ -6,7 +6,7 @@ ghost use Rattle.mp_system.specs.Traversal.{IsTraversal};
 ghost use Rattle.sp_terms.specs.SystemOfTerm.{system_of_term};
 ghost use Rattle.sp_terms.specs.Values.{term_of};
 ghost use Rattle.sp_terms.specs.declared.position.Position.{Position};
-ghost use Rattle.plan_text.specs.Plan.{IsPlan};
+ghost use Rattle.plans.specs.Plan.{IsPlan};
 ghost use Rattle.claim_check.specs.Accepted.{IsAccepted};
 ghost use Rattle.claim_check.specs.Verdicts.{IsVerdict};
 ghost use Rattle.claim_check.specs.declared.verdict.Verdict.TheVariants.{Yes};
@@ -23,7 +23,7 @@ use claim_check::laws::accepted_law;
 use claim_check::{Verdict, check, check_alone};
 use mp_outside::Gate;
 use mp_system::{ReplayRefusal, System, replay};
-use plan_text::PlanFile;
+use plans::Plan;
 use sp_terms::laws::terms_law;
 use sp_terms::{Position, Terms, system_of};
 use std::alloc::Global;
@@ -112,7 +112,7 @@ impl Problem {
 
     /// A traversal of least peak, with claims that certify it; `check` accepts it. `NoMemory` says nothing of the problem. Near linear
     /// in the tasks. Liu 1987.
-    pub fn plan(&self, alloc: Global) -> Result<PlanFile, NoMemory>
+    pub fn plan(&self, alloc: Global) -> Result<Plan, NoMemory>
         // the order is a traversal, the peak is its own, and no traversal has a lower one
         ensures best { IfOk result (λ plan. IsBestTraversal (system_of self.now) plan.order plan.peak) }
         // and the claims show it
@@ -139,7 +139,7 @@ impl Problem {
     }
 
     /// A plan as [`plan`](Problem::plan) makes it, where the problem is not needed any more: a tree is dropped once its term is made.
-    pub fn into_plan(self, alloc: Global) -> Result<PlanFile, NoMemory>
+    pub fn into_plan(self, alloc: Global) -> Result<Plan, NoMemory>
         // the order is a traversal, the peak is its own, and no traversal has a lower one
         ensures best { IfOk result (λ plan. IsBestTraversal (system_of self) plan.order plan.peak) }
         // and the claims show it
@@ -174,7 +174,7 @@ impl Problem {
         &self,
         rt: &R,
         alloc: Global,
-        plan: &PlanFile,
+        plan: &Plan,
         workers: u32,
         gate: &G,
     ) -> Result<Verdict, NoMemory>
@@ -204,7 +204,7 @@ impl Problem {
 
     /// Judges a plan as [`check`](Problem::check) does, and starts no thread. `NoMemory` says nothing of the plan. Linear in the tasks,
     /// the items and the claims.
-    pub fn check_alone(&self, alloc: Global, plan: &PlanFile) -> Result<Verdict, NoMemory>
+    pub fn check_alone(&self, alloc: Global, plan: &Plan) -> Result<Verdict, NoMemory>
         ensures verdict { IfOk result (λ verdict.
             (positions : List Position) × IsTermOf self.now positions × IsVerdict (system_of self.now) positions plan.now verdict) }
         ensures best { IfOk result (λ verdict. (peak : ℕ) → verdict ≡ Yes peak →

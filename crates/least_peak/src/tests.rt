@@ -3,7 +3,7 @@
 use crate::Problem;
 use claim_check::Verdict;
 use mp_outside::NoGate;
-use plan_text::PlanFile;
+use plans::Plan;
 use sp_terms::read_workflow;
 use std::alloc::Global;
 use std::process::Abort;
@@ -31,7 +31,7 @@ fn check_peak(
     rt: &impl Abort,
     alloc: Global,
     problem: &Problem,
-    plan: &PlanFile,
+    plan: &Plan,
     peak: u64,
 ) -> Result<(), Fail> {
     assert_eq!(rt; plan.peak(), peak);
@@ -44,7 +44,7 @@ fn check_accepted<R: Abort + Threads + Sync>(
     rt: &R,
     alloc: Global,
     problem: &Problem,
-    plan: &PlanFile,
+    plan: &Plan,
     peak: u64,
 ) -> Result<(), Fail> {
     let verdict = problem.check(rt, alloc, plan, 2, &NoGate)?;

@@ -18,7 +18,7 @@ use Rattle.mp_system.specs.System.{TaskSystem}
 use Rattle.mp_system.specs.Traversal.{IsLeast}
 use Rattle.mp_text.specs.Report.{line_text, text_of_lines}
 use Rattle.ordering.specs.MinimumDegree.{IsMinimumDegreeOrder}
-use Rattle.plan_text.specs.Plan.{PlanText}
+use Rattle.plans.specs.Plan.{PlanValue}
 use Rattle.postorder_best.specs.BestPostorder.{IsBestPostorder}
 use Rattle.sp_terms.specs.declared.position.Position.{Position}
 use Rattle.sp_terms.specs.SystemOfTerm.{system_of_term}
@@ -54,11 +54,11 @@ pub record Parts : Type 0 where
   pub forest_terms : (nodes : List Node) (f : Forest) → IsTree nodes → IsForestOf nodes f → IsTerms (forest_positions nodes f)
   pub forest_system : (nodes : List Node) (f : Forest) → IsTree nodes → IsForestOf nodes f
       → IsRenamed (all_numbers f) (system_of_term (term_of (forest_positions nodes f))) (system_of_nodes nodes)
-  pub own : (ps : List Position) (plan : PlanText) → IsTerms ps → IsAccepted (system_of_term (term_of ps)) ps plan
+  pub own : (ps : List Position) (plan : PlanValue) → IsTerms ps → IsAccepted (system_of_term (term_of ps)) ps plan
       → IsLeast (system_of_term (term_of ps)) plan.peak
-  pub renamed : (names : List ℕ) (system : TaskSystem) (ps : List Position) (plan : PlanText) → IsTerms ps
+  pub renamed : (names : List ℕ) (system : TaskSystem) (ps : List Position) (plan : PlanValue) → IsTerms ps
       → IsRenamed names (system_of_term (term_of ps)) system → IsAccepted system ps plan → IsLeast system plan.peak
-  pub not_both : (system : TaskSystem) (ps : List Position) (plan : PlanText) (objection : Objection) → IsAccepted system ps plan
+  pub not_both : (system : TaskSystem) (ps : List Position) (plan : PlanValue) (objection : Objection) → IsAccepted system ps plan
       → IsObjection system ps plan objection → ⊥
   pub least : (system : TaskSystem) (peak other : ℕ) → IsLeast system peak → IsLeast system other → peak ≡ other
   pub best : (nodes : List Node) (a b : List ℕ) → IsTree nodes → IsBestPostorder nodes a → IsBestPostorder nodes b → a ≡ b
@@ -92,7 +92,7 @@ module _ (p : Parts) where
 
   -- ---- the answer says yes, and its peak is least
 
-  is_least : (origin : Origin) (plan : PlanText) → IsInput origin → IsAcceptedFor origin plan → IsLeast (system_of origin) plan.peak
+  is_least : (origin : Origin) (plan : PlanValue) → IsInput origin → IsAcceptedFor origin plan → IsLeast (system_of origin) plan.peak
   is_least (origins.Tree nodes) plan tree (ps, (f, is, e), accepted) =
       p.renamed (all_numbers f) (system_of_nodes nodes) ps plan (subst IsTerms (sym e) (p.forest_terms nodes f tree is))
       (subst (λ (xs : List Position). IsRenamed (all_numbers f) (system_of_term (term_of xs)) (system_of_nodes nodes)) (sym e)
@@ -100,7 +100,7 @@ module _ (p : Parts) where
   is_least (origins.Workflow own) plan terms (ps, e, accepted) =
       p.own own plan terms (subst (λ (xs : List Position). IsAccepted (system_of_term (term_of own)) xs plan) e accepted)
 
-  says_yes : (origin : Origin) (plan : PlanText) (verdict : Verdict) → IsAcceptedFor origin plan → IsVerdictFor origin plan verdict
+  says_yes : (origin : Origin) (plan : PlanValue) (verdict : Verdict) → IsAcceptedFor origin plan → IsVerdictFor origin plan verdict
       → check_word verdict ≡ codes "yes"
   says_yes origin plan (Yes peak) accepted is = refl
   says_yes origin plan (No objection) (ps, term, accepted) (qs, other, objected) =

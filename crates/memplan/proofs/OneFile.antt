@@ -10,7 +10,7 @@ use Rattle.ordering.specs.Kinds.{perm_word, order_file_word}
 use Rattle.ordering.specs.OrderFile.{ReadsOrder, RefusesOrder}
 use Rattle.ordering.specs.PermFile.{ReadsPerm, RefusesPerm}
 use Rattle.plan_text.specs.Kinds.{word_of as plan_word}
-use Rattle.plan_text.specs.Plan.{PlanText}
+use Rattle.plans.specs.Plan.{PlanValue}
 use Rattle.plan_text.specs.PlanFile.{ReadsPlan, RefusesPlan}
 use Rattle.sp_terms.specs.Kinds.{word_of as workflow_word}
 use Rattle.sp_terms.specs.WorkflowFile.{ReadsWorkflow, RefusesWorkflow}
@@ -54,7 +54,7 @@ pub record Formats : Type 0 where
   pub orders : IsFormat ReadsOrder RefusesOrder
   pub plans : IsFormat ReadsPlan RefusesPlan
   pub patterns : (bytes : List ℕ) (one two : List (List ℕ)) → ReadsPattern bytes one → ReadsPattern bytes two → one ≡ two
-  pub one_plan : (bytes : List ℕ) (one two : PlanText) → ReadsPlan bytes one → ReadsPlan bytes two → one ≡ two
+  pub one_plan : (bytes : List ℕ) (one two : PlanValue) → ReadsPlan bytes one → ReadsPlan bytes two → one ≡ two
   pub systems : Systems
 
 module _ (f : Formats) where
@@ -67,8 +67,8 @@ module _ (f : Formats) where
   perm_refused file n text answer = IsRefusedFile file perm_word (RefusesPerm n text) text answer
 
   -- and a plan file before it as many tasks of its order
-  same_ranks : (text : List ℕ) (a b : PlanText) → IsPlanFile text a → IsPlanFile text b → length a.order ≡ length b.order
-  same_ranks text a b is is' = ap (λ (p : PlanText). length p.order) (f.one_plan text a b is.1 is'.1)
+  same_ranks : (text : List ℕ) (a b : PlanValue) → IsPlanFile text a → IsPlanFile text b → length a.order ≡ length b.order
+  same_ranks text a b is is' = ap (λ (p : PlanValue). length p.order) (f.one_plan text a b is.1 is'.1)
 
   not_too_large : (o : Ordering) (text : List ℕ) (answer : Answer) (rows : List (List ℕ)) → IsMatrixFile text rows → CanBeOrdered o (length rows) → IsTooLarge o text answer → ⊥
   not_too_large natural text answer rows is fits large = large

@@ -13,7 +13,7 @@ use Rattle.mp_system.specs.Traversal.{IsTraversal, first_fault}
 use Rattle.ordering.specs.OrderFile.{ReadsOrder}
 use Rattle.ordering.specs.Perm.{IsPerm}
 use Rattle.ordering.specs.PermFile.{ReadsPerm}
-use Rattle.plan_text.specs.Plan.{PlanText, IsPlan, IsPriority}
+use Rattle.plans.specs.Plan.{PlanValue, IsPlan, IsPriority}
 use Rattle.plan_text.specs.PlanFile.{ReadsPlan}
 use Rattle.postorder_best.specs.BestPostorder.{IsBestPostorder}
 use Rattle.sp_terms.specs.declared.position.Position.{Position}
@@ -49,12 +49,12 @@ pub record Reports : Type 0 where
   pub orders : (bytes a b : List ℕ) → ReadsOrder bytes a → ReadsOrder bytes b → a ≡ b
   pub perms : (n : ℕ) (bytes a b : List ℕ) → ReadsPerm n bytes a → ReadsPerm n bytes b → a ≡ b
   pub perm : (n : ℕ) (bytes a : List ℕ) → ReadsPerm n bytes a → IsPerm n a
-  pub plans : (bytes : List ℕ) (a b : PlanText) → ReadsPlan bytes a → ReadsPlan bytes b → a ≡ b
-  pub plan : (bytes : List ℕ) (a : PlanText) → ReadsPlan bytes a → IsPlan a
+  pub plans : (bytes : List ℕ) (a b : PlanValue) → ReadsPlan bytes a → ReadsPlan bytes b → a ≡ b
+  pub plan : (bytes : List ℕ) (a : PlanValue) → ReadsPlan bytes a → IsPlan a
   pub fault : (system : TaskSystem) (order : List ℕ) → (first_fault system order ≡ None) ↔ IsTraversal system order
   pub long : (system : TaskSystem) (order : List ℕ) → IsTraversal system order → length order ≡ length system.tasks
   pub best : (nodes : List Node) (a b : List ℕ) → IsTree nodes → IsBestPostorder nodes a → IsBestPostorder nodes b → a ≡ b
-  pub verdict : (system : TaskSystem) (ps : List Position) (plan : PlanText) (a b : Verdict) → IsVerdict system ps plan a → IsVerdict system ps plan b → a ≡ b
+  pub verdict : (system : TaskSystem) (ps : List Position) (plan : PlanValue) (a b : Verdict) → IsVerdict system ps plan a → IsVerdict system ps plan b → a ≡ b
   pub schedule : (c : Setting) → IsSetting c → (priority : List ℕ) → HoldsEach c.system priority → (a b : List Event) → IsSchedule c priority (first_moment c) a → IsSchedule c priority (first_moment c) b → a ≡ b
   pub demos : (made : Demo) (a b : Answer) → IsMakeable made → IsDemoOf made a → IsDemoOf made b → a ≡ b
   pub fronts : (m : OrderedMatrix) (bound workers : ℕ) (texts : List (List ℕ)) (a b : Answer) → 1 ≤ workers → IsFrontsOf m bound workers texts a
@@ -68,7 +68,7 @@ module _ (r : Reports) where
 
   one_order : (source : OrderSource) (text a b : List ℕ) → IsOrderFrom source text a → IsOrderFrom source text b → a ≡ b
   one_order (order_named name) text a b is is' = r.orders text a b is.1 is'.1
-  one_order (plan_named name) text a b (plan, is, e) (plan', is', e') = e ∙ ap (λ (p : PlanText). p.order) (r.plans text plan plan' is.1 is'.1) ∙ sym e'
+  one_order (plan_named name) text a b (plan, is, e) (plan', is', e') = e ∙ ap (λ (p : PlanValue). p.order) (r.plans text plan plan' is.1 is'.1) ∙ sym e'
 
   no_fault : (system : TaskSystem) (order : List ℕ) (place : ℕ) (kind : OrderKind) → IsTraversal system order → first_fault system order ≡ Some (place, kind) → ⊥
   no_fault system order place kind traversal fault = let none = (r.fault system order).1 traversal in cc
@@ -105,9 +105,9 @@ module _ (r : Reports) where
       → (a ≡ b) × (IsTraversal system order → HoldsEach system a)
   own_priority (order_named name) system text order a b is_order is is' = (is ∙ sym is', λ traversal. subst (HoldsEach system) (sym is) (of_traversal system order traversal))
   own_priority (plan_named name) system text order a b (plan, is_plan, same) (own, is, e) (other, is', e') = (
-    e ∙ ap (λ (p : PlanText). priority_or order p.priority) (r.plans text own other is.1 is'.1) ∙ sym e',
+    e ∙ ap (λ (p : PlanValue). priority_or order p.priority) (r.plans text own other is.1 is'.1) ∙ sym e',
     λ traversal.
-        let orders : own.order ≡ order = ap (λ (p : PlanText). p.order) (r.plans text own plan is.1 is_plan.1) ∙ sym same in
+        let orders : own.order ≡ order = ap (λ (p : PlanValue). p.order) (r.plans text own plan is.1 is_plan.1) ∙ sym same in
         let ranks = subst (λ (o : List ℕ). IsPriority (length o) own.priority) orders (r.plan text own is.1).priority in
         subst (HoldsEach system) (sym e) (of_own system order own.priority traversal (r.long system order traversal) ranks),
   )

@@ -3,7 +3,7 @@ use Rattle.std.proofs.Common.{◌≡◌, ℕ, List, [], ◌∷◌, ◌++◌, ref
 use Rattle.least_peak.specs.Problem.{system_of, IsTermOf}
 use Rattle.least_peak.specs.declared.problem.Origin.{Origin}
 use Rattle.sp_terms.specs.declared.position.Position.{Position}
-use Rattle.plan_text.specs.Plan.{PlanText, IsPlan}
+use Rattle.plans.specs.Plan.{PlanValue, IsPlan}
 use Rattle.claim_check.specs.Accepted.{IsAccepted}
 use Rattle.claim_check.specs.Verdicts.{IsVerdict}
 use Rattle.claim_check.specs.declared.verdict.Verdict.{Verdict}
@@ -17,7 +17,7 @@ use Rattle.memplan.proofs.InputLemmas.{problem_has_term}
 
 -- ---- a check
 
-pub checked : (input : Input) (mine : List (List ℕ)) (text : List ℕ) (origin : Origin) (plan : PlanText) (name : List ℕ) (workers : ℕ)
+pub checked : (input : Input) (mine : List (List ℕ)) (text : List ℕ) (origin : Origin) (plan : PlanValue) (name : List ℕ) (workers : ℕ)
     → IsProblemOf input mine origin → IsPlanFile text plan → (positions : List Position) (verdict : Verdict) (answer : Answer)
     → IsTermOf origin positions → IsVerdict (system_of origin) positions plan verdict → answer ≡ verdict_answer verdict
     → IsReport (check input name workers) (mine ++ text ∷ []) answer
@@ -26,7 +26,7 @@ checked input mine text origin plan name workers is_problem is_plan positions ve
 
 -- ---- a plan
 
-pub planned : (input : Input) (format : PlanFormat) (texts : List (List ℕ)) (origin : Origin) (positions : List Position) (plan : PlanText) (answer : Answer)
+pub planned : (input : Input) (format : PlanFormat) (texts : List (List ℕ)) (origin : Origin) (positions : List Position) (plan : PlanValue) (answer : Answer)
     → IsProblemOf input texts origin → IsTermOf origin positions → IsPlan plan → IsAccepted (system_of origin) positions plan → plan.priority ≡ []
     → answer ≡ plan_answer format plan → IsReport (planning input format) texts answer
 planned input format texts origin positions plan answer is_problem term within accepted no_priority is = record {

@@ -18,7 +18,7 @@ use Rattle.activation.specs.Schedule.{HoldsEach}
 use Rattle.mp_system.specs.System.{TaskSystem}
 use Rattle.mp_system.specs.Traversal.{IsTraversal}
 use Rattle.ordering.specs.Perm.{IsPerm}
-use Rattle.plan_text.specs.Plan.{RanksAll, IsPriority}
+use Rattle.plans.specs.Plan.{RanksAll, IsPriority}
 
 -- ---- what holds each task once
 

@@ -10,7 +10,7 @@ use Rattle.limits.specs.Limits.{most_bytes}
 use Rattle.mp_system.specs.Renaming.{IsRenamed}
 use Rattle.mp_system.specs.System.{TaskSystem, IsSystem}
 use Rattle.mp_system.specs.Traversal.{IsLeast}
-use Rattle.plan_text.specs.Plan.{PlanText, IsPlan}
+use Rattle.plans.specs.Plan.{PlanValue, IsPlan}
 use Rattle.plan_text.specs.PlanFile.{ReadsPlan}
 use Rattle.plan_text.specs.Printed.{text_of}
 use Rattle.sp_terms.specs.declared.position.Position.{Position}
@@ -39,10 +39,10 @@ module _
     (forest_system : (nodes : List Node) (f : Forest) → IsTree nodes → IsForestOf nodes f → IsRenamed (all_numbers f) (system_of_term (term_of (forest_positions nodes f))) (system_of_nodes nodes))
     (workflow_terms : (bytes : List ℕ) (ps : List Position) → ReadsWorkflow bytes ps → IsTerms ps)
     (denotes : (ps : List Position) → IsTerms ps → Denotes ps (term_of ps))
-    (own : (ps : List Position) (plan : PlanText) → IsTerms ps → IsAccepted (system_of_term (term_of ps)) ps plan → IsLeast (system_of_term (term_of ps)) plan.peak)
-    (renamed : (names : List ℕ) (system : TaskSystem) (ps : List Position) (plan : PlanText) → IsTerms ps → IsRenamed names (system_of_term (term_of ps)) system → IsAccepted system ps plan → IsLeast system plan.peak) where
+    (own : (ps : List Position) (plan : PlanValue) → IsTerms ps → IsAccepted (system_of_term (term_of ps)) ps plan → IsLeast (system_of_term (term_of ps)) plan.peak)
+    (renamed : (names : List ℕ) (system : TaskSystem) (ps : List Position) (plan : PlanValue) → IsTerms ps → IsRenamed names (system_of_term (term_of ps)) system → IsAccepted system ps plan → IsLeast system plan.peak) where
   -- an accepted plan of an input is of least peak
-  is_least : (input : Input) (texts : List (List ℕ)) (s : TaskSystem) (ps : List Position) (plan : PlanText) → IsSystemWithTerm input texts s ps → IsAccepted s ps plan → IsLeast s plan.peak
+  is_least : (input : Input) (texts : List (List ℕ)) (s : TaskSystem) (ps : List Position) (plan : PlanValue) → IsSystemWithTerm input texts s ps → IsAccepted s ps plan → IsLeast s plan.peak
   is_least (tree_input input) texts s ps plan (nodes, f, is, e, forest, at) accepted =
       let of_tree = tree input texts nodes is in
       renamed (all_numbers f) s ps plan (subst IsTerms (sym at) (forest_terms nodes f of_tree forest))
@@ -70,11 +70,11 @@ module _
     printed_is = ap (λ (a : Answer). a.text) e ∙ ap yes_line (sym is_peak);
   }
 
-  printed_as : (format : PlanFormat) (plan : PlanText) → IsPrintedAs format plan (text_of plan) (plan_text format plan)
+  printed_as : (format : PlanFormat) (plan : PlanValue) → IsPrintedAs format plan (text_of plan) (plan_text format plan)
   printed_as as_file plan = refl
   printed_as as_json plan = refl
 
-  pub best : ((plan : PlanText) → IsPlan plan → ReadsPlan (text_of plan) plan) → ((plan : PlanText) → IsPlan plan → length (text_of plan) ≤ most_bytes)
+  pub best : ((plan : PlanValue) → IsPlan plan → ReadsPlan (text_of plan) plan) → ((plan : PlanValue) → IsPlan plan → length (text_of plan) ≤ most_bytes)
       → (input : Input) (format : PlanFormat) (texts : List (List ℕ)) (answer : Answer) → IsPlanOf input format texts answer → IsBestPlan input format texts answer.text
   best reads short input format texts answer is =
       let is_plan : IsPlanFile (text_of is.plan) is.plan = (short is.plan is.within, reads is.plan is.within) in

@@ -3,7 +3,7 @@ use Rattle.std.proofs.Common.{◌≡◌, ◌∙◌, ◌≤◌, ℕ, List, [], �
 use Rattle.limits.specs.Limits.{most_bytes}
 use Rattle.ordering.specs.Perm.{IsPerm}
 use Rattle.ordering.specs.PermFile.{ReadsPerm}
-use Rattle.plan_text.specs.Plan.{PlanText, IsPlan, IsPriority}
+use Rattle.plans.specs.Plan.{PlanValue, IsPlan, IsPriority}
 use Rattle.plan_text.specs.PlanFile.{ReadsPlan}
 use Rattle.plan_text.specs.Printed.{text2_of as plan_text}
 use Rattle.sp_terms.specs.declared.position.Position.{Position}
@@ -42,7 +42,7 @@ pub ranked : (n : ℕ) (priority : List ℕ) → IsPerm n priority → IsPriorit
 ranked n priority perm = inr (record { len = perm.len; tasks = perm.vertices; once = perm.once })
 
 -- a plan stays one with a priority that ranks each of its tasks
-ranked_plan : (plan : PlanText) (priority : List ℕ) → IsPlan plan → IsPerm (length plan.order) priority → IsPlan (with_priority plan priority)
+ranked_plan : (plan : PlanValue) (priority : List ℕ) → IsPlan plan → IsPerm (length plan.order) priority → IsPlan (with_priority plan priority)
 ranked_plan plan priority is perm = record {
   few_tasks = is.few_tasks;
   tasks = is.tasks;
@@ -82,7 +82,7 @@ module _ (k : Kinds) where
   written_workflow : (x : List Position) → IsTerms x → IsWorkflowFile (workflow_text x) x
   written_workflow x is = (k.workflows.short x is, k.workflows.printed x is)
 
-  written_plan : (x : PlanText) → IsPlan x → IsPlanFile (plan_text x) x
+  written_plan : (x : PlanValue) → IsPlan x → IsPlanFile (plan_text x) x
   written_plan x is = (k.plans.short x is, k.plans.printed x is)
 
   says_it : (value own : Versioned) → value ≡ own → IsFileOf (text_2 own) own → IsFileOf (text_2 value) value
@@ -114,11 +114,11 @@ abbrev pub plan_at : List ℕ → NamedFile
 plan_at name = record { role = plan_file; name = name }
 
 -- what a priority makes of a plan
-abbrev pub plan_beside : PlanText → Priority → PlanText
+abbrev pub plan_beside : PlanValue → Priority → PlanValue
 plan_beside plan priorities.Own = plan
 plan_beside plan (priorities.Given numbers) = with_priority plan numbers.items
 
-module _ (told : List ℕ → Option (List ℕ)) (name : List ℕ) (plan : PlanText)
+module _ (told : List ℕ → Option (List ℕ)) (name : List ℕ) (plan : PlanValue)
     (is_plan : (text : List ℕ) → told name ≡ Some text → IsPlanFile text plan) where
   pub plan_accepted : (texts : List (List ℕ)) → AreTold told (plan_at name ∷ []) texts → AreAccepted (plan_at name ∷ []) [] texts
   plan_accepted = alone_told told (plan_at name) (AreAccepted (plan_at name ∷ []) []) (λ text is. ((plan, is_plan text is), tt))

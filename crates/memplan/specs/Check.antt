@@ -5,7 +5,7 @@ use Rattle.mp_system.specs.System.{TaskSystem}
 use Rattle.mp_system.specs.Memory.{peak_of}
 use Rattle.mp_system.specs.Traversal.{IsTraversal, IsLeast}
 use Rattle.sp_terms.specs.declared.position.Position.{Position}
-use Rattle.plan_text.specs.Plan.{PlanText}
+use Rattle.plans.specs.Plan.{PlanValue}
 use Rattle.claim_check.specs.declared.objection.Objection.{Objection}
 use Rattle.claim_check.specs.declared.verdict.Verdict.{Verdict}
 use Rattle.claim_check.specs.Verdicts.{IsVerdict}
@@ -44,13 +44,13 @@ verdict_answer (verdicts.Yes peak) = record { status = status.Done; text = yes_l
 verdict_answer (verdicts.No objection) = record { status = status.No; text = line_text (objection_line objection) }
 
 -- the plan is accepted, or the first objection to it is told
-abbrev pub IsCheck : TaskSystem → List Position → PlanText → Answer → Type 0
+abbrev pub IsCheck : TaskSystem → List Position → PlanValue → Answer → Type 0
 IsCheck system positions plan answer = (verdict : Verdict) × IsVerdict system positions plan verdict × (answer ≡ verdict_answer verdict)
 
 -- a check: the texts of the input's files, and that of the plan
 abbrev pub IsCheckOf : Input → List (List ℕ) → Answer → Type 0
 IsCheckOf input texts answer =
-    (mine : List (List ℕ)) × (text : List ℕ) × (system : TaskSystem) × (positions : List Position) × (plan : PlanText)
+    (mine : List (List ℕ)) × (text : List ℕ) × (system : TaskSystem) × (positions : List Position) × (plan : PlanValue)
     × (texts ≡ mine ++ text ∷ []) × IsSystemWithTerm input mine system positions × IsPlanFile text plan
     × IsCheck system positions plan answer
 
@@ -62,7 +62,7 @@ pub record IsCertified (input : Input) (texts : List (List ℕ)) (printed : List
   pub texts_are : texts ≡ mine ++ text ∷ []
   pub system : TaskSystem
   pub is_system : IsSystemOf input mine system
-  pub plan : PlanText
+  pub plan : PlanValue
   pub is_plan : IsPlanFile text plan
   pub traversal : IsTraversal system plan.order
   pub peak : peak_of system plan.order ≡ plan.peak

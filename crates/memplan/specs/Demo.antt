@@ -19,7 +19,7 @@ use Rattle.mp_system.specs.Memory.{peak_of}
 use Rattle.mp_system.specs.Traversal.{IsLeast}
 use Rattle.mp_text.specs.Report.{text_of_lines}
 use Rattle.ordering.specs.MinimumDegree.{IsMinimumDegreeOrder}
-use Rattle.plan_text.specs.Plan.{PlanText}
+use Rattle.plans.specs.Plan.{PlanValue}
 use Rattle.postorder_best.specs.BestPostorder.{IsBestPostorder}
 use Rattle.sp_terms.specs.declared.position.Position.{Position}
 use Rattle.symbolic.specs.FrontTree.{IsFrontTree}
@@ -106,10 +106,10 @@ IsPostorderPeak (origins.Workflow positions) None = Unit {0}
 IsPostorderPeak origin peak = ⊥
 
 -- a plan is accepted, by the term of what was made; and the verdict on any plan
-abbrev pub IsAcceptedFor : Origin → PlanText → Type 0
+abbrev pub IsAcceptedFor : Origin → PlanValue → Type 0
 IsAcceptedFor origin plan = (positions : List Position) × IsTermOf origin positions × IsAccepted (system_of origin) positions plan
 
-abbrev pub IsVerdictFor : Origin → PlanText → Verdict → Type 0
+abbrev pub IsVerdictFor : Origin → PlanValue → Verdict → Type 0
 IsVerdictFor origin plan verdict =
     (positions : List Position) × IsTermOf origin positions × IsVerdict (system_of origin) positions plan verdict
 
@@ -146,7 +146,7 @@ pub record IsSummary (kind : List ℕ) (origin : Origin) (peak : ℕ) (check : L
   pub text_is : text ≡ text_of_lines (demo_lines kind (length (system_of origin).tasks) positions peak postorder check)
 
 -- the summary of any plan, with the verdict on it
-abbrev pub IsJudgedSummary : List ℕ → Origin → PlanText → Answer → Type 0
+abbrev pub IsJudgedSummary : List ℕ → Origin → PlanValue → Answer → Type 0
 IsJudgedSummary kind origin plan answer =
     (verdict : Verdict) × IsVerdictFor origin plan verdict × (answer.status ≡ status.Done)
     × IsSummary kind origin plan.peak (check_word verdict) answer.text
@@ -154,7 +154,7 @@ IsJudgedSummary kind origin plan answer =
 -- the summary of some plan that is accepted for what was made, whichever it is
 abbrev pub IsDemoOf : Demo → Answer → Type 0
 IsDemoOf made answer =
-    (origin : Origin) × (plan : PlanText) × IsMade made origin × IsAcceptedFor origin plan
+    (origin : Origin) × (plan : PlanValue) × IsMade made origin × IsAcceptedFor origin plan
     × IsJudgedSummary (kind_word made) origin plan answer
 
 -- the printed text is the summary of what was made; the checker says yes, and the peak is one that no traversal goes below

@@ -21,7 +21,7 @@ use Rattle.sp_terms.specs.WorkflowFile.{ReadsWorkflow, RefusesWorkflow}
 use Rattle.ordering.specs.OrderFile.{ReadsOrder, RefusesOrder}
 use Rattle.ordering.specs.MinimumDegree.{IsMinimumDegreeOrder}
 use Rattle.ordering.specs.PermFile.{ReadsPerm, RefusesPerm}
-use Rattle.plan_text.specs.Plan.{PlanText}
+use Rattle.plans.specs.Plan.{PlanValue}
 use Rattle.plan_text.specs.PlanFile.{ReadsPlan, RefusesPlan}
 use Rattle.symbolic.specs.FrontTree.{IsFrontTree}
 use Rattle.task_graph.specs.Graph.{TaskGraph}
@@ -100,7 +100,7 @@ IsPermFile n text order = IsWithinBytes text × ReadsPerm n text order
 abbrev pub IsOrderFile : List ℕ → List ℕ → Type 0
 IsOrderFile text numbers = IsWithinBytes text × ReadsOrder text numbers
 
-abbrev pub IsPlanFile : List ℕ → PlanText → Type 0
+abbrev pub IsPlanFile : List ℕ → PlanValue → Type 0
 IsPlanFile text plan = IsWithinBytes text × ReadsPlan text plan
 
 -- a matrix of n rows can be eliminated in this order: by minimum degree only up to a limit
@@ -158,7 +158,7 @@ IsSystemWithTerm (workflow_named name) (text ∷ more ∷ texts) system position
 -- the order that a source gives
 abbrev pub IsOrderFrom : OrderSource → List ℕ → List ℕ → Type 0
 IsOrderFrom (order_named name) text numbers = IsOrderFile text numbers
-IsOrderFrom (plan_named name) text numbers = (plan : PlanText) × IsPlanFile text plan × (numbers ≡ plan.order)
+IsOrderFrom (plan_named name) text numbers = (plan : PlanValue) × IsPlanFile text plan × (numbers ≡ plan.order)
 
 -- a matrix has more rows than can be eliminated in this order
 abbrev pub IsTooLarge : Ordering → List ℕ → Answer → Type 0
@@ -194,13 +194,13 @@ IsAcceptedPriority input earlier text =
 abbrev pub IsRefusedPlanPriority : List (List ℕ) → List ℕ → Answer → Type 0
 IsRefusedPlanPriority [] text answer = ⊥
 IsRefusedPlanPriority (first ∷ earlier) text answer =
-    (plan : PlanText) × IsPlanFile first plan
+    (plan : PlanValue) × IsPlanFile first plan
     × IsRefusedFile (codes "priority") perm_word (RefusesPerm (length plan.order) text) text answer
 
 abbrev pub IsAcceptedPlanPriority : List (List ℕ) → List ℕ → Type 0
 IsAcceptedPlanPriority [] text = ⊥
 IsAcceptedPlanPriority (first ∷ earlier) text =
-    (plan : PlanText) × (priority : List ℕ) × IsPlanFile first plan × IsPermFile (length plan.order) text priority
+    (plan : PlanValue) × (priority : List ℕ) × IsPlanFile first plan × IsPermFile (length plan.order) text priority
 
 -- the file is refused with this answer, after these texts of earlier files
 abbrev pub IsRefused : FileRole → List (List ℕ) → List ℕ → Answer → Type 0
@@ -223,7 +223,7 @@ HasValue graph_file earlier text = (graph : TaskGraph) × IsGraphFile text graph
 HasValue (matrix_file ordering) earlier text = (rows : List (List ℕ)) × IsMatrixFile text rows × CanBeOrdered ordering (length rows)
 HasValue perm_file earlier text = IsAcceptedPerm earlier text
 HasValue order_file earlier text = (numbers : List ℕ) × IsOrderFile text numbers
-HasValue plan_file earlier text = (plan : PlanText) × IsPlanFile text plan
+HasValue plan_file earlier text = (plan : PlanValue) × IsPlanFile text plan
 HasValue (priority_file input) earlier text = IsAcceptedPriority input earlier text
 HasValue plan_priority_file earlier text = IsAcceptedPlanPriority earlier text
 

@@ -5,7 +5,7 @@ use Rattle.mp_system.specs.System.{TaskSystem}
 use Rattle.mp_system.specs.Memory.{peak_of}
 use Rattle.mp_system.specs.Traversal.{IsTraversal, IsLeast}
 use Rattle.sp_terms.specs.declared.position.Position.{Position}
-use Rattle.plan_text.specs.Plan.{PlanText, IsPlan}
+use Rattle.plans.specs.Plan.{PlanValue, IsPlan}
 use Rattle.command_line.specs.Words.{Given, value_of}
 use Rattle.plan_text.specs.Json.{json_of}
 use Rattle.memplan.specs.Request.{Request, planning, Input, input_of, PlanFormat, as_file, as_json, is_second, format_of}
@@ -24,11 +24,11 @@ plan_of options =
     (input_of options)
 
 -- the plan file of a plan, or its JSON on a line
-abbrev pub plan_text : PlanFormat → PlanText → List ℕ
+abbrev pub plan_text : PlanFormat → PlanValue → List ℕ
 plan_text as_file plan = plans.text_of plan
 plan_text as_json plan = line_text (json_of plan ∷ [])
 
-abbrev pub plan_answer : PlanFormat → PlanText → Answer
+abbrev pub plan_answer : PlanFormat → PlanValue → Answer
 plan_answer format plan = record { status = status.Done; text = plan_text format plan }
 
 -- a plan of the input's system and term that is accepted and has no priority, whichever it is; the texts are those of the input's files
@@ -36,14 +36,14 @@ pub record IsPlanOf (input : Input) (format : PlanFormat) (texts : List (List �
   pub system : TaskSystem
   pub positions : List Position
   pub with_term : IsSystemWithTerm input texts system positions
-  pub plan : PlanText
+  pub plan : PlanValue
   pub within : IsPlan plan
   pub accepted : judged.IsAccepted system positions plan
   pub no_priority : plan.priority ≡ []
   pub answer_is : answer ≡ plan_answer format plan
 
 -- a plan file is printed as it is, or its plan as JSON
-abbrev pub IsPrintedAs : PlanFormat → PlanText → List ℕ → List ℕ → Type 0
+abbrev pub IsPrintedAs : PlanFormat → PlanValue → List ℕ → List ℕ → Type 0
 IsPrintedAs as_file plan file printed = printed ≡ file
 IsPrintedAs as_json plan file printed = printed ≡ plan_text as_json plan
 
@@ -53,7 +53,7 @@ IsPrintedAs as_json plan file printed = printed ≡ plan_text as_json plan
 pub record IsBestPlan (input : Input) (format : PlanFormat) (texts : List (List ℕ)) (printed : List ℕ) : Type 0 where
   pub system : TaskSystem
   pub is_system : IsSystemOf input texts system
-  pub plan : PlanText
+  pub plan : PlanValue
   pub file : List ℕ
   pub is_plan : IsPlanFile file plan
   pub printed_is : IsPrintedAs format plan file printed

@@ -7,7 +7,7 @@ use Rattle.mp_system.specs.declared.system.OrderKind.{OrderKind}
 use Rattle.mp_system.specs.System.{TaskSystem}
 use Rattle.mp_system.specs.Memory.{peak_of}
 use Rattle.mp_system.specs.Traversal.{IsTraversal, first_fault}
-use Rattle.plan_text.specs.Plan.{PlanText}
+use Rattle.plans.specs.Plan.{PlanValue}
 use Rattle.activation.specs.declared.events.Event.{Event}
 use Rattle.activation.specs.Machine.{Setting, start_state}
 use Rattle.activation.specs.Schedule.{IsSchedule, first_moment, last_time, most_used, most_booked}
@@ -69,7 +69,7 @@ priority_or order (v ∷ vs) = v ∷ vs
 abbrev pub IsOwnPriority : OrderSource → List ℕ → List ℕ → List ℕ → Type 0
 IsOwnPriority (order_named name) text order priority = priority ≡ order
 IsOwnPriority (plan_named name) text order priority =
-    (plan : PlanText) × IsPlanFile text plan × (priority ≡ priority_or order plan.priority)
+    (plan : PlanValue) × IsPlanFile text plan × (priority ≡ priority_or order plan.priority)
 
 -- the priority of n tasks, over the text of the order or the plan and those of the files after it
 abbrev pub IsPriorityFrom : OrderSource → Option (List ℕ) → ℕ → List ℕ → List (List ℕ) → List ℕ → List ℕ → Type 0

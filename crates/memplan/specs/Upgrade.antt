@@ -4,7 +4,7 @@ use Rattle.sp_terms.specs.declared.position.Position.{Position}
 use Rattle.sp_terms.specs.WorkflowText.{text2_of as workflow_text}
 use Rattle.tree_input.specs.declared.node.Node.{Node}
 use Rattle.tree_input.specs.TreeText.{text2_of as tree_text}
-use Rattle.plan_text.specs.Plan.{PlanText}
+use Rattle.plans.specs.Plan.{PlanValue}
 use Rattle.plan_text.specs.Printed.{text2_of as plan_text}
 use Rattle.command_line.specs.Words.{Given, value_of}
 use Rattle.memplan.specs.Request.{Request, upgrade, Upgrade, tree_upgrade, workflow_upgrade, plan_upgrade}
@@ -29,7 +29,7 @@ upgrade_of options =
 pub data Versioned : Type 0 where
   tree_value : List Node → Versioned
   workflow_value : List Position → Versioned
-  plan_value : PlanText → Versioned
+  plan_value : PlanValue → Versioned
 
 -- its text in version 2
 abbrev pub text_2 : Versioned → List ℕ
@@ -44,7 +44,7 @@ IsFileOf text (workflow_value positions) = IsWorkflowFile text positions
 IsFileOf text (plan_value plan) = IsPlanFile text plan
 
 -- a plan, with this priority in place of its own
-abbrev pub with_priority : PlanText → List ℕ → PlanText
+abbrev pub with_priority : PlanValue → List ℕ → PlanValue
 with_priority plan priority = record { order = plan.order; peak = plan.peak; claims = plan.claims; priority = priority }
 
 -- what is upgraded, over the texts of the files: what its file says, but for the priority of a plan where one is given
@@ -54,9 +54,9 @@ IsUpgradedFrom (tree_upgrade name) texts value =
 IsUpgradedFrom (workflow_upgrade name) texts value =
     (text : List ℕ) × (positions : List Position) × (texts ≡ text ∷ []) × IsWorkflowFile text positions × (value ≡ workflow_value positions)
 IsUpgradedFrom (plan_upgrade name None) texts value =
-    (text : List ℕ) × (plan : PlanText) × (texts ≡ text ∷ []) × IsPlanFile text plan × (value ≡ plan_value plan)
+    (text : List ℕ) × (plan : PlanValue) × (texts ≡ text ∷ []) × IsPlanFile text plan × (value ≡ plan_value plan)
 IsUpgradedFrom (plan_upgrade name (Some given)) texts value =
-    (text : List ℕ) × (ranks : List ℕ) × (plan : PlanText) × (priority : List ℕ) × (texts ≡ text ∷ ranks ∷ [])
+    (text : List ℕ) × (ranks : List ℕ) × (plan : PlanValue) × (priority : List ℕ) × (texts ≡ text ∷ ranks ∷ [])
     × IsPlanFile text plan × IsPermFile (length plan.order) ranks priority × (value ≡ plan_value (with_priority plan priority))
 
 abbrev pub upgrade_answer : Versioned → Answer

@@ -21,7 +21,8 @@ use matrix_market::{MatrixKind, Pattern, read_pattern_owned};
 use mp_outside::{Files, ReadRefusal, read_whole};
 use mp_text::{Kind, Refusal};
 use ordering::{OrderFileKind, Perm, PermKind, read_order, read_perm};
-use plan_text::{PlanFile, PlanKind, read_plan};
+use plan_text::{PlanKind, read_plan};
+use plans::Plan;
 use sp_terms::{Terms, WorkflowKind, read_workflow};
 use std::alloc::Global;
 use task_graph::{Graph, GraphKind, read_graph};
@@ -265,10 +266,10 @@ impl FileKind for OrderFile {
 
 /// A plan file.
 #[derive(Clone, Copy, Debug)]
-pub struct PlanTextFile;
+pub struct PlanFile;
 
-impl FileKind for PlanTextFile {
-    type Value = PlanFile;
+impl FileKind for PlanFile {
+    type Value = Plan;
 
     type Kind = PlanKind;
 
@@ -282,7 +283,7 @@ impl FileKind for PlanTextFile {
         "plan"
     }
 
-    fn read(&self, alloc: Global, text: Vec<u8>) -> Result<PlanFile, Refusal<PlanKind>> {
+    fn read(&self, alloc: Global, text: Vec<u8>) -> Result<Plan, Refusal<PlanKind>> {
         read_plan(alloc, &text)
     }
 }

@@ -5,7 +5,7 @@ ghost use Rattle.std.specs.Prelude.{◌≡◌, ◌≤◌, ℕ, List, [], ◌∷�
 ghost use Rattle.activation.specs.Schedule.{HoldsEach};
 ghost use Rattle.mp_system.specs.System.{TaskSystem};
 ghost use Rattle.mp_system.specs.Traversal.{IsTraversal};
-ghost use Rattle.plan_text.specs.Plan.{IsPlan};
+ghost use Rattle.plans.specs.Plan.{IsPlan};
 ghost use Rattle.memplan.specs.Files.{IsOrderOf, IsMatrixTree, IsTreeOf, IsFirstRefusal};
 ghost use Rattle.memplan.specs.Simulate.{priority_or};
 ghost use Rattle.memplan.specs.Judged.{AreJudged, IsRefusingPage, IsRefusedOrder, IsMatrixRead, IsProblemOf, IsOrderedOf, IsOrderRead};
@@ -15,7 +15,7 @@ ghost use Rattle.memplan.specs.Request.{input_files, source_file, priority_files
 ghost use Rattle.memplan.specs.RequestViews.{ordering_view, matrix_view, ordered_matrix_view, tree_input_view, input_view, source_view};
 
 use crate::files::{
-    MatrixFile, OrderFile, PermFile, PlanTextFile, Ranked, TreeFile, WorkflowFile, judge,
+    MatrixFile, OrderFile, PermFile, PlanFile, Ranked, TreeFile, WorkflowFile, judge,
 };
 use crate::page::limit_page;
 use crate::request::{Input, Matrix, OrderSource, OrderedMatrix, Ordering, TreeInput};
@@ -27,7 +27,7 @@ use mp_outside::Files;
 use mp_system::laws::traversal_law;
 use ordering::laws::read_is_perm;
 use ordering::{MindegRefusal, Perm, identity, min_degree};
-use plan_text::PlanFile;
+use plans::Plan;
 use sp_terms::laws::terms_law;
 use std::alloc::{AllocError, Global};
 use symbolic::front_tree;
@@ -162,7 +162,7 @@ pub fn judge_input<F: Files>(
 #[derive(Drop)]
 pub enum Order {
     Listed(Vec<u32>),
-    Planned(PlanFile),
+    Planned(Plan),
 }
 
 impl Order {
@@ -190,7 +190,7 @@ impl Order {
 }
 
 // The priority of a plan that has one, else its order.
-fn priority_of(plan: &PlanFile) -> &[u32]
+fn priority_of(plan: &Plan) -> &[u32]
     ensures value { result.now ≡ priority_or plan.now.order plan.now.priority }
     ensures plan { IsPlan plan.now }
 {
@@ -220,7 +220,7 @@ fn judge_order<F: Files>(
             Ok(Order::Listed(numbers))
         }
         OrderSource::Plan(name) => {
-            let plan = judge(alloc, files, name, &PlanTextFile)?;
+            let plan = judge(alloc, files, name, &PlanFile)?;
             Ok(Order::Planned(plan))
         }
     }

@@ -8,7 +8,7 @@ mod fronts;
 mod large;
 mod matrices;
 mod meeting;
-mod plans;
+mod planning;
 mod reductions;
 mod replays;
 mod segments;

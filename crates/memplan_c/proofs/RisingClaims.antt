@@ -4,8 +4,8 @@ use Rattle.std.specs.Prelude.{◌↔◌}
 use Rattle.std.proofs.Math.Seq.{get_or-append_seam}
 use Rattle.std.proofs.lemmas.List.{take_more, map-append, length-append}
 use Rattle.std.proofs.lemmas.List.Elements.{All-push}
-use Rattle.plan_text.specs.declared.claim.Claim.{Claim as PlanClaim}
-use Rattle.plan_text.specs.Plan.{IsClaimWithin, RiseFrom}
+use Rattle.plans.specs.declared.claim.Claim.{Claim as PlanClaim}
+use Rattle.plans.specs.Plan.{IsClaimWithin, RiseFrom}
 use Rattle.memplan_c.specs.declared.claims.Claim.{Claim}
 use Rattle.memplan_c.specs.Answers.{claim_given}
 use Rattle.memplan_c.specs.Refusals.{AreClaims}

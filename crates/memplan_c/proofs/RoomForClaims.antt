@@ -12,8 +12,8 @@ use Rattle.tree_input.specs.Forest.{Forest, no_trees, tree, roots_of, all_number
 use Rattle.tree_input.specs.Tree.{IsTree}
 use Rattle.tree_input.specs.TreeTerm.{beside_positions, own_positions, tree_positions, forest_positions}
 use Rattle.claim_rules.specs.Claims.{Claim as RuleClaim}
-use Rattle.plan_text.specs.declared.claim.Claim.{Claim as PlanClaim}
-use Rattle.plan_text.specs.Plan.{PlanText, IsPlan, RiseFrom, claim_at, claim_of}
+use Rattle.plans.specs.declared.claim.Claim.{Claim as PlanClaim}
+use Rattle.plans.specs.Plan.{PlanValue, IsPlan, RiseFrom, claim_at, claim_of}
 use Rattle.claim_check.specs.Judged.{PassesAt}
 use Rattle.memplan_c.specs.declared.faults.Fault.{Fault}
 use Rattle.memplan_c.specs.declared.refusal.Refusal.{Refusal}
@@ -109,7 +109,7 @@ abbrev pub EachOnce : Type 0
 EachOnce = (nodes : List Node) (f : Forest) → IsTree nodes → IsForestOf nodes f → IsPermutation (all_numbers f) (range_with_len 1 (length nodes))
 
 module _ (each : EachOnce) where
-  pub most : (nodes : List Node) (plan : PlanText) → IsTree nodes → IsPlan plan → IsCertificate nodes plan
+  pub most : (nodes : List Node) (plan : PlanValue) → IsTree nodes → IsPlan plan → IsCertificate nodes plan
       → length plan.claims ≤ most_claims (length nodes)
   most nodes plan is_tree within certificate =
       let f : Forest = certificate.term.0 in

@@ -9,9 +9,9 @@ use Rattle.system_input.specs.Given.{system_given}
 use Rattle.sp_terms.specs.declared.position.Position.{Position}
 use Rattle.tree_input.specs.declared.node.Node.{Node}
 use Rattle.tree_input.specs.Tree.{IsTree, system_of_nodes}
-use Rattle.plan_text.specs.declared.claim.Claim.{Claim as PlanClaim}
-use Rattle.plan_text.specs.declared.claim.Dir.TheVariants.{F, R}
-use Rattle.plan_text.specs.Plan.{PlanText, IsPlan}
+use Rattle.plans.specs.declared.claim.Claim.{Claim as PlanClaim}
+use Rattle.plans.specs.declared.claim.Direction.TheVariants.{Forward, Backward}
+use Rattle.plans.specs.Plan.{PlanValue, IsPlan}
 use Rattle.claim_check.specs.Accepted.{IsAccepted}
 use Rattle.postorder_best.specs.Postorder.{IsTreePostorder}
 use Rattle.postorder_best.specs.BestPostorder.{IsBestPostorder}
@@ -56,13 +56,13 @@ pub record IsSystemReplayed (tasks : List GivenTask) (items : List GivenItem) (o
 
 -- a claim of a caller's array: any number but 0 says backwards
 abbrev pub claim_given : Claim → PlanClaim
-claim_given c = record { position = c.position; dir = if c.backward == 0 then F else R; bound = c.bound; rest = c.rest }
+claim_given c = record { position = c.position; dir = if c.backward == 0 then Forward else Backward; bound = c.bound; rest = c.rest }
 
-abbrev pub plan_given : List ℕ → ℕ → List Claim → PlanText
+abbrev pub plan_given : List ℕ → ℕ → List Claim → PlanValue
 plan_given order peak claims = record { order = order; peak = peak; claims = map claim_given claims; priority = [] }
 
 -- the claims of a plan certify it, position by position of the tree's term
-pub record IsCertificate (nodes : List Node) (plan : PlanText) : Type 0 where
+pub record IsCertificate (nodes : List Node) (plan : PlanValue) : Type 0 where
   pub positions : List Position
   pub term : IsTermOf (origins.Tree nodes) positions
   pub accepted : IsAccepted (system_of_nodes nodes) positions plan

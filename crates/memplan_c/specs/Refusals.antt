@@ -11,7 +11,7 @@ use Rattle.sp_terms.specs.declared.position.Position.{Position}
 use Rattle.tree_input.specs.declared.node.Node.{Node}
 use Rattle.tree_input.specs.Judged.{IsNodesRefusal}
 use Rattle.tree_input.specs.Tree.{IsTree, system_of_nodes}
-use Rattle.plan_text.specs.Plan.{PlanText, IsClaimWithin, IsPlan, RiseFrom}
+use Rattle.plans.specs.Plan.{PlanValue, IsClaimWithin, IsPlan, RiseFrom}
 use Rattle.claim_check.specs.Accepted.{IsObjection}
 use Rattle.claim_check.specs.declared.objection.Objection.{Objection}
 use Rattle.activation.specs.Refusal.{IsCoreRefusal}
@@ -85,7 +85,7 @@ IsGivenPlanRefusal order peak claims refusals.NoMemory = Unit {0}
 IsGivenPlanRefusal order peak claims other = ⊥
 
 -- what is objected to first in a plan of these nodes
-pub record IsObjected (nodes : List Node) (plan : PlanText) (objection : Objection) : Type 0 where
+pub record IsObjected (nodes : List Node) (plan : PlanValue) (objection : Objection) : Type 0 where
   pub tree : IsTree nodes
   pub positions : List Position
   pub term : IsTermOf (origins.Tree nodes) positions
@@ -107,7 +107,7 @@ most_claims nodes = 3 * nodes + 1
 -- a plan within the limits is certified by more claims than there is room for; what is told is how many are always enough
 pub record NeedsClaims (nodes : List Node) (room needed : ℕ) : Type 0 where
   pub tree : IsTree nodes
-  pub plan : PlanText
+  pub plan : PlanValue
   pub within : IsPlan plan
   pub certificate : IsCertificate nodes plan
   pub past : room < length plan.claims

@@ -1,19 +1,19 @@
 //! Plans of a tree with claims that certify them.
 
 ghost use Rattle.std.specs.Prelude.{◌≡◌, ◌≢◌, ◌≤◌, [], length, take, drop, IfOk, IfErr, OnOk};
-ghost use Rattle.plan_text.specs.Plan.{IsPlan};
+ghost use Rattle.plans.specs.Plan.{IsPlan};
 ghost use Rattle.memplan_c.specs.Answers.{IsTreeCertified, IsBestOrder, IsCertificate};
 ghost use Rattle.memplan_c.specs.Faults.{IsRefused};
 ghost use Rattle.memplan_c.specs.Refusals.{IsCertifyRefusal, IsCheckRefusal};
 
 use crate::claims::{Claim, hand_out, plan_of_arrays};
 use crate::faults::{Fault, refuse};
-use crate::plans::check_room;
+use crate::orders::check_room;
 use crate::refusal::Refusal;
 use claim_check::Verdict;
 use least_peak::Problem;
 use mp_system::laws::traversal_law;
-use plan_text::PlanFile;
+use plans::Plan;
 use std::alloc::Global;
 use tree_input::{Node, tree_of_nodes};
 
@@ -58,12 +58,7 @@ pub extern "C" fn memplan_check_tree(
     }
 }
 
-fn certified(
-    alloc: Global,
-    nodes: &[Node],
-    room: usize,
-    claim_room: usize,
-) -> Result<PlanFile, Refusal>
+fn certified(alloc: Global, nodes: &[Node], room: usize, claim_room: usize) -> Result<Plan, Refusal>
     ensures best { IfOk result (λ plan. IsBestOrder nodes.now plan.order plan.peak) }
     ensures certificate { IfOk result (IsCertificate nodes.now) }
     ensures within { IfOk result IsPlan }

@@ -2,13 +2,13 @@
 
 ghost use Rattle.std.specs.Prelude.{◌≡◌, ◌≤◌, ◌<◌, ◌↔◌, length, map, take, drop, IfOk, IfErr, OnOk, IsTrue};
 ghost use Rattle.limits.specs.Limits.{most_tasks, most_positions, most_total};
-ghost use Rattle.plan_text.specs.Plan.{IsClaimWithin};
+ghost use Rattle.plans.specs.Plan.{IsClaimWithin};
 ghost use Rattle.memplan_c.specs.Answers.{claim_given, plan_given};
 ghost use Rattle.memplan_c.specs.Refusals.{AreClaims, IfClaim, IsFirstWrong, IsGivenPlanRefusal, IsPlanFault};
 
 use crate::refusal::{PlanFault, Refusal};
 use limits::{MOST_POSITIONS, MOST_TASKS, MOST_TOTAL};
-use plan_text::{Dir, PlanFile};
+use plans::{Direction, Plan};
 use std::alloc::{AllocError, Global};
 
 /// A claim on the part of the tree's term that ends at a position.
@@ -25,25 +25,29 @@ pub struct Claim {
     pub rest: u64,
 }
 
-fn given(claim: Claim) -> plan_text::Claim
+fn given(claim: Claim) -> plans::Claim
     ensures { result ≡ claim_given claim }
 {
-    plan_text::Claim {
+    plans::Claim {
         position: claim.position,
-        dir: if claim.backward == 0 { Dir::F } else { Dir::R },
+        dir: if claim.backward == 0 {
+            Direction::Forward
+        } else {
+            Direction::Backward
+        },
         bound: claim.bound,
         rest: claim.rest,
     }
 }
 
-fn handed(claim: plan_text::Claim) -> Claim
+fn handed(claim: plans::Claim) -> Claim
     ensures { claim_given result ≡ claim }
 {
     Claim {
         position: claim.position,
         backward: match claim.dir {
-            Dir::F => 0,
-            Dir::R => 1,
+            Direction::Forward => 0,
+            Direction::Backward => 1,
         },
         bound: claim.bound,
         rest: claim.rest,
@@ -73,7 +77,7 @@ fn check_claims(claims: &[Claim]) -> Result<(), PlanFault>
 }
 
 // The claims as a plan has them.
-fn given_claims(alloc: Global, claims: &[Claim]) -> Result<Vec<plan_text::Claim>, AllocError>
+fn given_claims(alloc: Global, claims: &[Claim]) -> Result<Vec<plans::Claim>, AllocError>
     ensures { IfOk result (λ given. given.items ≡ map claim_given claims.now) }
 {
     claims.iter().map(|claim| given(*claim)).collect(alloc)
@@ -105,18 +109,18 @@ pub fn plan_of_arrays(
     order: &[u32],
     peak: u64,
     claims: &[Claim],
-) -> Result<PlanFile, Refusal>
+) -> Result<Plan, Refusal>
     ensures plan { IfOk result (λ plan. plan ≡ plan_given order.now peak claims.now) }
     ensures refused { IfErr result (IsGivenPlanRefusal order.now peak claims.now) }
 {
     check_limits(order, peak, claims)?;
     let order = Vec::from_slice(alloc, order)?;
     let claims = given_claims(alloc, claims)?;
-    Ok(PlanFile::new(order, peak, claims, Vec::new(alloc)))
+    Ok(Plan::new(order, peak, claims, Vec::new(alloc)))
 }
 
 /// Writes claims at the front of the room, and leaves what lies past them.
-pub fn hand_out(claims: &[plan_text::Claim], room: &mut [Claim])
+pub fn hand_out(claims: &[plans::Claim], room: &mut [Claim])
     requires { length claims.now ≤ length room.old }
     ensures written { map claim_given (take (length claims.now) room.new) ≡ claims.now }
     ensures past { drop (length claims.now) room.new ≡ drop (length claims.now) room.old }

@@ -10,7 +10,7 @@ ghost use Rattle.memplan_c.specs.Fronts.{AreFronts, HaveFronts, IsMatrixFrontsRe
 ghost use Rattle.memplan_c.specs.Fronts.{fronts_of_columns, matrix_given, options_given, shape_given};
 
 use crate::faults::{Fault, refuse};
-use crate::plans::check_room;
+use crate::orders::check_room;
 use crate::refusal::Refusal;
 use assembly_tree::laws::{amalgamation_is_assembly, amalgamation_is_relaxed};
 use assembly_tree::{Assembly, Shape, amalgamate, fronts};

@@ -3,7 +3,7 @@
 ghost use Rattle.std.specs.Prelude.{◌≡◌, ◌≢◌, ◌<◌, ◌≤◌, ℕ, List, length};
 ghost use Rattle.tree_input.specs.declared.node.Node.{Node};
 ghost use Rattle.tree_input.specs.Tree.{IsTree};
-ghost use Rattle.plan_text.specs.Plan.{PlanText, IsPlan};
+ghost use Rattle.plans.specs.Plan.{PlanValue, IsPlan};
 ghost use Rattle.memplan_c.specs.declared.faults.Fault.{Fault};
 ghost use Rattle.memplan_c.specs.declared.kinds.TheConstants.{CLAIM_ROOM};
 ghost use Rattle.memplan_c.specs.Answers.{IsCertificate};
@@ -15,7 +15,7 @@ use tree_input::laws::forest_law;
 /// A certificate has at most `most_claims` claims. So `memplan_certify_tree` is never refused for want of room for claims where there is
 /// room for as many; a call that is refused so tells that number, and with room for as many as it tells the same call is not.
 pub fn room_for_claims()
-    ensures most { (nodes : List Node) (plan : PlanText) → IsTree nodes → IsPlan plan → IsCertificate nodes plan →
+    ensures most { (nodes : List Node) (plan : PlanValue) → IsTree nodes → IsPlan plan → IsCertificate nodes plan →
         length plan.claims ≤ most_claims (length nodes) }
     ensures told { (nodes : List Node) (places room status : ℕ) (fault : Fault) →
         IsRefused (IsCertifyRefusal nodes places room) status fault → fault.kind ≡ CLAIM_ROOM →

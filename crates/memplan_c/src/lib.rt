@@ -14,7 +14,7 @@ mod front_tests;
 mod fronts;
 mod kinds;
 pub mod laws;
-mod plans;
+mod orders;
 mod refusal;
 mod replays;
 mod slot;

@@ -8,7 +8,7 @@ ghost use Rattle.memplan_c.specs.Faults.{IsRefused};
 ghost use Rattle.memplan_c.specs.Refusals.{IsReplayRefusal, IsSpillCallRefusal, IsSystemReplayRefusal};
 
 use crate::faults::{Fault, refuse};
-use crate::plans::check_room;
+use crate::orders::check_room;
 use crate::refusal::Refusal;
 use mp_system::{System, replay};
 use spill_plan::{Spill, spill};

@@ -3,7 +3,7 @@
 use crate::checks::{memplan_certify_tree, memplan_check_tree};
 use crate::claims::Claim;
 use crate::faults::Fault;
-use crate::plans::{memplan_best_postorder, memplan_plan_tree};
+use crate::orders::{memplan_best_postorder, memplan_plan_tree};
 use crate::replays::{memplan_replay_system, memplan_replay_tree, memplan_spill_tree};
 use crate::slot::{
     Slot, activate, begin, begin_system, booked, end, finish, is_done, is_startable, make, start,

@@ -12,9 +12,9 @@ use Rattle.sp_terms.specs.Term.{Term, hold, series, par, Parts, no_parts, part, 
 use Rattle.sp_term_laws.specs.Moves.{other}
 use Rattle.claim_rules.specs.Claims.{Claim}
 use Rattle.claim_rules.specs.Rules.{MeetsData, MeetsSeries, first_is_stuck, first_is_closed, hill_is_above, last_is_stuck, passed_first, passed_last}
-use Rattle.plan_text.specs.declared.claim.Dir.{Dir}
-use Rattle.plan_text.specs.declared.claim.Dir.TheVariants.{F, R}
-use Rattle.plan_text.specs.Plan.{direction_of}
+use Rattle.plans.specs.declared.claim.Direction.{Direction as PlanDirection}
+use Rattle.plans.specs.declared.claim.Direction.TheVariants.{Forward, Backward}
+use Rattle.plans.specs.Plan.{direction_of}
 use Rattle.cut_laws.specs.Cuts.{Cut, hold_cut, cut_first, cut_second, top_of, lowest_of}
 use Rattle.sp_cuts.specs.declared.notes.PartNote.{PartNote}
 use Rattle.sp_cuts.specs.declared.notes.SeriesNote.{SeriesNote}
@@ -178,14 +178,14 @@ module _ (laws : LawsBelow) where
 
 -- ---- a data item
 
-data_shown : (size : ℕ) (w : Wanted) (dir : Dir) → w.dir ≡ dir → Shows (hold_cut size) w → MeetsData size (claim_of_wanted w)
-data_shown size w F e s =
-    let below : w.limit ≤ size = subst (λ (d : Dir). w.limit ≤ top_of (direction_of d) (hold_cut size)) e s.below in
-    let low : w.low ≡ size = subst (λ (d : Dir). w.low ≡ lowest_of (direction_of d) w.limit (hold_cut size)) e s.lowest in
+data_shown : (size : ℕ) (w : Wanted) (dir : PlanDirection) → w.dir ≡ dir → Shows (hold_cut size) w → MeetsData size (claim_of_wanted w)
+data_shown size w Forward e s =
+    let below : w.limit ≤ size = subst (λ (d : PlanDirection). w.limit ≤ top_of (direction_of d) (hold_cut size)) e s.below in
+    let low : w.low ≡ size = subst (λ (d : PlanDirection). w.low ≡ lowest_of (direction_of d) w.limit (hold_cut size)) e s.lowest in
     (omega (arith, ints), omega arith)
-data_shown size w R e s =
-    let below : w.limit ≤ size = subst (λ (d : Dir). w.limit ≤ top_of (direction_of d) (hold_cut size)) e s.below in
-    let low : w.low ≡ size = subst (λ (d : Dir). w.low ≡ lowest_of (direction_of d) w.limit (hold_cut size)) e s.lowest in
+data_shown size w Backward e s =
+    let below : w.limit ≤ size = subst (λ (d : PlanDirection). w.limit ≤ top_of (direction_of d) (hold_cut size)) e s.below in
+    let low : w.low ≡ size = subst (λ (d : PlanDirection). w.low ≡ lowest_of (direction_of d) w.limit (hold_cut size)) e s.lowest in
     (omega (arith, ints), omega arith)
 
 data_handed : (size : ℕ) (o : Option Wanted) → ShowsIf (cut_at (hold size)) o → AreHanded (hold size) o []

@@ -9,8 +9,8 @@ use Rattle.side_laws.specs.Segments.{Segment, net_sum, lowest, last_up}
 use Rattle.hill_valley.specs.declared.numbers.Numbers.{Numbers}
 use Rattle.hill_valley.specs.Numbers.{segments_of}
 use Rattle.sp_terms.specs.Term.{Direction}
-use Rattle.plan_text.specs.declared.claim.Dir.{Dir}
-use Rattle.plan_text.specs.Plan.{direction_of}
+use Rattle.plans.specs.declared.claim.Direction.{Direction as PlanDirection}
+use Rattle.plans.specs.Plan.{direction_of}
 use Rattle.sp_cuts.specs.declared.notes.PartNote.{PartNote}
 use Rattle.plan_claims.specs.declared.wanted.Wanted.{Wanted}
 use Rattle.plan_claims.specs.Levels.{kept_level, noted_level, counted, HasPlace, HavePlaces, left_over, wanted_at, wanted_each}
@@ -108,7 +108,7 @@ back_side front back count gone e =
     let n : count - front ≡ back = omega arith in
     ap (λ (k : ℕ). segments_of (take k (drop front gone))) n ∙ segments_take back (drop front gone) ∙ ap (take back) (segments_drop front gone)
 
-pub level_read : (n : PartNote) (dir : Dir) (d : Direction) (over rest level : ℕ) (gone : List Segment) → n.read ≡ true → direction_of dir ≡ d → level ≡ noted_level d over n gone
+pub level_read : (n : PartNote) (dir : PlanDirection) (d : Direction) (over rest level : ℕ) (gone : List Segment) → n.read ≡ true → direction_of dir ≡ d → level ≡ noted_level d over n gone
     → level ≡ (if n.read then noted_level (direction_of dir) over n gone else rest)
 level_read n dir d over rest level gone is_read is e =
     e ∙ ap (λ (x : Direction). noted_level x over n gone) (sym is) ∙ sym (first n.read (noted_level (direction_of dir) over n gone) rest is_read)

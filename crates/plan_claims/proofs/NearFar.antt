@@ -6,7 +6,7 @@ use Rattle.side_laws.specs.Segments.{Segment, lowest, last_up}
 use Rattle.hill_valley.specs.Side.{run_profile}
 use Rattle.sp_terms.specs.Term.{Direction}
 use Rattle.sp_term_laws.specs.Moves.{other}
-use Rattle.plan_text.specs.Plan.{direction_of}
+use Rattle.plans.specs.Plan.{direction_of}
 use Rattle.cut_laws.specs.Cuts.{Cut, top_of, lowest_of, side_of, start_of}
 use Rattle.sp_cuts.specs.declared.notes.SeriesNote.{SeriesNote}
 use Rattle.plan_claims.specs.declared.wanted.Wanted.{Wanted}

@@ -15,7 +15,7 @@ use Rattle.sp_terms.specs.Places.{list_of_parts}
 use Rattle.sp_terms.specs.Term.{Term, par, Parts, no_parts, part, count, Direction, forward, backward, least_of, IsAllowed, AreAllowed}
 use Rattle.claim_rules.specs.Claims.{Claim}
 use Rattle.claim_rules.specs.Rules.{SomeClaim, HasRoom, HaveRoom, value_in, values_in}
-use Rattle.plan_text.specs.Plan.{direction_of}
+use Rattle.plans.specs.Plan.{direction_of}
 use Rattle.cut_laws.specs.Cuts.{Cut, par_cut, fronts, backs, side_of, start_of, top_of}
 use Rattle.cut_laws.specs.TermCuts.{cuts_of_parts}
 use Rattle.cut_laws.specs.Tops.{SomeReaches}

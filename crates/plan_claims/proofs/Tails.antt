@@ -10,7 +10,7 @@ use Rattle.sp_terms.specs.declared.position.Position.TheVariants.{Par}
 use Rattle.sp_terms.specs.declared.position.Position.TheVariants as at
 use Rattle.sp_terms.specs.Places.{IsTermAt}
 use Rattle.sp_terms.specs.Term.{Term, series, par, Parts}
-use Rattle.plan_text.specs.Plan.{direction_of}
+use Rattle.plans.specs.Plan.{direction_of}
 use Rattle.sp_cuts.specs.declared.notes.PartNote.{PartNote}
 use Rattle.sp_cuts.specs.declared.notes.SeriesNote.{SeriesNote}
 use Rattle.sp_cuts.specs.Notes.{Noted, numbers_at, cut_at, unread, IsSeriesNote, ArePartNotes}

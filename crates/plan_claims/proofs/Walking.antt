@@ -14,8 +14,8 @@ use Rattle.sp_terms.specs.Values.{IsTerms, term_of, term_at}
 use Rattle.claim_rules.specs.Claims.{Claim as RuleClaim}
 use Rattle.claim_rules.specs.Placed.{MeetsAt}
 use Rattle.claim_rules.specs.Rules.{MeetsRule}
-use Rattle.plan_text.specs.declared.claim.Claim.{Claim}
-use Rattle.plan_text.specs.Plan.{claim_at, claim_of, IsClaimWithin, RiseFrom, direction_of}
+use Rattle.plans.specs.declared.claim.Claim.{Claim}
+use Rattle.plans.specs.Plan.{claim_at, claim_of, IsClaimWithin, RiseFrom, direction_of}
 use Rattle.cut_laws.specs.Cuts.{Cut, start_of, side_of}
 use Rattle.sp_cuts.specs.Notes.{Noted, cut_at, AreNotesOf}
 use Rattle.sp_cuts.specs.Stacks.{total_of}

@@ -2,7 +2,7 @@
 use Rattle.std.proofs.Common.{◌≡◌, ℕ, refl, sym, ap, arith, ◌∙◌}
 use Rattle.side_laws.specs.Segments.{lowest, top}
 use Rattle.sp_terms.specs.Term.{Term, Direction, forward, backward}
-use Rattle.plan_text.specs.Plan.{direction_of}
+use Rattle.plans.specs.Plan.{direction_of}
 use Rattle.cut_laws.specs.Cuts.{Cut, top_of, lowest_of}
 use Rattle.cut_laws.specs.Names.{numbered}
 use Rattle.cut_laws.specs.TermCuts.{cut_of_term}

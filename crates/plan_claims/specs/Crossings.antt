@@ -3,7 +3,7 @@
 use Rattle.std.specs.Prelude.{◌≡◌, ℕ, ◌+◌, ◌-◌, ◌<◌, ◌≤◌, ◌↔◌, max, min, if◌then◌else◌, nat_lt, MatchOption, List, Option, Some, None}
 use Rattle.sp_terms.specs.Term.{Direction, forward, backward}
 use Rattle.sp_term_laws.specs.Moves.{other}
-use Rattle.plan_text.specs.Plan.{direction_of}
+use Rattle.plans.specs.Plan.{direction_of}
 use Rattle.side_laws.specs.Segments.{Segment, lowest, last_up}
 use Rattle.hill_valley.specs.Numbers.{first_down_to}
 use Rattle.hill_valley.specs.Side.{run_profile}

@@ -4,7 +4,7 @@ use Rattle.std.specs.Prelude.{ℕ, ◌+◌, ◌-◌, ◌≤◌, if◌then◌else
 use Rattle.limits.specs.Limits.{most_total}
 use Rattle.side_laws.specs.Segments.{Segment, net_sum}
 use Rattle.sp_terms.specs.Term.{Direction, forward, backward}
-use Rattle.plan_text.specs.Plan.{direction_of}
+use Rattle.plans.specs.Plan.{direction_of}
 use Rattle.sp_cuts.specs.declared.notes.PartNote.{PartNote}
 use Rattle.plan_claims.specs.declared.wanted.Wanted.{Wanted}
 

@@ -6,8 +6,8 @@ use Rattle.sp_terms.specs.declared.position.Position.{Position}
 use Rattle.sp_terms.specs.Places.{positions_after}
 use Rattle.claim_rules.specs.Claims.{Claim as RuleClaim}
 use Rattle.claim_rules.specs.Placed.{MeetsAt}
-use Rattle.plan_text.specs.declared.claim.Claim.{Claim}
-use Rattle.plan_text.specs.Plan.{claim_at, IsClaimWithin, RiseFrom}
+use Rattle.plans.specs.declared.claim.Claim.{Claim}
+use Rattle.plans.specs.Plan.{claim_at, IsClaimWithin, RiseFrom}
 use Rattle.claim_check.specs.Judged.{PassesAt}
 use Rattle.sp_cuts.specs.Notes.{Noted, cut_at, AreNotesOf}
 use Rattle.plan_claims.specs.declared.wanted.Wanted.{Wanted}

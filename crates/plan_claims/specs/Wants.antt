@@ -6,7 +6,7 @@ use Rattle.sp_terms.specs.Places.{parts_of}
 use Rattle.sp_terms.specs.Term.{Term}
 use Rattle.claim_rules.specs.Claims.{Claim}
 use Rattle.claim_rules.specs.Rules.{MeetsRule}
-use Rattle.plan_text.specs.Plan.{direction_of}
+use Rattle.plans.specs.Plan.{direction_of}
 use Rattle.cut_laws.specs.Cuts.{Cut, top_of, lowest_of}
 use Rattle.sp_cuts.specs.Notes.{cut_at}
 use Rattle.plan_claims.specs.declared.wanted.Wanted.{Wanted}

@@ -5,7 +5,7 @@ ghost use Rattle.limits.specs.Limits.{most_total};
 ghost use Rattle.side_laws.specs.Segments.{net_sum};
 ghost use Rattle.hill_valley.specs.Numbers.{segments_of};
 ghost use Rattle.sp_terms.specs.Term.{par, Parts, count};
-ghost use Rattle.plan_text.specs.Plan.{direction_of};
+ghost use Rattle.plans.specs.Plan.{direction_of};
 ghost use Rattle.sp_cuts.specs.Notes.{Noted, noted_in, cut_at};
 ghost use Rattle.plan_claims.specs.declared.wanted.Wanted.{Wanted};
 ghost use Rattle.plan_claims.specs.Handing.{HasLastPar, IsHandedDown};
@@ -16,7 +16,7 @@ use crate::NoMemory;
 use crate::laws::below;
 use crate::wanted::{Wanted, over_of};
 use hill_valley::Numbers;
-use plan_text::Dir;
+use plans::Direction;
 use sp_cuts::{Notes, PartNote};
 
 // The last position sets so many parts side by side: takes their notes, and puts what is wanted of them behind the others.
@@ -120,8 +120,8 @@ fn want_at(part: &PartNote, wanted: &Wanted, level: u64) -> Option<Wanted>
     ensures { result ≡ wanted_at wanted.now part.now level }
 {
     let up = match wanted.dir {
-        Dir::F => part.front_up,
-        Dir::R => part.back_up,
+        Direction::Forward => part.front_up,
+        Direction::Backward => part.back_up,
     };
     if over_of(wanted) <= up {
         let others = wanted.low.saturating_sub(level);
@@ -136,7 +136,7 @@ fn want_at(part: &PartNote, wanted: &Wanted, level: u64) -> Option<Wanted>
 }
 
 // The total, less the levels of the parts that were read.
-fn left_of(parts: &[PartNote], gone: &[Numbers], dir: Dir, over: u64, total: u64) -> u64
+fn left_of(parts: &[PartNote], gone: &[Numbers], dir: Direction, over: u64, total: u64) -> u64
     requires places { HavePlaces parts.now (segments_of gone.now) }
     ensures { result ≡ left_over (direction_of dir) over total parts.now (segments_of gone.now) }
 {
@@ -151,7 +151,7 @@ fn left_of(parts: &[PartNote], gone: &[Numbers], dir: Dir, over: u64, total: u64
 }
 
 // The level of a part whose segments stand first, if it was read, and else this one.
-fn level_or(part: &PartNote, gone: &[Numbers], dir: Dir, over: u64, rest: u64) -> u64
+fn level_or(part: &PartNote, gone: &[Numbers], dir: Direction, over: u64, rest: u64) -> u64
     requires place { HasPlace part.now (segments_of gone.now) }
     ensures { result ≡ (if part.now.read then noted_level (direction_of dir) over part.now (segments_of gone.now) else rest) }
 {
@@ -160,8 +160,8 @@ fn level_or(part: &PartNote, gone: &[Numbers], dir: Dir, over: u64, rest: u64) -
     }
     let front = part.front as usize;
     match dir {
-        Dir::F => level_above(&gone[..front], part.least, over),
-        Dir::R => level_above(&gone[front..count_of(part)], part.least, over),
+        Direction::Forward => level_above(&gone[..front], part.least, over),
+        Direction::Backward => level_above(&gone[front..count_of(part)], part.least, over),
     }
 }
 

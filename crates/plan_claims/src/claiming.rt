@@ -5,7 +5,7 @@ ghost use Rattle.std.specs.Prelude.{OnOk};
 ghost use Rattle.limits.specs.Limits.{most_positions, most_total};
 ghost use Rattle.sp_terms.specs.Values.{term_of};
 ghost use Rattle.claim_rules.specs.Claims.{Claim as RuleClaim};
-ghost use Rattle.plan_text.specs.Plan.{claim_at, IsClaimWithin, RiseFrom};
+ghost use Rattle.plans.specs.Plan.{claim_at, IsClaimWithin, RiseFrom};
 ghost use Rattle.claim_check.specs.Judged.{PassesAt};
 ghost use Rattle.cut_laws.specs.Names.{numbered};
 ghost use Rattle.cut_laws.specs.TermCuts.{cut_of_term};
@@ -19,7 +19,7 @@ use crate::NoMemory;
 use crate::handing::hand_down;
 use crate::laws::below;
 use crate::wanted::Wanted;
-use plan_text::{Claim, Dir};
+use plans::{Claim, Direction};
 use sp_cuts::{Notes, Part};
 use sp_terms::Terms;
 use std::alloc::Global;
@@ -63,9 +63,9 @@ fn want_whole(whole: &Part) -> Wanted
     below();
     let bound = whole.peak as i64 - 1;
     let (dir, low) = if whole.peak <= whole.front.top(whole.initial) {
-        (Dir::F, whole.front.lowest(whole.initial, bound))
+        (Direction::Forward, whole.front.lowest(whole.initial, bound))
     } else {
-        (Dir::R, whole.back.lowest(whole.fin, bound))
+        (Direction::Backward, whole.back.lowest(whole.fin, bound))
     };
     Wanted {
         dir,

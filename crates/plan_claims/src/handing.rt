@@ -3,9 +3,9 @@
 ghost use Rattle.std.specs.Prelude.{◌≡◌, ℕ, ◌-◌, if◌then◌else◌, nat_lt, true, false, [], ◌∷◌, List, Option, OnOk};
 ghost use Rattle.side_laws.specs.Segments.{lowest, last_up};
 ghost use Rattle.hill_valley.specs.Numbers.{segments_of};
-ghost use Rattle.sp_terms.specs.Term.{Term, Direction, series};
+ghost use Rattle.sp_terms.specs.Term.{Term, Direction as TermDirection, series};
 ghost use Rattle.sp_term_laws.specs.Moves.{other};
-ghost use Rattle.plan_text.specs.Plan.{direction_of};
+ghost use Rattle.plans.specs.Plan.{direction_of};
 ghost use Rattle.cut_laws.specs.Cuts.{Cut};
 ghost use Rattle.sp_cuts.specs.Notes.{Noted, noted_in, cut_at};
 ghost use Rattle.plan_claims.specs.declared.wanted.Wanted.{Wanted};
@@ -19,7 +19,7 @@ use crate::laws::below;
 use crate::wanted::{Wanted, over_of};
 use hill_valley::Numbers;
 use mp_system::Task;
-use plan_text::Dir;
+use plans::Direction;
 use sp_cuts::{Notes, SeriesNote};
 use sp_terms::Position;
 
@@ -102,7 +102,7 @@ fn near_and_far(
     beyond: &[Numbers],
     wanted: &Wanted,
 ) -> (Option<Wanted>, Option<Wanted>)
-    ensures { (d : Direction) (near far whole : Cut)
+    ensures { (d : TermDirection) (near far whole : Cut)
         → IsCrossing d near far note.now (segments_of between.now) (segments_of beyond.now) → note_direction note.now ≡ d
         → LeadsOver d near far whole hill → Shows whole wanted.now → AreHandedOver d near far hill wanted.now result.0 result.1 }
 {
@@ -167,13 +167,17 @@ fn far_low(note: &SeriesNote, beyond: &[Numbers], wanted: &Wanted) -> u64
 }
 
 // The direction whose side goes over the task.
-fn dir_of(note: &SeriesNote) -> Dir
+fn dir_of(note: &SeriesNote) -> Direction
     ensures { direction_of result ≡ note_direction note.now }
 {
-    if note.in_first { Dir::R } else { Dir::F }
+    if note.in_first {
+        Direction::Backward
+    } else {
+        Direction::Forward
+    }
 }
 
-fn is_same(one: Dir, two: Dir) -> bool
+fn is_same(one: Direction, two: Direction) -> bool
     ensures same { result ≡ true → direction_of one ≡ direction_of two }
     ensures turned { result ≡ false → direction_of one ≡ other (direction_of two) }
 {

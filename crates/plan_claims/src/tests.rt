@@ -7,8 +7,8 @@ use crate::{NoMemory, claims_of};
 use claim_check::{Verdict, check};
 use mp_gen::{gen_tree, gen_workflow};
 use mp_outside::NoGate;
-use plan_text::{Claim, PlanFile, is_plan};
-use sp_cuts::{Plan, plan_terms};
+use plans::{Claim, Plan, is_plan};
+use sp_cuts::plan_terms;
 use sp_terms::{Position, TermBuilder, Terms, read_workflow, system_of};
 use std::alloc::Global;
 use std::marker::Brand;
@@ -31,7 +31,7 @@ fn certified<L: Ledger>(
 {
     let mut steps = Steps::<L>::new(blank);
     let plan = plan_terms(alloc, terms, &mut steps)?;
-    let Plan {
+    let sp_cuts::Plan {
         order,
         peak,
         part,
@@ -50,9 +50,9 @@ fn assert_accepted<R: Threads + Sync + Abort>(
 ) -> Result<u64, Fail> {
     let (order, peak, claims) = certified::<Brand>(alloc, Blank::new(1), terms)?;
     assert!(rt; is_plan(alloc, &order, peak, &claims, &[])?);
-    let file = PlanFile::new(order, peak, claims, Vec::new(alloc));
+    let plan = Plan::new(order, peak, claims, Vec::new(alloc));
     let system = system_of(alloc, terms)?;
-    let said = check(rt, alloc, &system, terms, &file, 1, &NoGate)?;
+    let said = check(rt, alloc, &system, terms, &plan, 1, &NoGate)?;
     assert_eq!(rt; said, Verdict::Yes(peak));
     Ok(peak)
 }

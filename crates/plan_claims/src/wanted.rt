@@ -2,12 +2,12 @@
 
 ghost use Rattle.std.specs.Prelude.{◌≡◌, ◌-◌};
 
-use plan_text::Dir;
+use plans::Direction;
 
 // A claim that is wanted of a term: in a direction, below a limit, with the lowest level of the side in that direction.
 #[derive(Clone, Copy)]
 pub(crate) struct Wanted {
-    pub dir: Dir,
+    pub dir: Direction,
     // the bound and 1
     pub limit: u64,
     pub low: u64,

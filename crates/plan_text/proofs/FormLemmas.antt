@@ -1,5 +1,5 @@
 -- What well-formed lines of a plan file say of what they state.
-use Rattle.std.proofs.Common.{◌≡◌, ℕ, suc, ◌-◌, ◌<◌, ◌≤◌, ◌⊎◌, inl, inr, Bool, true, false, cond, ◌&&◌, eqb, leb, ltb, List, [], ◌∷◌, ◌++◌, length, get_or, refl, sym, ap, subst, ◌∙◌, arith, pos, unsigned_abs, is_some, Option, Some, None, append_assoc, append-nil}
+use Rattle.std.proofs.Common.{◌≡◌, ℕ, ◌<◌, ◌≤◌, ◌⊎◌, inl, inr, Bool, true, false, cond, ◌&&◌, eqb, leb, ltb, List, [], ◌∷◌, ◌++◌, length, refl, sym, ap, subst, ◌∙◌, arith, unsigned_abs, is_some, Option, Some, None, append_assoc, append-nil}
 use Rattle.std.specs.Prelude.{codes}
 use Rattle.std.specs.List.{All}
 use Rattle.std.proofs.lemmas.List.{length_push}
@@ -13,15 +13,15 @@ use Rattle.mp_text.specs.declared.words.Version.{Version}
 use Rattle.mp_text.specs.declared.words.Version.TheVariants.{One, Two}
 use Rattle.mp_text.specs.Ahead.{rows_of_bytes}
 use Rattle.mp_text.specs.Grammar.{test, first_failure, ArePassed, token_at}
-use Rattle.plan_text.specs.Plan.{PlanText, most_number, IsPlan, IsClaimWithin, RiseFrom, IsTaskNumber, RanksAll, IsPriority, times}
+use Rattle.plans.specs.Plan.{PlanValue, most_number, IsPlan, IsClaimWithin, RiseFrom, IsTaskNumber, RanksAll, IsPriority, times}
 use Rattle.plan_text.specs.PlanFile.{Stated, stated, plan_format, staged_tests, is_ended, is_number_up_to, is_bound, bound_of, value_of, task_on, stated_on, claim_on, last_position, claim_tests, order_tests, peak_tests, priority_tests, priority_section_tests, tests_after_order, last_tests, ReadsPlan}
 use Rattle.plan_text.specs.Reader.{staged_next, with_task, with_rank, with_claim, peak_next, ranks_next, after_order_next}
 use Rattle.plan_text.proofs.ReaderLaws.{stated_push}
-use Rattle.plan_text.specs.declared.claim.Claim.{Claim}
-use Rattle.plan_text.specs.declared.claim.Dir.TheVariants.{F}
+use Rattle.plans.specs.declared.claim.Claim.{Claim}
 use Rattle.plan_text.specs.declared.stage.Stage.{Stage}
 use Rattle.plan_text.specs.declared.stage.Stage.TheVariants as stages
-use Rattle.plan_text.proofs.RankLemmas.{IsPart, part-none, part-push, ranks_from_part}
+use Rattle.plans.proofs.Rising.{last_from, rise_push, rise_at, last_is}
+use Rattle.plans.proofs.RankLemmas.{IsPart, part-none, part-push, ranks_from_part}
 
 -- ---- tests that hold
 
@@ -57,31 +57,6 @@ claim-test before row passed =
     (record { position = up_to most_number (token_at 0 row) first.0; bound = leb-true _ _ bound.1; rest = up_to most_total (token_at 3 row) all.1 }, ltb-true _ _ both.1)
 
 -- ---- positions that rise
-
--- the last position, or this one where there is none
-last_from : ℕ → List Claim → ℕ
-last_from n [] = n
-last_from n (c ∷ cs) = last_from c.position cs
-
-rise_push : (n : ℕ) (cs : List Claim) (c : Claim) → RiseFrom n cs → last_from n cs < c.position → RiseFrom n (cs ++ c ∷ [])
-unfolding last_from
-rise_push n [] c rise lt = (lt, tt)
-rise_push n (d ∷ cs) c rise lt = (rise.0, rise_push d.position cs c rise.1 lt)
-
-rise_at : (n : ℕ) (cs : List Claim) (c : Claim) (ds : List Claim) → RiseFrom n (cs ++ c ∷ ds) → last_from n cs < c.position
-unfolding last_from
-rise_at n [] c ds rise = rise.0
-rise_at n (d ∷ cs) c ds rise = rise_at d.position cs c ds rise.1
-
-abbrev pub no_claim : Claim
-no_claim = record { position = 0; dir = F; bound = pos 0; rest = 0 }
-
-last_is : (n : ℕ) (c : Claim) (cs : List Claim) → (get_or (c ∷ cs) (length (c ∷ cs) - 1) no_claim).position ≡ last_from n (c ∷ cs)
-unfolding last_from
-last_is n c [] = refl
-last_is n c (d ∷ cs) =
-    let at : length (c ∷ d ∷ cs) - 1 ≡ suc (length (d ∷ cs) - 1) = omega arith in
-    ap (λ (k : ℕ). (get_or (c ∷ d ∷ cs) k no_claim).position) at ∙ last_is c.position d cs
 
 last_position_is : (cs : List Claim) → last_position cs ≡ last_from 0 cs
 unfolding last_from
@@ -226,7 +201,7 @@ ended-ranked : (stage : Stage) (s : Stated) → is_ended stage ≡ true → At s
 ended-ranked stages.Ended s e at = at
 ended-ranked _ s e at = absurd cc
 
-pub reads-is_plan : (bytes : List ℕ) (plan : PlanText) → ReadsPlan bytes plan → IsPlan plan
+pub reads-is_plan : (bytes : List ℕ) (plan : PlanValue) → ReadsPlan bytes plan → IsPlan plan
 reads-is_plan bytes plan reads =
     let rows = rows_of_bytes Commented bytes in
     let s = stated rows in

@@ -18,14 +18,14 @@ use Rattle.serde_json.specs.Written.{compact_text, items_text, has_float, items_
 use Rattle.serde_json.proofs.FreeTexts.{text_of_value}
 use Rattle.serde_json.proofs.OnLiterals.{serde_json_on_literals}
 use Rattle.mp_text.specs.Report.{is_plain, is_token}
-use Rattle.plan_text.specs.Plan.{PlanText, most_number, IsClaimWithin, IsPlan}
+use Rattle.plans.specs.Plan.{PlanValue, most_number, IsClaimWithin, IsPlan}
 use Rattle.plan_text.specs.Printed.{dir_word}
 use Rattle.plan_text.specs.Json.{array_json, word_json, claim_json, json_of}
 use Rattle.plan_text.specs.JsonValues.{claim_value, task_value, plan_value}
 use Rattle.plan_text.proofs.PrintedLemmas.{bound-fits}
-use Rattle.plan_text.specs.declared.claim.Claim.{Claim}
-use Rattle.plan_text.specs.declared.claim.Dir.{Dir}
-use Rattle.plan_text.specs.declared.claim.Dir.TheVariants.{F, R}
+use Rattle.plans.specs.declared.claim.Claim.{Claim}
+use Rattle.plans.specs.declared.claim.Direction.{Direction}
+use Rattle.plans.specs.declared.claim.Direction.TheVariants.{Forward, Backward}
 
 -- ---- what is sent
 
@@ -67,10 +67,10 @@ module _ {X : Type 0} (value : X → Data) (text : X → List ℕ) (same : (x : 
   array-text [] = refl
   array-text (x ∷ xs) = ap (λ (bytes : List ℕ). 91 ∷ bytes) (items-text x xs)
 
-word-text : (d : Dir) → compact_text (string (dir_word d)) ≡ word_json (dir_word d)
+word-text : (d : Direction) → compact_text (string (dir_word d)) ≡ word_json (dir_word d)
 unfolding serde_json_on_literals
-word-text F = refl
-word-text R = refl
+word-text Forward = refl
+word-text Backward = refl
 
 claim-text : (c : Claim) → compact_text (claim_value c) ≡ claim_json c
 claim-text c =
@@ -85,7 +85,7 @@ members-text : (claims order peak : Data) (a b c : List ℕ) → compact_text cl
 unfolding serde_json_on_literals
 members-text claims order peak a b c is_a is_b is_c = rw (is_a, is_b, is_c) (simp append_assoc)
 
-plan-text : (plan : PlanText) → compact_text (plan_value plan) ≡ json_of plan
+plan-text : (plan : PlanValue) → compact_text (plan_value plan) ≡ json_of plan
 plan-text plan =
     members-text (array (items_of (map claim_value plan.claims))) (array (items_of (map task_value plan.order)))
     (number (unsigned plan.peak)) (array_json (map claim_json plan.claims)) (array_json (map decimal plan.order)) (decimal plan.peak)
@@ -101,11 +101,11 @@ order-whole : (order : List ℕ) → items_have_float (items_of (map task_value 
 order-whole [] = refl
 order-whole (task ∷ order) = order-whole order
 
-plan-whole : (plan : PlanText) → has_float (plan_value plan) ≡ false
+plan-whole : (plan : PlanValue) → has_float (plan_value plan) ≡ false
 plan-whole plan = rw (claims-whole plan.claims, order-whole plan.order) refl
 
 -- what is written of a plan that was sent
-pub sent-text : (plan : PlanText) (log : Log) (text : List ℕ) → SendsValue (plan_value plan) (Some []) log → IsTextOf log text
+pub sent-text : (plan : PlanValue) (log : Log) (text : List ℕ) → SendsValue (plan_value plan) (Some []) log → IsTextOf log text
     → text ≡ json_of plan
 sent-text plan log text sent is = text_of_value (plan_value plan) log text sent is (plan-whole plan) ∙ plan-text plan
 
@@ -129,9 +129,9 @@ plain-joined P text plain (x ∷ y ∷ ys) all =
 plain-array : (items : List (List ℕ)) → ArePlain (join_with_byte 44 items) → ArePlain (array_json items)
 plain-array items plain = plain-append (join_with_byte 44 items) (93 ∷ []) plain refl
 
-plain-word : (d : Dir) → ArePlain (word_json (dir_word d))
-plain-word F = refl
-plain-word R = refl
+plain-word : (d : Direction) → ArePlain (word_json (dir_word d))
+plain-word Forward = refl
+plain-word Backward = refl
 
 plain-four : (a b c d : List ℕ) → ArePlain a → ArePlain b → ArePlain c → ArePlain d → ArePlain (array_json (a ∷ b ∷ c ∷ d ∷ []))
 plain-four a b c d plain_a plain_b plain_c plain_d =
@@ -156,7 +156,7 @@ module _ (number_token : (n : ℕ) → n < 2 ^ 64 → IsTrue (is_token (decimal 
       plain-four (decimal c.position) (word_json (dir_word c.dir)) (signed_decimal c.bound) (decimal c.rest)
       (plain-number c.position (omega arith)) (plain-word c.dir) bound (plain-number c.rest (omega arith))
 
-  pub json-token : (plan : PlanText) → IsPlan plan → is_token (json_of plan) ≡ true
+  pub json-token : (plan : PlanValue) → IsPlan plan → is_token (json_of plan) ≡ true
   json-token plan is =
       let peak = is.peak in
       let claims = plain-array (map claim_json plan.claims) (plain-joined IsClaimWithin claim_json plain-claim plan.claims is.claims) in

@@ -13,11 +13,11 @@ use Rattle.limits.specs.Limits.{most_bytes, most_tasks, most_positions, most_tot
 use Rattle.mp_text.specs.declared.words.Version.{Version}
 use Rattle.mp_text.specs.declared.words.Version.TheVariants.{One, Two}
 use Rattle.mp_text.specs.Report.{line_text, text_of_lines}
-use Rattle.plan_text.specs.Plan.{PlanText, most_number, IsPlan, IsClaimWithin, IsTaskNumber, IsPriority}
+use Rattle.plans.specs.Plan.{PlanValue, most_number, IsPlan, IsClaimWithin, IsTaskNumber, IsPriority}
 use Rattle.plan_text.specs.Printed.{header_line, section_line, task_line, claim_line, dir_word, end_line, task_lines, claim_lines, priority_lines, last_lines, text_in}
-use Rattle.plan_text.specs.declared.claim.Claim.{Claim}
-use Rattle.plan_text.specs.declared.claim.Dir.{Dir}
-use Rattle.plan_text.specs.declared.claim.Dir.TheVariants.{F, R}
+use Rattle.plans.specs.declared.claim.Claim.{Claim}
+use Rattle.plans.specs.declared.claim.Direction.{Direction}
+use Rattle.plans.specs.declared.claim.Direction.TheVariants.{Forward, Backward}
 
 -- ---- texts of lines
 
@@ -82,9 +82,9 @@ section-within word n short le = omega (arith, first-token word (decimal n) [], 
 task-within : (v : ℕ) → IsSmall v → IsLineWithin 11 (task_line v)
 task-within v le = omega (arith, last-token (decimal v), small-decimal v le)
 
-dir-short : (d : Dir) → length (dir_word d) ≡ 1
-dir-short F = refl
-dir-short R = refl
+dir-short : (d : Direction) → length (dir_word d) ≡ 1
+dir-short Forward = refl
+dir-short Backward = refl
 
 claim-within : (c : Claim) → IsClaimWithin c → IsLineWithin 54 (claim_line c)
 claim-within c within =
@@ -141,7 +141,7 @@ priority-within Two n priority few (inr ranks) =
 -- ---- all lines
 
 -- the bounds above add up to 238000181
-pub printed-within : (v : Version) (plan : PlanText) → IsPlan plan → length (text_in v plan) ≤ most_bytes
+pub printed-within : (v : Version) (plan : PlanValue) → IsPlan plan → length (text_in v plan) ≤ most_bytes
 printed-within v plan is =
     let order = task_lines (codes "order") plan.order in
     let priority = priority_lines v plan.priority in

@@ -1,4 +1,3 @@
-pub mod RankLemmas
 pub mod FormLemmas
 pub mod PrintedLemmas
 pub mod LengthLemmas

@@ -19,17 +19,17 @@ use Rattle.mp_text.specs.Words.{after_word, version_of}
 use Rattle.mp_text.specs.Ahead.{rows_of_bytes, past_of_bytes}
 use Rattle.mp_text.specs.Grammar.{first_failure, ArePassed}
 use Rattle.mp_text.specs.Report.{is_counted, numbered_from, text_of_lines, is_token}
-use Rattle.plan_text.specs.Plan.{PlanText, most_number, IsPlan, IsClaimWithin, RiseFrom, IsTaskNumber, IsPriority, times}
+use Rattle.plans.specs.Plan.{PlanValue, most_number, IsPlan, IsClaimWithin, RiseFrom, IsTaskNumber, IsPriority, times}
 use Rattle.plan_text.specs.PlanFile.{Stated, stated, nothing, plan_format, tests_after, plan_stated, end_tests_after, peak_tests, dir_named, last_position, ReadsPlan}
 use Rattle.plan_text.specs.Printed.{header_line, section_line, task_line, claim_line, dir_word, end_line, task_lines, claim_lines, priority_lines, last_lines, lines_in, text_in, version_for, text_of, text2_of}
 use Rattle.plan_text.specs.Reader.{next, peak_next}
 use Rattle.plan_text.proofs.ReaderLaws.{stated_push, at_claims, at_peak, at_ranks, at_order}
-use Rattle.plan_text.specs.declared.claim.Claim.{Claim}
-use Rattle.plan_text.specs.declared.claim.Dir.{Dir}
-use Rattle.plan_text.specs.declared.claim.Dir.TheVariants.{F, R}
+use Rattle.plans.specs.declared.claim.Claim.{Claim}
+use Rattle.plans.specs.declared.claim.Direction.{Direction}
+use Rattle.plans.specs.declared.claim.Direction.TheVariants.{Forward, Backward}
 use Rattle.plan_text.specs.declared.stage.Stage.TheVariants as stages
 use Rattle.plan_text.proofs.FormLemmas.{last-rises}
-use Rattle.plan_text.proofs.RankLemmas.{times-before}
+use Rattle.plans.proofs.RankLemmas.{times-before}
 
 -- what the laws of printed numbers and files say
 pub record AreLaws : Type 0 where
@@ -113,10 +113,10 @@ priority-fits n xs (inr ranks) = let len = ranks.len in (omega arith, or_right _
 
 -- ---- claim lines
 
-dir-reads : (d : Dir) → dir_named (dir_word d) ≡ Some d
+dir-reads : (d : Direction) → dir_named (dir_word d) ≡ Some d
 unfolding dir_named
-dir-reads F = refl
-dir-reads R = refl
+dir-reads Forward = refl
+dir-reads Backward = refl
 
 pub bound-fits : (z : ℤ) → unsigned_abs z ≤ most_total → FitsSigned w64 z
 bound-fits z le = fits_signed_from_abs w64 z (omega arith)
@@ -145,10 +145,10 @@ claims-lead laws s count before (c ∷ cs) rest t within rise full more n =
 IsBeforePeak : Stated → Type 0
 IsBeforePeak s = (row : Row) → (tests_after s row ≡ peak_tests row) × (next s row ≡ peak_next s row)
 
-abbrev done : Stated → PlanText → Stated
+abbrev done : Stated → PlanValue → Stated
 done s plan = record s { stage = stages.Ended; count = length plan.claims; peak = plan.peak; claims = plan.claims }
 
-last-leads : AreLaws → (s : Stated) (plan : PlanText) → IsPlan plan → s.claims ≡ [] → IsBeforePeak s → LeadsOn s (last_lines plan) (done s plan)
+last-leads : AreLaws → (s : Stated) (plan : PlanValue) → IsPlan plan → s.claims ≡ [] → IsBeforePeak s → LeadsOn s (last_lines plan) (done s plan)
 unfolding Leads IsBeforePeak after_word
 last-leads laws s plan is fresh before n =
     let peak_row : Row = record { number = n; tokens = section_line (codes "peak") plan.peak } in
@@ -164,15 +164,15 @@ last-leads laws s plan is fresh before n =
 abbrev begun : Version → Stated
 begun version = record nothing { stage = stages.OrderSection; version = version }
 
-abbrev ordered : Version → PlanText → Stated
+abbrev ordered : Version → PlanValue → Stated
 ordered version plan = at_order (begun version) (length plan.order) plan.order
 
 -- what is stated by all lines
-abbrev whole : Version → PlanText → Stated
+abbrev whole : Version → PlanValue → Stated
 whole One plan = done (ordered One plan) plan
 whole Two plan = done (at_ranks (ordered Two plan) (length plan.priority) plan.priority) plan
 
-ordered-before : (plan : PlanText) → IsBeforePeak (ordered One plan)
+ordered-before : (plan : PlanValue) → IsBeforePeak (ordered One plan)
 unfolding IsBeforePeak
 ordered-before plan row =
     let full : ltb (length plan.order) (length plan.order) ≡ false = le-ltb _ _ (omega arith) in
@@ -184,7 +184,7 @@ ranked-before s priority row =
     let full : ltb (length priority) (length priority) ≡ false = le-ltb _ _ (omega arith) in
     rw full (refl, refl)
 
-module _ (laws : AreLaws) (plan : PlanText) (is : IsPlan plan) where
+module _ (laws : AreLaws) (plan : PlanValue) (is : IsPlan plan) where
   -- the priority, if it is printed
   priority-leads : LeadsOn (ordered Two plan) (priority_lines Two plan.priority ++ last_lines plan) (whole Two plan)
   unfolding Leads after_word
@@ -217,9 +217,9 @@ module _ (laws : AreLaws) (plan : PlanText) (is : IsPlan plan) where
 
 -- ---- the lines count
 
-dir-token : (d : Dir) → IsTrue (is_token (dir_word d))
-dir-token F = refl
-dir-token R = refl
+dir-token : (d : Direction) → IsTrue (is_token (dir_word d))
+dir-token Forward = refl
+dir-token Backward = refl
 
 module _ (laws : AreLaws) where
   tasks-counted : (xs : List ℕ) → All (λ v. v ≤ most_number) xs → list_all (is_counted Commented) (map task_line xs) ≡ true
@@ -253,7 +253,7 @@ module _ (laws : AreLaws) where
       and_from _ _ (section-counted (codes "priority") (length priority) refl refl (omega arith))
       (tasks-counted priority (λ i d lt. let task = ranks.tasks i d lt in let le = task.1 in omega arith))
 
-  lines-counted : (v : Version) (plan : PlanText) → IsPlan plan → list_all (is_counted Commented) (lines_in v plan) ≡ true
+  lines-counted : (v : Version) (plan : PlanValue) → IsPlan plan → list_all (is_counted Commented) (lines_in v plan) ≡ true
   lines-counted v plan is =
       let few = is.few_tasks in
       let few_claims = is.few_claims in
@@ -270,15 +270,15 @@ module _ (laws : AreLaws) where
 
 -- ---- the whole file
 
-whole-plan : (v : Version) (plan : PlanText) → (v ≡ One → plan.priority ≡ []) → plan_stated (whole v plan) ≡ plan
+whole-plan : (v : Version) (plan : PlanValue) → (v ≡ One → plan.priority ≡ []) → plan_stated (whole v plan) ≡ plan
 whole-plan One plan none = ap (λ (xs : List ℕ). record plan { priority = xs }) (sym (none refl))
 whole-plan Two plan none = refl
 
-whole-ended : (v : Version) (plan : PlanText) (past : ℕ) → first_failure (end_tests_after (whole v plan) past) ≡ None
+whole-ended : (v : Version) (plan : PlanValue) (past : ℕ) → first_failure (end_tests_after (whole v plan) past) ≡ None
 whole-ended One plan past = refl
 whole-ended Two plan past = refl
 
-printed-reads : AreLaws → (v : Version) (plan : PlanText) → IsPlan plan → (v ≡ One → plan.priority ≡ []) → ReadsPlan (text_in v plan) plan
+printed-reads : AreLaws → (v : Version) (plan : PlanValue) → IsPlan plan → (v ≡ One → plan.priority ≡ []) → ReadsPlan (text_in v plan) plan
 unfolding stated
 printed-reads laws v plan is none =
     let text = text_in v plan in
@@ -300,8 +300,8 @@ unranked : (priority : List ℕ) → version_for priority ≡ One → priority �
 unranked [] e = refl
 unranked (x ∷ xs) e = absurd cc
 
-pub text_of-reads : AreLaws → (plan : PlanText) → IsPlan plan → ReadsPlan (text_of plan) plan
+pub text_of-reads : AreLaws → (plan : PlanValue) → IsPlan plan → ReadsPlan (text_of plan) plan
 text_of-reads laws plan is = printed-reads laws (version_for plan.priority) plan is (unranked plan.priority)
 
-pub text2_of-reads : AreLaws → (plan : PlanText) → IsPlan plan → ReadsPlan (text2_of plan) plan
+pub text2_of-reads : AreLaws → (plan : PlanValue) → IsPlan plan → ReadsPlan (text2_of plan) plan
 text2_of-reads laws plan is = printed-reads laws Two plan is (λ never. absurd cc)

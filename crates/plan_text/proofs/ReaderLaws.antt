@@ -12,7 +12,7 @@ use Rattle.mp_text.specs.Reading.{Follows}
 use Rattle.mp_text.specs.ReadingLaws.{tested-follows}
 use Rattle.plan_text.specs.PlanFile.{Stated, stated, nothing, stated_on, task_on, claim_on, version_stated, with_end, with_claims, with_peak, with_ranks, after_order_in, with_order, plan_format, tests_after, end_tests_after}
 use Rattle.plan_text.specs.Reader.{next, after_order_next, plan_step, plan_end, took}
-use Rattle.plan_text.specs.declared.claim.Claim.{Claim}
+use Rattle.plans.specs.declared.claim.Claim.{Claim}
 use Rattle.plan_text.specs.declared.stage.Stage.TheVariants as stages
 
 -- ---- a section of n lines, and one line more

@@ -2,9 +2,9 @@
 use Rattle.std.specs.Prelude.{ℕ, List, [], ◌∷◌, ◌++◌, map, codes}
 use Rattle.std.specs.List.{join_with_byte}
 use Rattle.std.specs.Fmt.{decimal, signed_decimal}
-use Rattle.plan_text.specs.Plan.{PlanText}
+use Rattle.plans.specs.Plan.{PlanValue}
 use Rattle.plan_text.specs.Printed.{dir_word}
-use Rattle.plan_text.specs.declared.claim.Claim.{Claim}
+use Rattle.plans.specs.declared.claim.Claim.{Claim}
 
 -- an array of values of these texts, with a comma between two of them
 abbrev pub array_json : List (List ℕ) → List ℕ
@@ -18,7 +18,7 @@ word_json word = codes "\"" ++ word ++ codes "\""
 abbrev pub claim_json : Claim → List ℕ
 claim_json c = array_json (decimal c.position ∷ word_json (dir_word c.dir) ∷ signed_decimal c.bound ∷ decimal c.rest ∷ [])
 
-abbrev pub json_of : PlanText → List ℕ
+abbrev pub json_of : PlanValue → List ℕ
 json_of plan =
     codes "{\"claims\":" ++ array_json (map claim_json plan.claims)
     ++ codes ",\"order\":" ++ array_json (map decimal plan.order)

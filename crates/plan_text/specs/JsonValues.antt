@@ -2,9 +2,9 @@
 use Rattle.std.specs.Prelude.{ℕ, [], ◌∷◌, map, codes}
 use Rattle.serde_json.specs.Data.{Data, array, object, number, unsigned, negative, string, member, no_members}
 use Rattle.serde_json.specs.View.{items_of}
-use Rattle.plan_text.specs.Plan.{PlanText}
+use Rattle.plans.specs.Plan.{PlanValue}
 use Rattle.plan_text.specs.Printed.{dir_word}
-use Rattle.plan_text.specs.declared.claim.Claim.{Claim}
+use Rattle.plans.specs.declared.claim.Claim.{Claim}
 
 -- a bound is sent as a signed number, also where it is not negative
 abbrev pub claim_value : Claim → Data
@@ -15,7 +15,7 @@ claim_value c =
 abbrev pub task_value : ℕ → Data
 task_value task = number (unsigned task)
 
-abbrev pub plan_value : PlanText → Data
+abbrev pub plan_value : PlanValue → Data
 plan_value plan = object (
     member (codes "claims") (array (items_of (map claim_value plan.claims))) (
     member (codes "order") (array (items_of (map task_value plan.order))) (

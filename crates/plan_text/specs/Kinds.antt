@@ -1,7 +1,7 @@
 -- The words of what is wrong with a plan file.
 use Rattle.std.specs.Prelude.{ℕ, List, codes}
-use Rattle.plan_text.specs.declared.claim.PlanKind.{PlanKind}
-use Rattle.plan_text.specs.declared.claim.PlanKind.TheVariants.{Header, Number, Section, Order, Claim, NoEnd, Priority}
+use Rattle.plan_text.specs.declared.kind.PlanKind.{PlanKind}
+use Rattle.plan_text.specs.declared.kind.PlanKind.TheVariants.{Header, Number, Section, Order, Claim, NoEnd, Priority}
 
 -- the word for it in reports
 abbrev pub word_of : PlanKind → List ℕ

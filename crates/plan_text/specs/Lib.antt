@@ -1,9 +1,7 @@
-pub mod Plan
 pub mod PlanFile
 pub mod Kinds
 pub mod Printed
 pub mod Json
 pub mod JsonValues
 pub mod Reader
-pub mod Ranking
 pub mod Samples

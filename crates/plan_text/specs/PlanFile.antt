@@ -17,12 +17,12 @@ use Rattle.mp_text.specs.Words.{after_word, version_of}
 use Rattle.mp_text.specs.Ahead.{rows_of_bytes, past_of_bytes}
 use Rattle.mp_text.specs.Grammar.{Test, test, Format, IsWellFormed, Refuses, fault, fault_at, token_at}
 use Rattle.mp_text.specs.Reading.{IsRefusal}
-use Rattle.plan_text.specs.Plan.{PlanText, most_number, times}
-use Rattle.plan_text.specs.declared.claim.Claim.{Claim}
-use Rattle.plan_text.specs.declared.claim.Dir.{Dir}
-use Rattle.plan_text.specs.declared.claim.Dir.TheVariants.{F, R}
-use Rattle.plan_text.specs.declared.claim.PlanKind.{PlanKind}
-use Rattle.plan_text.specs.declared.claim.PlanKind.TheVariants as kinds
+use Rattle.plans.specs.Plan.{PlanValue, most_number, times}
+use Rattle.plans.specs.declared.claim.Claim.{Claim}
+use Rattle.plans.specs.declared.claim.Direction.{Direction}
+use Rattle.plans.specs.declared.claim.Direction.TheVariants.{Forward, Backward}
+use Rattle.plan_text.specs.declared.kind.PlanKind.{PlanKind}
+use Rattle.plan_text.specs.declared.kind.PlanKind.TheVariants as kinds
 use Rattle.plan_text.specs.declared.stage.Stage.{Stage}
 use Rattle.plan_text.specs.declared.stage.Stage.TheVariants as stages
 
@@ -96,8 +96,8 @@ priority_tests tasks before row =
 
 -- a claim line: `position F bound rest` or `position R bound rest`
 
-unfoldable pub dir_named : List ℕ → Option Dir
-dir_named token = if bytes_eq token (codes "F") then Some F else (if bytes_eq token (codes "R") then Some R else None)
+unfoldable pub dir_named : List ℕ → Option Direction
+dir_named token = if bytes_eq token (codes "F") then Some Forward else (if bytes_eq token (codes "R") then Some Backward else None)
 
 -- the signed number that a token spells, 0 where it spells none
 abbrev pub bound_of : List ℕ → ℤ
@@ -110,14 +110,14 @@ is_bound token = is_some (signed_of token) && nat_le (unsigned_abs (bound_of tok
 abbrev pub claim_on : Row → Claim
 claim_on row = record {
   position = value_of (token_at 0 row);
-  dir = unwrap_or (dir_named (token_at 1 row)) F;
+  dir = unwrap_or (dir_named (token_at 1 row)) Forward;
   bound = bound_of (token_at 2 row);
   rest = value_of (token_at 3 row);
 }
 
 -- the position of the last claim, 0 where there is none
 abbrev pub last_position : List Claim → ℕ
-last_position claims = (slice_index_or claims (length claims - 1) (record { position = 0; dir = F; bound = pos 0; rest = 0 })).position
+last_position claims = (slice_index_or claims (length claims - 1) (record { position = 0; dir = Forward; bound = pos 0; rest = 0 })).position
 
 -- the tokens of a claim line
 abbrev pub claim_form : Row → List (Test PlanKind)
@@ -229,11 +229,11 @@ plan_format = record {
 
 -- ---- the whole file
 
-abbrev pub plan_stated : Stated → PlanText
+abbrev pub plan_stated : Stated → PlanValue
 plan_stated s = record { order = s.order; peak = s.peak; claims = s.claims; priority = s.priority }
 
 -- every line passes, and the plan is the one stated
-pub record ReadsPlan (bytes : List ℕ) (plan : PlanText) : Type 0 where
+pub record ReadsPlan (bytes : List ℕ) (plan : PlanValue) : Type 0 where
   pub form : IsWellFormed plan_format (rows_of_bytes Commented bytes) (past_of_bytes bytes)
   pub stated : plan ≡ plan_stated (stated (rows_of_bytes Commented bytes))
 

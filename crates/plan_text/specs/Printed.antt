@@ -5,10 +5,10 @@ use Rattle.mp_text.specs.declared.words.Version.{Version}
 use Rattle.mp_text.specs.declared.words.Version.TheVariants.{One, Two}
 use Rattle.mp_text.specs.Words.{version_word}
 use Rattle.mp_text.specs.Report.{text_of_lines}
-use Rattle.plan_text.specs.Plan.{PlanText}
-use Rattle.plan_text.specs.declared.claim.Claim.{Claim}
-use Rattle.plan_text.specs.declared.claim.Dir.{Dir}
-use Rattle.plan_text.specs.declared.claim.Dir.TheVariants.{F, R}
+use Rattle.plans.specs.Plan.{PlanValue}
+use Rattle.plans.specs.declared.claim.Claim.{Claim}
+use Rattle.plans.specs.declared.claim.Direction.{Direction}
+use Rattle.plans.specs.declared.claim.Direction.TheVariants.{Forward, Backward}
 
 -- line 1
 abbrev pub header_line : Version → List (List ℕ)
@@ -22,9 +22,9 @@ section_line word number = word ∷ decimal number ∷ []
 abbrev pub task_line : ℕ → List (List ℕ)
 task_line task = decimal task ∷ []
 
-abbrev pub dir_word : Dir → List ℕ
-dir_word F = codes "F"
-dir_word R = codes "R"
+abbrev pub dir_word : Direction → List ℕ
+dir_word Forward = codes "F"
+dir_word Backward = codes "R"
 
 abbrev pub claim_line : Claim → List (List ℕ)
 claim_line c = decimal c.position ∷ dir_word c.dir ∷ signed_decimal c.bound ∷ decimal c.rest ∷ []
@@ -46,15 +46,15 @@ priority_lines One priority = []
 priority_lines Two priority = task_lines (codes "priority") priority
 
 -- the lines after the priority
-abbrev pub last_lines : PlanText → List (List (List ℕ))
+abbrev pub last_lines : PlanValue → List (List (List ℕ))
 last_lines plan = section_line (codes "peak") plan.peak ∷ (claim_lines plan.claims ++ end_line ∷ [])
 
 -- the lines of a file of this version
-abbrev pub lines_in : Version → PlanText → List (List (List ℕ))
+abbrev pub lines_in : Version → PlanValue → List (List (List ℕ))
 lines_in version plan =
     header_line version ∷ (task_lines (codes "order") plan.order ++ (priority_lines version plan.priority ++ last_lines plan))
 
-abbrev pub text_in : Version → PlanText → List ℕ
+abbrev pub text_in : Version → PlanValue → List ℕ
 text_in version plan = text_of_lines (lines_in version plan)
 
 -- the version that a priority needs: 1 where it is empty, else 2
@@ -63,8 +63,8 @@ version_for [] = One
 version_for (task ∷ tasks) = Two
 
 -- the text of a plan, and its text in version 2
-abbrev pub text_of : PlanText → List ℕ
+abbrev pub text_of : PlanValue → List ℕ
 text_of plan = text_in (version_for plan.priority) plan
 
-abbrev pub text2_of : PlanText → List ℕ
+abbrev pub text2_of : PlanValue → List ℕ
 text2_of plan = text_in Two plan

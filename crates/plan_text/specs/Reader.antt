@@ -7,7 +7,7 @@ use Rattle.mp_text.specs.declared.words.Version.{Version}
 use Rattle.mp_text.specs.declared.words.Version.TheVariants.{One, Two}
 use Rattle.mp_text.specs.Reading.{tested}
 use Rattle.plan_text.specs.PlanFile.{Stated, version_stated, stated_on, task_on, claim_on, staged_tests, end_tests_after, stated}
-use Rattle.plan_text.specs.declared.claim.PlanKind.{PlanKind}
+use Rattle.plan_text.specs.declared.kind.PlanKind.{PlanKind}
 use Rattle.plan_text.specs.declared.stage.Stage.{Stage}
 use Rattle.plan_text.specs.declared.stage.Stage.TheVariants as stages
 

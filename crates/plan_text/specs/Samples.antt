@@ -1,6 +1,6 @@
 -- No public clause names this.
--- Worked examples: the plan of a tree of five nodes, a plan with a priority, and files that are refused.
-use Rattle.std.specs.Prelude.{◌≡◌, ℕ, List, [], ◌∷◌, ◌++◌, map, Option, Some, None, ℤ, pos, neg_ℤ, codes, refl}
+-- Worked examples: texts of the plan of a tree of five nodes and of a plan with a priority, and files that are refused.
+use Rattle.std.specs.Prelude.{◌≡◌, ℕ, List, [], ◌∷◌, ◌++◌, map, Option, Some, None, codes, refl}
 use Rattle.std.specs.Fmt.{digits}
 use Rattle.mp_text.specs.declared.layout.Layout.TheVariants.{Commented}
 use Rattle.mp_text.specs.declared.refusals.Refusal.{Refusal}
@@ -10,31 +10,12 @@ use Rattle.mp_text.specs.Text.{lines_of, tokens_of, number_of, number_from, sign
 use Rattle.mp_text.specs.Ahead.{rows_of_bytes, past_of_bytes}
 use Rattle.mp_text.specs.Words.{after_word, version_of}
 use Rattle.mp_text.specs.Grammar.{fault_at, first_failure, tests_of_all}
-use Rattle.sp_terms.specs.Term.{backward}
-use Rattle.plan_text.specs.Plan.{PlanText, claim_at}
+use Rattle.plans.specs.Samples.{five, ranked}
 use Rattle.plan_text.specs.PlanFile.{dir_named, stated, plan_stated, plan_format}
 use Rattle.plan_text.specs.Printed.{text_of, text2_of}
 use Rattle.plan_text.specs.Json.{json_of}
-use Rattle.plan_text.specs.declared.claim.Claim.{Claim}
-use Rattle.plan_text.specs.declared.claim.Dir.{Dir}
-use Rattle.plan_text.specs.declared.claim.Dir.TheVariants.{F, R}
-use Rattle.plan_text.specs.declared.claim.PlanKind.{PlanKind}
-use Rattle.plan_text.specs.declared.claim.PlanKind.TheVariants as kinds
-
-abbrev pub claim : ℕ → Dir → ℤ → ℕ → Claim
-claim position dir bound rest = record { position = position; dir = dir; bound = bound; rest = rest }
-
-abbrev pub five : PlanText
-five = record {
-  order = 1 ∷ 3 ∷ 2 ∷ 4 ∷ 5 ∷ [];
-  peak = 11;
-  claims = claim 5 R (pos 5) 5 ∷ claim 10 R (pos 5) 5 ∷ claim 11 R (pos 10) 10 ∷ claim 13 R (pos 10) 0 ∷ [];
-  priority = [];
-}
-
--- a plan of two tasks, of which the second comes first to a worker
-abbrev pub ranked : PlanText
-ranked = record { order = 1 ∷ 2 ∷ []; peak = 6; claims = claim 1 F (neg_ℤ (pos 1)) 0 ∷ []; priority = 2 ∷ 1 ∷ [] }
+use Rattle.plan_text.specs.declared.kind.PlanKind.{PlanKind}
+use Rattle.plan_text.specs.declared.kind.PlanKind.TheVariants as kinds
 
 -- ---- printing
 
@@ -77,8 +58,3 @@ pub refusals_of : map refusal_of (
     ∷ Some (refusals.Limit limits.Positions) ∷ []
 unfolding lines_of tokens_of number_of number_from signed_of rows_from after_word version_of dir_named stated
 refusals_of = refl
-
--- ---- claims by position
-
-pub at_positions : map (claim_at five.claims) (11 ∷ 12 ∷ []) ≡ Some (record { direction = backward; bound = pos 10; rest = 10 }) ∷ None ∷ []
-at_positions = refl

@@ -1,24 +1,20 @@
-//! Plans that certify themselves: plan files of versions 1 and 2, their reader and their printers, and plans as JSON.
+//! Plan files of versions 1 and 2, their reader and their printers, and plans as JSON.
 #![tactic(auto)]
 
-mod claim;
 mod json_text;
+mod kind;
 pub mod laws;
 mod lines;
-mod parts;
-mod plan;
 mod printing;
-mod ranking;
 mod reader;
 mod stage;
 #[cfg(test)]
 mod tests;
 
-pub use claim::{Claim, Dir, PlanKind};
-pub use json_text::plan_json;
-pub use parts::is_plan;
-pub use plan::{PlanFile, read_plan};
+pub use json_text::{PlanJson, plan_json, send_claim};
+pub use kind::PlanKind;
 pub use printing::{print_plan, print_plan_2};
+pub use reader::read_plan;
 use std::alloc::AllocError;
 
 /// Want of memory: an allocation was refused.

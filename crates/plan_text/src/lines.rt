@@ -5,17 +5,17 @@ ghost use Rattle.limits.specs.Limits.{most_tasks, most_positions, most_total};
 ghost use Rattle.mp_text.specs.Text.{number_of, signed_of};
 ghost use Rattle.mp_text.specs.Ahead.{row};
 ghost use Rattle.mp_text.specs.Reading.{Gives, tested};
-ghost use Rattle.plan_text.specs.Plan.{IsTaskNumber};
+ghost use Rattle.plans.specs.Plan.{IsTaskNumber};
 ghost use Rattle.plan_text.specs.PlanFile.{is_number_up_to, dir_named, is_bound, header_tests, version_stated, section_form, stated_on};
 ghost use Rattle.plan_text.specs.PlanFile.{order_section_tests, priority_section_tests, peak_tests, claims_section_tests, task_on};
 ghost use Rattle.plan_text.specs.PlanFile.{order_tests, priority_tests, last_position, claim_on, claim_form, claim_tests, last_tests};
 
-use crate::claim::{Claim, Dir, PlanKind};
-use crate::ranking::Ranking;
+use crate::kind::PlanKind;
 use limits::{LimitName, MOST_POSITIONS, MOST_TASKS, MOST_TOTAL};
 use mp_text::{
     Line, Refusal, Version, after_word, fault, is_word, number, signed, tokens, version_of,
 };
+use plans::{Claim, Direction, Ranking};
 
 // The greatest number of a task or a position.
 const MOST_NUMBER: u64 = 4_294_967_295;
@@ -38,14 +38,14 @@ fn bound_of(token: &[u8]) -> Option<i64>
 
 // The direction that a token names.
 #[tactic(auto, unfolding(crate::specs::PlanFile::dir_named))]
-fn dir_named(token: &[u8]) -> Option<Dir>
+fn dir_named(token: &[u8]) -> Option<Direction>
     ensures { result ≡ dir_named token.now }
 {
     if token == b"F".as_slice() {
-        return Some(Dir::F);
+        return Some(Direction::Forward);
     }
     if token == b"R".as_slice() {
-        return Some(Dir::R);
+        return Some(Direction::Backward);
     }
     None
 }

@@ -6,18 +6,17 @@ ghost use Rattle.plan_text.specs.Printed.{task_line, dir_word, claim_line, task_
 ghost use Rattle.plan_text.specs.Printed.{version_for, text_of, text2_of};
 
 use crate::NoMemory;
-use crate::claim::{Claim, Dir};
-use crate::plan::PlanFile;
 use mp_text::laws::printed_lines;
 use mp_text::{Report, Token, Version};
+use plans::{Claim, Direction, Plan};
 
 /// The word for a direction.
-pub fn dir_word(dir: Dir) -> &'static str
+pub fn dir_word(dir: Direction) -> &'static str
     ensures { result.now ≡ dir_word dir }
 {
     match dir {
-        Dir::F => "F",
-        Dir::R => "R",
+        Direction::Forward => "F",
+        Direction::Backward => "R",
     }
 }
 
@@ -57,7 +56,7 @@ fn print_claims(claims: &[Claim], report: &mut Report) -> Result<(), NoMemory>
 }
 
 // The lines after the priority.
-fn print_last(plan: &PlanFile, report: &mut Report) -> Result<(), NoMemory>
+fn print_last(plan: &Plan, report: &mut Report) -> Result<(), NoMemory>
     requires { IsTrue (is_line_start report.old) }
     ensures ok { OnOk result (report.new ≡ report.old ++ text_of_lines (last_lines plan.now)) }
     ensures err { OnErr result (take (length report.old) report.new ≡ report.old) }
@@ -69,7 +68,7 @@ fn print_last(plan: &PlanFile, report: &mut Report) -> Result<(), NoMemory>
 }
 
 // The priority, which only version 2 has, and the lines after it.
-fn print_rest(version: Version, plan: &PlanFile, report: &mut Report) -> Result<(), NoMemory>
+fn print_rest(version: Version, plan: &Plan, report: &mut Report) -> Result<(), NoMemory>
     requires { IsTrue (is_line_start report.old) }
     ensures ok { OnOk result (report.new ≡ report.old ++ text_of_lines (priority_lines version plan.now.priority ++ last_lines plan.now)) }
     ensures err { OnErr result (take (length report.old) report.new ≡ report.old) }
@@ -85,7 +84,7 @@ fn print_rest(version: Version, plan: &PlanFile, report: &mut Report) -> Result<
 }
 
 // Appends the lines of a version, or some bytes.
-fn print_lines(version: Version, plan: &PlanFile, report: &mut Report) -> Result<(), NoMemory>
+fn print_lines(version: Version, plan: &Plan, report: &mut Report) -> Result<(), NoMemory>
     requires { IsTrue (is_line_start report.old) }
     ensures ok { OnOk result (report.new ≡ report.old ++ text_in version plan.now) }
     ensures err { OnErr result (take (length report.old) report.new ≡ report.old) }
@@ -96,7 +95,7 @@ fn print_lines(version: Version, plan: &PlanFile, report: &mut Report) -> Result
     print_rest(version, plan, report)
 }
 
-fn print_in(version: Version, plan: &PlanFile, report: &mut Report) -> Result<(), NoMemory>
+fn print_in(version: Version, plan: &Plan, report: &mut Report) -> Result<(), NoMemory>
     requires { IsTrue (is_line_start report.old) }
     ensures ok { OnOk result (report.new ≡ report.old ++ text_in version plan.now) }
     ensures err { OnErr result (report.new ≡ report.old) }
@@ -122,7 +121,7 @@ fn version_for(priority: &[u32]) -> Version
 /// Appends the lines of a plan file, of version 1 where the priority is empty, else of version 2. Linear in the tasks and the claims.
 ///
 /// Where memory runs out, the report stays as it was.
-pub fn print_plan(plan: &PlanFile, report: &mut Report) -> Result<(), NoMemory>
+pub fn print_plan(plan: &Plan, report: &mut Report) -> Result<(), NoMemory>
     requires { IsTrue (is_line_start report.old) }
     ensures ok { OnOk result (report.new ≡ report.old ++ text_of plan.now) }
     ensures err { OnErr result (report.new ≡ report.old) }
@@ -133,7 +132,7 @@ pub fn print_plan(plan: &PlanFile, report: &mut Report) -> Result<(), NoMemory>
 /// Appends the lines of a plan file of version 2. Linear in the tasks and the claims.
 ///
 /// Where memory runs out, the report stays as it was.
-pub fn print_plan_2(plan: &PlanFile, report: &mut Report) -> Result<(), NoMemory>
+pub fn print_plan_2(plan: &Plan, report: &mut Report) -> Result<(), NoMemory>
     requires { IsTrue (is_line_start report.old) }
     ensures ok { OnOk result (report.new ≡ report.old ++ text2_of plan.now) }
     ensures err { OnErr result (report.new ≡ report.old) }

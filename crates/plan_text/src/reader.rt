@@ -1,18 +1,18 @@
-ghost use Rattle.std.specs.Prelude.{◌≡◌, ◌≤◌};
+ghost use Rattle.std.specs.Prelude.{◌≡◌, ◌≤◌, MatchResult};
 ghost use Rattle.limits.specs.Limits.{most_positions};
 ghost use Rattle.mp_text.specs.Ahead.{row};
 ghost use Rattle.mp_text.specs.Reading.{Steps, tested};
-ghost use Rattle.plan_text.specs.PlanFile.{Stated, nothing, peak_tests, priority_section_tests, plan_format};
+ghost use Rattle.plan_text.specs.PlanFile.{Stated, nothing, peak_tests, priority_section_tests, plan_format, ReadsPlan, IsPlanRefusal};
 ghost use Rattle.plan_text.specs.Reader.{peak_next, ranks_next, staged_step, plan_step, plan_end, took};
 
-use crate::claim::{Claim, PlanKind};
+use crate::kind::PlanKind;
 use crate::lines::{
     claim_on, claims_section_on, header_on, last_on, order_on, order_section_on, peak_on,
     priority_on, priority_section_on,
 };
-use crate::ranking::Ranking;
 use crate::stage::Stage;
-use mp_text::{Line, Reader, Refusal, Version, fault};
+use mp_text::{Layout, Line, Reader, Refusal, Version, fault, read_with};
+use plans::{Claim, Plan, Ranking};
 use std::alloc::Global;
 use std::marker::Model;
 
@@ -181,4 +181,20 @@ impl Reader for PlanReader {
     fn end(&mut self, past: u64) -> Result<(), Refusal<PlanKind>> {
         self.take_end(past)
     }
+}
+
+/// The plan that a file of version 1 or 2 states, or why it is refused: the first test that fails in the first line that fails, or that
+/// the text ends early. Linear in the bytes.
+pub fn read_plan(alloc: Global, bytes: &[u8]) -> Result<Plan, Refusal<PlanKind>>
+    ensures { MatchResult result (λ plan. ReadsPlan bytes.now plan) (IsPlanRefusal bytes.now) }
+{
+    let reader = read_with(bytes, Layout::Commented, PlanReader::new(alloc))?;
+    let PlanReader {
+        order,
+        ranking,
+        peak,
+        claims,
+        ..
+    } = reader;
+    Ok(Plan::new(order, peak, claims, ranking.into_ranked()))
 }

@@ -1,7 +1,6 @@
-use crate::{
-    Claim, Dir, PlanFile, PlanKind, is_plan, plan_json, print_plan, print_plan_2, read_plan,
-};
+use crate::{PlanKind, plan_json, print_plan, print_plan_2, read_plan};
 use mp_text::{Report, fault};
+use plans::{Claim, Direction, Plan};
 use std::alloc::Global;
 use std::process::Abort;
 use std::test::Fail;
@@ -27,7 +26,7 @@ const MOST: u64 = 1_152_921_504_606_846_976;
 
 const LEAST_BOUND: i64 = -1_152_921_504_606_846_976;
 
-fn claim(position: u32, dir: Dir, bound: i64, rest: u64) -> Claim {
+fn claim(position: u32, dir: Direction, bound: i64, rest: u64) -> Claim {
     Claim {
         position,
         dir,
@@ -36,13 +35,13 @@ fn claim(position: u32, dir: Dir, bound: i64, rest: u64) -> Claim {
     }
 }
 
-fn printed(alloc: Global, plan: &PlanFile) -> Result<Report, Fail> {
+fn printed(alloc: Global, plan: &Plan) -> Result<Report, Fail> {
     let mut report = Report::new(alloc);
     print_plan(plan, &mut report)?;
     Ok(report)
 }
 
-fn printed_2(alloc: Global, plan: &PlanFile) -> Result<Report, Fail> {
+fn printed_2(alloc: Global, plan: &Plan) -> Result<Report, Fail> {
     let mut report = Report::new(alloc);
     print_plan_2(plan, &mut report)?;
     Ok(report)
@@ -109,12 +108,12 @@ fn writes_json(rt: HostRuntime) -> Result<(), Fail> {
     Ok(())
 }
 
-fn check_tasks(rt: &impl Abort, plan: &PlanFile, order: &[u32], priority: &[u32]) {
+fn check_tasks(rt: &impl Abort, plan: &Plan, order: &[u32], priority: &[u32]) {
     assert_eq!(rt; plan.order(), order);
     assert_eq!(rt; plan.priority(), priority);
 }
 
-fn check_claims(rt: &impl Abort, plan: &PlanFile, peak: u64, claims: &[Claim]) {
+fn check_claims(rt: &impl Abort, plan: &Plan, peak: u64, claims: &[Claim]) {
     assert_eq!(rt; plan.peak(), peak);
     assert_eq!(rt; plan.claims(), claims);
 }
@@ -123,10 +122,10 @@ fn check_claims(rt: &impl Abort, plan: &PlanFile, peak: u64, claims: &[Claim]) {
 fn gives_the_parts(rt: HostRuntime) -> Result<(), Fail> {
     let plan = read_plan(rt.alloc(), FIVE)?;
     let claims = [
-        claim(5, Dir::R, 5, 5),
-        claim(10, Dir::R, 5, 5),
-        claim(11, Dir::R, 10, 10),
-        claim(13, Dir::R, 10, 0),
+        claim(5, Direction::Backward, 5, 5),
+        claim(10, Direction::Backward, 5, 5),
+        claim(11, Direction::Backward, 10, 10),
+        claim(13, Direction::Backward, 10, 0),
     ];
     check_tasks(&rt, &plan, &[1, 3, 2, 4, 5], &[]);
     check_claims(&rt, &plan, 11, &claims);
@@ -145,8 +144,8 @@ fn gives_a_priority(rt: HostRuntime) -> Result<(), Fail> {
 fn gives_claims_at_the_limits(rt: HostRuntime) -> Result<(), Fail> {
     let plan = read_plan(rt.alloc(), LEAST)?;
     let claims = [
-        claim(1, Dir::F, -1, 0),
-        claim(4_294_967_295, Dir::F, LEAST_BOUND, MOST),
+        claim(1, Direction::Forward, -1, 0),
+        claim(4_294_967_295, Direction::Forward, LEAST_BOUND, MOST),
     ];
     check_tasks(&rt, &plan, &[], &[]);
     check_claims(&rt, &plan, MOST, &claims);
@@ -161,39 +160,7 @@ const LOOSE: &[u8] =
 fn passes_over_what_says_nothing(rt: HostRuntime) -> Result<(), Fail> {
     let plan = read_plan(rt.alloc(), LOOSE)?;
     check_tasks(&rt, &plan, &[7], &[]);
-    check_claims(&rt, &plan, 0, &[claim(1, Dir::F, 0, 0)]);
-    Ok(())
-}
-
-#[test]
-fn a_plan_of_no_tasks(rt: HostRuntime) {
-    let alloc = rt.alloc();
-    let plan = PlanFile::new(Vec::new(alloc), 0, Vec::new(alloc), Vec::new(alloc));
-    assert!(rt; plan.order().is_empty());
-}
-
-#[test]
-fn tells_which_parts_make_a_plan(rt: HostRuntime) -> Result<(), Fail> {
-    let claims = [claim(2, Dir::F, -5, 0), claim(7, Dir::R, 0, MOST)];
-    let low = claim(2, Dir::F, LEAST_BOUND - 1, 0);
-    let high = claim(2, Dir::F, 0, MOST + 1);
-    let rows: [(u64, &[Claim], &[u32], bool); 11] = [
-        (MOST, &claims, &[2, 3, 1], true),
-        (0, &[], &[], true),
-        (MOST + 1, &claims, &[], false),
-        (9, &[claims[1], claims[0]], &[], false),
-        (9, &[claims[0], claims[0]], &[], false),
-        (9, &[claim(0, Dir::F, 0, 0)], &[], false),
-        (9, &[low], &[], false),
-        (9, &[high], &[], false),
-        (9, &claims, &[2, 3], false),
-        (9, &claims, &[2, 3, 2], false),
-        (9, &claims, &[2, 3, 4], false),
-    ];
-    for (peak, claims, priority, want) in rows {
-        let told = is_plan(rt.alloc(), &[3, 1, 2], peak, claims, priority)?;
-        assert_eq!(rt; told, want, "{claims:?} {priority:?}");
-    }
+    check_claims(&rt, &plan, 0, &[claim(1, Direction::Forward, 0, 0)]);
     Ok(())
 }
 

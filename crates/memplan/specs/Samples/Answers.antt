@@ -14,8 +14,8 @@ use Rattle.tree_input.specs.Samples.{five}
 use Rattle.sp_terms.specs.declared.position.Position.{Position}
 use Rattle.sp_terms.specs.declared.position.Position.TheVariants.{Hold}
 use Rattle.sp_terms.specs.declared.position.Position.TheVariants as at
-use Rattle.plan_text.specs.declared.claim.Dir.TheVariants.{R}
-use Rattle.plan_text.specs.Plan.{PlanText}
+use Rattle.plans.specs.declared.claim.Direction.TheVariants.{Backward}
+use Rattle.plans.specs.Plan.{PlanValue}
 use Rattle.claim_check.specs.declared.shape.Shape.TheVariants as shapes
 use Rattle.claim_check.specs.declared.objection.Objection.TheVariants as objections
 use Rattle.claim_check.specs.declared.verdict.Verdict.TheVariants.{Yes, No}
@@ -66,8 +66,8 @@ unfolding digits
 yes_line = refl
 
 -- the plan of one task
-abbrev pub one_plan : PlanText
-one_plan = record { order = 1 ∷ []; peak = 9; claims = record { position = 3; dir = R; bound = pos 8; rest = 7 } ∷ []; priority = [] }
+abbrev pub one_plan : PlanValue
+one_plan = record { order = 1 ∷ []; peak = 9; claims = record { position = 3; dir = Backward; bound = pos 8; rest = 7 } ∷ []; priority = [] }
 
 pub json_line : plan_answer as_json one_plan ≡ done (codes "{\"claims\":[[3,\"R\",8,7]],\"order\":[1],\"peak\":9}\n")
 unfolding digits

@@ -14,9 +14,9 @@ use Rattle.sp_terms.specs.Term.{hold, forward}
 use Rattle.sp_terms.specs.SystemOfTerm.{system_of_term}
 use Rattle.claim_rules.specs.Claims.{Claim as RuleClaim}
 use Rattle.claim_rules.specs.Placed.{MeetsAt}
-use Rattle.plan_text.specs.declared.claim.Claim.{Claim}
-use Rattle.plan_text.specs.declared.claim.Dir.TheVariants.{F}
-use Rattle.plan_text.specs.Plan.{PlanText, claim_at}
+use Rattle.plans.specs.declared.claim.Claim.{Claim}
+use Rattle.plans.specs.declared.claim.Direction.TheVariants.{Forward}
+use Rattle.plans.specs.Plan.{PlanValue, claim_at}
 use Rattle.claim_check.specs.declared.shape.Shape.TheVariants as shapes
 use Rattle.claim_check.specs.declared.objection.Objection.TheVariants as objections
 use Rattle.claim_check.specs.declared.verdict.Verdict.TheVariants.{Yes, No}
@@ -48,9 +48,9 @@ system = system_of_term (hold 3)
 
 -- no order stays within 2, and there is but the one without a task
 abbrev pub claims : List Claim
-claims = record { position = 1; dir = F; bound = pos 2; rest = 3 } ∷ []
+claims = record { position = 1; dir = Forward; bound = pos 2; rest = 3 } ∷ []
 
-abbrev pub plan : List Claim → List ℕ → ℕ → PlanText
+abbrev pub plan : List Claim → List ℕ → ℕ → PlanValue
 plan claims order peak = record { order = order; peak = peak; claims = claims; priority = [] }
 
 -- no list that is cut before an element is empty

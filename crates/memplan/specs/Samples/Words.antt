@@ -14,7 +14,7 @@ use Rattle.sp_terms.specs.declared.kind.WorkflowKind.TheVariants as workflows
 use Rattle.task_graph.specs.Kinds.{word_of as graph_word}
 use Rattle.task_graph.specs.declared.kind.GraphKind.TheVariants as graphs
 use Rattle.plan_text.specs.Kinds.{word_of as plan_word}
-use Rattle.plan_text.specs.declared.claim.PlanKind.TheVariants as plans
+use Rattle.plan_text.specs.declared.kind.PlanKind.TheVariants as plans
 use Rattle.matrix_market.specs.Kinds.{word_of as matrix_word}
 use Rattle.matrix_market.specs.declared.kind.MatrixKind.TheVariants as matrices
 use Rattle.ordering.specs.Kinds.{perm_word, order_file_word}

@@ -7,7 +7,7 @@ ghost use Rattle.memplan.specs.Pages.{answer_of};
 ghost use Rattle.memplan.specs.Request.{AreWorkers, IsInRange, check};
 ghost use Rattle.memplan.specs.RequestViews.{input_view, request_view};
 
-use crate::files::{PlanTextFile, judge};
+use crate::files::{PlanFile, judge};
 use crate::inputs::judge_input;
 use crate::page::{Page, PageKind, line_page, order_page};
 use crate::request::{Input, Request, input_of, workers_of};
@@ -82,7 +82,7 @@ pub fn report_check<R: Threads + Sync, F: Files, G: Gate>(
     ensures later { (other : List ℕ) → F.faults_of files.old other ≤ F.faults_of files.new other }
 {
     let problem = judge_input(alloc, files, asked.input)?;
-    let plan = judge(alloc, files, asked.plan, &PlanTextFile)?;
+    let plan = judge(alloc, files, asked.plan, &PlanFile)?;
     let verdict = problem.check(rt, alloc, &plan, asked.workers, gate)?;
     Ok(verdict_page(alloc, verdict)?)
 }

@@ -25,7 +25,7 @@ use mp_text::Report;
 use mp_text::Token::Word;
 use mp_text::laws::printed_lines;
 use ordering::{MindegRefusal, min_degree};
-use plan_text::PlanFile;
+use plans::Plan;
 use postorder_best::best_postorder;
 use sp_terms::Terms;
 use std::alloc::{AllocError, Global};
@@ -286,7 +286,7 @@ fn judged_page<R: Threads + Sync, G: Gate>(
     alloc: Global,
     kind: &str,
     made: &Made,
-    plan: &PlanFile,
+    plan: &Plan,
     gate: &G,
 ) -> Result<Page, AllocError>
     requires kind { IsTrue (is_token kind.now) }

@@ -15,7 +15,8 @@ use command_line::Line;
 use mp_outside::Files;
 use mp_text::Report;
 use mp_text::Token::Word;
-use plan_text::{PlanFile, plan_json, print_plan};
+use plan_text::{plan_json, print_plan};
+use plans::Plan;
 use std::alloc::{AllocError, Global};
 
 /// `plan`, an input, and `--print text` or `--print json` if it is given.
@@ -33,7 +34,7 @@ pub fn plan_of<'a>(line: &Line<'a>) -> Option<Request<'a>>
 }
 
 // A plan file, or the JSON of the plan.
-fn plan_page(alloc: Global, format: PlanFormat, plan: &PlanFile) -> Result<Page, AllocError>
+fn plan_page(alloc: Global, format: PlanFormat, plan: &Plan) -> Result<Page, AllocError>
     ensures { IfOk result (λ page. answer_of page ≡ plan_answer (format_view format) plan.now) }
 {
     let kind = PageKind::Done;

@@ -8,7 +8,7 @@ ghost use Rattle.memplan.specs.Pages.{answer_of};
 ghost use Rattle.memplan.specs.Request.{IsInRange, upgrade, plan_upgrade, upgrade_files};
 ghost use Rattle.memplan.specs.RequestViews.{upgrade_view, request_view};
 
-use crate::files::{PlanTextFile, TreeFile, WorkflowFile, judge};
+use crate::files::{PlanFile, TreeFile, WorkflowFile, judge};
 use crate::inputs::{Priority, judge_priority};
 use crate::page::{Page, PageKind};
 use crate::request::Request;
@@ -16,7 +16,8 @@ use crate::stop::Stop;
 use command_line::Line;
 use mp_outside::Files;
 use mp_text::Report;
-use plan_text::{PlanFile, print_plan_2};
+use plan_text::print_plan_2;
+use plans::Plan;
 use sp_terms::{Terms, print_workflow_2};
 use std::alloc::{AllocError, Global};
 use tree_input::{Tree, print_tree_2};
@@ -80,7 +81,7 @@ fn workflow_2_page(alloc: Global, terms: &Terms) -> Result<Page, AllocError>
     Ok(Page { kind, report })
 }
 
-fn plan_2_page(alloc: Global, plan: &PlanFile) -> Result<Page, AllocError>
+fn plan_2_page(alloc: Global, plan: &Plan) -> Result<Page, AllocError>
     ensures { IfOk result (λ page. answer_of page ≡ upgrade_answer (plan_value plan.now)) }
 {
     let mut report = Report::new(alloc);
@@ -97,14 +98,14 @@ fn judge_plan<F: Files>(
     files: &mut F,
     name: &str,
     priority: Option<&str>,
-) -> Result<PlanFile, Stop>
+) -> Result<Plan, Stop>
     ensures judged { let asked = plan_upgrade name.now (option_map (λ s. s.now) priority.entry) in
         AreJudged (F.bytes_of files.old) (F.faults_of files.old) (F.faults_of files.new) (upgrade_files asked)
         (λ texts plan. IsUpgradedFrom asked texts (plan_value plan)) (IsFirstRefusal (upgrade_files asked) []) result }
     ensures same { (other : List ℕ) → F.bytes_of files.new other ≡ F.bytes_of files.old other }
     ensures later { (other : List ℕ) → F.faults_of files.old other ≤ F.faults_of files.new other }
 {
-    let plan = judge(alloc, files, name, &PlanTextFile)?;
+    let plan = judge(alloc, files, name, &PlanFile)?;
     let count = plan.order().len() as u32;
     match judge_priority(alloc, files, priority, count)? {
         Priority::Own => Ok(plan),

@@ -1,6 +1,6 @@
 //! Limits, and inputs near them, which are generated.
 
-use super::plans::check_plan;
+use super::planning::check_plan;
 use super::{FIVE, check_run};
 use crate::Status::{self, Done, Limit, No};
 use mp_outside::{Failed, Files, MemFiles};

@@ -1,6 +1,6 @@
 //! Task graphs as workflows, and the rests of those that have no term.
 
-use super::plans::check_plan;
+use super::planning::check_plan;
 use super::{Case, check_cases, files_of, run_into};
 use crate::Status::{Done, Format, Limit, NotSeriesParallel};
 use mp_outside::MemSink;

@@ -1,5 +1,5 @@
 use Rattle.std.proofs.Common.{◌+◌, sym, ◌∙◌, subst}
-use Rattle.plan_text.specs.Plan.{claim_at}
+use Rattle.plans.specs.Plan.{claim_at}
 use Rattle.claim_check.specs.Lowest.{IsLowestIn}
 use Rattle.claim_check.proofs.Chunked.{lowest_inside, lowest_outside}
 use Rattle.claim_check.proofs.Outside.{passes_0}

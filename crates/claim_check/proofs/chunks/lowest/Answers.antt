@@ -1,5 +1,5 @@
 use Rattle.std.proofs.Common.{◌+◌, ◌-◌, ◌/◌, sym, ◌∙◌, arith}
-use Rattle.plan_text.specs.Plan.{claim_at}
+use Rattle.plans.specs.Plan.{claim_at}
 use Rattle.claim_check.proofs.Chunked.{lowest_of_term, lowest_inside, lowest_outside}
 use Rattle.claim_check.proofs.Outside.{passes_0}
 use Rattle.claim_check.proofs.chunks.lowest.Goals as goal

@@ -1,5 +1,5 @@
 use Rattle.std.proofs.Common.{sym, ◌∙◌, arith}
-use Rattle.plan_text.specs.Plan.{claim_at}
+use Rattle.plans.specs.Plan.{claim_at}
 use Rattle.claim_check.specs.Judged.{PassesAt}
 use Rattle.claim_check.proofs.Chunked.{one_more, is_none}
 use Rattle.claim_check.proofs.chunks.lowest_in.Goals as goal

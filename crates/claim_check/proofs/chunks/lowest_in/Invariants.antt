@@ -1,5 +1,5 @@
 use Rattle.std.proofs.Common.{ℕ, ◌<◌, ◌≤◌}
-use Rattle.plan_text.specs.Plan.{claim_at}
+use Rattle.plans.specs.Plan.{claim_at}
 use Rattle.claim_check.specs.Judged.{PassesAt}
 use Rattle.claim_check.proofs.chunks.lowest_in.Given as goal
 

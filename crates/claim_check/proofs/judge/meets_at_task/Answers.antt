@@ -4,7 +4,7 @@ use Rattle.sp_terms.specs.declared.position.Values.{Values}
 use Rattle.sp_terms.specs.Places.{term_of_position}
 use Rattle.sp_terms.specs.Term.{width_of, initial_of, final_of}
 use Rattle.sp_terms.specs.Values.{values_of}
-use Rattle.plan_text.specs.Plan.{claim_of, claim_at}
+use Rattle.plans.specs.Plan.{claim_of, claim_at}
 use Rattle.claim_check.proofs.SeriesAt.{series_at, series_judged}
 use Rattle.claim_check.proofs.judge.meets_at_task.Goals as goal
 

@@ -1,6 +1,6 @@
 use Rattle.std.proofs.Common.{◌≡◌, true, false, arith}
 use Rattle.sp_terms.specs.declared.position.Position.TheVariants.{Par}
-use Rattle.plan_text.specs.Plan.{claim_of, claim_at}
+use Rattle.plans.specs.Plan.{claim_of, claim_at}
 use Rattle.claim_check.proofs.Sums.{own_at}
 use Rattle.claim_check.proofs.SeriesAt.{par_judged, par_unclaimed, par_below}
 use Rattle.claim_check.proofs.judge.meets_par.Goals as goal

@@ -1,6 +1,6 @@
 use Rattle.std.proofs.Common.{sym, ◌∙◌}
 use Rattle.sp_terms.specs.declared.position.Position.TheVariants.{Hold}
-use Rattle.plan_text.specs.Plan.{claim_of, claim_at}
+use Rattle.plans.specs.Plan.{claim_of, claim_at}
 use Rattle.claim_check.proofs.Sums.{own_at}
 use Rattle.claim_check.proofs.SeriesAt.{data_judged}
 use Rattle.claim_check.proofs.judge.meets_rule.Goals as goal

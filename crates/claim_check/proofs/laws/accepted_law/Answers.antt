@@ -5,7 +5,7 @@ use Rattle.mp_system.specs.Traversal.{IsLeast}
 use Rattle.sp_terms.specs.SystemOfTerm.{system_of_term}
 use Rattle.sp_terms.specs.Values.{term_of}
 use Rattle.claim_rules.specs.Claims.{IsSound}
-use Rattle.plan_text.specs.Plan.{claim_at}
+use Rattle.plans.specs.Plan.{claim_at}
 use Rattle.claim_check.proofs.Renamed.{least_of_renamed}
 use Rattle.claim_check.proofs.laws.accepted_law.Goals as goal
 

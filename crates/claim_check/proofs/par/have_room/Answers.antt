@@ -3,7 +3,7 @@ use Rattle.std.specs.Prelude.{option_map}
 use Rattle.sp_terms.specs.declared.position.Values.{Values}
 use Rattle.sp_terms.specs.Places.{term_of_position}
 use Rattle.claim_rules.specs.Rules.{value_in, HasRoom}
-use Rattle.plan_text.specs.Plan.{claim_of, claim_at, direction_of}
+use Rattle.plans.specs.Plan.{claim_of, claim_at, direction_of}
 use Rattle.claim_check.proofs.Sums.{Roomy, par_at, step_at, roomy_none, roomy_more, value_below, room_same, room_here}
 use Rattle.claim_check.proofs.par.have_room.Goals as goal
 

@@ -3,7 +3,7 @@ use Rattle.std.specs.Prelude.{option_map, is_some, ◌||◌}
 use Rattle.sp_terms.specs.declared.position.Values.{Values}
 use Rattle.sp_terms.specs.Places.{term_of_position}
 use Rattle.claim_rules.specs.Rules.{value_in}
-use Rattle.plan_text.specs.Plan.{claim_of, claim_at, direction_of}
+use Rattle.plans.specs.Plan.{claim_of, claim_at, direction_of}
 use Rattle.claim_check.proofs.Sums.{Summed, par_at, step_at, summed_none, summed_more}
 use Rattle.claim_check.proofs.par.sum_of_parts.Goals.{then-some, else-some}
 use Rattle.claim_check.proofs.par.sum_of_parts.Goals as goal

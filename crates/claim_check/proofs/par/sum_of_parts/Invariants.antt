@@ -1,4 +1,4 @@
-use Rattle.plan_text.specs.Plan.{claim_at, direction_of}
+use Rattle.plans.specs.Plan.{claim_at, direction_of}
 use Rattle.claim_check.proofs.Sums.{Summed}
 use Rattle.claim_check.proofs.par.sum_of_parts.Given as goal
 

@@ -2,7 +2,7 @@ use Rattle.std.proofs.Common.{◌≡◌, ap, true, arith}
 use Rattle.std.proofs.Common.{rules}
 use Rattle.std.proofs.lemmas.Int.{ints}
 use Rattle.std.specs.Prelude.{option_map}
-use Rattle.plan_text.specs.Plan.{claim_of, direction_of}
+use Rattle.plans.specs.Plan.{claim_of, direction_of}
 use Rattle.claim_rules.specs.Rules.{is_same}
 use Rattle.claim_check.proofs.Series.{same_direction, has_here}
 use Rattle.claim_check.proofs.rules.has.Goals as goal

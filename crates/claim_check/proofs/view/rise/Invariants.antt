@@ -1,6 +1,6 @@
 use Rattle.std.proofs.Common.{drop}
 use Rattle.std.specs.Prelude.{◌↔◌}
-use Rattle.plan_text.specs.Plan.{RiseFrom}
+use Rattle.plans.specs.Plan.{RiseFrom}
 use Rattle.claim_check.proofs.view.rise.Given as goal
 
 abbrev pub invariant-loop-claim : goal.invariant-loop-claim

@@ -3,7 +3,7 @@ use Rattle.std.specs.Prelude.{pos, ◌+ℤ◌, ◌≤ℤ◌}
 use Rattle.claim_rules.specs.Claims.{Claim}
 use Rattle.claim_check.specs.Accepted.{HasRoot}
 use Rattle.claim_check.specs.Judged.{PassesAt}
-use Rattle.plan_text.specs.Plan.{PlanText, claim_at}
+use Rattle.plans.specs.Plan.{PlanValue, claim_at}
 use Rattle.least_peak.proofs.PlanningLemmas.{plan_within, plan_accepted}
 use Rattle.least_peak.proofs.planning.plan_counted.Goals as goal
 
@@ -29,6 +29,6 @@ returns-clause-accepted g c =
     let is = c.new-2.ensures in
     λ system term. plan_accepted c.renaming_law.ensures.traversal c.renaming_law.ensures.peak c.traversal_law.ensures.long system c.args.terms.now c.args.names term
     c.in_ok-plan.plan.order.items c.in_ok-plan.plan.peak made.traversal.0 made.traversal.1 c.in_ok-named.named.items c.in_ok-named.ensures
-    c.new-2.result (ap (λ (p : PlanText). p.order) is) (ap (λ (p : PlanText). p.peak) is)
+    c.new-2.result (ap (λ (p : PlanValue). p.order) is) (ap (λ (p : PlanValue). p.peak) is)
     (subst (HasRoot c.args.terms.now) (sym is) (subst (λ n. (k : Claim) × (claim_at c.in_ok-claims.claims.items (length c.args.terms.now) ≡ Some k) × (pos n ≤ℤ (k.bound +ℤ pos 1))) (sym made.peak) claims.root))
-    (subst (λ (p : PlanText). (k : ℕ) → PassesAt c.args.terms.now (claim_at p.claims) k) (sym is) claims.pass)
+    (subst (λ (p : PlanValue). (k : ℕ) → PassesAt c.args.terms.now (claim_at p.claims) k) (sym is) claims.pass)

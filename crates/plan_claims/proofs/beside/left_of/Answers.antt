@@ -1,6 +1,6 @@
 use Rattle.std.proofs.Common.{false, get_or, arith}
 use Rattle.sp_cuts.specs.declared.notes.PartNote.{PartNote}
-use Rattle.plan_text.specs.Plan.{direction_of}
+use Rattle.plans.specs.Plan.{direction_of}
 use Rattle.plan_claims.proofs.Loops.{any_default, place_here, places_on, left_goes}
 use Rattle.plan_claims.proofs.beside.left_of.Goals as goal
 

@@ -1,6 +1,6 @@
 use Rattle.std.proofs.Common.{◌≡◌, drop}
 use Rattle.hill_valley.specs.Numbers.{segments_of}
-use Rattle.plan_text.specs.Plan.{direction_of}
+use Rattle.plans.specs.Plan.{direction_of}
 use Rattle.plan_claims.specs.Levels.{left_over}
 use Rattle.plan_claims.proofs.Loops.{Places}
 use Rattle.plan_claims.proofs.beside.left_of.Given as goal

@@ -1,5 +1,5 @@
 use Rattle.std.proofs.Common.{◌≡◌, ℕ, ap, sym, subst, ◌∙◌, arith, reverse, List, ◌++◌, ◌∷◌, [], Some, Option}
-use Rattle.plan_text.specs.declared.claim.Claim.{Claim}
+use Rattle.plans.specs.declared.claim.Claim.{Claim}
 use Rattle.sp_cuts.specs.Notes.{noted_in}
 use Rattle.plan_claims.specs.declared.wanted.Wanted.{Wanted}
 use Rattle.plan_claims.specs.Walks.{IsLeft, IsRight, AreClaimsOf}

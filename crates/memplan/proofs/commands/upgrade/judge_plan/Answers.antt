@@ -1,7 +1,7 @@
 use Rattle.std.proofs.Common.{ℕ, List, [], ◌∷◌, length, sym, subst, inl, option_map}
 use Rattle.std.specs.Prelude.{codes}
 use Rattle.plan_text.specs.Kinds.{word_of as plan_word}
-use Rattle.plan_text.specs.Plan.{PlanText}
+use Rattle.plans.specs.Plan.{PlanValue}
 use Rattle.plan_text.specs.PlanFile.{RefusesPlan}
 use Rattle.memplan.specs.Files.{IsRefusedFile, IsFirstRefusal}
 use Rattle.memplan.specs.Judged.{IsStop, IsPriorityOf, IsRefusedRanking, IsRanking}
@@ -73,7 +73,7 @@ returns-in-Given-clause-judged g c =
     let given = option_map (λ s. s.now) c.args.priority in
     let more = priority_files plan_priority_file given in
     let plan = c.in_ok-plan.plan in
-    λ texts are. subst (λ (p : PlanText). IsUpgradedFrom (plan_upgrade name given) texts (plan_value p)) (sym c.with_priority.ensures)
+    λ texts are. subst (λ (p : PlanValue). IsUpgradedFrom (plan_upgrade name given) texts (plan_value p)) (sym c.with_priority.ensures)
     (upgraded_plan told name plan c.in_ok-plan.ensures.judged given (Given c.in-Given.numbers)
     (λ ts told_more. subst (IsPriorityOf given (length plan.order) ts) c.in-Given.is
     (subst (λ (order : List ℕ). IsPriorityOf given (length order) ts c.in_ok-judge_priority.field-0) c.order.ensures.value
