@@ -8,8 +8,8 @@ use Rattle.std.proofs.lemmas.List.FromFn.{length-map-range_with_len, get_or-map-
 use Rattle.std.proofs.lemmas.Nat.{mul-le}
 use Rattle.std.proofs.Math.Nat.{max-le}
 use Rattle.std.proofs.lemmas.Bool.{cases_eq, eqb-true}
-use Rattle.tree_input.specs.declared.node.Node.{Node}
-use Rattle.tree_input.specs.Tree.{IsNode, IsTree, IsNodeWithin, node_at, node_size, ancestor, out_below, children_out}
+use Rattle.trees.specs.declared.node.Node.{Node}
+use Rattle.trees.specs.Tree.{IsNode, IsTree, IsNodeWithin, node_at, node_size, ancestor, out_below, children_out}
 use Rattle.assembly_tree.specs.declared.assembly.Super.{Super}
 use Rattle.assembly_tree.specs.declared.front.Shape.{Shape}
 use Rattle.assembly_tree.specs.declared.front.Shape.TheVariants.{Triangle, Square}

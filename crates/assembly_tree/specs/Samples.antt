@@ -2,7 +2,7 @@
 -- Worked examples: the arrow, whose vertex 1 is joined to 2, 3 and 4, in two orders, and the grid of 2 by 2.
 use Rattle.std.specs.Prelude.{◌≡◌, ℕ, true, false, nat_lt, [], ◌∷◌, refl, map}
 use Rattle.std.specs.List.{range_with_len}
-use Rattle.tree_input.specs.declared.node.Node.{Node}
+use Rattle.trees.specs.declared.node.Node.{Node}
 use Rattle.assembly_tree.specs.declared.assembly.Super.{Super}
 use Rattle.assembly_tree.specs.declared.front.Shape.TheVariants.{Triangle, Square}
 use Rattle.assembly_tree.specs.Assembly.{AssemblyTree}

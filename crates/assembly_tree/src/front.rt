@@ -9,7 +9,7 @@ ghost use Rattle.assembly_tree.specs.Fronts.{kept_entries, share_of, front_node,
 use crate::NoMemory;
 use crate::assembly::{Assembly, Super};
 use std::alloc::Global;
-use tree_input::{Node, Tree};
+use trees::{Node, Tree};
 
 /// Which entries of a front and of a contribution block are kept.
 #[derive(Clone, Copy, Debug, PartialEq, Eq)]

@@ -2,7 +2,7 @@
 
 ghost use Rattle.std.specs.Prelude.{◌≡◌, ℕ, Bool, List};
 ghost use Rattle.ordering.specs.Fill.{IsAdjacency, parents_of, counts_of};
-ghost use Rattle.tree_input.specs.Tree.{IsTree};
+ghost use Rattle.trees.specs.Tree.{IsTree};
 ghost use Rattle.elim_tree.specs.Paths.{IsWithin};
 ghost use Rattle.elim_tree.specs.Trees.{IsForest};
 ghost use Rattle.assembly_tree.specs.declared.front.Shape.{Shape};

@@ -2,8 +2,8 @@
 use Rattle.std.proofs.Common.{subst, ◌+◌, ◌-◌, ◌≡◌, inl, inr, refl, ℕ, zero, suc, ◌<◌, ◌≤◌, Bool, false, List, length, arith, slice_index}
 use Rattle.std.specs.List.Sorted.{IsStrictlyIncreasing}
 use Rattle.std.proofs.lemmas.Bool.{cases_eq}
-use Rattle.matrix_market.specs.Pattern.{neighbours_of, is_joined, IsPattern}
-use Rattle.ordering.specs.Perm.{vertex_at}
+use Rattle.patterns.specs.Pattern.{neighbours_of, is_joined, IsPattern}
+use Rattle.permutations.specs.Perm.{vertex_at}
 use Rattle.ordering.specs.Fill.{renumbered}
 use Rattle.elim_tree.specs.Forests.{column_in}
 use Rattle.column_counts.specs.declared.leaves.Leaves.{Leaves}

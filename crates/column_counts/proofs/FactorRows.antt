@@ -8,8 +8,8 @@ use Rattle.std.proofs.lemmas.List.Folds.{list_any_at, Any-from_list_any}
 use Rattle.std.proofs.lemmas.List.FromFn.{get_or-map-range_with_len, length-map-range_with_len, length-range_with_len, map-range_with_len_more}
 use Rattle.std.proofs.lemmas.List.Sums.{sum_by_push, count_by-le-length}
 use Rattle.limits.specs.Limits.{most_order}
-use Rattle.matrix_market.specs.Pattern.{neighbours_of, has, is_joined, IsPattern}
-use Rattle.ordering.specs.Perm.{IsVertex, vertex_at, place_of}
+use Rattle.patterns.specs.Pattern.{neighbours_of, has, is_joined, IsPattern}
+use Rattle.permutations.specs.Perm.{IsVertex, vertex_at, place_of}
 use Rattle.ordering.specs.Fill.{graph_at, structure_of, parent_of, parents_of, count_of, counts_of, renumbered, IsAdjacency, IsParent}
 use Rattle.elim_tree.specs.Paths.{IsWithin, IsInRowSubtree}
 use Rattle.elim_tree.specs.Trees.{parent_at, IsForest, IsAbove, self, step}

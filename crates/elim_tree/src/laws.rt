@@ -2,8 +2,8 @@
 
 ghost use Rattle.std.specs.Prelude.{◌≡◌, ◌↔◌, ◌<◌, ◌≤◌, ℕ, Bool, IsTrue, List, length, map};
 ghost use Rattle.limits.specs.Limits.{most_order};
-ghost use Rattle.matrix_market.specs.Pattern.{is_joined, IsPattern};
-ghost use Rattle.ordering.specs.Perm.{IsVertex, place_of};
+ghost use Rattle.patterns.specs.Pattern.{is_joined, IsPattern};
+ghost use Rattle.permutations.specs.Perm.{IsVertex, place_of};
 ghost use Rattle.ordering.specs.Fill.{structure_of, count_of, parents_of, counts_of, renumbered, IsAdjacency};
 ghost use Rattle.elim_tree.specs.Paths.{Path, IsWithin, IsInherited, IsInRowSubtree};
 ghost use Rattle.elim_tree.specs.Postorders.{IsPostorder};

@@ -3,17 +3,18 @@
 ghost use Rattle.std.specs.Prelude.{◌≡◌, ℕ, ◌+◌, ◌<◌, ◌≤◌, true, List, length, slice_index, IfOk};
 ghost use Rattle.std.specs.List.Sorted.{IsStrictlyIncreasing};
 ghost use Rattle.limits.specs.Limits.{most_order};
-ghost use Rattle.matrix_market.specs.Pattern.{is_joined};
+ghost use Rattle.patterns.specs.Pattern.{is_joined};
 ghost use Rattle.ordering.specs.Fill.{renumbered, parents_of};
-ghost use Rattle.ordering.specs.Perm.{place_of};
+ghost use Rattle.permutations.specs.Perm.{place_of};
 ghost use Rattle.elim_tree.specs.Forests.{Rooted, CanLink, IsLinked, CanTake, IsTaken, IsInTurn};
 ghost use Rattle.elim_tree.specs.Reaches.{IsFirstReached};
 
 use crate::NoMemory;
 use crate::parents::Parents;
-use matrix_market::Pattern;
-use ordering::Perm;
-use ordering::laws::{parent_is_first, places_are_inverse};
+use patterns::Pattern;
+use permutations::Perm;
+use ordering::laws::parent_is_first;
+use permutations::laws::places_are_inverse;
 use std::alloc::Global;
 
 // Goes from `start` to the root of its tree, and puts that root under k. Whoever is passed gets k for its ancestor, so that later ways

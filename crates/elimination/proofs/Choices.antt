@@ -4,7 +4,7 @@ use Rattle.std.specs.Prelude.{min, max}
 use Rattle.std.specs.List.{sum_by}
 use Rattle.std.proofs.lemmas.Bool.{cases_lt}
 use Rattle.std.proofs.lemmas.List.Sums.{sum_by-set}
-use Rattle.matrix_market.specs.Pattern.{has, neighbours_of}
+use Rattle.patterns.specs.Pattern.{has, neighbours_of}
 use Rattle.min_tree.specs.Least.{IsFirstLeast, greatest}
 use Rattle.elimination.specs.Elimination.{IsVertex, degree_of}
 use Rattle.elimination.specs.Quotients.{Quotient, AreLinks, LeadsTo, at}

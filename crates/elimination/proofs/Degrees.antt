@@ -7,7 +7,7 @@ use Rattle.std.proofs.lemmas.List.Elements.{All-head, All-tail, All-from_get_or}
 use Rattle.std.proofs.lemmas.List.Kept.{AllPairs-from_increasing}
 use Rattle.elimination.specs.Elimination.{eliminate, IsAdjacency, IsVertex, times, degree_of}
 use Rattle.elimination.proofs.VertexLists.{times-cons, times-here, has_at}
-use Rattle.matrix_market.specs.Pattern.{has, neighbours_of, is_joined, IsPattern}
+use Rattle.patterns.specs.Pattern.{has, neighbours_of, is_joined, IsPattern}
 use Rattle.elimination.specs.Twins.{is_near}
 use Rattle.elimination.proofs.Eliminations.{keep_old}
 use Rattle.elimination.proofs.ListFacts.{has_one, has_own, has_left, has_right, has_cases, times_some, rising_once, same_bool}

@@ -4,7 +4,7 @@ use Rattle.std.specs.List.{filter, sum_by}
 use Rattle.std.proofs.lemmas.Bool.{cases_eq, cases_lt, cases_Bool, or_cases, or_left, or_right, or_parts, and_from, and_parts, both_ways, false_from_ne_true, not_from_false, eqb-true, eq-eqb}
 use Rattle.std.proofs.lemmas.List.{get_or-set_other, get_or-set_same}
 use Rattle.std.proofs.lemmas.List.Sums.{sum_by-set}
-use Rattle.matrix_market.specs.Pattern.{has}
+use Rattle.patterns.specs.Pattern.{has}
 use Rattle.min_tree.specs.Least.{IsFirstLeast, greatest}
 use Rattle.elimination.specs.Elimination.{IsVertex, IsAhead, degree_of, times, eliminate}
 use Rattle.elimination.specs.Twins.{is_near}

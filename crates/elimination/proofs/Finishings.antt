@@ -1,7 +1,7 @@
 -- The rest of an elimination, where all that are left are joined to each other.
 use Rattle.std.proofs.Common.{◌≡◌, ◌≢◌, ℕ, ◌+◌, ◌≤◌, inl, inr, false, List, [], ◌∷◌, ◌++◌, length, sym, ◌∙◌, arith, subst, IsTrue}
 use Rattle.std.proofs.lemmas.Bool.{cases_eq, cases_lt, cases_Bool}
-use Rattle.matrix_market.specs.Pattern.{has, is_joined}
+use Rattle.patterns.specs.Pattern.{has, is_joined}
 use Rattle.min_tree.specs.Least.{IsFirstLeast}
 use Rattle.elimination.specs.Elimination.{IsVertex, times, eliminate, eliminated, degree_of, IsRemaining, IsAdjacency}
 use Rattle.elimination.specs.Quotients.{at}

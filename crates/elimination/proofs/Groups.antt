@@ -6,7 +6,7 @@ use Rattle.std.proofs.lemmas.List.Sums.{sum_by-cons}
 use Rattle.std.proofs.lemmas.List.Elements.{All-from_get_or}
 use Rattle.elimination.specs.Elimination.{IsAdjacency, IsVertex, times, degree_of}
 use Rattle.elimination.proofs.VertexLists.{times-here, times-beyond, times_append, has_at}
-use Rattle.matrix_market.specs.Pattern.{has}
+use Rattle.patterns.specs.Pattern.{has}
 use Rattle.elimination.specs.Quotients.{Quotient, at}
 use Rattle.elimination.specs.Hoods.{IsHood}
 use Rattle.elimination.specs.Twins.{is_near, IsGrouped}

@@ -4,7 +4,7 @@ use Rattle.std.specs.List.{All}
 use Rattle.std.proofs.lemmas.List.Elements.{All-from_get_or}
 use Rattle.std.proofs.lemmas.Bool.{cases_eq, cases_Bool, both_ways, eq-eqb, ne_eqb}
 use Rattle.elimination.specs.Elimination.{IsVertex, times, degree_of}
-use Rattle.matrix_market.specs.Pattern.{has}
+use Rattle.patterns.specs.Pattern.{has}
 use Rattle.min_tree.specs.Least.{greatest}
 use Rattle.elimination.specs.Quotients.{Quotient, IsQuotient, at}
 use Rattle.elimination.specs.Hoods.{AreHidden, mark_at}

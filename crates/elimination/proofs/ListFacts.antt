@@ -7,7 +7,7 @@ use Rattle.std.proofs.lemmas.List.{get_or-set_other}
 use Rattle.std.proofs.lemmas.Grind.{get_or-set_at}
 use Rattle.elimination.specs.Elimination.{times}
 use Rattle.elimination.proofs.VertexLists.{times-here, times-beyond, has_push, has_at, place_of}
-use Rattle.matrix_market.specs.Pattern.{has}
+use Rattle.patterns.specs.Pattern.{has}
 
 pub has_one : (b x : ℕ) → has (b ∷ []) x ≡ true → b ≡ x
 has_one b x h = eqb-true b x (sym (has_push [] b x) ∙ h)

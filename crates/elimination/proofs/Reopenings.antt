@@ -2,7 +2,7 @@
 use Rattle.std.proofs.Common.{◌≡◌, ◌≢◌, ℕ, ◌-◌, ◌<◌, ◌≤◌, inl, inr, ◌⊎◌, Bool, false, cond, List, [], ◌∷◌, length, refl, sym, ap, ◌∙◌, arith, subst, IsTrue, eqb, set, length-set}
 use Rattle.std.proofs.lemmas.Bool.{cases_eq, cases_Bool, both_ways, eq-eqb, ne_eqb}
 use Rattle.elimination.specs.Elimination.{IsAdjacency, eliminate, IsVertex, times}
-use Rattle.matrix_market.specs.Pattern.{has}
+use Rattle.patterns.specs.Pattern.{has}
 use Rattle.elimination.proofs.VertexLists.{place_of, has_at}
 use Rattle.min_tree.specs.Least.{greatest}
 use Rattle.elimination.specs.Quotients.{Quotient, IsQuotient, AreLinks, LeadsTo, at}

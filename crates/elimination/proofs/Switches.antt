@@ -2,7 +2,7 @@
 use Rattle.std.proofs.Common.{◌≡◌, ◌≢◌, ◌⊎◌, inl, inr, ℕ, ◌≤◌, Bool, eqb, List, [], ◌++◌, map, length, refl, sym, ap, ◌∙◌, arith, subst, IsTrue}
 use Rattle.std.proofs.lemmas.Bool.{cases_eq, cases_lt, or_left, eq-eqb}
 use Rattle.std.proofs.lemmas.List.{get_or_past}
-use Rattle.matrix_market.specs.Pattern.{has}
+use Rattle.patterns.specs.Pattern.{has}
 use Rattle.elimination.specs.Elimination.{IsVertex, IsAdjacency, eliminated, degree_of}
 use Rattle.elimination.specs.Quotients.{Quotient, at}
 use Rattle.elimination.specs.Tables.{Tables}

@@ -1,7 +1,7 @@
 -- One turn, told by what each part of it writes.
 use Rattle.std.proofs.Common.{◌≡◌, ◌≢◌, ℕ, ◌-◌, ◌<◌, ◌≤◌, inl, inr, Bool, false, List, length, refl, sym, ◌∙◌, arith, subst, IsTrue, set, get_or}
 use Rattle.std.proofs.lemmas.Bool.{cases_eq}
-use Rattle.matrix_market.specs.Pattern.{has}
+use Rattle.patterns.specs.Pattern.{has}
 use Rattle.min_tree.specs.Least.{greatest}
 use Rattle.elimination.specs.Elimination.{IsVertex, eliminate}
 use Rattle.elimination.specs.Quotients.{Quotient, IsQuotient, AreLinks, at}

@@ -6,7 +6,7 @@ use Rattle.std.proofs.lemmas.Bool.{cases_eq, eq-eqb, ne_eqb}
 use Rattle.std.proofs.lemmas.List.Elements.{All-head, All-tail, All-push}
 use Rattle.std.proofs.lemmas.List.Folds.{list_any-append, list_any_at, list_any_more}
 use Rattle.std.proofs.lemmas.List.Sums.{sum_by-cons}
-use Rattle.matrix_market.specs.Pattern.{has, neighbours_of, IsPattern}
+use Rattle.patterns.specs.Pattern.{has, neighbours_of, IsPattern}
 use Rattle.elimination.specs.Elimination.{IsVertex, times}
 
 -- ---- what is in a list

@@ -3,7 +3,7 @@
 use Rattle.std.specs.Prelude.{◌≡◌, ◌≢◌, ◌==◌, ◌⊎◌, ℕ, ◌+◌, ◌/◌, ◌%◌, ◌<◌, ◌≤◌, Bool, false, not, IsTrue, List, [], ◌∷◌, ◌++◌, length}
 use Rattle.std.specs.Prelude.{slice_index}
 use Rattle.std.specs.Int.{bit_at}
-use Rattle.matrix_market.specs.Pattern.{has}
+use Rattle.patterns.specs.Pattern.{has}
 use Rattle.min_tree.specs.Least.{greatest}
 use Rattle.elimination.specs.Elimination.{IsVertex, IsRemaining, IsAhead, IsAdjacency, times, eliminate, eliminated, degree_of}
 use Rattle.elimination.specs.Quotients.{inner_at}

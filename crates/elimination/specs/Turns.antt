@@ -1,6 +1,6 @@
 -- How the next vertex is found: by a number for each vertex that is left, not above its degree. No public clause names this.
 use Rattle.std.specs.Prelude.{◌≡◌, ◌≢◌, ◌⊎◌, ℕ, ◌+◌, ◌<◌, ◌≤◌, Bool, false, IsTrue, List, [], length}
-use Rattle.matrix_market.specs.Pattern.{has, is_joined}
+use Rattle.patterns.specs.Pattern.{has, is_joined}
 use Rattle.min_tree.specs.Least.{greatest}
 use Rattle.elimination.specs.Elimination.{IsVertex, eliminate, degree_of, IsAhead}
 use Rattle.elimination.specs.Quotients.{Quotient, IsQuotient, AreLinks, LeadsTo, at}

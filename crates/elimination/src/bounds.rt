@@ -2,7 +2,7 @@
 
 ghost use Rattle.std.specs.Prelude.{◌≡◌, ℕ, Bool, ◌+◌, ◌-◌, ◌<◌, ◌≤◌, IsTrue, length, slice_index, false, IfOk, OnOk};
 ghost use Rattle.elimination.specs.Elimination.{IsVertex, degree_of};
-ghost use Rattle.matrix_market.specs.Pattern.{has};
+ghost use Rattle.patterns.specs.Pattern.{has};
 ghost use Rattle.elimination.specs.Quotients.{Quotient, at};
 ghost use Rattle.elimination.specs.Tables.{tables, AllHaveLength};
 ghost use Rattle.elimination.specs.Turns.{HasMarks, IsSearch, IsChosen};
@@ -11,7 +11,7 @@ use crate::NoMemory;
 use crate::search::Search;
 use crate::switch::Effort;
 use crate::twins::weigh;
-use matrix_market::Pattern;
+use patterns::Pattern;
 use min_tree::MinTree;
 use std::alloc::Global;
 

@@ -6,7 +6,7 @@ ghost use Rattle.std.specs.Prelude.{◌≡◌, ◌≢◌, ℕ, ◌+◌, ◌-◌,
 ghost use Rattle.std.specs.Prelude.{length, slice_index, take, not, true, false};
 ghost use Rattle.std.specs.List.{count_by, filter, range_with_len};
 ghost use Rattle.std.specs.Int.{bit_at};
-ghost use Rattle.matrix_market.specs.Pattern.{has};
+ghost use Rattle.patterns.specs.Pattern.{has};
 ghost use Rattle.elimination.specs.Elimination.{IsVertex, IsRemaining, degree_of};
 ghost use Rattle.elimination.specs.Dense.{bit_in, lacks, Stage, IsStanding, IsInOpen, AreBitRows, IsLookedAt, IsDense, IsDenseChoice};
 ghost use Rattle.elimination.specs.Dense.{IsDenseUnderWay, IsDenseRest, IsLeastDegreeOrder, stage_after, width_of, IsFullRow, IsFilling};

@@ -1,12 +1,13 @@
 //! The dense search alone, on orders worked by hand.
 
 ghost use Rattle.std.specs.Prelude.{◌≡◌, ◌<◌, ◌/◌, ◌||◌, ℕ, length, slice_index, IfOk, []};
-ghost use Rattle.matrix_market.specs.Pattern.{has, is_joined};
+ghost use Rattle.patterns.specs.Pattern.{has, is_joined};
 ghost use Rattle.elimination.specs.Dense.{bit_in, IsDenseUnderWay, IsLeastDegreeOrder};
 
 use crate::NoMemory;
 use crate::dense::{DenseSearch, eliminate_dense, row_with, set_bit};
-use matrix_market::{Pattern, read_pattern};
+use patterns::Pattern;
+use matrix_files::read_pattern;
 use std::alloc::Global;
 use std::process::Abort;
 use std::test::Fail;

@@ -2,7 +2,7 @@
 
 ghost use Rattle.std.specs.Prelude.{◌≡◌, ◌≢◌, ℕ, Bool, List, ◌+◌, ◌<◌, ◌≤◌, length, slice_set, IfOk, OnOk};
 ghost use Rattle.std.specs.List.{All};
-ghost use Rattle.matrix_market.specs.Pattern.{is_joined};
+ghost use Rattle.patterns.specs.Pattern.{is_joined};
 ghost use Rattle.elimination.specs.Elimination.{IsVertex, times, GoByLeastDegree};
 ghost use Rattle.elimination.specs.Quotients.{at};
 ghost use Rattle.elimination.specs.Tables.{tables, AllHaveLength};
@@ -14,7 +14,7 @@ use crate::bounds::lower;
 use crate::parts::absorb;
 use crate::search::Search;
 use crate::switch::Effort;
-use matrix_market::Pattern;
+use patterns::Pattern;
 use std::alloc::Global;
 
 impl Search {

@@ -1,7 +1,7 @@
 //! The tables of the search.
 
 ghost use Rattle.std.specs.Prelude.{◌≡◌, ℕ, ◌+◌, length, IfOk};
-ghost use Rattle.matrix_market.specs.Pattern.{neighbours_of};
+ghost use Rattle.patterns.specs.Pattern.{neighbours_of};
 ghost use Rattle.min_tree.specs.Least.{greatest};
 ghost use Rattle.elimination.specs.Elimination.{IsVertex};
 ghost use Rattle.elimination.specs.Quotients.{at};
@@ -10,7 +10,7 @@ ghost use Rattle.elimination.specs.Tables.{tables, AllHaveLength, IsUntouched};
 use crate::NoMemory;
 use crate::hoods::Hood;
 use crate::parts::empty_lists;
-use matrix_market::Pattern;
+use patterns::Pattern;
 use min_tree::MinTree;
 use std::alloc::Global;
 

@@ -2,7 +2,7 @@
 //! the rows are no longer than what is left.
 
 ghost use Rattle.std.specs.Prelude.{◌≡◌, ◌==◌, ◌≢◌, ◌⊎◌, ℕ, Bool, List, ◌+◌, ◌/◌, ◌<◌, ◌≤◌, IsTrue, length, slice_index, false, IfOk, OnOk};
-ghost use Rattle.matrix_market.specs.Pattern.{has};
+ghost use Rattle.patterns.specs.Pattern.{has};
 ghost use Rattle.elimination.specs.Elimination.{IsVertex};
 ghost use Rattle.elimination.specs.Quotients.{Quotient, at, inner_at};
 ghost use Rattle.elimination.specs.Hoods.{mark_at};
@@ -15,7 +15,7 @@ ghost use Rattle.elimination.specs.Switch.{most_of, stage_at, AreNumbered, AreNu
 use crate::NoMemory;
 use crate::dense::{DenseSearch, eliminate_dense, row_with, set_bit};
 use crate::search::Search;
-use matrix_market::Pattern;
+use patterns::Pattern;
 use std::alloc::Global;
 
 // The vertices that are left, numbered anew from 1 on, by rising number.

@@ -4,7 +4,7 @@ ghost use Rattle.std.specs.Prelude.{◌≡◌, ◌≢◌, ℕ, ◌+◌, ◌<◌,
 ghost use Rattle.std.specs.Prelude.{OnOk};
 ghost use Rattle.std.specs.List.{sum_by};
 ghost use Rattle.elimination.specs.Elimination.{IsVertex};
-ghost use Rattle.matrix_market.specs.Pattern.{has, neighbours_of, is_joined};
+ghost use Rattle.patterns.specs.Pattern.{has, neighbours_of, is_joined};
 ghost use Rattle.elimination.specs.Quotients.{AreLinks, LeadsTo, at, inner_at, Quotient};
 ghost use Rattle.elimination.specs.Twins.{AreRowsMarked, IsTouched, AreTouched, IsTwinFound};
 ghost use Rattle.elimination.specs.Tables.{tables, AllHaveLength};
@@ -15,7 +15,7 @@ use crate::NoMemory;
 use crate::hoods::unmark;
 use crate::links::last_of;
 use crate::search::Search;
-use matrix_market::Pattern;
+use patterns::Pattern;
 use min_tree::MinTree;
 use std::alloc::Global;
 use std::mem;

@@ -20,7 +20,7 @@ use std::alloc::Global;
 use std::marker::Brand;
 use std::sync::ledger::{Blank, Ledger};
 use step_count::Steps;
-use tree_input::Names;
+use trees::Names;
 
 // What a task is called; a number that is no task's is called 0.
 fn name_in(names: &[u32], task: u32) -> u32

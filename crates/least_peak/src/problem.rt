@@ -29,8 +29,8 @@ use sp_terms::{Position, Terms, system_of};
 use std::alloc::Global;
 use std::marker::Model;
 use std::thread::Threads;
-use tree_input::laws::{forest_law, tree_system, tree_term};
-use tree_input::{Named, Tree, system_of_tree, terms_of_tree};
+use trees::laws::{forest_law, tree_system, tree_term};
+use trees::{Named, Tree, system_of_tree, terms_of_tree};
 
 /// What a problem is made of.
 #[derive(Drop)]

@@ -5,8 +5,6 @@
 #![tactic(auto)]
 
 mod name;
-#[cfg(test)]
-mod tests;
 
 pub use name::LimitName;
 

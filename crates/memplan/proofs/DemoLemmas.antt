@@ -7,7 +7,7 @@ use Rattle.claim_check.specs.declared.verdict.Verdict.TheVariants.{Yes, No}
 use Rattle.least_peak.specs.Problem.{system_of, IsTermOf}
 use Rattle.least_peak.specs.declared.problem.Origin.{Origin}
 use Rattle.least_peak.specs.declared.problem.Origin.TheVariants as origins
-use Rattle.matrix_market.specs.Pattern.{IsPattern, IsPatternOf, is_joined}
+use Rattle.patterns.specs.Pattern.{IsPattern, IsPatternOf, is_joined}
 use Rattle.limits.specs.Limits.{most_tasks}
 use Rattle.mp_gen.specs.Grid.{grid_pairs}
 use Rattle.mp_gen.specs.RandomTree.{tree_of}
@@ -25,10 +25,10 @@ use Rattle.sp_terms.specs.SystemOfTerm.{system_of_term}
 use Rattle.sp_terms.specs.Values.{IsTerms, term_of}
 use Rattle.symbolic.specs.FrontTree.{IsFrontTree}
 use Rattle.symbolic.specs.declared.options.FrontOptions.{FrontOptions}
-use Rattle.tree_input.specs.declared.node.Node.{Node}
-use Rattle.tree_input.specs.Forest.{Forest, IsForestOf, all_numbers}
-use Rattle.tree_input.specs.Tree.{IsTree, system_of_nodes}
-use Rattle.tree_input.specs.TreeTerm.{forest_positions}
+use Rattle.trees.specs.declared.node.Node.{Node}
+use Rattle.trees.specs.Forest.{Forest, IsForestOf, all_numbers}
+use Rattle.trees.specs.Tree.{IsTree, system_of_nodes}
+use Rattle.trees.specs.TreeTerm.{forest_positions}
 use Rattle.memplan.specs.Demo.{plain_fronts, IsGridTree, IsMade, HasPositions, IsPostorderPeak, IsAcceptedFor, IsVerdictFor, kind_word, check_word, demo_lines, IsSummary, IsDemoOf, IsShown}
 use Rattle.memplan.specs.Files.{Answer}
 use Rattle.memplan.specs.Request.{IsMakeable}

@@ -3,7 +3,7 @@ use Rattle.std.proofs.Common.{◌≡◌, ◌∙◌, ◌+◌, ◌-◌, ◌<◌, �
 use Rattle.std.proofs.lemmas.List.{same_lists, get_or_default, take_more, map-append}
 use Rattle.std.proofs.lemmas.List.FromFn.{get_or-map-range_with_len, length-map-range_with_len}
 use Rattle.mp_text.specs.Report.{line_text, text_of_lines}
-use Rattle.matrix_market.specs.Pattern.{IsPattern, is_joined}
+use Rattle.patterns.specs.Pattern.{IsPattern, is_joined}
 use Rattle.ordering.specs.Fill.{IsAdjacency, renumbered, parents_of, counts_of}
 use Rattle.elim_tree.specs.Paths.{IsWithin}
 use Rattle.assembly_tree.specs.declared.assembly.Super.{Super}

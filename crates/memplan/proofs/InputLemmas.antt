@@ -6,7 +6,7 @@ use Rattle.least_peak.specs.declared.problem.Origin.TheVariants as origins
 use Rattle.mp_system.specs.System.{TaskSystem}
 use Rattle.sp_terms.specs.declared.position.Position.{Position}
 use Rattle.sp_terms.specs.Values.{term_of}
-use Rattle.tree_input.specs.declared.node.Node.{Node}
+use Rattle.trees.specs.declared.node.Node.{Node}
 use Rattle.memplan.specs.Files.{Answer, HasValue, IsMatrixFile, CanBeOrdered, IsOrderOf, IsOrderedMatrix, IsOrderFrom, IsMatrixTree, IsTreeOf, IsSystemOf, IsSystemWithTerm, IsFirstRefusal, AreAccepted}
 use Rattle.memplan.specs.Clauses.{AreTold, HasFailed}
 use Rattle.memplan.specs.Judged.{IsStop, IsRefusedOrder, IsMatrixRead, IsProblemOf, IsOrderRead, IsOrderedOf, IsRefusedSource, order_tasks}

@@ -11,9 +11,9 @@ use Rattle.std.proofs.lemmas.Map.Keys.{IsDistinct-IsPermutation, IsDistinct-from
 use Rattle.sp_terms.specs.declared.position.Position.{Position}
 use Rattle.sp_terms.specs.declared.position.Position.TheVariants.{Hold, Par}
 use Rattle.sp_terms.specs.declared.position.Position.TheVariants as at
-use Rattle.tree_input.specs.declared.node.Node.{Node}
-use Rattle.tree_input.specs.Forest.{Forest, no_trees, tree, roots_of, all_numbers}
-use Rattle.tree_input.specs.TreeTerm.{beside_positions, own_positions, tree_positions, forest_positions}
+use Rattle.trees.specs.declared.node.Node.{Node}
+use Rattle.trees.specs.Forest.{Forest, no_trees, tree, roots_of, all_numbers}
+use Rattle.trees.specs.TreeTerm.{beside_positions, own_positions, tree_positions, forest_positions}
 use Rattle.memplan.specs.Judged.{IsNaming, AreWithin}
 use Rattle.memplan.specs.Segments.{task_positions, position_of, node_positions}
 

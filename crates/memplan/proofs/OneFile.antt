@@ -4,20 +4,20 @@ use Rattle.std.specs.Prelude.{codes}
 use Rattle.mp_text.specs.declared.refusals.Refusal.{Refusal}
 use Rattle.mp_text.specs.declared.refusals.Refusal.TheVariants as refusals
 use Rattle.mp_system.specs.System.{TaskSystem}
-use Rattle.matrix_market.specs.Kinds.{word_of as matrix_word}
-use Rattle.matrix_market.specs.MatrixFile.{ReadsPattern, RefusesPattern}
-use Rattle.ordering.specs.Kinds.{perm_word, order_file_word}
-use Rattle.ordering.specs.OrderFile.{ReadsOrder, RefusesOrder}
-use Rattle.ordering.specs.PermFile.{ReadsPerm, RefusesPerm}
-use Rattle.plan_text.specs.Kinds.{word_of as plan_word}
+use Rattle.matrix_files.specs.Kinds.{word_of as matrix_word}
+use Rattle.matrix_files.specs.MatrixFile.{ReadsPattern, RefusesPattern}
+use Rattle.matrix_files.specs.OrderKinds.{perm_word, order_file_word}
+use Rattle.matrix_files.specs.OrderFile.{ReadsOrder, RefusesOrder}
+use Rattle.matrix_files.specs.PermFile.{ReadsPerm, RefusesPerm}
+use Rattle.plan_files.specs.Kinds.{word_of as plan_word}
 use Rattle.plans.specs.Plan.{PlanValue}
-use Rattle.plan_text.specs.PlanFile.{ReadsPlan, RefusesPlan}
-use Rattle.sp_terms.specs.Kinds.{word_of as workflow_word}
-use Rattle.sp_terms.specs.WorkflowFile.{ReadsWorkflow, RefusesWorkflow}
-use Rattle.task_graph.specs.GraphFile.{ReadsGraph, RefusesGraph}
-use Rattle.task_graph.specs.Kinds.{word_of as graph_word}
-use Rattle.tree_input.specs.Kinds.{word_of as tree_word}
-use Rattle.tree_input.specs.TreeFile.{ReadsTree, RefusesTree}
+use Rattle.plan_files.specs.PlanFile.{ReadsPlan, RefusesPlan}
+use Rattle.workflow_files.specs.Kinds.{word_of as workflow_word}
+use Rattle.workflow_files.specs.WorkflowFile.{ReadsWorkflow, RefusesWorkflow}
+use Rattle.graph_files.specs.GraphFile.{ReadsGraph, RefusesGraph}
+use Rattle.graph_files.specs.Kinds.{word_of as graph_word}
+use Rattle.tree_files.specs.Kinds.{word_of as tree_word}
+use Rattle.tree_files.specs.TreeFile.{ReadsTree, RefusesTree}
 use Rattle.memplan.specs.Files.{Answer, IsMatrixFile, CanBeOrdered, IsTooLarge, IsWithinBytes, IsRefusedAs, IsRefusedFile, HasValue, IsRefused, IsSystemOf, IsPlanFile}
 use Rattle.memplan.specs.Request.{Ordering, natural, min_degree, perm_named, Input, FileRole, tree_file, workflow_file, graph_file, matrix_file, perm_file, order_file, plan_file, priority_file, plan_priority_file}
 use Rattle.memplan.proofs.OneInput.{Systems, same_texts}

@@ -2,25 +2,25 @@
 use Rattle.std.proofs.Common.{◌≡◌, ◌∙◌, ℕ, Bool, List, [], ◌∷◌, ◌++◌, Some, length, refl, sym, ap, ap₂, subst, arith, IsPermutation}
 use Rattle.std.specs.List.{range_with_len}
 use Rattle.std.proofs.lemmas.List.FromFn.{length-range_with_len}
-use Rattle.matrix_market.specs.MatrixFile.{ReadsPattern}
-use Rattle.matrix_market.specs.Pattern.{IsPattern, is_joined}
+use Rattle.matrix_files.specs.MatrixFile.{ReadsPattern}
+use Rattle.patterns.specs.Pattern.{IsPattern, is_joined}
 use Rattle.mp_system.specs.System.{TaskSystem, IsSystem}
 use Rattle.ordering.specs.MinimumDegree.{IsMinimumDegreeOrder}
-use Rattle.ordering.specs.Perm.{IsPerm}
-use Rattle.ordering.specs.PermFile.{ReadsPerm}
+use Rattle.permutations.specs.Perm.{IsPerm}
+use Rattle.matrix_files.specs.PermFile.{ReadsPerm}
 use Rattle.sp_terms.specs.declared.position.Position.{Position}
 use Rattle.sp_terms.specs.Postfix.{Denotes}
 use Rattle.sp_terms.specs.SystemOfTerm.{system_of_term}
 use Rattle.sp_terms.specs.Term.{Term}
 use Rattle.sp_terms.specs.Values.{IsTerms, term_of}
-use Rattle.sp_terms.specs.WorkflowFile.{ReadsWorkflow}
+use Rattle.workflow_files.specs.WorkflowFile.{ReadsWorkflow}
 use Rattle.symbolic.specs.FrontTree.{IsFrontTree}
 use Rattle.symbolic.specs.declared.options.FrontOptions.{FrontOptions}
-use Rattle.tree_input.specs.declared.node.Node.{Node}
-use Rattle.tree_input.specs.Forest.{Forest, IsForestOf, all_numbers}
-use Rattle.tree_input.specs.Tree.{IsTree, system_of_nodes}
-use Rattle.tree_input.specs.TreeFile.{ReadsTree}
-use Rattle.tree_input.specs.TreeTerm.{forest_positions}
+use Rattle.trees.specs.declared.node.Node.{Node}
+use Rattle.trees.specs.Forest.{Forest, IsForestOf, all_numbers}
+use Rattle.trees.specs.Tree.{IsTree, system_of_nodes}
+use Rattle.tree_files.specs.TreeFile.{ReadsTree}
+use Rattle.trees.specs.TreeTerm.{forest_positions}
 use Rattle.memplan.specs.Files.{IsOrderOf, IsMatrixTree, IsTreeOf, IsSystemOf, IsSystemWithTerm, IsOrderedMatrix}
 use Rattle.memplan.specs.Judged.{AreWithin}
 use Rattle.memplan.specs.Segments.{IsNumberedTerm, node_positions}

@@ -10,16 +10,16 @@ use Rattle.mp_system.specs.declared.system.OrderKind.{OrderKind}
 use Rattle.mp_system.specs.Memory.{peak_of}
 use Rattle.mp_system.specs.System.{TaskSystem, IsSystem}
 use Rattle.mp_system.specs.Traversal.{IsTraversal, first_fault}
-use Rattle.ordering.specs.OrderFile.{ReadsOrder}
-use Rattle.ordering.specs.Perm.{IsPerm}
-use Rattle.ordering.specs.PermFile.{ReadsPerm}
+use Rattle.matrix_files.specs.OrderFile.{ReadsOrder}
+use Rattle.permutations.specs.Perm.{IsPerm}
+use Rattle.matrix_files.specs.PermFile.{ReadsPerm}
 use Rattle.plans.specs.Plan.{PlanValue, IsPlan, IsPriority}
-use Rattle.plan_text.specs.PlanFile.{ReadsPlan}
+use Rattle.plan_files.specs.PlanFile.{ReadsPlan}
 use Rattle.postorder_best.specs.BestPostorder.{IsBestPostorder}
 use Rattle.sp_terms.specs.declared.position.Position.{Position}
 use Rattle.sp_cuts.specs.StairLaws.{OneStairs}
-use Rattle.tree_input.specs.declared.node.Node.{Node}
-use Rattle.tree_input.specs.Tree.{IsTree, system_of_nodes}
+use Rattle.trees.specs.declared.node.Node.{Node}
+use Rattle.trees.specs.Tree.{IsTree, system_of_nodes}
 use Rattle.memplan.specs.Commands.{IsReport, IsDecided}
 use Rattle.memplan.specs.Check.{IsCheckOf, verdict_answer}
 use Rattle.memplan.specs.Files.{Answer, AreAccepted, HasValue, IsRefused, IsFirstRefusal, IsOrderFrom, IsTreeOf, IsSystemOf, IsSystemWithTerm, order_refused}

@@ -12,9 +12,9 @@ use Rattle.sp_terms.specs.Postfix.{Denotes}
 use Rattle.sp_terms.specs.SystemOfTerm.{system_of_term}
 use Rattle.sp_terms.specs.Term.{Term}
 use Rattle.sp_terms.specs.Values.{IsTerms, term_of}
-use Rattle.sp_terms.specs.WorkflowFile.{ReadsWorkflow}
-use Rattle.task_graph.specs.Graph.{TaskGraph, IsGraph, completed_system, system_of}
-use Rattle.task_graph.specs.GraphFile.{ReadsGraph}
+use Rattle.workflow_files.specs.WorkflowFile.{ReadsWorkflow}
+use Rattle.graphs.specs.Graph.{TaskGraph, IsGraph, completed_system, system_of}
+use Rattle.graph_files.specs.GraphFile.{ReadsGraph}
 use Rattle.memplan.specs.Files.{Answer, IsWorkflowFile}
 use Rattle.memplan.specs.Reduce.{IsReduceOf, IsReduced, HasIrreducibleRest}
 use Rattle.memplan.specs.declared.status.Status.TheVariants.{Done, NotSeriesParallel}

@@ -4,24 +4,24 @@ use Rattle.std.specs.Prelude.{codes}
 use Rattle.mp_outside.specs.Outside.{Appended}
 use Rattle.mp_text.specs.declared.refusals.Refusal.{Refusal}
 use Rattle.mp_text.specs.declared.refusals.Refusal.TheVariants as refusals
-use Rattle.ordering.specs.OrderFile.{RefusesOrder}
-use Rattle.ordering.specs.PermFile.{RefusesPerm}
-use Rattle.tree_input.specs.Kinds.{word_of as tree_word}
-use Rattle.tree_input.specs.TreeFile.{RefusesTree}
-use Rattle.sp_terms.specs.WorkflowFile.{RefusesWorkflow}
-use Rattle.task_graph.specs.GraphFile.{RefusesGraph}
-use Rattle.task_graph.specs.Kinds.{word_of as graph_word}
-use Rattle.matrix_market.specs.Kinds.{word_of as matrix_word}
-use Rattle.matrix_market.specs.MatrixFile.{RefusesPattern}
-use Rattle.plan_text.specs.PlanFile.{RefusesPlan}
+use Rattle.matrix_files.specs.OrderFile.{RefusesOrder}
+use Rattle.matrix_files.specs.PermFile.{RefusesPerm}
+use Rattle.tree_files.specs.Kinds.{word_of as tree_word}
+use Rattle.tree_files.specs.TreeFile.{RefusesTree}
+use Rattle.workflow_files.specs.WorkflowFile.{RefusesWorkflow}
+use Rattle.graph_files.specs.GraphFile.{RefusesGraph}
+use Rattle.graph_files.specs.Kinds.{word_of as graph_word}
+use Rattle.matrix_files.specs.Kinds.{word_of as matrix_word}
+use Rattle.matrix_files.specs.MatrixFile.{RefusesPattern}
+use Rattle.plan_files.specs.PlanFile.{RefusesPlan}
 use Rattle.memplan.specs.Commands.{IsAnswer, IsReport}
 use Rattle.memplan.specs.Files.{Answer, IsRefusedAs, IsRefusedFile, IsRefusedPerm, IsRefusedPlanPriority, IsRefused, IsFirstRefusal, IsTooLarge}
 use Rattle.memplan.specs.Promises.{IsPossible, Says}
 use Rattle.memplan.specs.Clauses.{AreTold, IsAnswered, IsCutShort}
-use Rattle.sp_terms.specs.Kinds.{word_of as workflow_word}
-use Rattle.ordering.specs.Kinds.{perm_word}
-use Rattle.ordering.specs.Kinds.{order_file_word}
-use Rattle.plan_text.specs.Kinds.{word_of as plan_word}
+use Rattle.workflow_files.specs.Kinds.{word_of as workflow_word}
+use Rattle.matrix_files.specs.OrderKinds.{perm_word}
+use Rattle.matrix_files.specs.OrderKinds.{order_file_word}
+use Rattle.plan_files.specs.Kinds.{word_of as plan_word}
 use Rattle.memplan.specs.Request.{Ordering, natural, min_degree, perm_named, Request, FileRole, NamedFile, tree_file, workflow_file, graph_file, matrix_file, perm_file, order_file, plan_file, priority_file, plan_priority_file, files_of, simulate, demo, IsInRange}
 use Rattle.memplan.specs.declared.status.Status.{Status}
 use Rattle.memplan.specs.declared.status.Status.TheVariants as status

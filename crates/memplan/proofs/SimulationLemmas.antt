@@ -17,7 +17,7 @@ use Rattle.memplan.proofs.InputLemmas.{problem_has_system}
 use Rattle.activation.specs.Schedule.{HoldsEach}
 use Rattle.mp_system.specs.System.{TaskSystem}
 use Rattle.mp_system.specs.Traversal.{IsTraversal}
-use Rattle.ordering.specs.Perm.{IsPerm}
+use Rattle.permutations.specs.Perm.{IsPerm}
 use Rattle.plans.specs.Plan.{RanksAll, IsPriority}
 
 -- ---- what holds each task once

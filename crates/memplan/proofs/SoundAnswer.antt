@@ -11,17 +11,17 @@ use Rattle.mp_system.specs.Renaming.{IsRenamed}
 use Rattle.mp_system.specs.System.{TaskSystem, IsSystem}
 use Rattle.mp_system.specs.Traversal.{IsLeast}
 use Rattle.plans.specs.Plan.{PlanValue, IsPlan}
-use Rattle.plan_text.specs.PlanFile.{ReadsPlan}
-use Rattle.plan_text.specs.Printed.{text_of}
+use Rattle.plan_files.specs.PlanFile.{ReadsPlan}
+use Rattle.plan_files.specs.Printed.{text_of}
 use Rattle.sp_terms.specs.declared.position.Position.{Position}
 use Rattle.sp_terms.specs.Postfix.{Denotes}
 use Rattle.sp_terms.specs.SystemOfTerm.{system_of_term}
 use Rattle.sp_terms.specs.Values.{IsTerms, term_of}
-use Rattle.sp_terms.specs.WorkflowFile.{ReadsWorkflow}
-use Rattle.tree_input.specs.declared.node.Node.{Node}
-use Rattle.tree_input.specs.Forest.{Forest, IsForestOf, all_numbers}
-use Rattle.tree_input.specs.Tree.{IsTree, system_of_nodes}
-use Rattle.tree_input.specs.TreeTerm.{forest_positions}
+use Rattle.workflow_files.specs.WorkflowFile.{ReadsWorkflow}
+use Rattle.trees.specs.declared.node.Node.{Node}
+use Rattle.trees.specs.Forest.{Forest, IsForestOf, all_numbers}
+use Rattle.trees.specs.Tree.{IsTree, system_of_nodes}
+use Rattle.trees.specs.TreeTerm.{forest_positions}
 use Rattle.memplan.specs.Check.{IsCheckOf, IsCertified, yes_line}
 use Rattle.memplan.specs.Files.{Answer, IsPlanFile, IsTreeOf, IsSystemWithTerm}
 use Rattle.memplan.specs.Plan.{IsPlanOf, IsBestPlan, IsPrintedAs, plan_text}

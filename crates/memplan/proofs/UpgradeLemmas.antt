@@ -1,19 +1,19 @@
 -- What is upgraded is one value, and a file of its text in version 2 says it.
 use Rattle.std.proofs.Common.{◌≡◌, ◌∙◌, ◌≤◌, ℕ, List, [], ◌∷◌, ◌++◌, Option, Some, None, length, refl, sym, ap, subst, inl, inr}
 use Rattle.limits.specs.Limits.{most_bytes}
-use Rattle.ordering.specs.Perm.{IsPerm}
-use Rattle.ordering.specs.PermFile.{ReadsPerm}
+use Rattle.permutations.specs.Perm.{IsPerm}
+use Rattle.matrix_files.specs.PermFile.{ReadsPerm}
 use Rattle.plans.specs.Plan.{PlanValue, IsPlan, IsPriority}
-use Rattle.plan_text.specs.PlanFile.{ReadsPlan}
-use Rattle.plan_text.specs.Printed.{text2_of as plan_text}
+use Rattle.plan_files.specs.PlanFile.{ReadsPlan}
+use Rattle.plan_files.specs.Printed.{text2_of as plan_text}
 use Rattle.sp_terms.specs.declared.position.Position.{Position}
 use Rattle.sp_terms.specs.Values.{IsTerms}
-use Rattle.sp_terms.specs.WorkflowFile.{ReadsWorkflow}
-use Rattle.sp_terms.specs.WorkflowText.{text2_of as workflow_text}
-use Rattle.tree_input.specs.declared.node.Node.{Node}
-use Rattle.tree_input.specs.Tree.{IsTree}
-use Rattle.tree_input.specs.TreeFile.{ReadsTree}
-use Rattle.tree_input.specs.TreeText.{text2_of as tree_text}
+use Rattle.workflow_files.specs.WorkflowFile.{ReadsWorkflow}
+use Rattle.workflow_files.specs.WorkflowText.{text2_of as workflow_text}
+use Rattle.trees.specs.declared.node.Node.{Node}
+use Rattle.trees.specs.Tree.{IsTree}
+use Rattle.tree_files.specs.TreeFile.{ReadsTree}
+use Rattle.tree_files.specs.TreeText.{text2_of as tree_text}
 use Rattle.memplan.specs.Files.{Answer, IsTreeFile, IsWorkflowFile, IsPlanFile, IsFirstRefusal, AreAccepted}
 use Rattle.memplan.specs.Clauses.{AreTold}
 use Rattle.memplan.specs.Judged.{IsPriorityOf, IsRefusedRanking}

@@ -2,7 +2,7 @@
 -- answer for a first refusal, in the order of the files, and else the report.
 use Rattle.std.specs.Prelude.{◌≡◌, ℕ, List, [], Option, None, option_and_then, codes, if◌then◌else◌, ◌⊎◌}
 use Rattle.std.specs.Str.{bytes_eq}
-use Rattle.tree_input.specs.declared.node.Node.{Node}
+use Rattle.trees.specs.declared.node.Node.{Node}
 use Rattle.memplan.specs.Request.{Request, replay, tree, post, check, planning, simulate, demo, upgrade, spill, fronts, segments, reduce}
 use Rattle.memplan.specs.Request.{files_of}
 use Rattle.memplan.specs.Replay.{replay_of, IsReplayOf}

@@ -11,7 +11,7 @@ use Rattle.least_peak.specs.Problem.{system_of, IsTermOf}
 use Rattle.least_peak.specs.declared.problem.Origin.{Origin}
 use Rattle.least_peak.specs.declared.problem.Origin.TheVariants as origins
 use Rattle.limits.specs.Limits.{most_tasks, most_mindeg}
-use Rattle.matrix_market.specs.Pattern.{IsPatternOf, is_joined}
+use Rattle.patterns.specs.Pattern.{IsPatternOf, is_joined}
 use Rattle.mp_gen.specs.Grid.{grid_pairs}
 use Rattle.mp_gen.specs.RandomTree.{tree_of}
 use Rattle.mp_gen.specs.RandomWorkflow.{workflow_of}
@@ -24,7 +24,7 @@ use Rattle.postorder_best.specs.BestPostorder.{IsBestPostorder}
 use Rattle.sp_terms.specs.declared.position.Position.{Position}
 use Rattle.symbolic.specs.FrontTree.{IsFrontTree}
 use Rattle.symbolic.specs.declared.options.FrontOptions.{FrontOptions}
-use Rattle.tree_input.specs.declared.node.Node.{Node}
+use Rattle.trees.specs.declared.node.Node.{Node}
 use Rattle.memplan.specs.Files.{Answer}
 use Rattle.command_line.specs.Words.{Given, value_of}
 use Rattle.memplan.specs.Request.{Request, demo, gives_any, number_given, number_up_to}

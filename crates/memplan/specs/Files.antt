@@ -6,37 +6,37 @@ use Rattle.mp_text.specs.declared.refusals.Refusal.{Refusal}
 use Rattle.mp_text.specs.Report.{line_text}
 use Rattle.mp_system.specs.declared.system.OrderKind.{OrderKind}
 use Rattle.mp_system.specs.System.{TaskSystem}
-use Rattle.tree_input.specs.declared.node.Node.{Node}
-use Rattle.tree_input.specs.Tree.{system_of_nodes}
-use Rattle.tree_input.specs.Forest.{Forest, IsForestOf}
-use Rattle.tree_input.specs.TreeTerm.{forest_positions}
-use Rattle.tree_input.specs.TreeFile.{ReadsTree, RefusesTree}
-use Rattle.matrix_market.specs.MatrixFile.{ReadsPattern, RefusesPattern}
-use Rattle.matrix_market.specs.Pattern.{is_joined}
+use Rattle.trees.specs.declared.node.Node.{Node}
+use Rattle.trees.specs.Tree.{system_of_nodes}
+use Rattle.trees.specs.Forest.{Forest, IsForestOf}
+use Rattle.trees.specs.TreeTerm.{forest_positions}
+use Rattle.tree_files.specs.TreeFile.{ReadsTree, RefusesTree}
+use Rattle.matrix_files.specs.MatrixFile.{ReadsPattern, RefusesPattern}
+use Rattle.patterns.specs.Pattern.{is_joined}
 use Rattle.sp_terms.specs.declared.position.Position.{Position}
 use Rattle.sp_terms.specs.Term.{Term}
 use Rattle.sp_terms.specs.Postfix.{Denotes}
 use Rattle.sp_terms.specs.SystemOfTerm.{system_of_term}
-use Rattle.sp_terms.specs.WorkflowFile.{ReadsWorkflow, RefusesWorkflow}
-use Rattle.ordering.specs.OrderFile.{ReadsOrder, RefusesOrder}
+use Rattle.workflow_files.specs.WorkflowFile.{ReadsWorkflow, RefusesWorkflow}
+use Rattle.matrix_files.specs.OrderFile.{ReadsOrder, RefusesOrder}
 use Rattle.ordering.specs.MinimumDegree.{IsMinimumDegreeOrder}
-use Rattle.ordering.specs.PermFile.{ReadsPerm, RefusesPerm}
+use Rattle.matrix_files.specs.PermFile.{ReadsPerm, RefusesPerm}
 use Rattle.plans.specs.Plan.{PlanValue}
-use Rattle.plan_text.specs.PlanFile.{ReadsPlan, RefusesPlan}
+use Rattle.plan_files.specs.PlanFile.{ReadsPlan, RefusesPlan}
 use Rattle.symbolic.specs.FrontTree.{IsFrontTree}
-use Rattle.task_graph.specs.Graph.{TaskGraph}
-use Rattle.task_graph.specs.GraphFile.{ReadsGraph, RefusesGraph}
-use Rattle.task_graph.specs.Kinds.{word_of as graph_word}
+use Rattle.graphs.specs.Graph.{TaskGraph}
+use Rattle.graph_files.specs.GraphFile.{ReadsGraph, RefusesGraph}
+use Rattle.graph_files.specs.Kinds.{word_of as graph_word}
 use Rattle.memplan.specs.declared.status.Status.{Status}
 use Rattle.memplan.specs.Request.{Ordering, natural, min_degree, perm_named, Matrix, TreeInput, tree_named, matrix_named, Input, tree_input}
 use Rattle.memplan.specs.Request.{workflow_named, OrderSource, order_named, plan_named, FileRole, tree_file, workflow_file, graph_file}
 use Rattle.memplan.specs.Request.{matrix_file, perm_file, order_file, plan_file, priority_file, plan_priority_file, NamedFile}
-use Rattle.sp_terms.specs.Kinds.{word_of as workflow_word}
-use Rattle.ordering.specs.Kinds.{perm_word, order_file_word}
-use Rattle.plan_text.specs.Kinds.{word_of as plan_word}
+use Rattle.workflow_files.specs.Kinds.{word_of as workflow_word}
+use Rattle.matrix_files.specs.OrderKinds.{perm_word, order_file_word}
+use Rattle.plan_files.specs.Kinds.{word_of as plan_word}
 use Rattle.limits.specs.Limits.{most_bytes, most_mindeg, word_of as limit_word}
-use Rattle.tree_input.specs.Kinds.{word_of as tree_word}
-use Rattle.matrix_market.specs.Kinds.{word_of as matrix_word}
+use Rattle.tree_files.specs.Kinds.{word_of as tree_word}
+use Rattle.matrix_files.specs.Kinds.{word_of as matrix_word}
 use Rattle.mp_system.specs.Refusal.{word_of as order_word}
 use Rattle.mp_text.specs.declared.refusals.Refusal.TheVariants as refusals
 use Rattle.limits.specs.declared.name.LimitName.TheVariants as limits

@@ -9,8 +9,8 @@ use Rattle.least_peak.specs.declared.problem.Origin.{Origin}
 use Rattle.least_peak.specs.declared.problem.Origin.TheVariants as origins
 use Rattle.limits.specs.Limits.{most_mindeg, word_of as limit_word}
 use Rattle.limits.specs.declared.name.LimitName.TheVariants as limits
-use Rattle.ordering.specs.Perm.{IsPerm}
-use Rattle.ordering.specs.PermFile.{RefusesPerm}
+use Rattle.permutations.specs.Perm.{IsPerm}
+use Rattle.matrix_files.specs.PermFile.{RefusesPerm}
 use Rattle.sp_terms.specs.Postfix.{Denotes}
 use Rattle.sp_terms.specs.Values.{term_of}
 use Rattle.memplan.specs.Commands.{IsReport}
@@ -20,7 +20,7 @@ use Rattle.memplan.specs.Simulate.{IsOwnPriority, priority_or}
 use Rattle.memplan.specs.Segments.{IsNumberedTerm}
 use Rattle.memplan.specs.Clauses.{AreTold, HasFailed}
 use Rattle.memplan.specs.Pages.{answer_of}
-use Rattle.ordering.specs.Kinds.{perm_word}
+use Rattle.matrix_files.specs.OrderKinds.{perm_word}
 use Rattle.memplan.specs.Request.{Ordering, natural, min_degree, perm_named, Input, tree_input, workflow_named, NamedFile, OrderSource}
 use Rattle.memplan.specs.Request.{Request, input_files, source_file, files_of}
 use Rattle.memplan.specs.declared.files.Ranked.{Ranked}

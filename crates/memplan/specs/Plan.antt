@@ -7,9 +7,9 @@ use Rattle.mp_system.specs.Traversal.{IsTraversal, IsLeast}
 use Rattle.sp_terms.specs.declared.position.Position.{Position}
 use Rattle.plans.specs.Plan.{PlanValue, IsPlan}
 use Rattle.command_line.specs.Words.{Given, value_of}
-use Rattle.plan_text.specs.Json.{json_of}
+use Rattle.plan_files.specs.Json.{json_of}
 use Rattle.memplan.specs.Request.{Request, planning, Input, input_of, PlanFormat, as_file, as_json, is_second, format_of}
-use Rattle.plan_text.specs.Printed as plans
+use Rattle.plan_files.specs.Printed as plans
 use Rattle.claim_check.specs.Accepted as judged
 use Rattle.memplan.specs.declared.status.Status.TheVariants as status
 use Rattle.claim_check.specs.declared.verdict.Verdict.TheVariants.{Yes}

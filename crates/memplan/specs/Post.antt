@@ -2,8 +2,8 @@
 use Rattle.std.specs.Prelude.{◌≡◌, ℕ, List, [], ◌∷◌, ◌++◌, length, map, Option, option_map, codes, decimal}
 use Rattle.mp_text.specs.Report.{text_of_lines}
 use Rattle.mp_system.specs.Memory.{peak_of}
-use Rattle.tree_input.specs.declared.node.Node.{Node}
-use Rattle.tree_input.specs.Tree.{system_of_nodes}
+use Rattle.trees.specs.declared.node.Node.{Node}
+use Rattle.trees.specs.Tree.{system_of_nodes}
 use Rattle.postorder_best.specs.BestPostorder.{IsBestPostorder}
 use Rattle.command_line.specs.Words.{Given}
 use Rattle.memplan.specs.Request.{Request, post, tree_input_of}

@@ -11,9 +11,9 @@ use Rattle.sp_terms.specs.declared.position.Position.TheVariants.{Hold, Par}
 use Rattle.sp_terms.specs.declared.position.Position.TheVariants as at
 use Rattle.sp_terms.specs.Term.{Term, Direction, forward, backward, initial_of, final_of}
 use Rattle.sp_terms.specs.Places.{term_of_position}
-use Rattle.tree_input.specs.declared.node.Node.{Node}
-use Rattle.tree_input.specs.Forest.{Forest, IsForestOf, all_numbers}
-use Rattle.tree_input.specs.TreeTerm.{forest_positions}
+use Rattle.trees.specs.declared.node.Node.{Node}
+use Rattle.trees.specs.Forest.{Forest, IsForestOf, all_numbers}
+use Rattle.trees.specs.TreeTerm.{forest_positions}
 use Rattle.hill_valley.specs.declared.steps.Step.{Step}
 use Rattle.cut_laws.specs.Standing.{IsLowestReached}
 use Rattle.sp_cuts.specs.Stairs.{BothSteps, AreStairsOf, AreStairs, step_total, PassesLimit}

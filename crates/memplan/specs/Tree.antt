@@ -1,7 +1,7 @@
 -- `tree`: a tree file.
 use Rattle.std.specs.Prelude.{List, Option, option_map, option_and_then, codes}
-use Rattle.tree_input.specs.declared.node.Node.{Node}
-use Rattle.tree_input.specs.TreeText.{text_of}
+use Rattle.trees.specs.declared.node.Node.{Node}
+use Rattle.tree_files.specs.TreeText.{text_of}
 use Rattle.command_line.specs.Words.{Given, value_of}
 use Rattle.memplan.specs.Request.{Request, tree, matrix_of}
 use Rattle.memplan.specs.declared.status.Status.TheVariants as status

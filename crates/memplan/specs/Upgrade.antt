@@ -1,11 +1,11 @@
 -- `upgrade`: a tree, a workflow or a plan, written as version 2; and what that says: the file is read as what was upgraded.
 use Rattle.std.specs.Prelude.{◌≡◌, ℕ, List, [], ◌∷◌, length, Option, Some, None, option_map, codes}
 use Rattle.sp_terms.specs.declared.position.Position.{Position}
-use Rattle.sp_terms.specs.WorkflowText.{text2_of as workflow_text}
-use Rattle.tree_input.specs.declared.node.Node.{Node}
-use Rattle.tree_input.specs.TreeText.{text2_of as tree_text}
+use Rattle.workflow_files.specs.WorkflowText.{text2_of as workflow_text}
+use Rattle.trees.specs.declared.node.Node.{Node}
+use Rattle.tree_files.specs.TreeText.{text2_of as tree_text}
 use Rattle.plans.specs.Plan.{PlanValue}
-use Rattle.plan_text.specs.Printed.{text2_of as plan_text}
+use Rattle.plan_files.specs.Printed.{text2_of as plan_text}
 use Rattle.command_line.specs.Words.{Given, value_of}
 use Rattle.memplan.specs.Request.{Request, upgrade, Upgrade, tree_upgrade, workflow_upgrade, plan_upgrade}
 use Rattle.memplan.specs.declared.status.Status.TheVariants as status

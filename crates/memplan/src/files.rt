@@ -4,29 +4,34 @@ ghost use Rattle.std.specs.Prelude.{◌≡◌, ◌<◌, ◌≤◌, ℕ, List, So
 ghost use Rattle.limits.specs.Limits.{most_bytes};
 ghost use Rattle.mp_text.specs.Report.{is_token};
 ghost use Rattle.mp_text.specs.declared.refusals.Refusal.{Refusal};
-ghost use Rattle.matrix_market.specs.MatrixFile.{ReadsPattern, RefusesPattern};
-ghost use Rattle.ordering.specs.OrderFile.{ReadsOrder, RefusesOrder};
-ghost use Rattle.ordering.specs.PermFile.{ReadsPerm, RefusesPerm};
-ghost use Rattle.plan_text.specs.PlanFile.{ReadsPlan, RefusesPlan};
-ghost use Rattle.sp_terms.specs.WorkflowFile.{ReadsWorkflow, RefusesWorkflow};
-ghost use Rattle.task_graph.specs.GraphFile.{ReadsGraph, RefusesGraph};
-ghost use Rattle.tree_input.specs.TreeFile.{ReadsTree, RefusesTree};
+ghost use Rattle.matrix_files.specs.MatrixFile.{ReadsPattern, RefusesPattern};
+ghost use Rattle.matrix_files.specs.OrderFile.{ReadsOrder, RefusesOrder};
+ghost use Rattle.matrix_files.specs.PermFile.{ReadsPerm, RefusesPerm};
+ghost use Rattle.plan_files.specs.PlanFile.{ReadsPlan, RefusesPlan};
+ghost use Rattle.workflow_files.specs.WorkflowFile.{ReadsWorkflow, RefusesWorkflow};
+ghost use Rattle.graph_files.specs.GraphFile.{ReadsGraph, RefusesGraph};
+ghost use Rattle.tree_files.specs.TreeFile.{ReadsTree, RefusesTree};
 ghost use Rattle.memplan.specs.Files.{IsRefusedFile, IsWithinBytes, limit_refused};
 ghost use Rattle.memplan.specs.Judged.{IsStopAt, IsStopFor, IsJudged, IsRefusalOf, rank_word};
 
 use crate::page::{format_page, limit_page};
 use crate::stop::Stop;
 use limits::LimitName;
-use matrix_market::{MatrixKind, Pattern, read_pattern_owned};
+use matrix_files::{MatrixKind, read_pattern_owned};
+use patterns::Pattern;
 use mp_outside::{Files, ReadRefusal, read_whole};
 use mp_text::{Kind, Refusal};
-use ordering::{OrderFileKind, Perm, PermKind, read_order, read_perm};
-use plan_text::{PlanKind, read_plan};
+use matrix_files::{OrderFileKind, PermKind, read_order, read_perm};
+use permutations::Perm;
+use plan_files::{PlanKind, read_plan};
 use plans::Plan;
-use sp_terms::{Terms, WorkflowKind, read_workflow};
+use sp_terms::Terms;
+use workflow_files::{WorkflowKind, read_workflow};
 use std::alloc::Global;
-use task_graph::{Graph, GraphKind, read_graph};
-use tree_input::{Tree, TreeKind, read_tree};
+use graphs::Graph;
+use graph_files::{GraphKind, read_graph};
+use trees::Tree;
+use tree_files::{TreeKind, read_tree};
 
 /// What a file is read as.
 pub trait FileKind {

@@ -22,16 +22,17 @@ use crate::request::{Input, Matrix, OrderSource, OrderedMatrix, Ordering, TreeIn
 use crate::stop::Stop;
 use least_peak::Problem;
 use limits::LimitName;
-use matrix_market::Pattern;
+use patterns::Pattern;
 use mp_outside::Files;
 use mp_system::laws::traversal_law;
-use ordering::laws::read_is_perm;
-use ordering::{MindegRefusal, Perm, identity, min_degree};
+use matrix_files::laws::read_is_perm;
+use ordering::{MindegRefusal, min_degree};
+use permutations::{Perm, identity};
 use plans::Plan;
 use sp_terms::laws::terms_law;
 use std::alloc::{AllocError, Global};
 use symbolic::front_tree;
-use tree_input::Tree;
+use trees::Tree;
 
 // The minimum degree order of a matrix that is not too large for it.
 fn by_min_degree(alloc: Global, pattern: &Pattern) -> Result<Perm, Stop>

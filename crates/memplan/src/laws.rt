@@ -1,11 +1,11 @@
 //! Laws of the answers: what holds of each, without a call.
 
 ghost use Rattle.std.specs.Prelude.{◌≡◌, ◌≤◌, ℕ, List, [], ◌∷◌, length};
-ghost use Rattle.matrix_market.specs.Pattern.{IsPattern};
+ghost use Rattle.patterns.specs.Pattern.{IsPattern};
 ghost use Rattle.mp_system.specs.System.{IsSystem, TaskSystem};
 ghost use Rattle.sp_terms.specs.declared.position.Position.{Position};
-ghost use Rattle.tree_input.specs.Tree.{IsTree};
-ghost use Rattle.tree_input.specs.declared.node.Node.{Node};
+ghost use Rattle.trees.specs.Tree.{IsTree};
+ghost use Rattle.trees.specs.declared.node.Node.{Node};
 ghost use Rattle.memplan.specs.Commands.{IsAnswer, IsDecided};
 ghost use Rattle.memplan.specs.Files.{Answer, HasValue, IsRefused, IsSystemOf, IsOrderedMatrix, IsSystemWithTerm, IsTreeOf};
 ghost use Rattle.memplan.specs.Demo.{IsDemoOf, IsShown};
@@ -22,19 +22,19 @@ ghost use Rattle.memplan.specs.declared.status.Status.TheVariants.{Done};
 use activation::laws as run_laws;
 use claim_check::laws as claim_laws;
 use elim_tree::laws as fill_laws;
-use matrix_market::laws as matrix_laws;
+use patterns::laws as matrix_laws;
 use mp_gen::laws::made_inputs;
 use mp_system::laws as system_laws;
 use ordering::laws as order_laws;
-use plan_text::laws as plan_laws;
+use plan_files::laws as plan_laws;
 use postorder_best::laws as postorder_laws;
 use rounds_run::laws as rounds_laws;
 use sp_cuts::laws as stair_laws;
 use sp_reduce::laws as reduction_laws;
 use sp_terms::laws as term_laws;
 use symbolic::laws as front_laws;
-use task_graph::laws as graph_laws;
-use tree_input::laws as tree_laws;
+use graphs::laws as graph_laws;
+use trees::laws as tree_laws;
 
 // The texts of an input are of one matrix, one tree, one system and one term, within the limits, and they are as many as its files; its
 // positions have one numbering.

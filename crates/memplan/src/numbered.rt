@@ -2,8 +2,8 @@
 
 ghost use Rattle.std.specs.Prelude.{◌≡◌, ◌≤◌, ◌<◌, ◌^◌, ◌+◌, ℕ, List, [], All, IfOk, length, map};
 ghost use Rattle.std.specs.List.{range_with_len};
-ghost use Rattle.tree_input.specs.Forest.{Forest, IsForestOf, all_numbers};
-ghost use Rattle.tree_input.specs.TreeTerm.{forest_positions};
+ghost use Rattle.trees.specs.Forest.{Forest, IsForestOf, all_numbers};
+ghost use Rattle.trees.specs.TreeTerm.{forest_positions};
 ghost use Rattle.memplan.specs.Files.{IsFirstRefusal};
 ghost use Rattle.memplan.specs.Judged.{AreJudged, IsNumbered, IsNaming, AreWithin};
 ghost use Rattle.memplan.specs.Segments.{node_positions, position_of, task_positions};
@@ -17,8 +17,8 @@ use crate::stop::Stop;
 use mp_outside::Files;
 use sp_terms::{Position, Terms};
 use std::alloc::{AllocError, Global};
-use tree_input::laws::{forest_law, tree_term};
-use tree_input::{Tree, terms_of_tree};
+use trees::laws::{forest_law, tree_term};
+use trees::{Tree, terms_of_tree};
 
 /// A term, and the positions for which the numbers 1, 2, .. stand.
 #[derive(Drop)]

@@ -15,7 +15,7 @@ use Rattle.assembly_tree.specs.Relaxation.{IsRelaxed, number_among}
 use Rattle.assembly_tree.specs.Supernodes.{AreSupernodes}
 use Rattle.symbolic.specs.FrontTree.{columns, relaxed, IsAnalysis}
 use Rattle.symbolic.specs.declared.options.FrontOptions.{FrontOptions}
-use Rattle.tree_input.specs.declared.node.Node.{Node}
+use Rattle.trees.specs.declared.node.Node.{Node}
 use Rattle.memplan_c.specs.Fronts.{HaveFronts, fronts_of_columns}
 
 -- merging leaves as many columns as there are

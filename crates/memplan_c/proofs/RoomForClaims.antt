@@ -4,13 +4,13 @@ use Rattle.std.specs.List.{range_with_len}
 use Rattle.std.proofs.lemmas.List.FromFn.{length-range_with_len}
 use Rattle.std.proofs.lemmas.List.Sorted.{length_permutation}
 use Rattle.sp_terms.specs.declared.position.Position.{Position}
-use Rattle.tree_input.specs.declared.judged.NodeTest.TheVariants as tests
-use Rattle.tree_input.specs.declared.judged.NodesRefusal.{NodesRefusal}
-use Rattle.tree_input.specs.declared.judged.NodesRefusal.TheVariants as refused_nodes
-use Rattle.tree_input.specs.declared.node.Node.{Node}
-use Rattle.tree_input.specs.Forest.{Forest, no_trees, tree, roots_of, all_numbers, IsForestOf}
-use Rattle.tree_input.specs.Tree.{IsTree}
-use Rattle.tree_input.specs.TreeTerm.{beside_positions, own_positions, tree_positions, forest_positions}
+use Rattle.trees.specs.declared.judged.NodeTest.TheVariants as tests
+use Rattle.trees.specs.declared.judged.NodesRefusal.{NodesRefusal}
+use Rattle.trees.specs.declared.judged.NodesRefusal.TheVariants as refused_nodes
+use Rattle.trees.specs.declared.node.Node.{Node}
+use Rattle.trees.specs.Forest.{Forest, no_trees, tree, roots_of, all_numbers, IsForestOf}
+use Rattle.trees.specs.Tree.{IsTree}
+use Rattle.trees.specs.TreeTerm.{beside_positions, own_positions, tree_positions, forest_positions}
 use Rattle.claim_rules.specs.Claims.{Claim as RuleClaim}
 use Rattle.plans.specs.declared.claim.Claim.{Claim as PlanClaim}
 use Rattle.plans.specs.Plan.{PlanValue, IsPlan, RiseFrom, claim_at, claim_of}

@@ -5,19 +5,19 @@ use Rattle.mp_system.specs.declared.order.ReplayRefusal.{ReplayRefusal}
 use Rattle.mp_system.specs.declared.order.ReplayRefusal.TheVariants as replays
 use Rattle.mp_system.specs.declared.system.OrderKind.{OrderKind}
 use Rattle.mp_system.specs.declared.system.OrderKind.TheVariants as order_kinds
-use Rattle.system_input.specs.declared.judged.ItemTest.TheVariants as item_tests
-use Rattle.system_input.specs.declared.judged.SystemRefusal.{SystemRefusal}
-use Rattle.system_input.specs.declared.judged.SystemRefusal.TheVariants as systems
-use Rattle.system_input.specs.declared.judged.TaskTest.TheVariants as task_tests
-use Rattle.matrix_input.specs.declared.columns.ColumnsRefusal.{ColumnsRefusal}
-use Rattle.matrix_input.specs.declared.columns.ColumnsRefusal.TheVariants as columns
-use Rattle.matrix_input.specs.declared.perm.PermRefusal.{PermRefusal}
-use Rattle.matrix_input.specs.declared.perm.PermRefusal.TheVariants as perms
+use Rattle.mp_system.specs.declared.judged.ItemTest.TheVariants as item_tests
+use Rattle.mp_system.specs.declared.judged.SystemRefusal.{SystemRefusal}
+use Rattle.mp_system.specs.declared.judged.SystemRefusal.TheVariants as systems
+use Rattle.mp_system.specs.declared.judged.TaskTest.TheVariants as task_tests
+use Rattle.patterns.specs.declared.columns.ColumnsRefusal.{ColumnsRefusal}
+use Rattle.patterns.specs.declared.columns.ColumnsRefusal.TheVariants as columns
+use Rattle.permutations.specs.declared.numbers.PermRefusal.{PermRefusal}
+use Rattle.permutations.specs.declared.numbers.PermRefusal.TheVariants as perms
 use Rattle.ordering.specs.declared.minimum_degree.MindegRefusal.{MindegRefusal}
 use Rattle.ordering.specs.declared.minimum_degree.MindegRefusal.TheVariants as degrees
-use Rattle.tree_input.specs.declared.judged.NodeTest.TheVariants as tests
-use Rattle.tree_input.specs.declared.judged.NodesRefusal.{NodesRefusal}
-use Rattle.tree_input.specs.declared.judged.NodesRefusal.TheVariants as nodes
+use Rattle.trees.specs.declared.judged.NodeTest.TheVariants as tests
+use Rattle.trees.specs.declared.judged.NodesRefusal.{NodesRefusal}
+use Rattle.trees.specs.declared.judged.NodesRefusal.TheVariants as nodes
 use Rattle.activation.specs.declared.refusal.CoreRefusal.{CoreRefusal}
 use Rattle.activation.specs.declared.refusal.CoreRefusal.TheVariants as cores
 use Rattle.spill_plan.specs.declared.refusal.SpillRefusal.{SpillRefusal}

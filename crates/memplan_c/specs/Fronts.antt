@@ -2,12 +2,12 @@
 use Rattle.std.specs.Prelude.{◌≡◌, ◌≢◌, ◌==◌, ℕ, ◌<◌, ◌≤◌, not, if◌then◌else◌, Option, Some, None, List, [], ◌∷◌, length, map}
 use Rattle.std.specs.List.{range_with_len}
 use Rattle.limits.specs.Limits.{most_mindeg}
-use Rattle.matrix_market.specs.Pattern.{IsPatternOf, is_joined}
-use Rattle.matrix_input.specs.Columns.{AreColumns, IsColumnsRefusal, columns_in, pairs_given}
-use Rattle.matrix_input.specs.Order.{IsPermRefusal, order_given}
+use Rattle.patterns.specs.Pattern.{IsPatternOf, is_joined}
+use Rattle.patterns.specs.Columns.{AreColumns, IsColumnsRefusal, columns_in, pairs_given}
+use Rattle.permutations.specs.Order.{IsPermRefusal, order_given}
 use Rattle.ordering.specs.MinimumDegree.{IsMinimumDegreeOrder, IsMindegRefusal}
-use Rattle.ordering.specs.Perm.{IsPerm, place_of}
-use Rattle.tree_input.specs.declared.node.Node.{Node}
+use Rattle.permutations.specs.Perm.{IsPerm, place_of}
+use Rattle.trees.specs.declared.node.Node.{Node}
 use Rattle.assembly_tree.specs.Assembly.{AssemblyTree, super_of}
 use Rattle.assembly_tree.specs.Fronts.{fronts_of}
 use Rattle.assembly_tree.specs.declared.front.Shape.{Shape}

@@ -3,14 +3,14 @@ use Rattle.std.specs.Prelude.{◌≡◌, ◌≢◌, ℕ, ◌+◌, ◌-◌, ◌*�
 use Rattle.limits.specs.Limits.{most_tasks, most_positions, most_total, most_workers}
 use Rattle.mp_system.specs.Refusal.{IsOrderRefusal}
 use Rattle.mp_system.specs.System.{IsSystem}
-use Rattle.system_input.specs.declared.given.GivenItem.{GivenItem}
-use Rattle.system_input.specs.declared.given.GivenTask.{GivenTask}
-use Rattle.system_input.specs.Given.{system_given}
-use Rattle.system_input.specs.Judged.{IsSystemRefusal}
+use Rattle.mp_system.specs.declared.given.GivenItem.{GivenItem}
+use Rattle.mp_system.specs.declared.given.GivenTask.{GivenTask}
+use Rattle.mp_system.specs.Given.{system_given}
+use Rattle.mp_system.specs.Judged.{IsSystemRefusal}
 use Rattle.sp_terms.specs.declared.position.Position.{Position}
-use Rattle.tree_input.specs.declared.node.Node.{Node}
-use Rattle.tree_input.specs.Judged.{IsNodesRefusal}
-use Rattle.tree_input.specs.Tree.{IsTree, system_of_nodes}
+use Rattle.trees.specs.declared.node.Node.{Node}
+use Rattle.trees.specs.Judged.{IsNodesRefusal}
+use Rattle.trees.specs.Tree.{IsTree, system_of_nodes}
 use Rattle.plans.specs.Plan.{PlanValue, IsClaimWithin, IsPlan, RiseFrom}
 use Rattle.claim_check.specs.Accepted.{IsObjection}
 use Rattle.claim_check.specs.declared.objection.Objection.{Objection}

@@ -15,7 +15,7 @@ use least_peak::Problem;
 use mp_system::laws::traversal_law;
 use plans::Plan;
 use std::alloc::Global;
-use tree_input::{Node, tree_of_nodes};
+use trees::{Node, tree_of_nodes};
 
 fn check_plan(
     alloc: Global,

@@ -5,8 +5,8 @@ ghost use Rattle.std.specs.Borrow.{sem, full_share};
 ghost use Rattle.std.specs.Ptr.{lies_at, room_at};
 ghost use Rattle.activation.specs.declared.events.EventKind.TheVariants.{Start, Finish};
 ghost use Rattle.mp_system.specs.System.{IsSystem};
-ghost use Rattle.system_input.specs.Given.{system_given};
-ghost use Rattle.tree_input.specs.Tree.{IsTree, system_of_nodes};
+ghost use Rattle.mp_system.specs.Given.{system_given};
+ghost use Rattle.trees.specs.Tree.{IsTree, system_of_nodes};
 ghost use Rattle.memplan_c.specs.Refusals.{IsBeginRefusal, IsSystemBeginRefusal};
 ghost use Rattle.memplan_c.specs.Slots.{SlotValue, empty, setting_of, begun, IsCoreBegun, activated, IsActivated, stepped, IsStarted};
 ghost use Rattle.memplan_c.specs.Slots.{IsFinished, IsDone, used_in, booked_in};
@@ -20,8 +20,8 @@ use crate::slot::{
     used,
 };
 use std::alloc::Global;
-use system_input::{GivenItem, GivenTask};
-use tree_input::Node;
+use mp_system::{GivenItem, GivenTask};
+use trees::Node;
 
 /// What C sees of a slot.
 #[repr(C)]

@@ -1,8 +1,8 @@
 //! What a refused call answers: a status, and a fault.
 
 ghost use Rattle.std.specs.Prelude.{◌≡◌};
-ghost use Rattle.system_input.specs.declared.judged.SystemRefusal.TheVariants as systems;
-ghost use Rattle.tree_input.specs.declared.judged.NodesRefusal.TheVariants as nodes;
+ghost use Rattle.mp_system.specs.declared.judged.SystemRefusal.TheVariants as systems;
+ghost use Rattle.trees.specs.declared.judged.NodesRefusal.TheVariants as nodes;
 ghost use Rattle.memplan_c.specs.Faults.{answer, answer_of, of_nodes, of_system, of_replay, of_order, of_core, of_spill, of_plan};
 ghost use Rattle.memplan_c.specs.Faults.{of_objection, of_columns, of_perm, of_degree};
 
@@ -10,12 +10,13 @@ use crate::kinds;
 use crate::refusal::{PlanFault, Refusal};
 use activation::CoreRefusal;
 use claim_check::Objection;
-use matrix_input::{ColumnsRefusal, PermRefusal};
+use patterns::ColumnsRefusal;
+use permutations::PermRefusal;
 use mp_system::{OrderFault, OrderKind, ReplayRefusal};
 use ordering::MindegRefusal;
 use spill_plan::SpillRefusal;
-use system_input::{ItemTest, SystemRefusal, TaskTest};
-use tree_input::{NodeTest, NodesRefusal};
+use mp_system::{ItemTest, SystemRefusal, TaskTest};
+use trees::{NodeTest, NodesRefusal};
 
 /// What is wrong, and with which node, place, position or step.
 #[repr(C)]

@@ -2,7 +2,7 @@
 
 ghost use Rattle.std.specs.Prelude.{◌≡◌, ◌≢◌, ◌≤◌, ◌<◌, length, take, drop, IfOk, IfErr, OnOk};
 ghost use Rattle.limits.specs.Limits.{most_order};
-ghost use Rattle.ordering.specs.Perm.{IsPerm};
+ghost use Rattle.permutations.specs.Perm.{IsPerm};
 ghost use Rattle.symbolic.specs.FrontTree.{relaxed};
 ghost use Rattle.memplan_c.specs.declared.refusal.Refusal.TheVariants as refusals;
 ghost use Rattle.memplan_c.specs.Faults.{IsRefused};
@@ -14,13 +14,15 @@ use crate::orders::check_room;
 use crate::refusal::Refusal;
 use assembly_tree::laws::{amalgamation_is_assembly, amalgamation_is_relaxed};
 use assembly_tree::{Assembly, Shape, amalgamate, fronts};
-use matrix_input::{pattern_of_columns, perm_of_numbers};
-use matrix_market::Pattern;
-use ordering::{Perm, min_degree};
+use patterns::pattern_of_columns;
+use permutations::perm_of_numbers;
+use patterns::Pattern;
+use permutations::Perm;
+use ordering::min_degree;
 use std::alloc::{AllocError, Global};
 use symbolic::laws::one_analysis;
 use symbolic::{Analysis, FrontOptions, analyse};
-use tree_input::{Node, Tree};
+use trees::{Node, Tree};
 
 /// How the fronts of a matrix are made.
 #[repr(C)]

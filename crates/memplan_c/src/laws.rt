@@ -1,8 +1,8 @@
 //! Laws of the calls: what holds of their answers, without a call.
 
 ghost use Rattle.std.specs.Prelude.{◌≡◌, ◌≢◌, ◌<◌, ◌≤◌, ℕ, List, length};
-ghost use Rattle.tree_input.specs.declared.node.Node.{Node};
-ghost use Rattle.tree_input.specs.Tree.{IsTree};
+ghost use Rattle.trees.specs.declared.node.Node.{Node};
+ghost use Rattle.trees.specs.Tree.{IsTree};
 ghost use Rattle.plans.specs.Plan.{PlanValue, IsPlan};
 ghost use Rattle.memplan_c.specs.declared.faults.Fault.{Fault};
 ghost use Rattle.memplan_c.specs.declared.kinds.TheConstants.{CLAIM_ROOM};
@@ -10,7 +10,7 @@ ghost use Rattle.memplan_c.specs.Answers.{IsCertificate};
 ghost use Rattle.memplan_c.specs.Faults.{IsRefused};
 ghost use Rattle.memplan_c.specs.Refusals.{IsCertifyRefusal, most_claims};
 
-use tree_input::laws::forest_law;
+use trees::laws::forest_law;
 
 /// A certificate has at most `most_claims` claims. So `memplan_certify_tree` is never refused for want of room for claims where there is
 /// room for as many; a call that is refused so tells that number, and with room for as many as it tells the same call is not.

@@ -12,7 +12,7 @@ use mp_system::laws::traversal_law;
 use plans::Plan;
 use postorder_best::{Post, best_postorder};
 use std::alloc::Global;
-use tree_input::{Node, tree_of_nodes};
+use trees::{Node, tree_of_nodes};
 
 /// Whether there is just the room that is needed.
 pub fn check_room(needed: usize, room: usize) -> Result<(), Refusal>

@@ -1,8 +1,8 @@
 //! What an order of tasks needs.
 
 ghost use Rattle.std.specs.Prelude.{◌≡◌, ◌≢◌, length, IfOk, IfErr};
-ghost use Rattle.tree_input.specs.Tree.{IsTree, system_of_nodes};
-ghost use Rattle.tree_input.specs.Judged.{IsNodesRefusal};
+ghost use Rattle.trees.specs.Tree.{IsTree, system_of_nodes};
+ghost use Rattle.trees.specs.Judged.{IsNodesRefusal};
 ghost use Rattle.memplan_c.specs.Answers.{IsReplayed, IsTreeSpilled, IsSystemReplayed};
 ghost use Rattle.memplan_c.specs.Faults.{IsRefused};
 ghost use Rattle.memplan_c.specs.Refusals.{IsReplayRefusal, IsSpillCallRefusal, IsSystemReplayRefusal};
@@ -13,8 +13,8 @@ use crate::refusal::Refusal;
 use mp_system::{System, replay};
 use spill_plan::{Spill, spill};
 use std::alloc::Global;
-use system_input::{GivenItem, GivenTask, system_of_arrays};
-use tree_input::{Node, NodesRefusal, system_of_tree, tree_of_nodes};
+use mp_system::{GivenItem, GivenTask, system_of_arrays};
+use trees::{Node, NodesRefusal, system_of_tree, tree_of_nodes};
 
 /// The system of the tree of these nodes.
 pub fn system_of(alloc: Global, nodes: &[Node]) -> Result<System, NodesRefusal>

@@ -3,10 +3,10 @@
 ghost use Rattle.std.specs.Prelude.{◌≡◌, ◌↔◌, ◌≤◌, IfOk, IfErr, IsTrue};
 ghost use Rattle.limits.specs.Limits.{most_workers};
 ghost use Rattle.mp_system.specs.System.{IsSystem};
-ghost use Rattle.system_input.specs.Given.{system_given};
+ghost use Rattle.mp_system.specs.Given.{system_given};
 ghost use Rattle.activation.specs.Machine.{IsSetting};
 ghost use Rattle.activation.specs.declared.events.EventKind.TheVariants.{Start, Finish};
-ghost use Rattle.tree_input.specs.Tree.{IsTree, system_of_nodes};
+ghost use Rattle.trees.specs.Tree.{IsTree, system_of_nodes};
 ghost use Rattle.memplan_c.specs.Refusals.{IsBeginRefusal, IsSystemBeginRefusal};
 ghost use Rattle.memplan_c.specs.Slots.{empty, setting_of, core_at_start, begun, IsCoreBegun, activated, IsActivated, stepped, IsStarted};
 ghost use Rattle.memplan_c.specs.Slots.{IsFinished, IsDone, used_in, booked_in};
@@ -18,8 +18,8 @@ use activation::Core;
 use limits::MOST_WORKERS;
 use std::alloc::Global;
 use std::marker::Model;
-use system_input::{GivenItem, GivenTask, system_of_arrays};
-use tree_input::Node;
+use mp_system::{GivenItem, GivenTask, system_of_arrays};
+use trees::Node;
 
 /// Room for a core, which is empty until one begins.
 #[derive(Drop)]

@@ -11,8 +11,8 @@ use crate::slot::{
 };
 use std::alloc::Global;
 use std::process::Abort;
-use system_input::{GivenItem, GivenTask};
-use tree_input::Node;
+use mp_system::{GivenItem, GivenTask};
+use trees::Node;
 
 fn node(parent: u32, out: u64, extra: u64) -> Node {
     Node {

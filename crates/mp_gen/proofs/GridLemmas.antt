@@ -11,7 +11,7 @@ use Rattle.std.proofs.lemmas.List.Elements.{All-append}
 use Rattle.std.proofs.lemmas.List.FromFn.{length-range_with_len, get_or-range_with_len}
 use Rattle.std.proofs.lemmas.List.Sums.{sum_by-le}
 use Rattle.limits.specs.Limits.{most_mindeg, most_entries}
-use Rattle.matrix_market.specs.Pattern.{IsPairWithin}
+use Rattle.patterns.specs.Pattern.{IsPairWithin}
 use Rattle.mp_gen.specs.Grid.{vertex_at, joins_at, joins_in_row, grid_pairs}
 
 -- ---- lists over a range

@@ -2,11 +2,11 @@
 
 ghost use Rattle.std.specs.Prelude.{◌≡◌, ◌<◌, ◌≤◌, ◌*◌, ◌^◌, ◌++◌, IfOk, OnOk};
 ghost use Rattle.limits.specs.Limits.{most_mindeg};
-ghost use Rattle.matrix_market.specs.Pattern.{IsPatternOf};
+ghost use Rattle.patterns.specs.Pattern.{IsPatternOf};
 ghost use Rattle.mp_gen.specs.Grid.{vertex_at, joins_at, joins_in_row, grid_pairs};
 
 use crate::NoMemory;
-use matrix_market::Pattern;
+use patterns::Pattern;
 use std::alloc::Global;
 
 // The number of a vertex.

@@ -7,7 +7,7 @@ use Rattle.std.specs.Prelude.{◌==◌, ℕ, zero, suc, ◌+◌, ◌-◌, ◌<�
 use Rattle.std.specs.List.{range_with_len, count_by}
 pub use Rattle.elimination.specs.Elimination.{IsAdjacency}
 unfoldable pub use Rattle.elimination.specs.Elimination.{eliminate}
-use Rattle.ordering.specs.Perm.{vertex_at}
+use Rattle.permutations.specs.Perm.{vertex_at}
 
 -- the pattern by columns: of the vertices in the order in which they are eliminated
 abbrev pub renumbered : (ℕ → ℕ → Bool) → List ℕ → ℕ → ℕ → Bool

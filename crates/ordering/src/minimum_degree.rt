@@ -1,14 +1,14 @@
 ghost use Rattle.std.specs.Prelude.{◌≡◌, ◌≤◌, length, MatchResult, IfOk};
 ghost use Rattle.limits.specs.Limits.{most_mindeg};
-ghost use Rattle.matrix_market.specs.Pattern.{is_joined};
+ghost use Rattle.patterns.specs.Pattern.{is_joined};
 ghost use Rattle.ordering.specs.MinimumDegree.{IsMinimumDegreeOrder, IsMindegRefusal};
-ghost use Rattle.ordering.specs.Perm.{IsPerm};
+ghost use Rattle.permutations.specs.Perm.{IsPerm};
 ghost use Rattle.ordering.specs.declared.minimum_degree.MindegRefusal.TheVariants.{NoMemory};
 
-use crate::perm::{NoMemory, PartialPerm, Perm};
+use permutations::{NoMemory, PartialPerm, Perm};
 use elimination::by_least_degree;
 use limits::MOST_MINDEG;
-use matrix_market::Pattern;
+use patterns::Pattern;
 use std::alloc::Global;
 
 /// Why no minimum degree order was made.

@@ -5,8 +5,6 @@ mod claim;
 mod parts;
 mod plan;
 mod ranking;
-#[cfg(test)]
-mod tests;
 
 pub use claim::{Claim, Direction};
 pub use parts::is_plan;

@@ -6,8 +6,8 @@ use Rattle.std.proofs.lemmas.Bool.{cases_Bool, cases_lt}
 use Rattle.std.proofs.lemmas.List.{length-map, get_or-map, get_or_past}
 use Rattle.std.proofs.lemmas.List.Elements.{All-map, All-weaker}
 use Rattle.row_table.specs.Rows.{row_at, numbers_with}
-use Rattle.tree_input.specs.declared.node.Node.{Node}
-use Rattle.tree_input.specs.Tree.{IsTree, IsNodeWithin, parent_of}
+use Rattle.trees.specs.declared.node.Node.{Node}
+use Rattle.trees.specs.Tree.{IsTree, IsNodeWithin, parent_of}
 use Rattle.postorder_best.specs.Postorder.{Member}
 use Rattle.postorder_best.specs.Rows.{Once, AreRows, parent_in}
 use Rattle.postorder_best.proofs.TreeLinks.{no_node, parent_at, forest_of}

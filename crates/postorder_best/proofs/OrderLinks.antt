@@ -4,9 +4,9 @@ use Rattle.std.proofs.lemmas.List.{length-map, length-append, take-append-drop, 
 use Rattle.mp_system.specs.System.{IsTask}
 use Rattle.mp_system.specs.Memory.{stands_in}
 use Rattle.mp_system.specs.Traversal as system
-use Rattle.tree_input.specs.declared.node.Node.{Node}
-use Rattle.tree_input.specs.Tree as tree
-use Rattle.tree_input.specs.Tree.{parent_of, task_of, system_of_nodes}
+use Rattle.trees.specs.declared.node.Node.{Node}
+use Rattle.trees.specs.Tree as tree
+use Rattle.trees.specs.Tree.{parent_of, task_of, system_of_nodes}
 use Rattle.postorder_best.specs.Postorder as public
 use Rattle.postorder_best.specs.Postorder.{Member}
 use Rattle.postorder_best.proofs.Forest.{IsNode, IsTraversal, IsPostorder}

@@ -2,9 +2,9 @@
 use Rattle.std.proofs.Common.{◌≡◌, ◌∙◌, ◌⊎◌, ◌↔◌, inl, inr, sym, ap, ℕ, zero, suc, ◌+◌, ◌-◌, ◌<◌, ◌≤◌, List, [], ◌∷◌, length, arith, refl}
 use Rattle.mp_system.specs.System.{need_of}
 use Rattle.mp_system.specs.Memory.{peak_of}
-use Rattle.tree_input.specs.declared.node.Node.{Node}
-use Rattle.tree_input.specs.Tree as tree
-use Rattle.tree_input.specs.Tree.{IsTree, node_at, parent_of, children_out, system_of_nodes}
+use Rattle.trees.specs.declared.node.Node.{Node}
+use Rattle.trees.specs.Tree as tree
+use Rattle.trees.specs.Tree.{IsTree, node_at, parent_of, children_out, system_of_nodes}
 use Rattle.postorder_best.specs.Postorder.{Member}
 use Rattle.postorder_best.specs.BestPostorder as best
 use Rattle.postorder_best.specs.BestPostorder.{out_at, need_at, children_peak, subtrees_of, ComesBefore, ComesBeforeAll, IsBestRow, Listed, ListedAll, IsBestPostorder}

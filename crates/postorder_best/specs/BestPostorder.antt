@@ -1,8 +1,8 @@
 -- The best postorder of a tree (Liu 1986, On the storage requirement in the out-of-core multifrontal method): the children of each
 -- node, and the roots, by falling peak minus out, a tie to the lower number.
 use Rattle.std.specs.Prelude.{◌≡◌, ◌⊎◌, ◌↔◌, ℕ, zero, suc, ◌+◌, ◌-◌, ◌<◌, ◌≤◌, max, List, [], ◌∷◌, ◌++◌, length, map}
-use Rattle.tree_input.specs.declared.node.Node.{Node}
-use Rattle.tree_input.specs.Tree.{IsNode, node_at, parent_of}
+use Rattle.trees.specs.declared.node.Node.{Node}
+use Rattle.trees.specs.Tree.{IsNode, node_at, parent_of}
 use Rattle.postorder_best.specs.Postorder.{Member}
 
 -- the block that a node leaves; the place 0 above the roots leaves none

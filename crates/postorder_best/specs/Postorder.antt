@@ -2,8 +2,8 @@
 -- requirement in the out-of-core multifrontal method).
 use Rattle.std.specs.Prelude.{◌≡◌, ◌⊎◌, ◌↔◌, ℕ, ◌<◌, List, [], ◌∷◌, ◌++◌}
 use Rattle.mp_system.specs.Traversal.{IsTraversal}
-use Rattle.tree_input.specs.declared.node.Node.{Node}
-use Rattle.tree_input.specs.Tree.{IsNode, parent_of, system_of_nodes}
+use Rattle.trees.specs.declared.node.Node.{Node}
+use Rattle.trees.specs.Tree.{IsNode, parent_of, system_of_nodes}
 
 -- x stands in the list
 abbrev pub Member : ℕ → List ℕ → Type 0

@@ -9,8 +9,8 @@ use Rattle.std.proofs.lemmas.List.Folds.{list_any_at}
 use Rattle.std.proofs.lemmas.List.Kept.{Contains-dedup_nat, Contains-from_dedup}
 use Rattle.std.proofs.lemmas.List.Sorted.{list_any-IsPermutation}
 use Rattle.std.proofs.lemmas.Map.Keys.{IsStrictlyIncreasing-dedup}
-use Rattle.matrix_market.specs.Pattern.{has, neighbours_of, is_joined, IsPattern}
-use Rattle.ordering.specs.Perm.{IsVertex, IsPerm, vertex_at, place_of}
+use Rattle.patterns.specs.Pattern.{has, neighbours_of, is_joined, IsPattern}
+use Rattle.permutations.specs.Perm.{IsVertex, IsPerm, vertex_at, place_of}
 use Rattle.ordering.specs.Fill.{renumbered, structure_of}
 use Rattle.elim_tree.specs.Paths.{IsInherited, IsFromChild}
 use Rattle.rounds_run.specs.FrontRows.{rows_of}

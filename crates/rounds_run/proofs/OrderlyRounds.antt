@@ -4,10 +4,10 @@ use Rattle.std.specs.List.{list_any, IsDistinct}
 use Rattle.std.proofs.lemmas.Bool.{cases_lt, cases_Bool, both_ways, false_from_ne_true}
 use Rattle.std.proofs.lemmas.List.{get_or_past, get_or-take, length-take, length-map, get_or-map}
 use Rattle.std.proofs.lemmas.List.Folds.{list_any_at}
-use Rattle.matrix_market.specs.Pattern.{has}
+use Rattle.patterns.specs.Pattern.{has}
 use Rattle.mp_system.specs.System.{TaskSystem, IsTask, task_at}
-use Rattle.tree_input.specs.declared.node.Node.{Node}
-use Rattle.tree_input.specs.Tree.{task_of}
+use Rattle.trees.specs.declared.node.Node.{Node}
+use Rattle.trees.specs.Tree.{task_of}
 use Rattle.assembly_tree.specs.declared.assembly.Super.{Super}
 use Rattle.assembly_tree.specs.Assembly.{AssemblyTree, IsAssembly, IsSuper, no_super, super_at}
 use Rattle.activation.specs.declared.events.Event.{Event}

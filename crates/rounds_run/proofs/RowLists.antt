@@ -5,8 +5,8 @@ use Rattle.std.specs.List.Sorted.{IsStrictlyIncreasing}
 use Rattle.std.proofs.lemmas.Bool.{cases_eq, cases_Bool, cases_lt, eq-eqb, ne_eqb, eqb-true, eqb-false, both_ways, and_parts, and_from, or_left, not-true, not_from_false}
 use Rattle.std.proofs.lemmas.List.Kept.{IsStrictlyIncreasing-filter}
 use Rattle.std.proofs.lemmas.List.Sums.{length-filter}
-use Rattle.matrix_market.specs.Pattern.{has}
-use Rattle.ordering.specs.Perm.{IsVertex}
+use Rattle.patterns.specs.Pattern.{has}
+use Rattle.permutations.specs.Perm.{IsVertex}
 use Rattle.ordering.specs.Fill.{IsAdjacency, structure_of, parent_of, count_of}
 use Rattle.elim_tree.specs.Paths.{Path, edge, via, IsWithin, IsInherited, IsFromChild}
 use Rattle.rounds_run.specs.FrontRows.{rows_of}

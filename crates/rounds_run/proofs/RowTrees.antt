@@ -11,8 +11,8 @@ use Rattle.mp_system.specs.declared.system.Item.{Item}
 use Rattle.mp_system.specs.System.{TaskSystem, IsTask, is_input}
 use Rattle.mp_system.specs.Memory.{stands_in, is_ready, is_produced}
 use Rattle.mp_system.specs.Traversal.{IsTraversal}
-use Rattle.tree_input.specs.declared.node.Node.{Node}
-use Rattle.tree_input.specs.Tree.{IsNode, IsTree, IsNodeWithin, node_at, node_size, ancestor, task_of, item_of, items_from}
+use Rattle.trees.specs.declared.node.Node.{Node}
+use Rattle.trees.specs.Tree.{IsNode, IsTree, IsNodeWithin, node_at, node_size, ancestor, task_of, item_of, items_from}
 use Rattle.assembly_tree.specs.declared.assembly.Super.{Super}
 use Rattle.assembly_tree.specs.Assembly.{AssemblyTree, IsSuper, IsAssembly, no_super, super_at, columns_in, front_of}
 use Rattle.rounds_run.specs.RowSystem.{row_node, row_system, row_order}

@@ -6,8 +6,8 @@ use Rattle.std.proofs.lemmas.List.{drop-drop}
 use Rattle.std.proofs.lemmas.List.FromFn.{get_or-map-range_with_len, length-map-range_with_len}
 use Rattle.std.proofs.lemmas.List.Sums.{sum_by-take-le, sum_by_more}
 use Rattle.std.proofs.lemmas.List.{take_all}
-use Rattle.matrix_market.specs.Pattern.{has}
-use Rattle.ordering.specs.Perm.{IsVertex}
+use Rattle.patterns.specs.Pattern.{has}
+use Rattle.permutations.specs.Perm.{IsVertex}
 use Rattle.ordering.specs.Fill.{structure_of, parent_of, count_of, parents_of, counts_of, IsParent}
 use Rattle.elim_tree.specs.Paths.{IsFromChild}
 use Rattle.elim_tree.specs.Trees.{parent_at}

@@ -6,7 +6,7 @@ use Rattle.std.proofs.lemmas.Bool.{cases_eq, cases_lt, cases_Bool, false_from_ne
 use Rattle.std.proofs.lemmas.List.{get_or-set_same, get_or-set_other, length-set, length-replicate, get_or-replicate, get_or_past, append-nil, append_assoc, map-append, length_push}
 use Rattle.std.proofs.lemmas.List.Elements.{filter-append, All-take}
 use Rattle.std.proofs.lemmas.Map.Keys.{IsDistinct-push}
-use Rattle.matrix_market.specs.Pattern.{has}
+use Rattle.patterns.specs.Pattern.{has}
 use Rattle.mp_system.specs.System.{TaskSystem, IsTask, task_at}
 use Rattle.mp_system.specs.Memory.{stands_in, is_ready}
 use Rattle.activation.specs.declared.events.Phase.{Phase}

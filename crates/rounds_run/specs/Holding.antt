@@ -4,8 +4,8 @@ use Rattle.std.specs.Prelude.{◌≡◌, ◌↔◌, ℕ, ◌+◌, ◌-◌, ◌<�
 use Rattle.std.specs.Prelude.{drop, take, slice_index, slice_index_or}
 use Rattle.std.specs.List.{list_any, IsDistinct}
 use Rattle.std.specs.declared.alloc.AllocError.{AllocError}
-use Rattle.matrix_market.specs.Pattern.{has}
-use Rattle.ordering.specs.Perm.{IsVertex}
+use Rattle.patterns.specs.Pattern.{has}
+use Rattle.permutations.specs.Perm.{IsVertex}
 use Rattle.ordering.specs.Fill.{IsAdjacency, count_of, parents_of, counts_of}
 use Rattle.elim_tree.specs.Paths.{IsWithin, IsFromChild}
 use Rattle.assembly_tree.specs.declared.assembly.Super.{Super}

@@ -6,7 +6,7 @@ ghost use Rattle.rounds_run.specs.Gathering.{Adds, in_lists, is_later};
 
 use crate::NoMemory;
 use crate::lists::NumberList;
-use ordering::Perm;
+use permutations::Perm;
 
 /// Puts the columns of those vertices at the end that are eliminated after column `first`.
 pub fn add_later(

@@ -2,7 +2,7 @@
 
 ghost use Rattle.std.specs.Prelude.{◌≡◌, ◌==◌, ◌+◌, ◌-◌, ◌≤◌, ◌<◌, ◌^◌, ℕ, Bool, true, false, ◌||◌, ◌++◌, ◌∷◌, [], All, if◌then◌else◌};
 ghost use Rattle.std.specs.Prelude.{length, slice_set, slice_index_or, IfOk, OnOk};
-ghost use Rattle.matrix_market.specs.Pattern.{has};
+ghost use Rattle.patterns.specs.Pattern.{has};
 ghost use Rattle.assembly_tree.specs.Assembly.{IsSuper, super_at};
 ghost use Rattle.assembly_tree.specs.Supernodes.{first_of};
 ghost use Rattle.rounds_run.specs.FrontRows.{list_of};

@@ -12,7 +12,7 @@ ghost use Rattle.rounds_run.specs.Rounds.{AreRounds};
 
 use activation::laws::schedule_law;
 use elim_tree::laws::{no_earlier_row, path_theorem, structure_by_children};
-use tree_input::laws::tree_system;
+use trees::laws::tree_system;
 
 /// A setting has one list of rounds, and one greatest use.
 pub fn one_list_of_rounds()

@@ -22,8 +22,6 @@ mod refusal;
 mod rounds;
 mod row_tree;
 mod running;
-#[cfg(test)]
-mod tests;
 
 pub use fronts::Fronts;
 pub use refusal::FrontsRefusal;

@@ -2,7 +2,7 @@
 
 ghost use Rattle.std.specs.Prelude.{◌≡◌, ◌+◌, ◌-◌, ◌≤◌, ◌<◌, ◌^◌, ℕ, Bool, true, All, length, drop, slice_index_or, IfOk, IfErr, OnOk};
 ghost use Rattle.limits.specs.Limits.{most_workers, most_order};
-ghost use Rattle.matrix_market.specs.Pattern.{is_joined};
+ghost use Rattle.patterns.specs.Pattern.{is_joined};
 ghost use Rattle.ordering.specs.Fill.{renumbered, parents_of, counts_of};
 ghost use Rattle.assembly_tree.specs.Assembly.{IsSuper};
 ghost use Rattle.assembly_tree.specs.Supernodes.{AreSupernodes, first_of, last_of};
@@ -22,9 +22,9 @@ use crate::refusal::FrontsRefusal;
 use assembly_tree::{Assembly, Super};
 use elim_tree::Numbered;
 use elim_tree::laws::{no_earlier_row, path_theorem, renumbered_pattern, structure_by_children};
-use matrix_market::Pattern;
+use patterns::Pattern;
 use mp_outside::Gate;
-use ordering::Perm;
+use permutations::Perm;
 use ordering::laws::parent_is_first;
 use std::alloc::Global;
 use std::thread;

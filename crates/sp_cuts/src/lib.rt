@@ -15,8 +15,6 @@ mod noting;
 mod parts;
 mod planning;
 mod reaching;
-#[cfg(test)]
-mod tests;
 
 pub use composing::{parallel, parallel_part, series, series_part};
 pub use notes::{Notes, PartNote, SeriesNote};

@@ -18,8 +18,8 @@ use Rattle.sp_terms.specs.Term as terms
 use Rattle.sp_terms.specs.SystemOfTerm.{task_count, task_count_of_parts, tasks_of_term, tasks_of_parts}
 use Rattle.sp_terms.specs.Postfix.{Denotes, postfix}
 use Rattle.sp_terms.specs.Values.{stack_from, last_term, term_of, Leaves, IsTerms}
-use Rattle.task_graph.specs.declared.arc.Arc.{Arc}
-use Rattle.task_graph.specs.Graph.{TaskGraph, IsAmong, IsArcWithin, IsGraph, is_into, item_of, end_of, task_at, completed_arcs, completed_system}
+use Rattle.graphs.specs.declared.arc.Arc.{Arc}
+use Rattle.graphs.specs.Graph.{TaskGraph, IsAmong, IsArcWithin, IsGraph, is_into, item_of, end_of, task_at, completed_arcs, completed_system}
 use Rattle.sp_reduce.specs.Nets.{Net, hold, series, both, names, times, arcs, hits, into}
 use Rattle.sp_reduce.specs.NetGraphs.{arc_weight, counted, Makes}
 use Rattle.sp_reduce.specs.Reduced.{HasSystem, HasParts}

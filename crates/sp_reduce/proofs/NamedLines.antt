@@ -17,9 +17,9 @@ use Rattle.mp_text.specs.Comments.{is_comment_line}
 use Rattle.mp_text.specs.Report.{is_token, line_text, text_of_lines}
 use Rattle.sp_terms.specs.SystemOfTerm.{system_of_term}
 use Rattle.sp_terms.specs.Values.{term_of}
-use Rattle.sp_terms.specs.WorkflowText.{text_of}
+use Rattle.workflow_files.specs.WorkflowText.{text_of}
 use Rattle.sp_terms.specs.declared.position.Position.{Position}
-use Rattle.task_graph.specs.Graph.{TaskGraph, IsGraph, completed_system}
+use Rattle.graphs.specs.Graph.{TaskGraph, IsGraph, completed_system}
 use Rattle.sp_reduce.specs.NamedText.{name_line, name_lines, named_text}
 use Rattle.sp_reduce.specs.Reduced.{HasSystem}
 

@@ -6,8 +6,8 @@ use Rattle.std.proofs.lemmas.List.{append-nil, drop_more, length-map, take_more}
 use Rattle.std.proofs.lemmas.List.Sums.{sum_by-cons}
 use Rattle.std.proofs.lemmas.List.Sorted.{IsPermutation-trans, length_permutation, sum_by-IsPermutation}
 use Rattle.mp_system.specs.declared.system.Item.{Item}
-use Rattle.task_graph.specs.declared.arc.Arc.{Arc}
-use Rattle.task_graph.specs.Graph.{end_of, item_of}
+use Rattle.graphs.specs.declared.arc.Arc.{Arc}
+use Rattle.graphs.specs.Graph.{end_of, item_of}
 use Rattle.sp_reduce.specs.declared.link.Link.{Link}
 use Rattle.sp_reduce.specs.declared.piece.Piece.{Piece}
 use Rattle.sp_reduce.specs.Nets.{Net}

@@ -4,7 +4,7 @@ use Rattle.std.specs.Fmt.{decimal}
 use Rattle.std.specs.List.{enumerate_from}
 use Rattle.mp_text.specs.Report.{text_of_lines}
 use Rattle.sp_terms.specs.declared.position.Position.{Position}
-use Rattle.sp_terms.specs.WorkflowText.{text_of}
+use Rattle.workflow_files.specs.WorkflowText.{text_of}
 
 -- `# K NAME`: task K of the term is the task NAME of the graph
 abbrev pub name_line : ℕ × ℕ → List (List ℕ)

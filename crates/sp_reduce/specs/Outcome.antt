@@ -2,8 +2,8 @@
 -- What is left of the arcs of a graph: links that reductions lead to, to which none applies, with the terms that they carry.
 use Rattle.std.specs.Prelude.{ℕ, ◌≤◌, List, [], length, map}
 use Rattle.limits.specs.Limits.{most_arcs}
-use Rattle.task_graph.specs.declared.arc.Arc.{Arc}
-use Rattle.task_graph.specs.Graph.{item_of}
+use Rattle.graphs.specs.declared.arc.Arc.{Arc}
+use Rattle.graphs.specs.Graph.{item_of}
 use Rattle.sp_reduce.specs.declared.link.Link.{Link}
 use Rattle.sp_reduce.specs.declared.piece.Piece.{Piece}
 use Rattle.sp_reduce.specs.NetGraphs.{IsIrreducible}

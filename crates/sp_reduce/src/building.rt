@@ -3,7 +3,7 @@
 ghost use Rattle.std.specs.Prelude.{◌≡◌, ◌≤◌, ◌<◌, ◌+◌, ◌++◌, ◌∷◌, [], ℕ, List, All, length, map, vec_len, IfOk};
 ghost use Rattle.mp_system.specs.declared.system.Item.{Item};
 ghost use Rattle.limits.specs.Limits.{most_arcs};
-ghost use Rattle.task_graph.specs.Graph.{IsArcWithin, Rises, item_of};
+ghost use Rattle.graphs.specs.Graph.{IsArcWithin, Rises, item_of};
 ghost use Rattle.sp_reduce.specs.Pieces.{IsCarried, most_pieces};
 ghost use Rattle.sp_reduce.specs.Reductions.{ReducesTo, ends_of};
 ghost use Rattle.sp_reduce.specs.Work.{AreLinksRanked, link_count, pairs_of};
@@ -11,7 +11,7 @@ ghost use Rattle.sp_reduce.specs.Work.{AreLinksRanked, link_count, pairs_of};
 use crate::NoMemory;
 use crate::forest::Forest;
 use crate::links::Links;
-use task_graph::Arc;
+use graphs::Arc;
 
 // Puts one arc more among the links.
 fn add_arc(arc: Arc, links: &mut Links, forest: &mut Forest) -> Result<(), NoMemory>

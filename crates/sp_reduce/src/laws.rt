@@ -8,16 +8,17 @@ ghost use Rattle.mp_system.specs.Traversal.{IsTraversal, IsLeast};
 ghost use Rattle.sp_terms.specs.SystemOfTerm.{system_of_term};
 ghost use Rattle.sp_terms.specs.Term.{Term};
 ghost use Rattle.sp_terms.specs.Values.{IsTerms, term_of};
-ghost use Rattle.sp_terms.specs.WorkflowFile.{ReadsWorkflow};
+ghost use Rattle.workflow_files.specs.WorkflowFile.{ReadsWorkflow};
 ghost use Rattle.sp_terms.specs.declared.position.Position.{Position};
-ghost use Rattle.task_graph.specs.Graph.{TaskGraph, IsGraph, system_of, completed_system};
+ghost use Rattle.graphs.specs.Graph.{TaskGraph, IsGraph, system_of, completed_system};
 ghost use Rattle.sp_reduce.specs.NamedText.{named_text};
 ghost use Rattle.sp_reduce.specs.Reduced.{HasSystem};
 
 use mp_system::laws::renaming_law;
 use mp_text::laws::printed_number;
-use sp_terms::laws::{commented_workflow, terms_law};
-use task_graph::laws::completion_law;
+use workflow_files::laws::commented_workflow;
+use sp_terms::laws::terms_law;
+use graphs::laws::completion_law;
 
 /// The orders of a graph's term are those of the graph itself, under the names of its tasks, with the same peaks; so both have the same
 /// least peak.

@@ -14,8 +14,6 @@ mod printing;
 mod reduced;
 mod reducing;
 mod rounds;
-#[cfg(test)]
-mod tests;
 
 pub use printing::print_reduced;
 pub use reduced::{ReduceRefusal, Reduced};

@@ -3,7 +3,7 @@
 ghost use Rattle.std.specs.Prelude.{◌≡◌, ◌≤◌, ◌<◌, ◌+◌, ◌-◌, ◌^◌, ◌++◌, [], ◌∷◌, ℕ, All, length, min, slice_index, IfOk};
 ghost use Rattle.limits.specs.Limits.{most_positions};
 ghost use Rattle.sp_terms.specs.Postfix.{postfix};
-ghost use Rattle.task_graph.specs.Graph.{IsAmong, task_at};
+ghost use Rattle.graphs.specs.Graph.{IsAmong, task_at};
 ghost use Rattle.sp_reduce.specs.Nets.{names};
 ghost use Rattle.sp_reduce.specs.Pieces.{AreMade, net_at, nets_of, piece_at};
 ghost use Rattle.sp_reduce.specs.Shapes.{parts_of, size_of, term_of_net};

@@ -8,7 +8,7 @@ use crate::NoMemory;
 use crate::reduced::Reduced;
 use mp_text::laws::printed_lines;
 use mp_text::{Report, Token};
-use sp_terms::print_workflow;
+use workflow_files::print_workflow;
 
 // `# K NAME` for each task.
 fn print_names(names: &[u32], report: &mut Report) -> Result<(), NoMemory>

@@ -152,7 +152,7 @@ impl TermBuilder {
 
 // How many tasks a position is.
 #[inline(always)]
-pub(crate) fn count(p: Position) -> u64
+pub fn count(p: Position) -> u64
     ensures { result ≡ added_tasks p }
 {
     match p {

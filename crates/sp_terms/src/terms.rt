@@ -53,7 +53,7 @@ impl Terms {
     }
 
     /// All positions.
-    pub(crate) fn positions(&self) -> &[Position]
+    pub fn positions(&self) -> &[Position]
         ensures value { result.now ≡ self.now }
         ensures terms { IsTerms self.now }
     {

@@ -1,11 +1,11 @@
 -- The steps of the analysis fit together.
 use Rattle.std.proofs.Common.{◌≡◌, ◌∙◌, ℕ, List, length, map, sym, ap, subst}
-use Rattle.ordering.specs.Perm.{vertex_at}
+use Rattle.permutations.specs.Perm.{vertex_at}
 use Rattle.ordering.specs.Fill.{parents_of, counts_of}
 use Rattle.assembly_tree.specs.Assembly.{AssemblyTree}
 use Rattle.assembly_tree.specs.Fronts.{fronts_of}
 use Rattle.assembly_tree.specs.Supernodes.{AreColumnCounts, AreSupernodes}
-use Rattle.tree_input.specs.declared.node.Node.{Node}
+use Rattle.trees.specs.declared.node.Node.{Node}
 use Rattle.symbolic.specs.FrontTree.{columns, relaxed, IsAnalysis, IsFrontTree}
 use Rattle.symbolic.specs.declared.options.FrontOptions.{FrontOptions}
 

@@ -14,8 +14,6 @@
 mod analysis;
 pub mod laws;
 mod options;
-#[cfg(test)]
-mod tests;
 
 pub use analysis::{Analysis, analyse, front_tree};
 pub use options::FrontOptions;

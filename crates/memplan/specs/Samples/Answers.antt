@@ -8,9 +8,9 @@ use Rattle.mp_text.specs.Words.{after_word, version_of}
 use Rattle.mp_text.specs.Report.{text_of_lines}
 use Rattle.mp_text.specs.Grammar.{fault_at}
 use Rattle.mp_system.specs.declared.system.OrderKind.TheVariants.{Unknown, Missing}
-use Rattle.tree_input.specs.declared.node.TreeKind.TheVariants as trees
-use Rattle.tree_input.specs.TreeFile.{RefusesTree}
-use Rattle.tree_input.specs.Samples.{five}
+use Rattle.tree_files.specs.declared.kind.TreeKind.TheVariants as trees
+use Rattle.tree_files.specs.TreeFile.{RefusesTree}
+use Rattle.trees.specs.Samples.{five}
 use Rattle.sp_terms.specs.declared.position.Position.{Position}
 use Rattle.sp_terms.specs.declared.position.Position.TheVariants.{Hold}
 use Rattle.sp_terms.specs.declared.position.Position.TheVariants as at

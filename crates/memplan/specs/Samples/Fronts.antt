@@ -5,7 +5,7 @@ use Rattle.std.specs.Prelude.{◌≡◌, ℕ, Bool, Option, Some, None, List, []
 use Rattle.std.specs.List.{range_with_len}
 use Rattle.mp_system.specs.declared.system.Task.{Task}
 use Rattle.mp_system.specs.declared.system.Item.{Item}
-use Rattle.matrix_market.specs.Pattern.{are_named}
+use Rattle.patterns.specs.Pattern.{are_named}
 use Rattle.ordering.specs.Fill.{eliminate, graph_at}
 use Rattle.assembly_tree.specs.Assembly.{super_of, super_at, front_of}
 use Rattle.assembly_tree.specs.Amalgamation.{amalgamated}

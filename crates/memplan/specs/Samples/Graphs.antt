@@ -13,12 +13,12 @@ use Rattle.sp_terms.specs.declared.position.Position.TheVariants as at
 use Rattle.sp_terms.specs.Term.{Term, hold, series, forward, backward}
 use Rattle.sp_term_laws.specs.Moves.{other}
 use Rattle.sp_term_laws.specs.Along.{memory_after}
-use Rattle.tree_input.specs.Samples.{five, five_forest, five_stands}
-use Rattle.tree_input.specs.TreeTerm.{forest_positions}
+use Rattle.trees.specs.Samples.{five, five_forest, five_stands}
+use Rattle.trees.specs.TreeTerm.{forest_positions}
 use Rattle.least_peak.specs.Problem.{system_of, IsTermOf}
 use Rattle.least_peak.specs.declared.problem.Origin.TheVariants as origins
-use Rattle.task_graph.specs.declared.arc.Arc.{Arc}
-use Rattle.task_graph.specs.Graph.{TaskGraph, completed_arcs, completed_system}
+use Rattle.graphs.specs.declared.arc.Arc.{Arc}
+use Rattle.graphs.specs.Graph.{TaskGraph, completed_arcs, completed_system}
 use Rattle.sp_reduce.specs.NamedText.{named_text}
 use Rattle.sp_reduce.specs.Reduced.{HasSystem, HasParts}
 use Rattle.sp_reduce.specs.Reductions.{IsParallel, IsSeries, ReducesTo, in_order, by_parallel, by_series, count_into, count_out_of}

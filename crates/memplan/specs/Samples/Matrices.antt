@@ -3,10 +3,10 @@
 use Rattle.std.specs.Prelude.{◌≡◌, ◌==◌, ℕ, Bool, T, List, [], ◌∷◌, map, refl}
 use Rattle.std.specs.List.{range_with_len}
 use Rattle.std.proofs.Common.{lit<, subst, inl, inr}
-use Rattle.matrix_market.specs.Pattern.{is_joined, are_named, neighbours_of}
+use Rattle.patterns.specs.Pattern.{is_joined, are_named, neighbours_of}
 use Rattle.elim_tree.specs.Trees.{parent_at, IsAbove, self, step}
 use Rattle.elim_tree.specs.Postorders.{Precedes, below, beside}
-use Rattle.ordering.specs.Perm.{place_of}
+use Rattle.permutations.specs.Perm.{place_of}
 use Rattle.postorder_best.specs.Postorder.{Member}
 
 -- ---- patterns

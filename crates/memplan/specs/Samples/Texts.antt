@@ -18,18 +18,18 @@ use Rattle.sp_terms.specs.declared.position.Position.TheVariants.{Hold, Par}
 use Rattle.sp_terms.specs.declared.position.Position.TheVariants as at
 use Rattle.sp_terms.specs.Term.{hold}
 use Rattle.sp_terms.specs.Builder.{is_short, limit_of, is_overshared}
-use Rattle.sp_terms.specs.WorkflowFile.{workflow_format, positions_stated}
-use Rattle.sp_terms.specs.WorkflowText.{text_of, text2_of}
-use Rattle.sp_terms.specs.declared.kind.WorkflowKind.TheVariants as workflows
-use Rattle.task_graph.specs.declared.arc.Arc.{Arc}
-use Rattle.task_graph.specs.GraphFile.{graph_format, graph_stated, line_stating}
-use Rattle.task_graph.specs.declared.kind.GraphKind.TheVariants as graphs
-use Rattle.matrix_market.specs.MatrixFile.{matrix_format, order_stated, pairs_stated, is_word, size_stated, entry_stated}
-use Rattle.matrix_market.specs.declared.kind.MatrixKind.TheVariants as matrices
-use Rattle.ordering.specs.OrderFile.{order_format, numbers_stated}
-use Rattle.ordering.specs.PermFile.{perm_format}
-use Rattle.ordering.specs.declared.perm_file.PermKind.TheVariants as perms
-use Rattle.ordering.specs.declared.order_file.OrderFileKind.TheVariants as order_files
+use Rattle.workflow_files.specs.WorkflowFile.{workflow_format, positions_stated}
+use Rattle.workflow_files.specs.WorkflowText.{text_of, text2_of}
+use Rattle.workflow_files.specs.declared.kind.WorkflowKind.TheVariants as workflows
+use Rattle.graphs.specs.declared.arc.Arc.{Arc}
+use Rattle.graph_files.specs.GraphFile.{graph_format, graph_stated, line_stating}
+use Rattle.graph_files.specs.declared.kind.GraphKind.TheVariants as graphs
+use Rattle.matrix_files.specs.MatrixFile.{matrix_format, order_stated, pairs_stated, is_word, size_stated, entry_stated}
+use Rattle.matrix_files.specs.declared.kind.MatrixKind.TheVariants as matrices
+use Rattle.matrix_files.specs.OrderFile.{order_format, numbers_stated}
+use Rattle.matrix_files.specs.PermFile.{perm_format}
+use Rattle.matrix_files.specs.declared.perm_file.PermKind.TheVariants as perms
+use Rattle.matrix_files.specs.declared.order_file.OrderFileKind.TheVariants as order_files
 
 -- the first test of a text's lines and of its end that fails, if one does
 abbrev pub refusal_of : {K : Type 0} → Layout → Format K → List ℕ → Option (Refusal K)

@@ -7,19 +7,19 @@ use Rattle.limits.specs.Limits.{word_of as limit_word}
 use Rattle.limits.specs.declared.name.LimitName.TheVariants as limits
 use Rattle.mp_system.specs.Refusal.{word_of as order_word}
 use Rattle.mp_system.specs.declared.system.OrderKind.TheVariants as orders
-use Rattle.tree_input.specs.Kinds.{word_of as tree_word}
-use Rattle.tree_input.specs.declared.node.TreeKind.TheVariants as trees
-use Rattle.sp_terms.specs.Kinds.{word_of as workflow_word}
-use Rattle.sp_terms.specs.declared.kind.WorkflowKind.TheVariants as workflows
-use Rattle.task_graph.specs.Kinds.{word_of as graph_word}
-use Rattle.task_graph.specs.declared.kind.GraphKind.TheVariants as graphs
-use Rattle.plan_text.specs.Kinds.{word_of as plan_word}
-use Rattle.plan_text.specs.declared.kind.PlanKind.TheVariants as plans
-use Rattle.matrix_market.specs.Kinds.{word_of as matrix_word}
-use Rattle.matrix_market.specs.declared.kind.MatrixKind.TheVariants as matrices
-use Rattle.ordering.specs.Kinds.{perm_word, order_file_word}
-use Rattle.ordering.specs.declared.perm_file.PermKind.TheVariants as perms
-use Rattle.ordering.specs.declared.order_file.OrderFileKind.TheVariants as order_files
+use Rattle.tree_files.specs.Kinds.{word_of as tree_word}
+use Rattle.tree_files.specs.declared.kind.TreeKind.TheVariants as trees
+use Rattle.workflow_files.specs.Kinds.{word_of as workflow_word}
+use Rattle.workflow_files.specs.declared.kind.WorkflowKind.TheVariants as workflows
+use Rattle.graph_files.specs.Kinds.{word_of as graph_word}
+use Rattle.graph_files.specs.declared.kind.GraphKind.TheVariants as graphs
+use Rattle.plan_files.specs.Kinds.{word_of as plan_word}
+use Rattle.plan_files.specs.declared.kind.PlanKind.TheVariants as plans
+use Rattle.matrix_files.specs.Kinds.{word_of as matrix_word}
+use Rattle.matrix_files.specs.declared.kind.MatrixKind.TheVariants as matrices
+use Rattle.matrix_files.specs.OrderKinds.{perm_word, order_file_word}
+use Rattle.matrix_files.specs.declared.perm_file.PermKind.TheVariants as perms
+use Rattle.matrix_files.specs.declared.order_file.OrderFileKind.TheVariants as order_files
 
 -- the table of limits: words, and then numbers, in the same order
 pub limit_words :

@@ -31,8 +31,8 @@ use sp_terms::Terms;
 use std::alloc::{AllocError, Global};
 use std::thread::Threads;
 use symbolic::{FrontOptions, front_tree};
-use tree_input::laws::forest_law;
-use tree_input::{Tree, terms_of_tree};
+use trees::laws::forest_law;
+use trees::{Tree, terms_of_tree};
 
 /// What is to be made.
 #[derive(Clone, Copy, Debug)]

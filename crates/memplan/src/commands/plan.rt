@@ -15,7 +15,7 @@ use command_line::Line;
 use mp_outside::Files;
 use mp_text::Report;
 use mp_text::Token::Word;
-use plan_text::{plan_json, print_plan};
+use plan_files::{plan_json, print_plan};
 use plans::Plan;
 use std::alloc::{AllocError, Global};
 

@@ -17,7 +17,7 @@ use mp_text::Report;
 use mp_text::laws::printed_lines;
 use postorder_best::best_postorder;
 use std::alloc::{AllocError, Global};
-use tree_input::Tree;
+use trees::Tree;
 
 /// `post` and a tree or a matrix.
 pub fn post_of<'a>(line: &Line<'a>) -> Option<Request<'a>>

@@ -19,7 +19,7 @@ use mp_text::Token::{Number, Word};
 use mp_text::laws::printed_lines;
 use sp_reduce::{ReduceRefusal, Reduced, print_reduced, reduce};
 use std::alloc::{AllocError, Global};
-use task_graph::Graph;
+use graphs::Graph;
 
 /// `reduce` and the name of a graph file.
 pub fn reduce_of<'a>(line: &Line<'a>) -> Option<Request<'a>>

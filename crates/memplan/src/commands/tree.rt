@@ -15,7 +15,8 @@ use command_line::Line;
 use mp_outside::Files;
 use mp_text::Report;
 use std::alloc::{AllocError, Global};
-use tree_input::{Tree, print_tree};
+use trees::Tree;
+use tree_files::print_tree;
 
 /// `tree` and a matrix.
 pub fn tree_request_of<'a>(line: &Line<'a>) -> Option<Request<'a>>

@@ -16,11 +16,13 @@ use crate::stop::Stop;
 use command_line::Line;
 use mp_outside::Files;
 use mp_text::Report;
-use plan_text::print_plan_2;
+use plan_files::print_plan_2;
 use plans::Plan;
-use sp_terms::{Terms, print_workflow_2};
+use sp_terms::Terms;
+use workflow_files::print_workflow_2;
 use std::alloc::{AllocError, Global};
-use tree_input::{Tree, print_tree_2};
+use trees::Tree;
+use tree_files::print_tree_2;
 
 /// What is written as version 2, by the name of its file.
 #[derive(Clone, Copy, Debug)]

@@ -1,5 +1,5 @@
 use Rattle.std.proofs.Common.{sym, ap, ◌∙◌, subst}
-use Rattle.tree_input.specs.Tree.{IsTree}
+use Rattle.trees.specs.Tree.{IsTree}
 use Rattle.assembly_tree.specs.Fronts.{fronts_of}
 use Rattle.assembly_tree.proofs.FrontLemmas.{fronts_tree, fronts_with, fronts_inside, parents_inside, supers_few}
 use Rattle.assembly_tree.proofs.front.fronts.Goals as goal

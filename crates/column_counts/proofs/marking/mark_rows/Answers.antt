@@ -1,6 +1,6 @@
 use Rattle.std.proofs.Common.{◌≡◌, ◌+◌, ◌-◌, length, arith, sym, ◌∙◌, ap}
 use Rattle.std.specs.List.{range_with_len, count_by}
-use Rattle.matrix_market.specs.Pattern.{is_joined, neighbours_of}
+use Rattle.patterns.specs.Pattern.{is_joined, neighbours_of}
 use Rattle.ordering.specs.Fill.{renumbered, structure_of}
 use Rattle.column_counts.proofs.FactorRows.{IsFactor, AreRows, row_of, long_parents, vertex_in_list, can_mark, all_marked}
 use Rattle.column_counts.proofs.marking.mark_rows.Goals as goal

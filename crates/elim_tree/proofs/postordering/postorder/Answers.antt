@@ -1,5 +1,5 @@
 use Rattle.std.proofs.Common.{◌≡◌, ℕ, suc, ◌<◌, List, length, drop, arith, sym, subst, ap, ◌∙◌, slice_index}
-use Rattle.ordering.specs.Perm.{IsVertex}
+use Rattle.permutations.specs.Perm.{IsVertex}
 use Rattle.elim_tree.specs.ParentTables.{parents_in}
 use Rattle.elim_tree.specs.Postorders.{Precedes, IsPostorder}
 use Rattle.elim_tree.specs.Spans.{ArePlaces}

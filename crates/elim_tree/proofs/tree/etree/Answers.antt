@@ -1,6 +1,6 @@
 use Rattle.std.proofs.Common.{◌≡◌, ◌++◌, ℕ, suc, List, length, take, drop, ap, subst, sym, ◌∙◌, arith}
 use Rattle.std.proofs.Math.Seq.{take-append_seam}
-use Rattle.matrix_market.specs.Pattern.{is_joined}
+use Rattle.patterns.specs.Pattern.{is_joined}
 use Rattle.ordering.specs.Fill.{renumbered}
 use Rattle.elim_tree.specs.ParentTables.{IsParentTable}
 use Rattle.elim_tree.proofs.Growth.{pattern_by_columns, within_by_columns, are_parents, is_table}

@@ -1,7 +1,7 @@
 use Rattle.std.proofs.Common.{◌≡◌, ◌<◌, ◌≤◌, ℕ, List, true, length, arith, sym, ◌∙◌, subst, ap, add-one, slice_index}
 use Rattle.std.specs.List.Sorted.{IsStrictlyIncreasing}
-use Rattle.matrix_market.specs.Pattern.{is_joined, neighbours_of}
-use Rattle.ordering.specs.Perm.{vertex_at, place_of}
+use Rattle.patterns.specs.Pattern.{is_joined, neighbours_of}
+use Rattle.permutations.specs.Perm.{vertex_at, place_of}
 use Rattle.ordering.specs.Fill.{renumbered}
 use Rattle.elim_tree.specs.Forests.{Rooted, IsInTurn, CanTake}
 use Rattle.elim_tree.proofs.Growth.{pattern_by_columns, vertex_in_row, can_take, taken, grown_firsts, first_column}

@@ -2,7 +2,7 @@ use Rattle.std.proofs.Common.{◌||◌, ℕ, eqb, List, [], IsTrue, length, get_
 use Rattle.std.specs.Vec.{with_items}
 use Rattle.std.proofs.lemmas.Bool.{cases_eq, both_ways}
 use Rattle.std.proofs.lemmas.List.{with_items_is}
-use Rattle.matrix_market.specs.Pattern.{IsPattern, is_joined, has}
+use Rattle.patterns.specs.Pattern.{IsPattern, is_joined, has}
 use Rattle.elimination.specs.Elimination.{IsVertex, IsAdjacency}
 use Rattle.elimination.specs.Dense.{IsFilling, IsDense, IsDenseUnderWay, bit_in, stage_of, width_of}
 use Rattle.elimination.specs.declared.dense.DenseSearch.{DenseSearch}

@@ -1,5 +1,5 @@
 use Rattle.std.proofs.Common.{◌+◌, length, arith, subst, sym, ◌∙◌, ap}
-use Rattle.matrix_market.specs.Pattern.{is_joined}
+use Rattle.patterns.specs.Pattern.{is_joined}
 use Rattle.elimination.specs.Elimination.{eliminated}
 use Rattle.elimination.specs.Quotients.{at}
 use Rattle.elimination.specs.Tables.{tables}

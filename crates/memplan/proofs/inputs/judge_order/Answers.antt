@@ -1,11 +1,11 @@
 use Rattle.std.proofs.Common.{ℕ, List, [], ◌∷◌, sym, subst}
 use Rattle.std.specs.Prelude.{codes}
-use Rattle.ordering.specs.OrderFile.{RefusesOrder}
-use Rattle.plan_text.specs.PlanFile.{RefusesPlan}
+use Rattle.matrix_files.specs.OrderFile.{RefusesOrder}
+use Rattle.plan_files.specs.PlanFile.{RefusesPlan}
 use Rattle.memplan.specs.Files.{IsRefusedFile}
 use Rattle.memplan.specs.Judged.{IsStop, IsRefusedSource}
-use Rattle.ordering.specs.Kinds.{order_file_word}
-use Rattle.plan_text.specs.Kinds.{word_of as plan_word}
+use Rattle.matrix_files.specs.OrderKinds.{order_file_word}
+use Rattle.plan_files.specs.Kinds.{word_of as plan_word}
 use Rattle.memplan.specs.Request.{order_named, plan_named, source_file}
 use Rattle.memplan.specs.RequestViews.{source_view}
 use Rattle.memplan.specs.declared.request.OrderSource.{OrderSource}

@@ -1,8 +1,8 @@
 use Rattle.std.proofs.Common.{◌∙◌, ℕ, List, length, sym, ap, subst}
 use Rattle.std.proofs.lemmas.List.FromFn.{length-range_with_len}
 use Rattle.std.specs.Prelude.{codes}
-use Rattle.ordering.specs.Kinds.{perm_word}
-use Rattle.ordering.specs.PermFile.{RefusesPerm}
+use Rattle.matrix_files.specs.OrderKinds.{perm_word}
+use Rattle.matrix_files.specs.PermFile.{RefusesPerm}
 use Rattle.memplan.specs.Files.{IsOrderOf, IsPermFile, IsRefusedFile}
 use Rattle.memplan.specs.Judged.{AreJudged, IsRefusedOrder}
 use Rattle.memplan.specs.Request.{perm_named, perm_file, ordering_files}

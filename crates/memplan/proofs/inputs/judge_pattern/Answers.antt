@@ -1,7 +1,7 @@
 use Rattle.std.proofs.Common.{ℕ, List, [], ◌∷◌, ◌++◌, inl}
 use Rattle.std.specs.Prelude.{codes}
-use Rattle.matrix_market.specs.Kinds.{word_of}
-use Rattle.matrix_market.specs.MatrixFile.{RefusesPattern}
+use Rattle.matrix_files.specs.Kinds.{word_of}
+use Rattle.matrix_files.specs.MatrixFile.{RefusesPattern}
 use Rattle.memplan.specs.Files.{IsFirstRefusal, IsRefusedFile}
 use Rattle.memplan.specs.Judged.{IsMatrixRead}
 use Rattle.memplan.specs.Request.{ordering_files}

@@ -1,10 +1,10 @@
 use Rattle.std.proofs.Common.{ℕ, List, Option, sym, ap, subst, option_map}
 use Rattle.std.specs.Prelude.{codes}
-use Rattle.ordering.specs.Perm.{IsPerm}
-use Rattle.ordering.specs.PermFile.{RefusesPerm}
+use Rattle.permutations.specs.Perm.{IsPerm}
+use Rattle.matrix_files.specs.PermFile.{RefusesPerm}
 use Rattle.memplan.specs.Files.{IsRefusedFile}
 use Rattle.memplan.specs.Judged.{IsStop, IsRefusedRanking}
-use Rattle.ordering.specs.Kinds.{perm_word}
+use Rattle.matrix_files.specs.OrderKinds.{perm_word}
 use Rattle.memplan.specs.Request.{priority_files}
 use Rattle.memplan.proofs.StepLemmas.{passed, alone_stop}
 use Rattle.memplan.proofs.inputs.judge_priority.Goals as goal

@@ -1,7 +1,7 @@
 use Rattle.std.proofs.Common.{ℕ, List, [], ◌∷◌, inl, sym, subst}
 use Rattle.std.specs.Prelude.{codes}
-use Rattle.tree_input.specs.Kinds.{word_of}
-use Rattle.tree_input.specs.TreeFile.{RefusesTree}
+use Rattle.tree_files.specs.Kinds.{word_of}
+use Rattle.tree_files.specs.TreeFile.{RefusesTree}
 use Rattle.memplan.specs.Files.{IsTreeFile, IsTreeOf, IsRefusedFile, IsFirstRefusal}
 use Rattle.memplan.specs.Judged.{AreJudged}
 use Rattle.memplan.specs.Request.{NamedFile, tree_file, tree_named, tree_input_files}

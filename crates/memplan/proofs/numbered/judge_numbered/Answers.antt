@@ -1,9 +1,9 @@
 use Rattle.std.proofs.Common.{ℕ, List, [], ◌∷◌, inl, sym, subst}
 use Rattle.std.specs.Prelude.{codes}
-use Rattle.sp_terms.specs.WorkflowFile.{RefusesWorkflow}
+use Rattle.workflow_files.specs.WorkflowFile.{RefusesWorkflow}
 use Rattle.memplan.specs.Files.{IsRefusedFile, IsFirstRefusal}
 use Rattle.memplan.specs.Judged.{IsStop}
-use Rattle.sp_terms.specs.Kinds.{word_of as workflow_word}
+use Rattle.workflow_files.specs.Kinds.{word_of as workflow_word}
 use Rattle.memplan.specs.Request.{NamedFile, workflow_file, input_files}
 use Rattle.memplan.specs.RequestViews.{input_view}
 use Rattle.memplan.specs.declared.request.Input.{Input}

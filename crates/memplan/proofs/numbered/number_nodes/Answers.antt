@@ -1,5 +1,5 @@
 use Rattle.std.proofs.Common.{◌∙◌, ℕ, List, ap, sym, subst, length}
-use Rattle.tree_input.specs.Forest.{all_numbers}
+use Rattle.trees.specs.Forest.{all_numbers}
 use Rattle.memplan.specs.Judged.{IsNaming, AreWithin}
 use Rattle.memplan.specs.Segments.{task_positions}
 use Rattle.memplan.proofs.NumberLemmas.{names_of, forest_tasks, named_within, tasks_within}

@@ -2,8 +2,8 @@ use Rattle.memplan_c.proofs.Steps.{◌≡◌, ℕ, [], ◌∷◌, ◌++◌, refl
 use denote.Slice.{ShrSlice, shr_slice_vals, shr_slice_Tells, shr_slice_Lawful}
 use denote.Triple.Walked.{gave_ref, Goes-gave_ref}
 use denote.Signature.{shr_slice_of}
-use Rattle.tree_input.specs.Tree.{IsTree, system_of_nodes}
-use Rattle.tree_input.specs.contracts.node.Node.{the_row as NodeRow}
+use Rattle.trees.specs.Tree.{IsTree, system_of_nodes}
+use Rattle.trees.specs.contracts.node.Node.{the_row as NodeRow}
 use Rattle.memplan_c.specs.Refusals.{IsBeginRefusal}
 use Rattle.memplan_c.specs.declared.faults.Fault.{Fault}
 use Rattle.memplan_c.specs.contracts.faults.Fault.{the_row as FaultRow}

@@ -3,9 +3,9 @@ use denote.Slice.{ShrSlice, shr_slice_vals, shr_slice_Tells, shr_slice_Lawful}
 use denote.Triple.Walked.{gave_ref, Goes-gave_ref}
 use denote.Signature.{shr_slice_of}
 use Rattle.mp_system.specs.System.{IsSystem}
-use Rattle.system_input.specs.Given.{system_given}
-use Rattle.system_input.specs.contracts.given.GivenTask.{the_row as TaskRow}
-use Rattle.system_input.specs.contracts.given.GivenItem.{the_row as ItemRow}
+use Rattle.mp_system.specs.Given.{system_given}
+use Rattle.mp_system.specs.contracts.given.GivenTask.{the_row as TaskRow}
+use Rattle.mp_system.specs.contracts.given.GivenItem.{the_row as ItemRow}
 use Rattle.memplan_c.specs.Refusals.{IsSystemBeginRefusal}
 use Rattle.memplan_c.specs.declared.faults.Fault.{Fault}
 use Rattle.memplan_c.specs.contracts.faults.Fault.{the_row as FaultRow}

@@ -1,6 +1,6 @@
 use Rattle.std.proofs.Common.{subst, sym, length, arith}
-use Rattle.matrix_market.specs.Pattern.{is_joined}
-use Rattle.ordering.specs.Perm.{IsPerm}
+use Rattle.patterns.specs.Pattern.{is_joined}
+use Rattle.permutations.specs.Perm.{IsPerm}
 use Rattle.ordering.specs.MinimumDegree.{IsMinimumDegreeOrder}
 use Rattle.ordering.proofs.OneOrder.{listed_order}
 use Rattle.ordering.proofs.minimum_degree.min_degree.Goals as goal

@@ -1,7 +1,7 @@
 use Rattle.std.proofs.Common.{◌≡◌, ℕ, ◌+◌, ◌<◌, ◌≤◌, eqb, List, length, drop, ap, ◌∙◌, arith}
 use Rattle.std.proofs.lemmas.List.Filters.{dedup_is}
-use Rattle.matrix_market.specs.Pattern.{is_joined, neighbours_of}
-use Rattle.ordering.specs.Perm.{vertex_at}
+use Rattle.patterns.specs.Pattern.{is_joined, neighbours_of}
+use Rattle.permutations.specs.Perm.{vertex_at}
 use Rattle.ordering.specs.Fill.{renumbered}
 use Rattle.rounds_run.specs.FrontRows.{rows_of}
 use Rattle.rounds_run.specs.Gathering.{is_gathered}

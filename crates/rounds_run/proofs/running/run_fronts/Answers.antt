@@ -1,5 +1,5 @@
 use Rattle.std.proofs.Common.{◌≡◌, ℕ, ◌+◌, ◌-◌, ◌<◌, ◌≤◌, refl, List, length, drop, ap, sym, subst, ◌∙◌, arith}
-use Rattle.matrix_market.specs.Pattern.{is_joined}
+use Rattle.patterns.specs.Pattern.{is_joined}
 use Rattle.ordering.specs.Fill.{renumbered, parents_of, counts_of}
 use Rattle.assembly_tree.specs.Assembly.{IsSuper}
 use Rattle.assembly_tree.specs.Supernodes.{AreSupernodes, first_of}

@@ -1,6 +1,6 @@
 use Rattle.std.proofs.Common.{◌≡◌, ◌≤◌, ◌+◌, ◌*◌, ◌++◌, ℕ, map, drop, length, vec_len}
 use Rattle.std.specs.Prelude.{All}
-use Rattle.task_graph.specs.Graph.{Rises, item_of}
+use Rattle.graphs.specs.Graph.{Rises, item_of}
 use Rattle.sp_reduce.specs.Pieces.{IsCarried}
 use Rattle.sp_reduce.specs.Reductions.{ReducesTo, ends_of}
 use Rattle.sp_reduce.specs.Work.{AreLinksRanked, link_count, pairs_of}

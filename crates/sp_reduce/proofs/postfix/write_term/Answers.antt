@@ -1,6 +1,6 @@
 use Rattle.std.proofs.Common.{◌≡◌, ◌<◌, ◌++◌, [], ◌∷◌, ℕ, List, false, length, get_or, arith, refl, sym, ap, ◌∙◌}
 use Rattle.sp_terms.specs.Postfix.{postfix}
-use Rattle.task_graph.specs.Graph.{task_at}
+use Rattle.graphs.specs.Graph.{task_at}
 use Rattle.sp_reduce.specs.declared.postfix.Pending.{Pending}
 use Rattle.sp_reduce.specs.Nets.{names}
 use Rattle.sp_reduce.specs.Pieces.{net_at, nets_of, piece_at}

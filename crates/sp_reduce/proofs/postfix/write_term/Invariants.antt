@@ -1,6 +1,6 @@
 use Rattle.std.proofs.Common.{length}
 use Rattle.sp_terms.specs.Postfix.{postfix}
-use Rattle.task_graph.specs.Graph.{task_at}
+use Rattle.graphs.specs.Graph.{task_at}
 use Rattle.sp_reduce.specs.Nets.{names}
 use Rattle.sp_reduce.specs.Pieces.{net_at, nets_of}
 use Rattle.sp_reduce.specs.Shapes.{size_of, term_of_net}

@@ -1,7 +1,7 @@
 use Rattle.std.proofs.Common.{ℕ, List, sym, subst}
 use Rattle.std.specs.Bool.{IsTrue}
 use Rattle.mp_text.specs.Report.{is_line_start}
-use Rattle.sp_terms.specs.WorkflowText.{lines_in, version_for}
+use Rattle.workflow_files.specs.WorkflowText.{lines_in, version_for}
 use Rattle.sp_reduce.proofs.printing.print_parts.Goals as goal
 
 pub print_names-requires : goal.print_names-requires

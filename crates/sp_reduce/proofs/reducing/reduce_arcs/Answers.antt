@@ -1,5 +1,5 @@
 use Rattle.std.proofs.Common.{ℕ, List, length, map, sym, ap, subst, arith, ◌∙◌}
-use Rattle.task_graph.specs.Graph.{item_of}
+use Rattle.graphs.specs.Graph.{item_of}
 use Rattle.sp_reduce.specs.declared.link.Link.{Link}
 use Rattle.sp_reduce.specs.Outcome.{IsOutcome}
 use Rattle.sp_reduce.specs.Reductions.{ends_of}

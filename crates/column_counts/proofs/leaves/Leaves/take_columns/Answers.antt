@@ -1,8 +1,8 @@
 use Rattle.std.proofs.Common.{◌≡◌, ◌+◌, ◌-◌, ◌<◌, ℕ, length, arith, ◌∙◌, ap, inl, inr, slice_index}
 use Rattle.std.proofs.lemmas.Bool.{cases_lt}
 use Rattle.std.proofs.lemmas.List.{get_or_past}
-use Rattle.matrix_market.specs.Pattern.{is_joined, neighbours_of}
-use Rattle.ordering.specs.Perm.{vertex_at}
+use Rattle.patterns.specs.Pattern.{is_joined, neighbours_of}
+use Rattle.permutations.specs.Perm.{vertex_at}
 use Rattle.ordering.specs.Fill.{renumbered}
 use Rattle.column_counts.proofs.FactorRows.{IsFactor, AreRows, few_columns, long_parents, vertex_in_list}
 use Rattle.column_counts.proofs.SpanRows.{spans, first_some, first_ancestors, parent_low}

@@ -1,5 +1,5 @@
 use Rattle.std.proofs.Common.{sym, ap, ◌∙◌, ◌+◌, ◌<◌, ◌≤◌, ◌≡◌, ◌≢◌, ℕ, length, arith, set, slice_index, subst}
-use Rattle.ordering.specs.Perm.{vertex_at, place_of}
+use Rattle.permutations.specs.Perm.{vertex_at, place_of}
 use Rattle.column_counts.specs.Leaves.{AreAncestors, last_of}
 use Rattle.column_counts.proofs.MarkLemmas.{at_here, at_other, read_at}
 use Rattle.column_counts.proofs.RowLeaves.{no_leaf, first_leaf, further_leaf}

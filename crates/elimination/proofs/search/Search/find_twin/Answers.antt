@@ -2,7 +2,7 @@ use Rattle.std.proofs.Common.{◌≡◌, ◌<◌, arith, subst, sym, ◌∙◌, 
 use Rattle.std.specs.Vec.{with_items}
 use Rattle.std.proofs.lemmas.List.{with_items_is}
 use Rattle.std.proofs.lemmas.Grind.{get_or_default_zero}
-use Rattle.matrix_market.specs.Pattern.{has, neighbours_of}
+use Rattle.patterns.specs.Pattern.{has, neighbours_of}
 use Rattle.elimination.specs.declared.search.Search.{Search}
 use Rattle.elimination.specs.Quotients.{AreLinks, LeadsTo, at}
 use Rattle.elimination.specs.Twins.{AreRowsMarked}

@@ -1,7 +1,7 @@
 use Rattle.std.proofs.Common.{◌≡◌, inl, inr, ℕ, ◌<◌, get_or, length, arith, refl, subst, sym, ap, ◌∙◌, IsTrue}
 use Rattle.std.proofs.lemmas.Bool.{cases_eq}
 use Rattle.std.proofs.lemmas.List.Elements.{same_from_all_zip}
-use Rattle.matrix_market.specs.Pattern.{has}
+use Rattle.patterns.specs.Pattern.{has}
 use Rattle.elimination.specs.Quotients.{inner_at}
 use Rattle.elimination.specs.Tables.{tables}
 use Rattle.elimination.specs.Dense.{bit_in, IsFullRow}

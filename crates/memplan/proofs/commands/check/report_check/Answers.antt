@@ -1,10 +1,10 @@
 use Rattle.std.proofs.Common.{◌∙◌, ℕ, List, [], ◌∷◌, inl, arith}
 use Rattle.std.specs.Prelude.{codes}
-use Rattle.plan_text.specs.PlanFile.{RefusesPlan}
+use Rattle.plan_files.specs.PlanFile.{RefusesPlan}
 use Rattle.memplan.specs.Commands.{IsReport}
 use Rattle.memplan.specs.Files.{IsFirstRefusal, IsRefusedFile}
 use Rattle.memplan.specs.Pages.{answer_of}
-use Rattle.plan_text.specs.Kinds.{word_of as plan_word}
+use Rattle.plan_files.specs.Kinds.{word_of as plan_word}
 use Rattle.memplan.specs.Request.{NamedFile, plan_file, check, input_files}
 use Rattle.memplan.specs.RequestViews.{input_view}
 use Rattle.memplan.proofs.StepLemmas.{passed, alone_stop, stop_before, stop_after, over_last}

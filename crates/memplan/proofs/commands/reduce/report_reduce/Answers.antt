@@ -1,7 +1,7 @@
 use Rattle.std.proofs.Common.{ℕ, List, [], ◌∷◌, refl, inl}
 use Rattle.std.specs.Prelude.{codes}
-use Rattle.task_graph.specs.GraphFile.{RefusesGraph}
-use Rattle.task_graph.specs.Kinds.{word_of as graph_word}
+use Rattle.graph_files.specs.GraphFile.{RefusesGraph}
+use Rattle.graph_files.specs.Kinds.{word_of as graph_word}
 use Rattle.memplan.specs.Files.{IsRefusedFile, IsFirstRefusal}
 use Rattle.memplan.specs.Pages.{answer_of}
 use Rattle.memplan.specs.Reduce.{IsReduceOf}

@@ -1,8 +1,8 @@
 use Rattle.std.proofs.Common.{ℕ, List, [], ◌∷◌, length, sym, subst, inl, option_map}
 use Rattle.std.specs.Prelude.{codes}
-use Rattle.plan_text.specs.Kinds.{word_of as plan_word}
+use Rattle.plan_files.specs.Kinds.{word_of as plan_word}
 use Rattle.plans.specs.Plan.{PlanValue}
-use Rattle.plan_text.specs.PlanFile.{RefusesPlan}
+use Rattle.plan_files.specs.PlanFile.{RefusesPlan}
 use Rattle.memplan.specs.Files.{IsRefusedFile, IsFirstRefusal}
 use Rattle.memplan.specs.Judged.{IsStop, IsPriorityOf, IsRefusedRanking, IsRanking}
 use Rattle.memplan.specs.Request.{plan_upgrade, plan_priority_file, priority_files}

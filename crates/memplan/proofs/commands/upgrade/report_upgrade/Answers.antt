@@ -1,9 +1,9 @@
 use Rattle.std.proofs.Common.{ℕ, List, [], ◌∷◌, refl, sym, subst, inl}
 use Rattle.std.specs.Prelude.{codes}
-use Rattle.sp_terms.specs.Kinds.{word_of as workflow_word}
-use Rattle.sp_terms.specs.WorkflowFile.{RefusesWorkflow}
-use Rattle.tree_input.specs.Kinds.{word_of as tree_word}
-use Rattle.tree_input.specs.TreeFile.{RefusesTree}
+use Rattle.workflow_files.specs.Kinds.{word_of as workflow_word}
+use Rattle.workflow_files.specs.WorkflowFile.{RefusesWorkflow}
+use Rattle.tree_files.specs.Kinds.{word_of as tree_word}
+use Rattle.tree_files.specs.TreeFile.{RefusesTree}
 use Rattle.memplan.specs.Clauses.{AreTold}
 use Rattle.memplan.specs.Commands.{IsReport}
 use Rattle.memplan.specs.Files.{IsRefusedFile, IsFirstRefusal}

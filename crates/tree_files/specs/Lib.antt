@@ -1,0 +1,5 @@
+pub mod Kinds
+pub mod Reader
+pub mod Stated
+pub mod TreeFile
+pub mod TreeText

@@ -1,0 +1,33 @@
+//! Trees of nodes, which a caller's array gives, the system and the term of a tree.
+//!
+//! The definitions stand in specs/: `Tree`, `Forest`, `TreeTerm`; what nodes are refused with, in `Judged`; the laws in [`laws`].
+#![tactic(auto)]
+
+mod children;
+mod judged;
+pub mod laws;
+mod names;
+mod node;
+mod plain;
+mod postorder;
+mod roots;
+mod shares;
+mod system;
+mod term;
+#[cfg(test)]
+mod tests;
+mod tree;
+
+pub use judged::{NodeTest, NodesRefusal, tree_of_nodes};
+pub use names::Names;
+pub use node::Node;
+pub use plain::is_plain;
+pub use roots::first_cycle;
+pub use shares::first_unfit_share;
+use std::alloc::AllocError;
+pub use system::system_of_tree;
+pub use term::{Named, terms_of_tree};
+pub use tree::Tree;
+
+/// Want of memory: an allocation was refused.
+pub type NoMemory = AllocError;

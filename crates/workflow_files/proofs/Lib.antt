@@ -1,0 +1,5 @@
+pub mod BodyLines
+pub mod LengthLemmas
+pub mod PrintedLemmas
+pub mod ReadLemmas
+pub mod ReaderLaws

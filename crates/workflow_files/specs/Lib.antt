@@ -1,0 +1,4 @@
+pub mod Kinds
+pub mod Reader
+pub mod WorkflowFile
+pub mod WorkflowText
