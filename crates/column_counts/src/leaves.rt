@@ -132,7 +132,7 @@ impl Leaves {
         places_are_inverse();
         perm.keeps();
         parents.keeps();
-        for j in 1..pattern.order() + 1 {
+        for j in 1..pattern.rows() + 1 {
             let row = pattern.neighbours(perm.at(j));
             self.take_column(firsts, row, perm, j);
         }

@@ -79,7 +79,7 @@ fn mark_rows(
     places_are_inverse();
     perm.keeps();
     parents.keeps();
-    for i in 1..pattern.order() + 1 {
+    for i in 1..pattern.rows() + 1 {
         let row = pattern.neighbours(perm.at(i));
         mark_row(counts, marks, parents, row, perm, i);
     }

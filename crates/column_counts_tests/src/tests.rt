@@ -27,7 +27,7 @@ fn line_of(alloc: Global, counts: &[u32]) -> Result<Report, Fail> {
 // The pairs that a pattern joins, both ways.
 fn pairs_of(alloc: Global, pattern: &Pattern) -> Result<BTreeSet<(u32, u32)>, Fail> {
     let mut joined = BTreeSet::new(alloc);
-    for vertex in 1..=pattern.order() {
+    for vertex in 1..=pattern.rows() {
         for neighbour in pattern.neighbours(vertex) {
             joined.insert((vertex, *neighbour))?;
         }
@@ -81,8 +81,8 @@ fn read(rt: &impl Abort, alloc: Global, matrix: &str, order: &str) -> Result<(Pa
 {
     let file = format!(in alloc; "{BANNER}\n{matrix}")?;
     let pattern = read_pattern(alloc, file.as_bytes())?;
-    let perm = read_perm(alloc, order.as_bytes(), pattern.order())?;
-    assert_eq!(rt; perm.len(), pattern.order());
+    let perm = read_perm(alloc, order.as_bytes(), pattern.rows())?;
+    assert_eq!(rt; perm.len(), pattern.rows());
     Ok((pattern, perm))
 }
 

@@ -98,7 +98,7 @@ fn grow(parents: &mut [u32], ancestors: &mut [u32], pattern: &Pattern, perm: &Pe
     perm.keeps();
     pattern.keeps();
     let in_turn = is_in_turn(perm);
-    for k in 1..pattern.order() + 1 {
+    for k in 1..pattern.rows() + 1 {
         let row = pattern.neighbours(perm.at(k));
         if in_turn {
             take_head(parents, ancestors, row, k);
@@ -115,7 +115,7 @@ pub fn etree(alloc: Global, pattern: &Pattern, perm: &Perm) -> Result<Parents, N
     ensures { IfOk result (λ parents. parents ≡ parents_of (renumbered (is_joined pattern.now) perm.now) (length perm.now)) }
 {
     parent_is_first();
-    let places = pattern.order() as usize + 1;
+    let places = pattern.rows() as usize + 1;
     let mut table = vec![in alloc; 0u32; places]?;
     let mut ancestors = vec![in alloc; 0u32; places]?;
     grow(&mut table, &mut ancestors, pattern, perm);

@@ -145,7 +145,7 @@ fn tree_of(
 {
     let pattern = pattern_of(alloc, pairs)?;
     let perm = order_of(alloc, order)?;
-    assert_eq!(rt; pattern.order(), 4);
+    assert_eq!(rt; pattern.rows(), 4);
     assert_eq!(rt; perm.len(), 4);
     let tree = etree(alloc, &pattern, &perm)?;
     assert_eq!(rt; tree.len(), 4);
@@ -213,7 +213,7 @@ fn an_order_along_the_postorder(rt: HostRuntime) -> Result<(), Fail> {
     let alloc = rt.alloc();
     let pattern = pattern_of(alloc, &[(1, 2), (1, 3), (2, 4)])?;
     let perm = order_of(alloc, [4, 3, 2, 1])?;
-    assert_eq!(rt; perm.len(), pattern.order());
+    assert_eq!(rt; perm.len(), pattern.rows());
     let Numbered { perm, parents } = postordered_etree(alloc, &pattern, &perm)?;
     assert_eq!(rt; perm.len(), 4);
     assert_eq!(rt; vertices(&perm), [3, 4, 2, 1]);

@@ -27,7 +27,7 @@ fn full_search(alloc: Global, pattern: &Pattern) -> Result<DenseSearch, NoMemory
     ensures order { IfOk result (λ search. search.order ≡ length pattern.now) }
     ensures begins { IfOk result (λ search. IsDenseUnderWay (is_joined pattern.now) [] search) }
 {
-    let n = pattern.order();
+    let n = pattern.rows();
     let mut search = DenseSearch::new(alloc, n)?;
     for v in 1..n + 1 {
         let mut row = row_with(alloc, n, v)?;

@@ -94,7 +94,7 @@ fn eliminate_all(
     ensures len { OnOk result (length vertices.new.items ≡ length pattern.now) }
     ensures begun { OnOk result (IsBegun (is_joined pattern.now) (length pattern.now) vertices.new.items) }
 {
-    let n = pattern.order();
+    let n = pattern.rows();
     let mut effort = Effort { left: n, dear: 0 };
     for place in 1..=n {
         if u64::from(n - place) <= search.bounds.least() {
@@ -119,7 +119,7 @@ pub fn by_least_degree(alloc: Global, pattern: &Pattern) -> Result<Vec<u32>, NoM
     ensures once { IfOk result (λ order. (v : ℕ) → times order.items v ≤ 1) }
     ensures least { IfOk result (λ order. GoByLeastDegree (is_joined pattern.now) (length pattern.now) order.items) }
 {
-    let mut vertices = Vec::with_capacity(alloc, pattern.order() as usize)?;
+    let mut vertices = Vec::with_capacity(alloc, pattern.rows() as usize)?;
     let mut search = Search::new(alloc, pattern)?;
     eliminate_all(alloc, pattern, &mut search, &mut vertices)?;
     Ok(vertices)

@@ -43,7 +43,7 @@ fn first_bounds(alloc: Global, pattern: &Pattern) -> Result<MinTree, NoMemory>
         → at bounds w ≡ length (neighbours_of pattern.now w)) }
     ensures unused { IfOk result (λ bounds. at bounds 0 ≡ greatest) }
 {
-    let n = pattern.order();
+    let n = pattern.rows();
     let mut bounds = MinTree::new(alloc, n as usize + 1)?;
     for w in 1..=n {
         bounds.put(w as usize, pattern.neighbours(w).len() as u64);
@@ -57,7 +57,7 @@ impl Search {
         ensures lengths { IfOk result (AllHaveLength (length pattern.now + 1)) }
         ensures fresh { IfOk result (λ search. IsUntouched pattern.now (tables search)) }
     {
-        let size = pattern.order() as usize + 1;
+        let size = pattern.rows() as usize + 1;
         let near = Vec::new(alloc);
         let touched = Vec::new(alloc);
         Ok(Search {

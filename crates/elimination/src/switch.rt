@@ -210,7 +210,7 @@ impl Search {
     {
         let Numbering { vertices, numbers } = number_rest(alloc, &self.turns)?;
         let mut search = DenseSearch::new(alloc, vertices.len() as u32 - 1)?;
-        for v in 1..pattern.order() + 1 {
+        for v in 1..pattern.rows() + 1 {
             if !self.stands(v) {
                 continue;
             }

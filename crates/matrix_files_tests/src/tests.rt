@@ -12,7 +12,7 @@ use std::test::Fail;
 const STAR: [&[u32]; 4] = [&[2, 3, 4], &[1], &[1], &[1]];
 
 fn check_rows(rt: &impl Abort, pattern: &Pattern, rows: &[&[u32]]) {
-    assert_eq!(rt; pattern.order() as usize, rows.len());
+    assert_eq!(rt; pattern.rows() as usize, rows.len());
     for (i, row) in rows.iter().enumerate() {
         assert_eq!(rt; pattern.neighbours(i as u32 + 1), *row);
     }

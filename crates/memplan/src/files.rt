@@ -25,7 +25,7 @@ use matrix_files::{OrderFileKind, PermKind, read_order, read_perm};
 use permutations::Perm;
 use plan_files::{PlanKind, read_plan};
 use plans::Plan;
-use sp_terms::Terms;
+use sp_terms::TermList;
 use workflow_files::{WorkflowKind, read_workflow};
 use std::alloc::Global;
 use graphs::Graph;
@@ -139,7 +139,7 @@ impl FileKind for TreeFile {
 pub struct WorkflowFile;
 
 impl FileKind for WorkflowFile {
-    type Value = Terms;
+    type Value = TermList;
 
     type Kind = WorkflowKind;
 
@@ -153,7 +153,7 @@ impl FileKind for WorkflowFile {
         "workflow"
     }
 
-    fn read(&self, alloc: Global, text: Vec<u8>) -> Result<Terms, Refusal<WorkflowKind>> {
+    fn read(&self, alloc: Global, text: Vec<u8>) -> Result<TermList, Refusal<WorkflowKind>> {
         read_workflow(alloc, &text)
     }
 }

@@ -63,7 +63,7 @@ fn judge_ordering<F: Files>(
     ensures later { (other : List ℕ) → F.faults_of files.old other ≤ F.faults_of files.new other }
 {
     read_is_perm();
-    let n = pattern.order();
+    let n = pattern.rows();
     match ordering {
         Ordering::Natural => Ok(identity(alloc, n)?),
         Ordering::MinDegree => by_min_degree(alloc, pattern),

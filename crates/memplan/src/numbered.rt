@@ -15,7 +15,7 @@ use crate::inputs::judge_tree;
 use crate::request::Input;
 use crate::stop::Stop;
 use mp_outside::Files;
-use sp_terms::{Position, Terms};
+use sp_terms::{Position, TermList};
 use std::alloc::{AllocError, Global};
 use trees::laws::{forest_law, tree_term};
 use trees::{Tree, terms_of_tree};
@@ -23,13 +23,13 @@ use trees::{Tree, terms_of_tree};
 /// A term, and the positions for which the numbers 1, 2, .. stand.
 #[derive(Drop)]
 pub struct NumberedTerm {
-    pub terms: Terms,
+    pub terms: TermList,
     /// By number; each from 1 to the number of positions.
     pub positions: Vec<u32>,
 }
 
 // The positions of the tasks, in their order.
-fn task_positions(alloc: Global, terms: &Terms) -> Result<Vec<u32>, AllocError>
+fn task_positions(alloc: Global, terms: &TermList) -> Result<Vec<u32>, AllocError>
     ensures { IfOk result (λ found. found.items ≡ task_positions 1 terms.now) }
 {
     let mut found = Vec::new(alloc);
@@ -74,7 +74,7 @@ fn number_nodes(alloc: Global, tree: &Tree) -> Result<NumberedTerm, AllocError>
 }
 
 // A term with all of its positions.
-fn number_all(alloc: Global, terms: Terms) -> Result<NumberedTerm, AllocError>
+fn number_all(alloc: Global, terms: TermList) -> Result<NumberedTerm, AllocError>
     ensures all { IfOk result (λ numbered. (numbered.terms ≡ terms)
         × (numbered.positions.items ≡ range_with_len 1 (length terms))) }
     ensures within { IfOk result (λ numbered. AreWithin (length numbered.terms) numbered.positions.items) }

@@ -73,7 +73,7 @@ fn order_of(alloc: Global, base: u32, numbers: &[u32], pattern: &Pattern) -> Res
         let order = min_degree(alloc, pattern)?;
         return Ok(order);
     }
-    let order = perm_of_numbers(alloc, base, numbers, pattern.order())?;
+    let order = perm_of_numbers(alloc, base, numbers, pattern.rows())?;
     Ok(order)
 }
 

@@ -79,7 +79,7 @@ fn a_seed_has_its_workflow(rt: HostRuntime) -> Result<(), Fail> {
 }
 
 fn check_rows(rt: &impl Abort, pattern: &Pattern, rows: &[&[u32]]) {
-    assert_eq!(rt; pattern.order() as usize, rows.len());
+    assert_eq!(rt; pattern.rows() as usize, rows.len());
     for (i, row) in rows.iter().enumerate() {
         assert_eq!(rt; pattern.neighbours(i as u32 + 1), *row);
     }

@@ -48,9 +48,9 @@ pub fn min_degree(alloc: Global, pattern: &Pattern) -> Result<Perm, MindegRefusa
         (λ order. (length pattern.now ≤ most_mindeg) × IsMinimumDegreeOrder (is_joined pattern.now) (length pattern.now) order)
         (IsMindegRefusal (length pattern.now)) }
 {
-    if u64::from(pattern.order()) > MOST_MINDEG {
+    if u64::from(pattern.rows()) > MOST_MINDEG {
         return Err(MindegRefusal::Limit);
     }
     let list = by_least_degree(alloc, pattern)?;
-    Ok(perm_of(alloc, pattern.order(), &list)?)
+    Ok(perm_of(alloc, pattern.rows(), &list)?)
 }

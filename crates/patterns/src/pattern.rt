@@ -36,7 +36,7 @@ impl Pattern {
     }
 
     /// How many vertices there are, 1 to 10^6.
-    pub fn order(&self) -> u32
+    pub fn rows(&self) -> u32
         ensures value { result ≡ length self.now }
         ensures pattern { IsPattern self.now }
     {

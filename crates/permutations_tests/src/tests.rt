@@ -10,7 +10,7 @@ use std::test::Fail;
 
 // The neighbours of vertices 1 to 4.
 fn check_pattern<R: Abort>(rt: &R, pattern: &Pattern, rows: &[&[u32]; 4]) {
-    assert_eq!(rt; pattern.order(), 4);
+    assert_eq!(rt; pattern.rows(), 4);
     for v in 1..5u32 {
         assert_eq!(rt; pattern.neighbours(v), rows[v as usize - 1]);
     }

@@ -9,7 +9,7 @@ use mp_gen::{gen_tree, gen_workflow};
 use mp_outside::NoGate;
 use plans::{Claim, Plan, is_plan};
 use sp_cuts::plan_terms;
-use sp_terms::{Position, TermBuilder, Terms, system_of};
+use sp_terms::{Position, TermBuilder, TermList, system_of};
 use workflow_files::read_workflow;
 use std::alloc::Global;
 use std::marker::Brand;
@@ -24,7 +24,7 @@ use trees::{Node, terms_of_tree};
 fn certified<L: Ledger>(
     alloc: Global,
     blank: Blank,
-    terms: &Terms,
+    terms: &TermList,
 ) -> Result<(Vec<u32>, u64, Vec<Claim>), NoMemory>
     requires name { blank.name ≡ L.name }
     requires parts { blank.parts ≡ L.parts }
@@ -32,7 +32,7 @@ fn certified<L: Ledger>(
 {
     let mut steps = Steps::<L>::new(blank);
     let plan = plan_terms(alloc, terms, &mut steps)?;
-    let sp_cuts::Plan {
+    let sp_cuts::Planned {
         order,
         peak,
         part,
@@ -47,7 +47,7 @@ fn certified<L: Ledger>(
 fn assert_accepted<R: Threads + Sync + Abort>(
     rt: &R,
     alloc: Global,
-    terms: &Terms,
+    terms: &TermList,
 ) -> Result<u64, Fail> {
     let (order, peak, claims) = certified::<Brand>(alloc, Blank::new(1), terms)?;
     assert!(rt; is_plan(alloc, &order, peak, &claims, &[])?);
@@ -141,7 +141,7 @@ fn put_small(builder: &mut TermBuilder, position: Position) -> Result<(), Fail> 
 }
 
 // The same shape with small numbers, and with shares.
-fn small(alloc: Global, terms: &Terms) -> Result<Terms, Fail> {
+fn small(alloc: Global, terms: &TermList) -> Result<TermList, Fail> {
     let mut builder = TermBuilder::new(alloc);
     for position in 1..=terms.len() {
         put_small(&mut builder, terms.at(position))?;
@@ -176,7 +176,7 @@ fn put_leaf(builder: &mut TermBuilder, out: u64, extra: u64) -> Result<(), Fail>
 }
 
 // A chain with the numbers of these nodes, or a caterpillar, whose nodes have a leaf each beside the node below.
-fn long_tree(alloc: Global, nodes: &[Node], leaves: bool) -> Result<Terms, Fail> {
+fn long_tree(alloc: Global, nodes: &[Node], leaves: bool) -> Result<TermList, Fail> {
     let mut builder = TermBuilder::new(alloc);
     put(&mut builder, Position::Hold(0))?;
     for (i, node) in nodes.iter().enumerate() {

@@ -96,8 +96,8 @@ fn fronts<R: Threads + Sync + Abort, G: Gate>(
     counts_of_fill();
     let pattern = read_pattern(alloc, matrix.as_bytes())?;
     pattern.keeps();
-    let perm = read_perm(alloc, order.as_bytes(), pattern.order())?;
-    assert_eq!(rt; perm.len(), pattern.order());
+    let perm = read_perm(alloc, order.as_bytes(), pattern.rows())?;
+    assert_eq!(rt; perm.len(), pattern.rows());
     let numbered = postordered_etree(alloc, &pattern, &perm)?;
     let counts = counts(alloc, &pattern, &numbered.perm, &numbered.parents)?;
     let assembly = supernodes(alloc, &numbered.parents, &counts)?;

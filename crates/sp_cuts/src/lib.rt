@@ -19,7 +19,7 @@ mod reaching;
 pub use composing::{parallel, parallel_part, series, series_part};
 pub use notes::{Notes, PartNote, SeriesNote};
 pub use parts::{Part, hill_between, hold};
-pub use planning::{Plan, plan_terms};
+pub use planning::{Planned, plan_terms};
 pub use reaching::{Stairs, StairsRefusal, staircases};
 use std::alloc::AllocError;
 

@@ -6,11 +6,11 @@ ghost use Rattle.std.specs.Prelude.{◌≡◌, ◌≤◌, ◌<◌};
 ghost use Rattle.limits.specs.Limits.{most_tasks};
 ghost use Rattle.sp_terms.specs.Builder.{IsPosition};
 
-use sp_cuts::{NoMemory, Plan, plan_terms};
+use sp_cuts::{NoMemory, Planned, plan_terms};
 use hill_valley::Side;
 use mp_gen::{gen_tree, gen_workflow};
 use mp_system::{System, replay};
-use sp_terms::{Position, TermBuilder, Terms, system_of};
+use sp_terms::{Position, TermBuilder, TermList, system_of};
 use workflow_files::read_workflow;
 use std::alloc::Global;
 use std::marker::Brand;
@@ -21,7 +21,7 @@ use step_count::Steps;
 use trees::terms_of_tree;
 
 // The plan, with a count of its own.
-fn plan<L: Ledger>(alloc: Global, blank: Blank, terms: &Terms) -> Result<Plan, NoMemory>
+fn plan<L: Ledger>(alloc: Global, blank: Blank, terms: &TermList) -> Result<Plan, NoMemory>
     requires name { blank.name ≡ L.name }
     requires parts { blank.parts ≡ L.parts }
     requires some { 0 < blank.parts }
@@ -30,7 +30,7 @@ fn plan<L: Ledger>(alloc: Global, blank: Blank, terms: &Terms) -> Result<Plan, N
     plan_terms(alloc, terms, &mut steps)
 }
 
-fn planned(alloc: Global, terms: &Terms) -> Result<Plan, NoMemory> {
+fn planned(alloc: Global, terms: &TermList) -> Result<Plan, NoMemory> {
     plan::<Brand>(alloc, Blank::new(1), terms)
 }
 
@@ -113,7 +113,7 @@ fn least_peak(alloc: Global, system: &System) -> Result<u64, NoMemory> {
 }
 
 // The plan's peak is that of its order, and no traversal has a lower one.
-fn check_order(rt: &impl Abort, alloc: Global, terms: &Terms, plan: &Plan) -> Result<(), Fail> {
+fn check_order(rt: &impl Abort, alloc: Global, terms: &TermList, plan: &Plan) -> Result<(), Fail> {
     let system = system_of(alloc, terms)?;
     assert_eq!(rt; replay(alloc, &system, &plan.order)?, plan.peak);
     assert_eq!(rt; least_peak(alloc, &system)?, plan.peak);
@@ -121,7 +121,7 @@ fn check_order(rt: &impl Abort, alloc: Global, terms: &Terms, plan: &Plan) -> Re
 }
 
 // The plan's peak, which is checked.
-fn checked_peak(rt: &impl Abort, alloc: Global, terms: &Terms) -> Result<u64, Fail> {
+fn checked_peak(rt: &impl Abort, alloc: Global, terms: &TermList) -> Result<u64, Fail> {
     let plan = planned(alloc, terms)?;
     assert_eq!(rt; plan.part.peak, plan.peak);
     check_order(rt, alloc, terms, &plan)?;
@@ -192,7 +192,7 @@ fn put_small(builder: &mut TermBuilder, position: Position) -> Result<(), Fail> 
 }
 
 // The same shape with small numbers, and with shares.
-fn small(alloc: Global, terms: &Terms) -> Result<Terms, Fail> {
+fn small(alloc: Global, terms: &TermList) -> Result<TermList, Fail> {
     let mut builder = TermBuilder::new(alloc);
     for position in 1..=terms.len() {
         put_small(&mut builder, terms.at(position))?;
@@ -201,13 +201,13 @@ fn small(alloc: Global, terms: &Terms) -> Result<Terms, Fail> {
 }
 
 // The plan of a term has the least peak, and so has that of its shape with small numbers.
-fn check_least(rt: &impl Abort, alloc: Global, terms: &Terms) -> Result<(), Fail> {
+fn check_least(rt: &impl Abort, alloc: Global, terms: &TermList) -> Result<(), Fail> {
     checked_peak(rt, alloc, terms)?;
     checked_peak(rt, alloc, &small(alloc, terms)?)?;
     Ok(())
 }
 
-fn random_tree(alloc: Global, seed: u64, nodes: u32) -> Result<Terms, NoMemory>
+fn random_tree(alloc: Global, seed: u64, nodes: u32) -> Result<TermList, NoMemory>
     requires { (1 ≤ nodes) × (nodes ≤ most_tasks) }
 {
     let tree = gen_tree(alloc, seed, nodes)?;

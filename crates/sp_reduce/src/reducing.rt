@@ -15,7 +15,7 @@ use crate::links::Links;
 use crate::postfix::{Written, write_term};
 use crate::reduced::{ReduceRefusal, Reduced};
 use crate::rounds::{all_tasks, reduce_links};
-use sp_terms::Terms;
+use sp_terms::TermList;
 use sp_terms::laws::terms_law;
 use std::alloc::Global;
 use graphs::laws::{completed_law, system_law};
@@ -99,7 +99,7 @@ pub fn reduce(alloc: Global, graph: &Graph) -> Result<Reduced, ReduceRefusal>
                 root,
             )?;
             Ok(Reduced {
-                terms: Terms::new(positions),
+                terms: TermList::new(positions),
                 names,
             })
         }

@@ -7,7 +7,7 @@ ghost use Rattle.sp_terms.specs.declared.position.Position.{Position};
 ghost use Rattle.std.specs.List.{sum_by};
 
 use crate::position::Position;
-use crate::terms::Terms;
+use crate::terms::TermList;
 use limits::{LimitName, MOST_POSITIONS, MOST_SIZE, MOST_TASKS, MOST_TIME, MOST_TOTAL};
 use std::alloc::{AllocError, Global};
 use std::fmt::{self, Display, Formatter, Write};
@@ -139,11 +139,11 @@ impl TermBuilder {
     }
 
     /// The terms, or the builder back where its positions do not leave one term.
-    pub fn finish(self) -> Result<Terms, TermBuilder>
+    pub fn finish(self) -> Result<TermList, TermBuilder>
         ensures { MatchResult result (λ terms. IsOneTerm self × (terms ≡ self)) (λ back. (IsOneTerm self → ⊥) × (back ≡ self)) }
     {
         if self.ends.len() == 1 {
-            Ok(Terms::new(self.positions))
+            Ok(TermList::new(self.positions))
         } else {
             Err(self)
         }

@@ -15,7 +15,7 @@ pub use builder::{PushRefusal, TermBuilder, count};
 pub use position::{Position, Values};
 use std::alloc::AllocError;
 pub use system::system_of;
-pub use terms::Terms;
+pub use terms::TermList;
 pub use value::{hill, values, values_at};
 
 /// Want of memory: an allocation was refused.

@@ -3,7 +3,7 @@
 mod files;
 mod terms;
 
-use sp_terms::Terms;
+use sp_terms::TermList;
 use workflow_files::read_workflow;
 use std::alloc::Global;
 use std::test::Fail;
@@ -12,6 +12,6 @@ use std::test::Fail;
 const BRANCHES: &str =
     "workflow 1\ntasks 4\ndata 4\ndata 1\ntask 0 1\ndata 3\ntask 6 1\ndata 4\ndata 1\ntask 0 1\ndata 3\ntask 6 1\npar 2\nend\n";
 
-fn read(alloc: Global, text: &str) -> Result<Terms, Fail> {
+fn read(alloc: Global, text: &str) -> Result<TermList, Fail> {
     Ok(read_workflow(alloc, text.as_bytes())?)
 }

@@ -3,7 +3,7 @@
 //!
 //! ```
 //! let pattern = read_pattern(alloc, text)?;
-//! let perm = read_perm(alloc, order, pattern.order())?;
+//! let perm = read_perm(alloc, order, pattern.rows())?;
 //! let fronts = FrontOptions { shape: Shape::Triangle, zeros: None, inplace: false };
 //! let tree = front_tree(alloc, &pattern, &perm, fronts)?;
 //! ```

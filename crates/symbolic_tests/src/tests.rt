@@ -49,8 +49,8 @@ const CASES: &[Case] = &[
 
 fn check_fronts(rt: &impl Abort, alloc: Global, case: &Case) -> Result<(), Fail> {
     let pattern = read_pattern(alloc, case.matrix.as_bytes())?;
-    let perm = read_perm(alloc, case.order.as_bytes(), pattern.order())?;
-    assert_eq!(rt; perm.len(), pattern.order());
+    let perm = read_perm(alloc, case.order.as_bytes(), pattern.rows())?;
+    assert_eq!(rt; perm.len(), pattern.rows());
     let tree = front_tree(alloc, &pattern, &perm, case.options)?;
     assert_eq!(rt; tree.nodes().len(), case.fronts.len());
     for (node, front) in tree.nodes().iter().zip(case.fronts) {

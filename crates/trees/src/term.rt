@@ -17,13 +17,13 @@ use crate::postorder::postorder;
 use crate::tree::Tree;
 use crate::{NoMemory, laws};
 use row_table::RowTable;
-use sp_terms::{Position, Terms};
+use sp_terms::{Position, TermList};
 use std::alloc::Global;
 
 /// The term of a tree, and which node each of its tasks is.
 #[derive(Drop)]
 pub struct Named {
-    pub terms: Terms,
+    pub terms: TermList,
     /// The node that task 1 is, then the one that task 2 is, and so on.
     pub names: Names,
 }
@@ -86,7 +86,7 @@ pub fn terms_of_tree(alloc: Global, tree: &Tree) -> Result<Named, NoMemory>
     let names = postorder(alloc, &children)?;
     let positions = positions(alloc, nodes, &names, &children)?;
     Ok(Named {
-        terms: Terms::new(positions),
+        terms: TermList::new(positions),
         names: Names::new(names),
     })
 }

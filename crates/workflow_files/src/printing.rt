@@ -10,7 +10,7 @@ ghost use Rattle.workflow_files.specs.WorkflowText.{position_line, text_in, is_s
 use crate::NoMemory;
 use sp_terms::count;
 use sp_terms::Position;
-use sp_terms::Terms;
+use sp_terms::TermList;
 use mp_text::laws::printed_lines;
 use mp_text::{Report, Token, Version};
 
@@ -109,7 +109,7 @@ fn version_for(positions: &[Position]) -> Version
 /// Appends the lines of a workflow file, of version 1 where every share is 0, else of version 2. Linear in the positions.
 ///
 /// Where memory runs out, the report stays as it was.
-pub fn print_workflow(terms: &Terms, report: &mut Report) -> Result<(), NoMemory>
+pub fn print_workflow(terms: &TermList, report: &mut Report) -> Result<(), NoMemory>
     requires { IsTrue (is_line_start report.old) }
     ensures ok { OnOk result (report.new ≡ report.old ++ text_of terms.now) }
     ensures err { OnErr result (report.new ≡ report.old) }
@@ -121,7 +121,7 @@ pub fn print_workflow(terms: &Terms, report: &mut Report) -> Result<(), NoMemory
 /// Appends the lines of a workflow file of version 2. Linear in the positions.
 ///
 /// Where memory runs out, the report stays as it was.
-pub fn print_workflow_2(terms: &Terms, report: &mut Report) -> Result<(), NoMemory>
+pub fn print_workflow_2(terms: &TermList, report: &mut Report) -> Result<(), NoMemory>
     requires { IsTrue (is_line_start report.old) }
     ensures ok { OnOk result (report.new ≡ report.old ++ text2_of terms.now) }
     ensures err { OnErr result (report.new ≡ report.old) }

@@ -8,7 +8,7 @@ use crate::kind::WorkflowKind;
 use crate::lines::{count_on, header_on, is_end, last_on, position_on};
 use sp_terms::Position;
 use crate::stage::Stage;
-use sp_terms::Terms;
+use sp_terms::TermList;
 use crate::word::{Word, next_word};
 use mp_text::{Layout, Line, Reader, Refusal, Tokens, Version, fault, read_with, tokens};
 use std::alloc::Global;
@@ -169,7 +169,7 @@ impl Reader for WorkflowReader {
 
 /// The terms that a workflow file of version 1 or 2 states, or why it is refused: the first test that fails in the first line that
 /// fails, or at the end of the text.
-pub fn read_workflow(alloc: Global, bytes: &[u8]) -> Result<Terms, Refusal<WorkflowKind>>
+pub fn read_workflow(alloc: Global, bytes: &[u8]) -> Result<TermList, Refusal<WorkflowKind>>
     ensures { MatchResult result (λ terms. ReadsWorkflow bytes.now terms) (IsWorkflowRefusal bytes.now) }
 {
     let reader = read_with(bytes, Layout::Commented, WorkflowReader::new(alloc))?;

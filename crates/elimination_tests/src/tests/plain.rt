@@ -24,7 +24,7 @@ fn is_set(table: &[bool], at: usize) -> bool {
 
 impl Plain {
     fn new(alloc: Global, pattern: &Pattern) -> Result<Plain, NoMemory> {
-        let n = pattern.order();
+        let n = pattern.rows();
         let size = n as usize + 1;
         let mut joined = Vec::new(alloc);
         joined.push(vec![in alloc; false; size]?)?;
@@ -103,7 +103,7 @@ impl Plain {
 pub fn plain_order(alloc: Global, pattern: &Pattern) -> Result<Vec<u32>, NoMemory> {
     let mut plain = Plain::new(alloc, pattern)?;
     let mut order = Vec::new(alloc);
-    for _ in 0..pattern.order() {
+    for _ in 0..pattern.rows() {
         let Some(v) = plain.first() else {
             break;
         };

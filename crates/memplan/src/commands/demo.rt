@@ -27,7 +27,7 @@ use mp_text::laws::printed_lines;
 use ordering::{MindegRefusal, min_degree};
 use plans::Plan;
 use postorder_best::best_postorder;
-use sp_terms::Terms;
+use sp_terms::TermList;
 use std::alloc::{AllocError, Global};
 use std::thread::Threads;
 use symbolic::{FrontOptions, front_tree};
@@ -146,7 +146,7 @@ fn made_tree(alloc: Global, tree: Tree) -> Result<Made, AllocError>
     })
 }
 
-fn made_workflow(terms: Terms) -> Made
+fn made_workflow(terms: TermList) -> Made
     ensures problem { result.problem ≡ origins.Workflow terms }
     ensures positions { HasPositions result.problem result.positions }
     ensures postorder { IsPostorderPeak result.problem result.postorder }

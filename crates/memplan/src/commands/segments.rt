@@ -24,7 +24,7 @@ use mp_outside::Files;
 use mp_text::Report;
 use mp_text::laws::{printed_line, printed_lines};
 use sp_cuts::{Stairs, StairsRefusal, staircases};
-use sp_terms::{Terms, Values, values};
+use sp_terms::{TermList, Values, values};
 use std::alloc::{AllocError, Global};
 use std::marker::Brand;
 use std::sync::ledger::{Blank, Ledger};
@@ -45,7 +45,7 @@ pub fn segments_of<'a>(line: &Line<'a>) -> Option<Request<'a>>
 fn counted<L: Ledger>(
     alloc: Global,
     blank: Blank,
-    terms: &Terms,
+    terms: &TermList,
 ) -> Result<Vec<Stairs>, StairsRefusal>
     requires name { blank.name ≡ L.name }
     requires parts { blank.parts ≡ L.parts }
@@ -58,7 +58,7 @@ fn counted<L: Ledger>(
     staircases(alloc, terms, &mut steps)
 }
 
-fn stairs_of(alloc: Global, terms: &Terms) -> Result<Vec<Stairs>, StairsRefusal>
+fn stairs_of(alloc: Global, terms: &TermList) -> Result<Vec<Stairs>, StairsRefusal>
     ensures stairs { IfOk result (λ all. AreStairs terms.now (all_of all.items)) }
     ensures few { IfOk result (λ all. step_total (all_of all.items) ≤ most_steps) }
     ensures limit { result ≡ Err StairsRefusal.Limit → PassesLimit terms.now }

@@ -18,7 +18,7 @@ use mp_outside::Files;
 use mp_text::Report;
 use plan_files::print_plan_2;
 use plans::Plan;
-use sp_terms::Terms;
+use sp_terms::TermList;
 use workflow_files::print_workflow_2;
 use std::alloc::{AllocError, Global};
 use trees::Tree;
@@ -74,7 +74,7 @@ fn tree_2_page(alloc: Global, tree: &Tree) -> Result<Page, AllocError>
     Ok(Page { kind, report })
 }
 
-fn workflow_2_page(alloc: Global, terms: &Terms) -> Result<Page, AllocError>
+fn workflow_2_page(alloc: Global, terms: &TermList) -> Result<Page, AllocError>
     ensures { IfOk result (λ page. answer_of page ≡ upgrade_answer (workflow_value terms.now)) }
 {
     let mut report = Report::new(alloc);

@@ -9,7 +9,7 @@ use sp_cuts::{NoMemory, Stairs, StairsRefusal, staircases};
 use hill_valley::Step;
 use mp_gen::gen_workflow;
 use mp_system::System;
-use sp_terms::{Position, TermBuilder, Terms, Values, system_of, values};
+use sp_terms::{Position, TermBuilder, TermList, Values, system_of, values};
 use workflow_files::read_workflow;
 use std::alloc::Global;
 use std::marker::Brand;
@@ -22,7 +22,7 @@ use step_count::Steps;
 fn counted<L: Ledger>(
     alloc: Global,
     blank: Blank,
-    terms: &Terms,
+    terms: &TermList,
 ) -> Result<Vec<Stairs>, StairsRefusal>
     requires name { blank.name ≡ L.name }
     requires parts { blank.parts ≡ L.parts }
@@ -32,7 +32,7 @@ fn counted<L: Ledger>(
     staircases(alloc, terms, &mut steps)
 }
 
-fn walked(alloc: Global, terms: &Terms) -> Result<Vec<Stairs>, StairsRefusal> {
+fn walked(alloc: Global, terms: &TermList) -> Result<Vec<Stairs>, StairsRefusal> {
     counted::<Brand>(alloc, Blank::new(1), terms)
 }
 
@@ -94,7 +94,7 @@ fn staircases_of_the_worked_rows(rt: HostRuntime) -> Result<(), Fail> {
 
 // A chain of nodes, where node i leaves i and, seen from above, lies behind a higher hill than all
 // nodes above it.
-fn chain(alloc: Global, nodes: u64) -> Result<Terms, Fail> {
+fn chain(alloc: Global, nodes: u64) -> Result<TermList, Fail> {
     let mut builder = TermBuilder::new(alloc);
     put(&mut builder, Position::Hold(0))?;
     for i in 1..=nodes.min(5_000) {
@@ -287,7 +287,7 @@ fn assert_staircase(rt: &impl Abort, steps: &[Step], start: u64, memory: &[u64],
 }
 
 // The term that ends at a position, counted from 1, and has so many positions.
-fn term_at(alloc: Global, terms: &Terms, position: u32, width: u32) -> Result<Terms, Fail>
+fn term_at(alloc: Global, terms: &TermList, position: u32, width: u32) -> Result<TermList, Fail>
     requires { position ≤ length terms.now }
 {
     let mut builder = TermBuilder::new(alloc);
@@ -306,7 +306,7 @@ fn term_at(alloc: Global, terms: &Terms, position: u32, width: u32) -> Result<Te
 fn check_whole(
     rt: &impl Abort,
     alloc: Global,
-    term: &Terms,
+    term: &TermList,
     own: Values,
     stairs: &Stairs,
 ) -> Result<(), Fail> {
@@ -322,7 +322,7 @@ fn check_whole(
 }
 
 // All staircases of a term, whose numbers are small, are those that the search finds.
-fn check_stairs(rt: &impl Abort, alloc: Global, terms: &Terms) -> Result<(), Fail> {
+fn check_stairs(rt: &impl Abort, alloc: Global, terms: &TermList) -> Result<(), Fail> {
     let found = walked(alloc, terms)?;
     let values = values(alloc, terms)?;
     assert_eq!(rt; found.len(), values.len());

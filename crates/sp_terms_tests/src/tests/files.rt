@@ -1,5 +1,5 @@
 use super::{BRANCHES, read};
-use sp_terms::{Terms, system_of};
+use sp_terms::{TermList, system_of};
 use workflow_files::{print_workflow, print_workflow_2, read_workflow};
 use mp_system::replay;
 use mp_text::Report;
@@ -35,13 +35,13 @@ fn replays(rt: HostRuntime) -> Result<(), Fail> {
     Ok(())
 }
 
-fn printed(alloc: Global, terms: &Terms) -> Result<Report, Fail> {
+fn printed(alloc: Global, terms: &TermList) -> Result<Report, Fail> {
     let mut report = Report::new(alloc);
     print_workflow(terms, &mut report)?;
     Ok(report)
 }
 
-fn printed_2(alloc: Global, terms: &Terms) -> Result<Report, Fail> {
+fn printed_2(alloc: Global, terms: &TermList) -> Result<Report, Fail> {
     let mut report = Report::new(alloc);
     print_workflow_2(terms, &mut report)?;
     Ok(report)

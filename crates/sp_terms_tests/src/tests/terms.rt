@@ -1,7 +1,7 @@
 ghost use Rattle.sp_terms.specs.Builder.{IsPosition};
 
 use super::{BRANCHES, read};
-use sp_terms::{Position, PushRefusal, TermBuilder, Terms, Values, hill, system_of, values, values_at};
+use sp_terms::{Position, PushRefusal, TermBuilder, TermList, Values, hill, system_of, values, values_at};
 use limits::{LimitName, MOST_SIZE, MOST_TIME};
 use mp_system::{Item, System, Task};
 use std::alloc::Global;
@@ -45,7 +45,7 @@ const POSITIONS: &[(u32, Position)] = &[
     (11, Position::Par(2)),
 ];
 
-fn position_at(terms: &Terms, place: u32) -> Option<Position> {
+fn position_at(terms: &TermList, place: u32) -> Option<Position> {
     if 1 <= place && place <= terms.len() {
         Some(terms.at(place))
     } else {

@@ -1,7 +1,7 @@
 use super::{FIVE, SHARED, read};
 use trees::{Named, Names, Tree, system_of_tree, terms_of_tree};
 use mp_system::replay;
-use sp_terms::{Terms, system_of};
+use sp_terms::{TermList, system_of};
 use workflow_files::read_workflow;
 use std::alloc::Global;
 use std::process::Abort;
@@ -56,7 +56,7 @@ fn names_of(alloc: Global, text: &str) -> Result<Names, Fail> {
     Ok(names)
 }
 
-fn check_positions(rt: &impl Abort, found: &Terms, wanted: &Terms, tree: &str) {
+fn check_positions(rt: &impl Abort, found: &TermList, wanted: &TermList, tree: &str) {
     assert_eq!(rt; found.len(), wanted.len(), "{tree}");
     for k in 1..=wanted.len() {
         assert_eq!(rt; found.at(k), wanted.at(k), "{tree}, at {k}");

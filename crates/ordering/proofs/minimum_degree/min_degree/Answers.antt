@@ -17,6 +17,6 @@ returns c =
     let rows = c.args.pattern.now in
     let e = c.in_ok-list.ensures in
     let order = listed_order (is_joined rows) (length rows) c.in_ok-list.list.items e.len e.vertices e.once e.least in (
-      omega (arith, c.order.ensures.value, c.from.ensures, c.if-from-gt-MOST_MINDEG.false),
+      omega (arith, c.rows.ensures.value, c.from.ensures, c.if-from-gt-MOST_MINDEG.false),
       subst (IsMinimumDegreeOrder (is_joined rows) (length rows)) (sym c.in_ok-perm_of.ensures) (subst (IsMinimumDegreeOrder (is_joined rows) (length rows)) (sym c.deref.ensures.value) order),
     )
