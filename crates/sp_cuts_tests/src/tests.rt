@@ -21,7 +21,7 @@ use step_count::Steps;
 use trees::terms_of_tree;
 
 // The plan, with a count of its own.
-fn plan<L: Ledger>(alloc: Global, blank: Blank, terms: &TermList) -> Result<Plan, NoMemory>
+fn plan<L: Ledger>(alloc: Global, blank: Blank, terms: &TermList) -> Result<Planned, NoMemory>
     requires name { blank.name ≡ L.name }
     requires parts { blank.parts ≡ L.parts }
     requires some { 0 < blank.parts }
@@ -30,7 +30,7 @@ fn plan<L: Ledger>(alloc: Global, blank: Blank, terms: &TermList) -> Result<Plan
     plan_terms(alloc, terms, &mut steps)
 }
 
-fn planned(alloc: Global, terms: &TermList) -> Result<Plan, NoMemory> {
+fn planned(alloc: Global, terms: &TermList) -> Result<Planned, NoMemory> {
     plan::<Brand>(alloc, Blank::new(1), terms)
 }
 
@@ -113,7 +113,7 @@ fn least_peak(alloc: Global, system: &System) -> Result<u64, NoMemory> {
 }
 
 // The plan's peak is that of its order, and no traversal has a lower one.
-fn check_order(rt: &impl Abort, alloc: Global, terms: &TermList, plan: &Plan) -> Result<(), Fail> {
+fn check_order(rt: &impl Abort, alloc: Global, terms: &TermList, plan: &Planned) -> Result<(), Fail> {
     let system = system_of(alloc, terms)?;
     assert_eq!(rt; replay(alloc, &system, &plan.order)?, plan.peak);
     assert_eq!(rt; least_peak(alloc, &system)?, plan.peak);
