@@ -1,0 +1,5 @@
+pub mod FileLemmas
+pub mod InputLemmas
+pub mod NumberLemmas
+pub mod PageLemmas
+pub mod StepLemmas
