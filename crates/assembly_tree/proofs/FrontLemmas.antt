@@ -15,7 +15,8 @@ use Rattle.assembly_tree.specs.declared.front.Shape.{Shape}
 use Rattle.assembly_tree.specs.declared.front.Shape.TheVariants.{Triangle, Square}
 use Rattle.assembly_tree.specs.Assembly.{AssemblyTree, IsSuper, IsAssembly, no_super, super_at, front_of}
 use Rattle.assembly_tree.specs.Fronts.{kept_entries, block_of, share_of, front_node, front_at, fronts_of}
-use Rattle.assembly_tree.proofs.ListLemmas.{sum_by-map, sum_by-filter}
+use Rattle.assembly_tree.proofs.ListLemmas.{sum_by-filter}
+use Rattle.lists.proofs.Lists.{sum_by-map}
 use Rattle.assembly_tree.proofs.RunLemmas.{supers-le, last-all}
 use Rattle.assembly_tree.proofs.SupernodeLemmas.{supers-range}
 
@@ -61,12 +62,12 @@ share-bound shape p m xs each =
 
 -- ---- ways up
 
-ancestor-none : (nodes : List Node) (k : ℕ) → ancestor nodes k 0 ≡ 0
+pub ancestor-none : (nodes : List Node) (k : ℕ) → ancestor nodes k 0 ≡ 0
 unfolding ancestor
 ancestor-none nodes zero = refl
 ancestor-none nodes (suc k) = ancestor-none nodes k
 
-rising_leads : (nodes : List Node) → ((v : ℕ) → IsNode nodes v → 0 < (node_at nodes v).parent → (v < (node_at nodes v).parent) × ((node_at nodes v).parent ≤ length nodes)) → (k v : ℕ) → IsNode nodes v → length nodes < v + k → ancestor nodes k v ≡ 0
+pub rising_leads : (nodes : List Node) → ((v : ℕ) → IsNode nodes v → 0 < (node_at nodes v).parent → (v < (node_at nodes v).parent) × ((node_at nodes v).parent ≤ length nodes)) → (k v : ℕ) → IsNode nodes v → length nodes < v + k → ancestor nodes k v ≡ 0
 unfolding ancestor
 rising_leads nodes rising zero v is far = absurd (omega (arith, is.1, far))
 rising_leads nodes rising (suc k) zero is far = absurd (omega (arith, is.0))

@@ -8,7 +8,8 @@ use Rattle.ordering.specs.Fill.{renumbered}
 use Rattle.elim_tree.specs.Forests.{column_in}
 use Rattle.column_counts.specs.declared.leaves.Leaves.{Leaves}
 use Rattle.column_counts.specs.Leaves.{any_in, IsFirsts, AreEmpty, AreLeavesBefore, CanTakeColumn}
-use Rattle.column_counts.proofs.FactorRows.{IsFactor, AreRows, is_in, joined_in_list, stands_in_list}
+use Rattle.column_counts.proofs.FactorRows.{IsFactor, AreRows, joined_in_list, stands_in_list}
+use Rattle.elim_tree.proofs.Growth.{is_in}
 use Rattle.column_counts.proofs.SumLemmas.{any_in_none, sum_in_none, passing_none}
 use Rattle.column_counts.proofs.SpanRows.{below_row}
 

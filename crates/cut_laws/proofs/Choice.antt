@@ -13,7 +13,8 @@ use Rattle.claim_rules.specs.Rules.{MeetsSeries, first_is_stuck, first_is_closed
 use Rattle.segment_merge.specs.Laws.{SideLaws}
 use Rattle.cut_laws.specs.Cuts.{Cut, cut_first, cut_second, over_task, front_peak, back_peak}
 use Rattle.cut_laws.proofs.Wanted.{Wants, WantsIf, near_claim, far_claim, Fits, first_claim, second_claim}
-use Rattle.cut_laws.proofs.Levels.{lt_or_le, lowest_end}
+use Rattle.cut_laws.proofs.Levels.{lowest_end}
+use Rattle.lists.proofs.Orders.{lt_or_le}
 use Rattle.cut_laws.proofs.Limits.{above-beyond}
 
 -- the parts show what is asked of them, and the rule of a series is met

@@ -16,7 +16,8 @@ use Rattle.claim_rules.specs.Rules.{MeetsPar, value_in, values_in, HasRoom, Have
 use Rattle.segment_merge.specs.Laws.{SideLaws}
 use Rattle.cut_laws.specs.Cuts.{Cut, side_of, start_of, top_of, par_cut, fronts, backs, starts, sides}
 use Rattle.cut_laws.proofs.Wanted.{Wants, WantsIf, AllWant, Fits, AllFit, part_claim, par_claims, AreStuckWithin}
-use Rattle.cut_laws.proofs.Levels.{lt_or_le, lowest_stuck, lowest_end, passes_from_top, top_from_passes}
+use Rattle.cut_laws.proofs.Levels.{lowest_stuck, lowest_end, passes_from_top, top_from_passes}
+use Rattle.lists.proofs.Orders.{lt_or_le}
 use Rattle.cut_laws.proofs.Limits.{limit-less, same-bound}
 
 -- the parts show what is asked of them, and the rule of parts side by side is met
@@ -30,7 +31,7 @@ claim_yes d bound c level h = grind (arith, nat_tests)
 claim_none : (d : Direction) (bound : ℤ) (c : Cut) (level : ℕ) → top_of d c < limit_of bound → part_claim d bound c level ≡ None
 claim_none d bound c level h = grind (arith, nat_tests)
 
-value_same : (d : Direction) (t : Term) (bound : ℤ) (rest : ℕ) → value_in d t (Some (record { direction = d; bound = bound; rest = rest })) ≡ rest
+pub value_same : (d : Direction) (t : Term) (bound : ℤ) (rest : ℕ) → value_in d t (Some (record { direction = d; bound = bound; rest = rest })) ≡ rest
 value_same forward t bound rest = refl
 value_same backward t bound rest = refl
 
@@ -117,19 +118,19 @@ module _ (laws : SideLaws) (d : Direction) (bound : ℤ) (total : ℕ) where
 
 -- ---- the merged side
 
-sides_forward : (cs : List Cut) → run_profiles (fronts cs) ≡ sides forward cs
+pub sides_forward : (cs : List Cut) → run_profiles (fronts cs) ≡ sides forward cs
 sides_forward [] = refl
 sides_forward (c ∷ cs) = ap (λ (l : List (List Segment)). run_profile c.front ∷ l) (sides_forward cs)
 
-sides_backward : (cs : List Cut) → run_profiles (backs cs) ≡ sides backward cs
+pub sides_backward : (cs : List Cut) → run_profiles (backs cs) ≡ sides backward cs
 sides_backward [] = refl
 sides_backward (c ∷ cs) = ap (λ (l : List (List Segment)). run_profile c.back ∷ l) (sides_backward cs)
 
-start_initial : (cs : List Cut) → sum_by (λ c. c.initial) cs ≡ level_sum (starts forward cs)
+pub start_initial : (cs : List Cut) → sum_by (λ c. c.initial) cs ≡ level_sum (starts forward cs)
 start_initial [] = refl
 start_initial (c ∷ cs) = omega (arith, start_initial cs, sum_by-cons (λ (x : Cut). x.initial) c cs)
 
-start_fin : (cs : List Cut) → sum_by (λ c. c.fin) cs ≡ level_sum (starts backward cs)
+pub start_fin : (cs : List Cut) → sum_by (λ c. c.fin) cs ≡ level_sum (starts backward cs)
 start_fin [] = refl
 start_fin (c ∷ cs) = omega (arith, start_fin cs, sum_by-cons (λ (x : Cut). x.fin) c cs)
 

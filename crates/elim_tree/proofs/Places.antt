@@ -11,6 +11,7 @@ use Rattle.elim_tree.proofs.Columns.{in_table, length_of_table, parent_within}
 use Rattle.elim_tree.proofs.SpanLemmas.{IsPlaced, IsPlacedFrom, placed_all}
 use Rattle.elim_tree.proofs.CountLemmas.{IsRising, children_yes, children_to, children_all}
 use Rattle.elim_tree.proofs.Postorderings.{place_one}
+use Rattle.lists.proofs.Orders.{written}
 
 -- the child in whose span k falls
 locate : (parent many : ℕ → ℕ) (p m k : ℕ) → 0 < k → k ≤ in_children parent many p m
@@ -207,8 +208,6 @@ module _ (table : List ℕ) (is : IsParentTable table) where
     table_before = places_before (parents_in table) is.forest (length table) (length_of_table table is) many before start place here_counted here_placed
 
 -- what was written through a slice is the whole table
-pub written : (new rest : List ℕ) (len : ℕ) → len ≡ length new → take len (new ++ rest) ≡ new
-written new rest len e = ap (λ n. take n (new ++ rest)) e ∙ take-append_seam new rest
 
 pub is_postorder : (parents order places : List ℕ) → IsPerm (length order) order → length order ≡ length parents → ((v : ℕ) → place_of order v ≡ slice_index places v)
     → ((a b : ℕ) → IsVertex (length parents) a → IsVertex (length parents) b → Precedes parents a b → slice_index places a < slice_index places b) → IsPostorder parents order

@@ -6,7 +6,7 @@ use Rattle.patterns.specs.Pattern.{has}
 use Rattle.elimination.specs.Elimination.{degree_of, times}
 use Rattle.elimination.specs.Twins.{is_near}
 use Rattle.elimination.specs.Dense.{Stage, IsStanding, IsInOpen, bit_in, AreBitRows, IsLookedAt, width_of}
-use Rattle.elimination.proofs.ListFacts.{same_bool}
+use Rattle.lists.proofs.Bools.{same_bool}
 use Rattle.elimination.proofs.Degrees.{counted_is, near_count}
 
 -- who is near a vertex that is left is left too

@@ -8,7 +8,8 @@ use Rattle.elimination.specs.Twins.{is_near}
 use Rattle.elimination.specs.Dense.{IsStanding, IsDense, IsDenseChoice, IsDenseUnderWay, IsDenseRest, IsLeastDegreeOrder, bit_in, stage_of, stage_after}
 use Rattle.elimination.specs.declared.dense.DenseSearch.{DenseSearch}
 use Rattle.elimination.proofs.Eliminations.{eliminated_push, pattern_eliminate, kept, keep_old}
-use Rattle.elimination.proofs.ListFacts.{times_unless, times_some, same_bool}
+use Rattle.elimination.proofs.ListFacts.{times_unless, times_some}
+use Rattle.lists.proofs.Bools.{same_bool}
 use Rattle.elimination.proofs.VertexLists.{times_append, times-here, times-beyond}
 use Rattle.elimination.proofs.VertexLists.{length-part}
 use Rattle.elimination.specs.Progress.{IsBegun}

@@ -9,7 +9,8 @@ use Rattle.elimination.specs.Tables.{Tables}
 use Rattle.elimination.specs.Twins.{is_near}
 use Rattle.elimination.specs.Progress.{IsUnderWay, IsFinishing}
 use Rattle.elimination.proofs.Eliminations.{eliminated_push, pattern_eliminate, kept, keep_old}
-use Rattle.elimination.proofs.ListFacts.{times_unless, times_some, same_bool}
+use Rattle.elimination.proofs.ListFacts.{times_unless, times_some}
+use Rattle.lists.proofs.Bools.{same_bool}
 use Rattle.elimination.proofs.VertexLists.{times_push_same, times_push_other, length-part}
 use Rattle.elimination.proofs.Degrees.{degree_twins, joined_to_all, left_out}
 use Rattle.elimination.proofs.Groups.{near_own, near_left, near_cases}

@@ -7,7 +7,7 @@ use Rattle.elimination.specs.Elimination.{IsVertex, eliminate}
 use Rattle.elimination.specs.Quotients.{Quotient, IsQuotient, AreLinks, at}
 use Rattle.elimination.specs.Tables.{Tables}
 use Rattle.elimination.specs.Turns.{StandFor, IsReleased, IsChosen, IsAbsorbed, AreBack, IsSearch, IsEliminated, quotient_of}
-use Rattle.elimination.proofs.VertexLists.{has_at}
+use Rattle.patterns.proofs.NumberLists.{has_at}
 use Rattle.elimination.proofs.Absorbings.{IsWritten, after, quotient_after}
 use Rattle.elimination.proofs.Reopenings.{reopened, groups_after, hidden_after, bounds_after, quotient_open}
 

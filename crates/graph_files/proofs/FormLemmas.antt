@@ -16,6 +16,9 @@ use Rattle.graphs.specs.Graph.{TaskGraph, IsArcWithin, arc_size}
 use Rattle.graph_files.specs.GraphFile.{graph_format, tasks_stated, arcs_stated, task_tests, task_of, extras_of, arc_tests, arc_of, sizes_of, is_whole, is_complete, arc_part_tests, graph_stated}
 use Rattle.graph_files.specs.Stated.{IsWithin}
 use Rattle.graph_files.proofs.ReaderLaws.{past_tasks}
+use Rattle.lists.proofs.Bools.{false_of_not, both_true, positive}
+use Rattle.lists.proofs.Orders.{ends}
+use Rattle.lists.proofs.Lists.{sum_by-map_too}
 
 -- ---- tests that all hold
 
@@ -23,17 +26,6 @@ pub passes : {K : Type 0} (holds : Bool) (rest : Option (Refusal K)) (refusal : 
     → (holds ≡ true) × (rest ≡ None)
 passes true rest refusal none = (refl, none)
 passes false rest refusal none = absurd cc
-
-both : (a b : Bool) → (a && b) ≡ true → (a ≡ true) × (b ≡ true)
-both true b e = (refl, e)
-both false b e = absurd cc
-
-not_true : (a : Bool) → not a ≡ true → a ≡ false
-not_true true e = absurd cc
-not_true false e = refl
-
-positive : (n : ℕ) → not (eqb n 0) ≡ true → 1 ≤ n
-positive n e = let some = eqb-false n 0 (not_true (eqb n 0) e) in omega (arith, some)
 
 -- what the tests of a task line say of its task
 record IsTaskOn (total : ℕ) (task : Task) : Type 0 where
@@ -48,7 +40,7 @@ task_passed total row none =
     let three = passes _ _ _ two.1 in
     let four = passes _ _ _ three.1 in
     record {
-      within = record { extra = leb-true _ _ two.0; time = (positive task.time (both _ _ one.0).1, leb-true _ _ three.0) };
+      within = record { extra = leb-true _ _ two.0; time = (positive task.time (both_true _ _ one.0).1, leb-true _ _ three.0) };
       sums = leb-true _ _ four.0;
     }
 
@@ -59,7 +51,7 @@ record IsArcOn (n total : ℕ) (arc : Arc) : Type 0 where
 
 ends_apart : (from to : ℕ) → (not (eqb from to) || eqb from 0) ≡ true → from ≡ to → from ≡ 0
 ends_apart from to e same = elim (or_cases (not (eqb from to)) (eqb from 0) e) [
-  | inl other ↦ absurd (eqb-false from to (not_true (eqb from to) other) same)
+  | inl other ↦ absurd (eqb-false from to (false_of_not (eqb from to) other) same)
   | inr none ↦ eqb-true from 0 none
 ]
 
@@ -70,8 +62,8 @@ arc_passed n total row none =
     let two = passes _ _ _ one.1 in
     let three = passes _ _ _ two.1 in
     let four = passes _ _ _ three.1 in
-    let ends = both (leb arc.from n && leb arc.to n) (not (eqb arc.from arc.to) || eqb arc.from 0) two.0 in
-    let small = both (leb arc.from n) (leb arc.to n) ends.0 in
+    let ends = both_true (leb arc.from n && leb arc.to n) (not (eqb arc.from arc.to) || eqb arc.from 0) two.0 in
+    let small = both_true (leb arc.from n) (leb arc.to n) ends.0 in
     record {
       within = record {
         from = leb-true _ _ small.0;
@@ -81,10 +73,6 @@ arc_passed n total row none =
       };
       sums = leb-true _ _ four.0;
     }
-
-pub sum_by-map : {X Y : Type 0} (g : Y → ℕ) (f : X → Y) (xs : List X) → sum_by g (map f xs) ≡ sum_by (λ x. g (f x)) xs
-sum_by-map g f [] = refl
-sum_by-map g f (x ∷ xs) = omega (arith, sum_by-cons g (f x) (map f xs), sum_by-cons (λ x. g (f x)) x xs, sum_by-map g f xs)
 
 -- ---- the parts of a well-formed file
 
@@ -101,12 +89,6 @@ pub record AreParts (all : List Row) : Type 0 where
   pub complete : length arcs ≡ arcs_stated arcs_counted
 
 -- a list with one element at least ends with one
-ends : {X : Type 0} (n : ℕ) (xs : List X) → length xs ≡ n + 1 → (front : List X) × (last : X) × ((xs ≡ front ++ last ∷ []) × (length front ≡ n))
-ends n [] e = absurd (omega arith)
-ends n (x ∷ []) e = ([], x, (refl, omega arith))
-ends n (x ∷ y ∷ ys) e =
-    let rest = ends (length ys) (y ∷ ys) (omega arith) in
-    (x ∷ rest.0, rest.1, (ap (λ zs. x ∷ zs) rest.2.0, omega (arith, rest.2.1)))
 
 pub complete_form : (rows : List Row) (past : ℕ) → IsWellFormed graph_format rows past → is_complete rows ≡ true
 complete_form rows past form = (passes _ _ _ form.end).0
@@ -265,7 +247,7 @@ module _ (header counted arcs_counted last : Row) (rows arcs : List Row) (whole 
     few_arcs = omega (arith, length-map arcs arc_of, complete, arcs_few);
     tasks = tasks_within;
     arcs = arcs_within;
-    total = omega (arith, sum_by-map extra_size task_of rows, sum_by-map arc_size arc_of arcs, sums_within);
+    total = omega (arith, sum_by-map_too extra_size task_of rows, sum_by-map_too arc_size arc_of arcs, sums_within);
   })
 
 pub well_formed_within : (rows : List Row) (past : ℕ) → IsWellFormed graph_format rows past → IsWithin (graph_stated rows)

@@ -11,6 +11,7 @@ use Rattle.mp_system.specs.Memory.{is_produced, is_present, state_memory, runnin
 use Rattle.mp_system.specs.Traversal.{IsTraversal, IsLeast}
 use Rattle.graphs.specs.declared.arc.Arc.{Arc}
 use Rattle.graphs.specs.Graph.{TaskGraph, item_of, arc_between, without_into, without_out, added_arcs, system_of, completed_system}
+use Rattle.lists.proofs.Bools.{cond_zero}
 
 record IsIdle (arc : Arc) : Type 0 where
   size : arc.size ≡ 0
@@ -38,14 +39,10 @@ added-idle n arcs =
 
 -- ---- sizes
 
-no_size : (b : Bool) (n : ℕ) → n ≡ 0 → cond b n 0 ≡ 0
-no_size true n e = e
-no_size false n e = refl
-
 idle-sizes : (test : Item → Bool) (xs : List Arc) → AreIdle xs → size_where test (map item_of xs) ≡ 0
 idle-sizes test [] h = refl
 idle-sizes test (x ∷ xs) h =
-    omega (arith, sum_by-cons (size_if test) (item_of x) (map item_of xs), no_size (test (item_of x)) x.size h.0.size, idle-sizes test xs h.1)
+    omega (arith, sum_by-cons (size_if test) (item_of x) (map item_of xs), cond_zero (test (item_of x)) x.size h.0.size, idle-sizes test xs h.1)
 
 sizes-same : (test : Item → Bool) (xs ys : List Arc) → AreIdle ys → size_where test (map item_of (xs ++ ys)) ≡ size_where test (map item_of xs)
 sizes-same test xs ys h =

@@ -10,7 +10,7 @@ first_stops : (stop level : ℕ) (ss : List Segment) → level < stop → first_
 first_stops stop level [] h = refl
 first_stops stop level (s ∷ ss) h = grind (arith, nat_tests)
 
-first_goes : (stop level : ℕ) (s : Segment) (ss : List Segment) → stop ≤ level → first_down_to stop level (s ∷ ss) ≡ s ∷ first_down_to stop (level - s.net) ss
+pub first_goes : (stop level : ℕ) (s : Segment) (ss : List Segment) → stop ≤ level → first_down_to stop level (s ∷ ss) ≡ s ∷ first_down_to stop (level - s.net) ss
 first_goes stop level s ss h = grind (arith, nat_tests)
 
 abbrev segment_of : Numbers → Segment

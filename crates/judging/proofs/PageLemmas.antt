@@ -5,6 +5,7 @@ use Rattle.std.proofs.lemmas.Bool.{and_from}
 use Rattle.std.proofs.lemmas.List.{take_more, map-append}
 use Rattle.std.proofs.lemmas.List.Folds.{list_all-append}
 use Rattle.mp_text.specs.Report.{is_token, line_text, text_of_lines, with_token, with_tokens}
+use Rattle.mp_text.proofs.ReportLemmas.{with_tokens-push}
 
 -- two lines, many, and a last one
 pub page-lines : ((text : List ℕ) (lines : List (List (List ℕ))) (line : List (List ℕ)) → (text ++ text_of_lines lines) ++ line_text line ≡ text ++ text_of_lines (lines ++ line ∷ []))
@@ -30,10 +31,6 @@ trace-lines more one two three four last lines a b c d e f ea eb ec ed ee ef =
 
 -- ---- numbers on one line
 
-tokens_push : (text : List ℕ) (tokens : List (List ℕ)) (token : List ℕ) → with_tokens text (tokens ++ token ∷ []) ≡ with_token (with_tokens text tokens) token
-tokens_push text [] token = refl
-tokens_push text (first ∷ tokens) token = tokens_push (with_token text first) tokens token
-
 module _ (numbers : List ℕ) (i : ℕ) (lt : i < length numbers) (n : ℕ) (is : n ≡ get_or numbers i 0) where
   one_more : map decimal (take (i + 1) numbers) ≡ map decimal (take i numbers) ++ decimal n ∷ []
   one_more =
@@ -43,7 +40,7 @@ module _ (numbers : List ℕ) (i : ℕ) (lt : i < length numbers) (n : ℕ) (is 
   pub token_more : (start old new : List ℕ) → old ≡ with_tokens start (map decimal (take i numbers)) → new ≡ with_token old (decimal n)
       → new ≡ with_tokens start (map decimal (take (i + 1) numbers))
   token_more start old new before one =
-      one ∙ ap (λ (t : List ℕ). with_token t (decimal n)) before ∙ sym (tokens_push start (map decimal (take i numbers)) (decimal n))
+      one ∙ ap (λ (t : List ℕ). with_token t (decimal n)) before ∙ sym (with_tokens-push start (map decimal (take i numbers)) (decimal n))
       ∙ ap (with_tokens start) (sym one_more)
 
   pub tokens_more : list_all is_token (map decimal (take i numbers)) ≡ true → is_token (decimal n) ≡ true

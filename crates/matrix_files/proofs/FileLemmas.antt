@@ -15,13 +15,11 @@ use Rattle.matrix_files.specs.MatrixFile.{matrix_format, matrix_end_tests, size_
 use Rattle.matrix_files.specs.declared.kind.MatrixKind.{MatrixKind}
 use Rattle.matrix_files.specs.declared.kind.MatrixKind.TheVariants as kinds
 use Rattle.patterns.proofs.SameRows.{plain_pattern}
+use Rattle.lists.proofs.Bools.{positive}
 
 passes : {K : Type 0} (holds : Bool) (rest : Option (Refusal K)) (refusal : Refusal K) → cond holds rest (Some refusal) ≡ None → (holds ≡ true) × (rest ≡ None)
 passes true rest refusal none = (refl, none)
 passes false rest refusal none = absurd cc
-
-positive : (n : ℕ) → not (eqb n 0) ≡ true → 1 ≤ n
-positive n e = let some = eqb-false n 0 (not-true (eqb n 0) e) in omega (arith, some)
 
 size_passed : (size : Row) → first_failure (size_tests size) ≡ None → (1 ≤ (size_of size).rows) × ((size_of size).rows ≤ most_order) × ((size_of size).entries ≤ most_entries)
 size_passed size none =

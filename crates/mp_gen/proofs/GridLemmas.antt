@@ -13,6 +13,7 @@ use Rattle.std.proofs.lemmas.List.Sums.{sum_by-le}
 use Rattle.limits.specs.Limits.{most_mindeg, most_entries}
 use Rattle.patterns.specs.Pattern.{IsPairWithin}
 use Rattle.mp_gen.specs.Grid.{vertex_at, joins_at, joins_in_row, grid_pairs}
+use Rattle.lists.proofs.Lists.{range_last}
 
 -- ---- lists over a range
 
@@ -29,19 +30,13 @@ flat-all P f (x ∷ xs) each =
     subst (All P) (sym (flat_map-cons f x xs))
     (All-append P (f x) (flat_map f xs) (each 0 x (omega arith)) (flat-all P f xs (λ k d lt. each (suc k) d (omega arith))))
 
-range-more : (a n : ℕ) → range_with_len a (suc n) ≡ range_with_len a n ++ (a + n) ∷ []
-range-more a zero = let e : a ≡ a + 0 = omega arith in ap (λ (k : ℕ). k ∷ []) e
-range-more a (suc n) =
-    let e : (a + 1) + n ≡ a + suc n = omega arith in
-    ap (λ (xs : List ℕ). a ∷ xs) (range-more (a + 1) n ∙ ap (λ (k : ℕ). range_with_len (a + 1) n ++ k ∷ []) e)
-
 -- a loop over a range, one number further
 pub flat-more : {A : Type 0} (f : ℕ → List A) (n : ℕ) → flat_map f (range_with_len 0 (n + 1)) ≡ flat_map f (range_with_len 0 n) ++ f n
 flat-more f n =
     let next : n + 1 ≡ suc n = omega arith in
     let here : 0 + n ≡ n = omega arith in
     ap (λ (k : ℕ). flat_map f (range_with_len 0 k)) next
-    ∙ ap (flat_map f) (range-more 0 n ∙ ap (λ (k : ℕ). range_with_len 0 n ++ k ∷ []) here)
+    ∙ ap (flat_map f) (range_last 0 n ∙ ap (λ (k : ℕ). range_with_len 0 n ++ k ∷ []) here)
     ∙ flat_map-append f (range_with_len 0 n) (n ∷ [])
     ∙ ap (λ (ys : List _). flat_map f (range_with_len 0 n) ++ ys) (append-nil (f n))
 

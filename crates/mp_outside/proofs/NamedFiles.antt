@@ -12,18 +12,15 @@ use Rattle.std.proofs.lemmas.Option.{slice_get_past, slice_get_read}
 use Rattle.std.proofs.lemmas.Bool.Decides.{nat_tests}
 use Rattle.mp_outside.specs.Outside.{one_more, Rose}
 use Rattle.mp_outside.specs.MemFiles.{NamedFile, FilesState, has_name, file_of, contents_of, fault_count_of, RaisesOnly, Puts}
-
-either_way : (b : Bool) → (b ≡ true) ⊎ (b ≡ false)
-either_way true = inl refl
-either_way false = inr refl
+use Rattle.lists.proofs.Bools.{or_true, true_or_false}
 
 same_or_not : (a b : List ℕ) → ((bytes_eq a b ≡ true) × (a ≡ b)) ⊎ (bytes_eq a b ≡ false)
-same_or_not a b = elim (either_way (bytes_eq a b)) [ inl e ↦ inl (e, (bytes_eq-Decides a b).0 e) | inr e ↦ inr e ]
+same_or_not a b = elim (true_or_false (bytes_eq a b)) [ inl e ↦ inl (e, (bytes_eq-Decides a b).0 e) | inr e ↦ inr e ]
 
 -- where an element is found, its place is the first that passes
 place_of : {X : Type 0} (p : X → Bool) (xs : List X) (i : ℕ) → position p xs ≡ Some i → i ≡ position_or_len p xs
 place_of p xs i at =
-    elim (either_way (nat_lt (position_or_len p xs) (length xs))) [
+    elim (true_or_false (nat_lt (position_or_len p xs) (length xs))) [
       | inl e ↦ (let some : Some (position_or_len p xs) ≡ Some i = rw e at at in cc)
       | inr e ↦ (let none : None ≡ Some i = rw e at at in absurd cc)
     ]
@@ -31,7 +28,7 @@ place_of p xs i at =
 -- where none is found, there is none
 pub none_found : {X : Type 0} (p : X → Bool) (xs : List X) → position p xs ≡ None → find p xs ≡ None
 none_found p xs at =
-    elim (either_way (nat_lt (position_or_len p xs) (length xs))) [
+    elim (true_or_false (nat_lt (position_or_len p xs) (length xs))) [
       | inl e ↦ (let some : Some (position_or_len p xs) ≡ None = rw e at at in absurd cc)
       | inr e ↦ (let past : length xs ≤ position_or_len p xs = grind (arith, nat_tests) in find_at p xs ∙ slice_get_past xs (position_or_len p xs) past)
     ]
@@ -121,15 +118,11 @@ held_or_not : (o : Option NamedFile) → (o ≡ None) ⊎ ((file : NamedFile) ×
 held_or_not None = inl refl
 held_or_not (Some file) = inr (file, refl)
 
-ors-true : (b : Bool) → (b || true) ≡ true
-ors-true true = refl
-ors-true false = refl
-
 -- the count that the names share that are not held rose
 pub RaisesOnly-shared : (old new : FilesState) (name : List ℕ) → new.files ≡ old.files → file_of old name ≡ None → new.shared ≡ one_more old.shared → RaisesOnly old new name
 RaisesOnly-shared old new name files absent raised other =
     elim (held_or_not (file_of old other)) [
-      | inl none ↦ rw (files, none, absent, ors-true (bytes_eq name other)) raised
+      | inl none ↦ rw (files, none, absent, or_true (bytes_eq name other)) raised
       | inr some ↦ elim (same_or_not name other) [
         | inl e ↦ (let none : file_of old other ≡ None = subst (λ (o : List ℕ). file_of old o ≡ None) e.1 absent in absurd (let x = some.1 in let y : None ≡ Some some.0 = sym none ∙ x in cc))
         | inr e ↦ rw (files, e, some.1, absent) refl

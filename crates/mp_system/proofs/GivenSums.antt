@@ -11,15 +11,9 @@ use Rattle.mp_system.specs.declared.given.GivenItem.{GivenItem}
 use Rattle.mp_system.specs.Given.{end_given, item_given, system_given}
 use Rattle.mp_system.specs.Judged.{given_item}
 use Rattle.lists.specs.Numbers.{IsPlace}
-
-pub sum-mapped : {X Y : Type 0} (f : Y → ℕ) (g : X → Y) (xs : List X) → sum_by f (map g xs) ≡ sum_by (λ x. f (g x)) xs
-sum-mapped f g [] = refl
-sum-mapped f g (x ∷ xs) = omega (arith, sum_by-cons f (g x) (map g xs), sum_by-cons (λ y. f (g y)) x xs, sum-mapped f g xs)
+use Rattle.lists.proofs.Lists.{sum-same, sum_by-map}
 
 -- terms that are equal have equal sums
-pub sum-same : {X : Type 0} (f g : X → ℕ) → ((x : X) → f x ≡ g x) → (xs : List X) → sum_by f xs ≡ sum_by g xs
-sum-same f g same [] = refl
-sum-same f g same (x ∷ xs) = omega (arith, sum_by-cons f x xs, sum_by-cons g x xs, same x, sum-same f g same xs)
 
 -- a number that is not 0 names a task
 pub end-some : (task : ℕ) → task ≢ 0 → end_given task ≡ Some task
@@ -52,12 +46,12 @@ output_is v some item = go item.from
 pub inputs-are : (tasks : List GivenTask) (items : List GivenItem) (v : ℕ) → 1 ≤ v
     → inputs_of (system_given tasks items) v ≡ sum_by (size_at consumer v) items
 inputs-are tasks items v some =
-    sum-mapped (size_if (is_input v)) item_given items ∙ sum-same (λ x. size_if (is_input v) (item_given x)) (size_at consumer v) (input_is v some) items
+    sum_by-map (size_if (is_input v)) item_given items ∙ sum-same (λ x. size_if (is_input v) (item_given x)) (size_at consumer v) (input_is v some) items
 
 pub outputs-are : (tasks : List GivenTask) (items : List GivenItem) (v : ℕ) → 1 ≤ v
     → outputs_of (system_given tasks items) v ≡ sum_by (size_at producer v) items
 outputs-are tasks items v some =
-    sum-mapped (size_if (is_output v)) item_given items ∙ sum-same (λ x. size_if (is_output v) (item_given x)) (size_at producer v) (output_is v some) items
+    sum_by-map (size_if (is_output v)) item_given items ∙ sum-same (λ x. size_if (is_output v) (item_given x)) (size_at producer v) (output_is v some) items
 
 at_most : (end : GivenItem → ℕ) (v : ℕ) (item : GivenItem) → size_at end v item ≤ item.size
 at_most end v item = elim (end item == v) as (λ b. cond b item.size 0 ≤ item.size) [ true ↦ omega arith | false ↦ omega arith ]

@@ -14,7 +14,8 @@ use Rattle.mp_system.specs.declared.judged.ItemTest.TheVariants as item_tests
 use Rattle.mp_system.specs.Given.{end_given, item_given, system_given, task_given}
 use Rattle.mp_system.specs.Judged.{ArePlain, ItemPasses, TaskPasses, given_item, given_task, total_given}
 use Rattle.lists.specs.Numbers.{Each, IsPlace}
-use Rattle.mp_system.proofs.GivenSums.{end-some, sum-mapped}
+use Rattle.mp_system.proofs.GivenSums.{end-some}
+use Rattle.lists.proofs.Lists.{sum_by-map as sum-mapped}
 
 abbrev pub no_task : GivenTask
 no_task = record { extra = 0; share = 0; time = 0 }

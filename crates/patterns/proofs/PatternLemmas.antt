@@ -10,7 +10,7 @@ use Rattle.std.proofs.lemmas.Bool.Decides.{nat_tests}
 use Rattle.patterns.specs.Pattern.{neighbours_of, has, is_joined, names, are_named, IsPairWithin, IsPatternOf}
 use Rattle.patterns.specs.Table.{Rooms, list_at}
 use Rattle.patterns.specs.Partners.{partner, partners, IsPairBelow}
-use Rattle.patterns.proofs.NumberLists.{eqb-same}
+use Rattle.lists.proofs.Lists.{eqb_flip as eqb-same}
 
 -- ---- what pairs name
 

@@ -10,29 +10,27 @@ use Rattle.patterns.specs.Pattern.{neighbours_of, has, is_joined, are_named, IsP
 use Rattle.patterns.specs.Plain.{plain_rows}
 use Rattle.patterns.proofs.NumberLists.{has_at, place_of, rises}
 use Rattle.patterns.proofs.PatternLemmas.{named_within, is_pattern_of}
+use Rattle.lists.proofs.Lists.{range_rising, rising-tail}
 
 -- ---- rising lists with the same numbers are one
 
-rising-tail : (x : ℕ) (xs : List ℕ) → IsStrictlyIncreasing (x ∷ xs) → IsStrictlyIncreasing xs
-rising-tail x xs rising k lt = let next : suc k + 1 ≡ suc (k + 1) = omega arith in rw next at (rising (suc k) (omega arith))
-
-above_head : (x : ℕ) (xs : List ℕ) (y : ℕ) → IsStrictlyIncreasing (x ∷ xs) → has xs y ≡ true → x < y
+pub above_head : (x : ℕ) (xs : List ℕ) (y : ℕ) → IsStrictlyIncreasing (x ∷ xs) → has xs y ≡ true → x < y
 above_head x xs y rising there =
     let place = place_of xs y there in
     let lt = place.1 in
     let up = rises (x ∷ xs) rising 0 (suc place.0) (omega arith) (omega arith) in
     rw (place.2) at up
 
-not_in_tail : (x : ℕ) (xs : List ℕ) (y : ℕ) → IsStrictlyIncreasing (x ∷ xs) → y ≤ x → has xs y ≡ false
+pub not_in_tail : (x : ℕ) (xs : List ℕ) (y : ℕ) → IsStrictlyIncreasing (x ∷ xs) → y ≤ x → has xs y ≡ false
 not_in_tail x xs y rising le = false_from_ne_true (has xs y) (λ there. absurd (let up = above_head x xs y rising there in omega arith))
 
-in_tail : (x : ℕ) (xs : List ℕ) (y : ℕ) → x ≢ y → has (x ∷ xs) y ≡ has xs y
+pub in_tail : (x : ℕ) (xs : List ℕ) (y : ℕ) → x ≢ y → has (x ∷ xs) y ≡ has xs y
 in_tail x xs y other = rw (ne_eqb x y other) refl
 
-head_in : (x : ℕ) (xs : List ℕ) → has (x ∷ xs) x ≡ true
+pub head_in : (x : ℕ) (xs : List ℕ) → has (x ∷ xs) x ≡ true
 head_in x xs = rw (eq-eqb x x refl) refl
 
-same_heads : (x y : ℕ) (xs ys : List ℕ) → IsStrictlyIncreasing (x ∷ xs) → IsStrictlyIncreasing (y ∷ ys) → ((z : ℕ) → has (x ∷ xs) z ≡ has (y ∷ ys) z) → x ≡ y
+pub same_heads : (x y : ℕ) (xs ys : List ℕ) → IsStrictlyIncreasing (x ∷ xs) → IsStrictlyIncreasing (y ∷ ys) → ((z : ℕ) → has (x ∷ xs) z ≡ has (y ∷ ys) z) → x ≡ y
 same_heads x y xs ys one two same =
     elim (cases_eq x y) [
       | inl e ↦ e
@@ -72,12 +70,7 @@ same_patterns order pairs one two first second =
 
 -- ---- the plain pattern
 
-range_rising : (a n : ℕ) → IsStrictlyIncreasing (range_with_len a n)
-range_rising a n k lt =
-    let long = length-range_with_len a n in
-    rw (get_or-range_with_len a n k 0 (omega arith), get_or-range_with_len a n (k + 1) 0 (omega arith)) (omega arith)
-
-in_range : (a n b : ℕ) → a ≤ b → b < a + n → has (range_with_len a n) b ≡ true
+pub in_range : (a n b : ℕ) → a ≤ b → b < a + n → has (range_with_len a n) b ≡ true
 in_range a n b low high =
     let at : a + (b - a) ≡ b = omega arith in
     subst (λ (y : ℕ). has (range_with_len a n) y ≡ true) (get_or-range_with_len a n (b - a) 0 (omega arith) ∙ at) (has_at (range_with_len a n) (b - a) (omega (arith, length-range_with_len a n)))

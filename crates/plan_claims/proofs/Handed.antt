@@ -26,7 +26,9 @@ use Rattle.plan_claims.specs.Crossings.{LeadsOver, IsCrossing, note_direction, I
 use Rattle.plan_claims.specs.Handing.{HasLast, HasLastTerm, IsSeriesReady, IsHandedDown}
 use Rattle.plan_claims.specs.Wants.{Shows, ShowsIf, AreHanded, claim_if, claim_of_wanted}
 use Rattle.cut_laws.specs.Tops.{MeetsAtLeast, BothRise}
-use Rattle.plan_claims.proofs.Crossed.{first_over, second_over, is_first, is_second}
+use Rattle.plan_claims.proofs.Crossed.{first_over, second_over}
+use Rattle.cut_laws.proofs.Composed.{is_second}
+use Rattle.cut_laws.proofs.Composed.{is_first}
 
 module _ (a : Term) (v : Task) (b : Term) (d : Direction) (near : Cut) (w : Wanted) (p q : Option Wanted) (cp cq : Option Claim)
     (first : passed_first d cp cq ≡ claim_if p) (last : passed_last d cp cq ≡ claim_if q) (turned : passed_first (other d) cp cq ≡ claim_if q) (low : least_of (passed_first d a b) ≡ near.least) where

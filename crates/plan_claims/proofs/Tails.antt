@@ -21,12 +21,10 @@ use Rattle.plan_claims.specs.Levels.{counted, HavePlaces, left_over, wanted_each
 use Rattle.plan_claims.specs.Wants.{ShowsIf, AreHanded, none_each}
 use Rattle.plan_claims.proofs.Loops.{segments_from, segments_take, segments_length}
 use Rattle.plan_claims.proofs.Parted.{numbers, gone_of, none_shown, places_there, counted_is, noted_count, par_handed}
+use Rattle.sp_cuts.proofs.Noted.{same_lists}
 
 abbrev lists : List SeriesNote → List PartNote → List Segment → Noted
 lists ss ps gone = record { series = ss; parts = ps; gone = gone }
-
-same_lists : (s s' : List SeriesNote) (p p' : List PartNote) (g g' : List Segment) → s ≡ s' → p ≡ p' → g ≡ g' → lists s p g ≡ lists s' p' g'
-same_lists s s' p p' g g' es ep eg = rw (es, ep, eg) refl
 
 -- ---- a list taken apart at the length of its first part
 

@@ -26,7 +26,7 @@ use Rattle.plan_claims.specs.Rows.{row_of}
 use Rattle.plan_claims.specs.Walks.{IsLeft, IsRight, AreMet, AreClaimsOf, claims_put}
 use Rattle.plan_claims.specs.Wants.{Shows, ShowsIf, AllShow, AreHanded, MeetsIf, claim_if}
 use Rattle.plan_claims.proofs.Peaks.{top_within, start_below}
-use Rattle.plan_claims.proofs.Sides.{lt_or_le}
+use Rattle.lists.proofs.Orders.{lt_or_le}
 use Rattle.plan_claims.proofs.Standing.{row_width, row_width_before, row_width_is, row_whole, index_there, next_at, next_there, ends_append, ends_length}
 
 -- ---- what is left

@@ -17,6 +17,8 @@ use Rattle.postorder_best.specs.BestPostorder.{out_at, need_at}
 use Rattle.postorder_best.proofs.Forest.{Rooted, top, raise, IsForest, stands, total, bit, memory, peak_from}
 use Rattle.postorder_best.proofs.Places.{member_parts}
 use Rattle.postorder_best.proofs.Steps.{no_stand}
+use Rattle.lists.proofs.Bools.{both_true}
+use Rattle.trees.proofs.AscentLemmas.{ancestor-one, ancestor-none}
 
 abbrev pub no_node : Node
 no_node = record { parent = 0; out = 0; extra = 0; share = 0; time = 0 }
@@ -115,10 +117,6 @@ module _ (nodes : List Node) (need_law : (v : ℕ) → tree.IsNode nodes v → n
 
 -- ---- tasks that are ready
 
-both : (a b : Bool) → (a && b) ≡ true → (a ≡ true) × (b ≡ true)
-both true b e = (refl, e)
-both false b e = absurd cc
-
 input_or : (done : ℕ → Bool) (v k : ℕ) (m : Node) → 1 ≤ v → m.parent ≡ v → (not (is_input v (item_of k m)) || is_produced done (item_of k m)) ≡ done k
 input_or done v k m some e =
     let nz : eqb m.parent 0 ≡ false = ne_eqb m.parent 0 (omega arith) in
@@ -138,11 +136,11 @@ is_supplied done v item = not (is_input v item) || is_produced done item
 ready_to : (done : ℕ → Bool) (v u : ℕ) (ns : List Node) → 1 ≤ v → list_all (is_supplied done v) (items_from u ns) ≡ true → (k i : ℕ) → k ≡ u + i → i < length ns → (get_or ns i no_node).parent ≡ v → done k ≡ true
 ready_to done v u [] some all k i e lt up = absurd (omega arith)
 ready_to done v u (m ∷ ms) some all k zero e lt up =
-    let here = (both (is_supplied done v (item_of u m)) (list_all (is_supplied done v) (items_from (u + 1) ms)) all).0 in
+    let here = (both_true (is_supplied done v (item_of u m)) (list_all (is_supplied done v) (items_from (u + 1) ms)) all).0 in
     let s : k ≡ u = omega arith in
     ap done s ∙ sym (input_or done v u m some up) ∙ here
 ready_to done v u (m ∷ ms) some all k (suc i) e lt up =
-    ready_to done v (u + 1) ms some (both (is_supplied done v (item_of u m)) (list_all (is_supplied done v) (items_from (u + 1) ms)) all).1 k i (omega arith) (omega arith) up
+    ready_to done v (u + 1) ms some (both_true (is_supplied done v (item_of u m)) (list_all (is_supplied done v) (items_from (u + 1) ms)) all).1 k i (omega arith) (omega arith) up
 
 ready_from : (done : ℕ → Bool) (v u : ℕ) (ns : List Node) → 1 ≤ v → ((k i : ℕ) → k ≡ u + i → i < length ns → (get_or ns i no_node).parent ≡ v → done k ≡ true) → list_all (is_supplied done v) (items_from u ns) ≡ true
 ready_from done v u [] some each = refl
@@ -164,19 +162,11 @@ children_ready nodes done v some each = ready_from done v 1 nodes some (λ k i e
 
 -- ---- the tree is a forest
 
-ancestor_up : (nodes : List Node) (k v : ℕ) → ancestor nodes (suc k) v ≡ ancestor nodes k (parent_of nodes v)
-unfolding ancestor
-ancestor_up nodes k v = refl
-
-ancestor_here : (nodes : List Node) (v : ℕ) → ancestor nodes 0 v ≡ v
-unfolding ancestor
-ancestor_here nodes v = refl
-
 rooted : (nodes : List Node) (k v : ℕ) → ancestor nodes k v ≡ 0 → Rooted (parent_of nodes) v
-rooted nodes zero v e = subst (λ u. Rooted (parent_of nodes) u) (sym (sym (ancestor_here nodes v) ∙ e)) top
+rooted nodes zero v e = subst (λ u. Rooted (parent_of nodes) u) (sym (sym (ancestor-none nodes v) ∙ e)) top
 rooted nodes (suc k) v e = elim (cases_eq v 0) [
   | inl z ↦ subst (λ u. Rooted (parent_of nodes) u) (sym z) top
-  | inr ne ↦ raise (omega arith) (rooted nodes k (parent_of nodes v) (sym (ancestor_up nodes k v) ∙ e))
+  | inr ne ↦ raise (omega arith) (rooted nodes k (parent_of nodes v) (sym (ancestor-one nodes k v) ∙ e))
 ]
 
 pub forest_of : (nodes : List Node) → IsTree nodes → IsForest (length nodes + 1) (parent_of nodes)

@@ -14,6 +14,7 @@ use Rattle.judging.specs.Files.{Answer}
 use Rattle.requests.specs.Request.{Input, OrderSource}
 use Rattle.reports.specs.Spill.{spilled_items, amount_line, IsSpillOf, IsSpilled}
 use Rattle.judging.specs.declared.status.Status.TheVariants.{Done}
+use Rattle.spill_plan.proofs.LeastAmounts.{plan_volume-le}
 
 -- ---- the items
 
@@ -85,14 +86,6 @@ at_most true a = omega arith
 at_most false a = omega arith
 
 -- the plan that has each item's amount wherever it is held writes at most the amounts
-plan_within : (system : TaskSystem) (order amounts : List ℕ) → length amounts ≡ length system.items
-    → plan_volume system order (plan_by_amounts system order amounts) ≤ sum amounts
-plan_within system order amounts len =
-    sum_within (λ i item. most_among (length order) (λ step. plan_by_amounts system order amounts step i)) 0 system.items amounts len
-    (λ i k e item. subst (λ (j : ℕ). most_among (length order) (λ step. plan_by_amounts system order amounts step i) ≤ get_or amounts j 0)
-    (omega (arith, e))
-    (most_within (length order) (λ step. plan_by_amounts system order amounts step i) (get_or amounts i 0)
-    (λ step. at_most (is_held order step (nth_item system i)) (get_or amounts i 0))))
 
 -- ---- what is said of a spill that is done
 
@@ -117,7 +110,7 @@ spilled input source bound texts answer (mine, text, system, order, split, is_sy
       amounts = amounts;
       len = is.len;
       plan = is.plan;
-      volume_is = omega (arith, plan_within system order amounts is.len, is.volume_is, is.least plan is.plan);
+      volume_is = omega (arith, plan_volume-le system order amounts is.len, is.volume_is, is.least plan is.plan);
       sum_is = sym is.volume_is;
       least = is.least;
       printed_is = ap (λ (a : Answer). a.text) e;

@@ -15,7 +15,10 @@ use Rattle.ordering.specs.Fill.{renumbered, structure_of}
 use Rattle.elim_tree.specs.Paths.{IsInherited, IsFromChild}
 use Rattle.rounds_run.specs.FrontRows.{rows_of}
 use Rattle.rounds_run.specs.Gathering.{in_lists, is_later, is_gathered}
-use Rattle.rounds_run.proofs.NumberLists.{same_bool, has_at, place_in, rising_same}
+use Rattle.patterns.proofs.SameRows.{rising_same}
+use Rattle.patterns.proofs.NumberLists.{place_of as place_in}
+use Rattle.patterns.proofs.NumberLists.{has_at}
+use Rattle.lists.proofs.Bools.{same_bool}
 use Rattle.rounds_run.proofs.OrderlyRounds.{any_place}
 use Rattle.rounds_run.proofs.RowLists.{Laws, has_rows, rows_rise}
 

@@ -14,7 +14,7 @@ use Rattle.rounds_run.specs.declared.held.Held.{Held}
 use Rattle.rounds_run.specs.FrontRows.{rows_of, list_of}
 use Rattle.rounds_run.specs.Gathering.{in_lists}
 use Rattle.rounds_run.specs.Holding.{Factor, IsHeld, IsMadeOf, HandedOver, rest_rows, front_rows}
-use Rattle.rounds_run.proofs.NumberLists.{same_bool}
+use Rattle.lists.proofs.Bools.{same_bool}
 
 in_lists_push : (lists : List (List ℕ)) (list : List ℕ) (i : ℕ) → in_lists (lists ++ list ∷ []) i ≡ (in_lists lists i || has list i)
 in_lists_push lists list i =

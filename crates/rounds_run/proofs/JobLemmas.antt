@@ -16,7 +16,8 @@ use Rattle.rounds_run.specs.declared.front.Job.{Job}
 use Rattle.rounds_run.specs.declared.held.Held.{Held}
 use Rattle.rounds_run.specs.Gathering.{in_lists}
 use Rattle.rounds_run.specs.Holding.{Factor, IsFactor, IsHeld, IsJobOf, AreDue, or_in}
-use Rattle.rounds_run.proofs.NumberLists.{place_in, has_more}
+use Rattle.patterns.proofs.NumberLists.{place_of as place_in}
+use Rattle.patterns.proofs.NumberLists.{has_more}
 use Rattle.rounds_run.proofs.RowLists.{Laws}
 use Rattle.rounds_run.proofs.SuperRows.{first_vertex, columns-le, from_children}
 

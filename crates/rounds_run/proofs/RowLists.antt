@@ -10,7 +10,15 @@ use Rattle.permutations.specs.Perm.{IsVertex}
 use Rattle.ordering.specs.Fill.{IsAdjacency, structure_of, parent_of, count_of}
 use Rattle.elim_tree.specs.Paths.{Path, edge, via, IsWithin, IsInherited, IsFromChild}
 use Rattle.rounds_run.specs.FrontRows.{rows_of}
-use Rattle.rounds_run.proofs.NumberLists.{same_bool, has_filter, has_head, has_tail, rising-tail, above_head, rising_same, begins_with, filter_same, range_rising, in_range, from_range}
+use Rattle.rounds_run.proofs.NumberLists.{has_filter, begins_with, filter_same, from_range}
+use Rattle.patterns.proofs.SameRows.{rising_same}
+use Rattle.patterns.proofs.SameRows.{head_in as has_head}
+use Rattle.lists.proofs.Lists.{rising-tail}
+use Rattle.patterns.proofs.SameRows.{in_tail as has_tail}
+use Rattle.patterns.proofs.SameRows.{above_head}
+use Rattle.patterns.proofs.SameRows.{in_range}
+use Rattle.lists.proofs.Lists.{range_rising}
+use Rattle.lists.proofs.Bools.{same_bool}
 
 -- the laws of the fill for a pattern of n columns
 pub record Laws (joined : ℕ → ℕ → Bool) (n : ℕ) : Type 0 where

@@ -16,6 +16,8 @@ use Rattle.trees.specs.Tree.{IsNode, IsTree, IsNodeWithin, node_at, node_size, a
 use Rattle.assembly_tree.specs.declared.assembly.Super.{Super}
 use Rattle.assembly_tree.specs.Assembly.{AssemblyTree, IsSuper, IsAssembly, no_super, super_at, columns_in, front_of}
 use Rattle.rounds_run.specs.RowSystem.{row_node, row_system, row_order}
+use Rattle.assembly_tree.proofs.FrontLemmas.{rising_leads}
+use Rattle.trees.proofs.SystemLemmas.{get_or-items_from, length-items_from}
 
 -- ---- the nodes
 
@@ -30,26 +32,7 @@ count-le-sum (x ∷ xs) each =
     let first : 1 ≤ x.columns = each zero x (omega arith) in
     omega (arith, first, count-le-sum xs (All-tail (λ (y : Super). 1 ≤ y.columns) x xs each), sum_by-cons columns_in x xs)
 
-ancestor-none : (nodes : List Node) (k : ℕ) → ancestor nodes k 0 ≡ 0
-unfolding ancestor
-ancestor-none nodes zero = refl
-ancestor-none nodes (suc k) = ancestor-none nodes k
-
 -- parents of greater number lead to a root
-rising_leads : (nodes : List Node) → ((v : ℕ) → IsNode nodes v → 0 < (node_at nodes v).parent →
-    (v < (node_at nodes v).parent) × ((node_at nodes v).parent ≤ length nodes)) → (k v : ℕ) → IsNode nodes v
-    → length nodes < v + k → ancestor nodes k v ≡ 0
-unfolding ancestor
-rising_leads nodes rising zero v is far = absurd (omega (arith, is.1, far))
-rising_leads nodes rising (suc k) zero is far = absurd (omega (arith, is.0))
-rising_leads nodes rising (suc k) (suc i) is far =
-    elim (cases_eq (node_at nodes (suc i)).parent 0) [
-      | inl root ↦ rw root (ancestor-none nodes k)
-      | inr child ↦ (
-          let above = rising (suc i) is (omega (arith, child)) in
-          rising_leads nodes rising k (node_at nodes (suc i)).parent (omega (arith, above.0), above.1) (omega (arith, above.0, far))
-          )
-    ]
 
 module _ (assembly : AssemblyTree) (is : IsAssembly assembly) where
   nodes_long : length (map row_node assembly.supers) ≡ length assembly.supers
@@ -121,18 +104,6 @@ count_once a (suc n) v low high =
       | inr ne ↦ (let here = ne_eqb a v ne in rw here (let rest = count_once (a + 1) n v (omega arith) (omega arith) in omega (arith, rest)))
     ]
 
-pub item_here : (v : ℕ) (nodes : List Node) (i : ℕ) (d : Item) (e : Node) → i < length nodes
-    → get_or (items_from v nodes) i d ≡ item_of (v + i) (get_or nodes i e)
-item_here v [] i d e lt = absurd (omega arith)
-item_here v (x ∷ xs) zero d e lt = ap (λ (k : ℕ). item_of k x) (let same : v ≡ v + zero = omega arith in same)
-item_here v (x ∷ xs) (suc i) d e lt =
-    item_here (v + 1) xs i d e (omega arith)
-    ∙ ap (λ (k : ℕ). item_of k (get_or xs i e)) (let same : v + 1 + i ≡ v + suc i = omega arith in same)
-
-items_long : (v : ℕ) (nodes : List Node) → length (items_from v nodes) ≡ length nodes
-items_long v [] = refl
-items_long v (x ∷ xs) = ap (λ (k : ℕ). suc k) (items_long (v + 1) xs)
-
 -- an item that v consumes is that of a child of v
 consumes_child : (v u p : ℕ) (done : ℕ → Bool) (item : Item) → item.from ≡ Some u → item.to ≡ cond (eqb p 0) None (Some p)
     → (p ≡ v → 0 < p → done u ≡ true) → (not (is_input v item) || is_produced done item) ≡ true
@@ -187,7 +158,7 @@ module _ (assembly : AssemblyTree) (is : IsAssembly assembly) where
   item_is k d lt =
       let more : 1 + k ≡ suc k = omega arith in
       let long = length-map assembly.supers row_node in
-      item_here 1 (map row_node assembly.supers) k d (row_node no_super) (omega (arith, lt, long))
+      get_or-items_from 1 (map row_node assembly.supers) k d (row_node no_super) (omega (arith, lt, long))
       ∙ ap (λ x. item_of (1 + k) x) (get_or-map row_node assembly.supers k no_super (row_node no_super) lt)
       ∙ ap (λ x. item_of (1 + k) (row_node x)) (sym (super_here assembly.supers k no_super lt))
       ∙ ap (λ (i : ℕ). item_of i (row_node (super_at assembly.supers (suc k)))) more
@@ -199,7 +170,7 @@ module _ (assembly : AssemblyTree) (is : IsAssembly assembly) where
   child_done done s (suc k) ready child up super =
       let test = λ (item : Item). not (is_input s item) || is_produced done item in
       let lt : k < length assembly.supers = omega (arith, child.1) in
-      let long = items_long 1 (map row_node assembly.supers) ∙ length-map assembly.supers row_node in
+      let long = length-items_from 1 (map row_node assembly.supers) ∙ length-map assembly.supers row_node in
       let item = item_of (suc k) (row_node (super_at assembly.supers (suc k))) in
       let all = AllPass-from_list_all test (row_system assembly.supers).items ready in
       let passes : test item ≡ true =
@@ -232,7 +203,7 @@ module _ (assembly : AssemblyTree) (is : IsAssembly assembly) where
         ) in
         let test = λ (item : Item). not (is_input v item) || is_produced (stands_in before) item in
         list_all-from_AllPass test (row_system assembly.supers).items (λ k d lt.
-        let long = items_long 1 (map row_node assembly.supers) ∙ length-map assembly.supers row_node in
+        let long = length-items_from 1 (map row_node assembly.supers) ∙ length-map assembly.supers row_node in
         let in_range : k < m = omega (arith, lt, long) in
         let child : IsSuper assembly.supers (suc k) = (omega arith, omega (arith, in_range)) in
         let x = super_at assembly.supers (suc k) in

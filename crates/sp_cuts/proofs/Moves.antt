@@ -17,7 +17,8 @@ use Rattle.segment_merge.specs.Laws.{SideLaws}
 use Rattle.sp_cuts.specs.Stacks.{IsPartOf, ArePartsOf, stack_tasks, AreMoved, AreMovedParts}
 use Rattle.sp_cuts.proofs.Appended.{length_runs}
 use Rattle.sp_cuts.proofs.Counts.{count_of, cut_count}
-use Rattle.sp_cuts.proofs.Stacked.{none_some, some_same}
+use Rattle.lists.proofs.Options.{some_same}
+use Rattle.lists.proofs.Options.{none_some}
 
 few : (lists : List (List ℕ)) (base : ℕ) (t : Term) (p : Part) → IsPartOf lists base t p → length p.front + length p.back ≤ task_count t
 few lists base t p h = omega (arith, ap count_of h.cut, cut_count t (numbered base t), length_runs lists p.front, length_runs lists p.back)

@@ -27,7 +27,9 @@ use Rattle.sp_cuts.specs.Splits.{IsRough, AreRough}
 use Rattle.sp_cuts.specs.Stacks.{IsPartOf, ArePiled, ArePartsOf, PositionReady, stack_tasks}
 use Rattle.sp_cuts.proofs.Kept.{within}
 use Rattle.sp_cuts.proofs.Pushed.{Standing, one_on}
-use Rattle.sp_cuts.proofs.Stacked.{none_some, some_same, stack_length, many_fit, par_taken, two_tops, all_rough}
+use Rattle.sp_cuts.proofs.Stacked.{stack_length, many_fit, par_taken, two_tops, all_rough}
+use Rattle.lists.proofs.Options.{some_same}
+use Rattle.lists.proofs.Options.{none_some}
 use Rattle.sp_cuts.proofs.Unnamed.{same_numbers}
 
 -- ---- lists of notes
@@ -35,7 +37,7 @@ use Rattle.sp_cuts.proofs.Unnamed.{same_numbers}
 abbrev lists : List SeriesNote → List PartNote → List Segment → Noted
 lists ss ps gone = record { series = ss; parts = ps; gone = gone }
 
-same_lists : (s s' : List SeriesNote) (p p' : List PartNote) (g g' : List Segment) → s ≡ s' → p ≡ p' → g ≡ g' → lists s p g ≡ lists s' p' g'
+pub same_lists : (s s' : List SeriesNote) (p p' : List PartNote) (g g' : List Segment) → s ≡ s' → p ≡ p' → g ≡ g' → lists s p g ≡ lists s' p' g'
 same_lists s s' p p' g g' es ep eg = rw (es, ep, eg) refl
 
 pub nothing_more : (n : Noted) → n ≡ both_noted n nothing_noted

@@ -18,7 +18,9 @@ use Rattle.sp_cuts.specs.Parts.{cut_of, IsPart, moves_between, moves_in}
 use Rattle.segment_merge.specs.Laws.{SideLaws}
 use Rattle.sp_cuts.specs.Stacks.{total_of_parts, IsPartOf, ArePiled, stack_tasks, stack_total, SeriesReady, SeriesDone, SeriesSteps, ParReady, ParDone, PositionReady, PositionDone, AreMoved, ParSteps, PositionSteps}
 use Rattle.sp_cuts.proofs.Moves.{moved_hold, moved_series, moved_par, moved_bound}
-use Rattle.sp_cuts.proofs.Stacked.{none_some, some_same, one_more, hold_of, par_taken, two_tops, stack_length}
+use Rattle.sp_cuts.proofs.Stacked.{one_more, hold_of, par_taken, two_tops, stack_length}
+use Rattle.lists.proofs.Options.{some_same}
+use Rattle.lists.proofs.Options.{none_some}
 
 -- ---- a data item
 
@@ -182,7 +184,7 @@ record Adds (q : Position) (st st' : List Term) : Type 0 where
   tasks_is : stack_tasks st' ≡ stack_tasks st + added_tasks q
   allowed : AllAllowed st' → AllAllowed st
 
-adds : (q : Position) (st st' : List Term) → push q st ≡ Some st' → Adds q st st'
+pub adds : (q : Position) (st st' : List Term) → push q st ≡ Some st' → Adds q st st'
 adds (Hold size) st st' e =
     let t = ap stack_total (some_same e) in let w = ap stack_tasks (some_same e) in
     record { total_is = omega arith; tasks_is = omega arith; allowed = λ h. (subst AllAllowed (sym (some_same e)) h).1 }
@@ -199,7 +201,7 @@ adds (Par k) st st' e =
     let ts = ap stack_total q.pushed in
     record { total_is = omega arith; tasks_is = omega arith; allowed = λ h. let f = subst AllAllowed (sym q.pushed) h in gather_allowed k st no_parts q.ts q.rest q.is f.0.1 f.1 }
 
-pushed_pick : (o : Option (List Term)) (qs : List Position) (out : List Term) → option_and_then (push_all qs) o ≡ Some out → (next : List Term) × (o ≡ Some next) × (push_all qs next ≡ Some out)
+pub pushed_pick : (o : Option (List Term)) (qs : List Position) (out : List Term) → option_and_then (push_all qs) o ≡ Some out → (next : List Term) × (o ≡ Some next) × (push_all qs next ≡ Some out)
 pushed_pick None qs out e = absurd (none_some e)
 pushed_pick (Some next) qs out e = (next, refl, e)
 
@@ -208,7 +210,7 @@ record AllAdd (qs : List Position) (st out : List Term) : Type 0 where
   tasks_is : stack_tasks out ≡ stack_tasks st + sum_by added_tasks qs
   allowed : AllAllowed out → AllAllowed st
 
-all_add : (qs : List Position) (st out : List Term) → push_all qs st ≡ Some out → AllAdd qs st out
+pub all_add : (qs : List Position) (st out : List Term) → push_all qs st ≡ Some out → AllAdd qs st out
 all_add [] st out e = let t = ap stack_total (some_same e) in let w = ap stack_tasks (some_same e) in record { total_is = omega arith; tasks_is = omega arith; allowed = λ h. subst AllAllowed (sym (some_same e)) h }
 all_add (q ∷ qs) st out e =
     let (next, f, g) = pushed_pick (push q st) qs out e in
@@ -217,18 +219,18 @@ all_add (q ∷ qs) st out e =
     let a0 = a.total_is in let a1 = a.tasks_is in let b0 = b.total_is in let b1 = b.tasks_is in
     record { total_is = omega (arith, sum_by-cons added_size q qs); tasks_is = omega (arith, sum_by-cons added_tasks q qs); allowed = λ h. a.allowed (b.allowed h) }
 
-push_all_append : (qs rs : List Position) (st mid : List Term) → push_all qs st ≡ Some mid → push_all (qs ++ rs) st ≡ push_all rs mid
+pub push_all_append : (qs rs : List Position) (st mid : List Term) → push_all qs st ≡ Some mid → push_all (qs ++ rs) st ≡ push_all rs mid
 push_all_append [] rs st mid e = ap (push_all rs) (some_same e)
 push_all_append (q ∷ qs) rs st mid e =
     let (next, f, g) = pushed_pick (push q st) qs mid e in
     ap (option_and_then (push_all (qs ++ rs))) f ∙ push_all_append qs rs next mid g
 
-split_at : (ps : List Position) (i : ℕ) (p : Position) → i < length ps → get_or ps i p ≡ p → (after : List Position) × (ps ≡ take i ps ++ p ∷ after)
+pub split_at : (ps : List Position) (i : ℕ) (p : Position) → i < length ps → get_or ps i p ≡ p → (after : List Position) × (ps ≡ take i ps ++ p ∷ after)
 split_at [] i p h e = absurd (omega arith)
 split_at (q ∷ ps) zero p h e = (ps, ap (λ (x : Position). x ∷ ps) e)
 split_at (q ∷ ps) (suc i) p h e = let r = split_at ps i p (omega arith) e in (r.0, ap (λ (l : List Position). q ∷ l) r.1)
 
-take_more : (ps : List Position) (i : ℕ) (p : Position) → i < length ps → get_or ps i p ≡ p → take (suc i) ps ≡ take i ps ++ p ∷ []
+pub take_more : (ps : List Position) (i : ℕ) (p : Position) → i < length ps → get_or ps i p ≡ p → take (suc i) ps ≡ take i ps ++ p ∷ []
 take_more [] i p h e = absurd (omega arith)
 take_more (q ∷ ps) zero p h e = ap (λ (x : Position). x ∷ []) e
 take_more (q ∷ ps) (suc i) p h e = ap (λ (l : List Position). q ∷ l) (take_more ps i p (omega arith) e)

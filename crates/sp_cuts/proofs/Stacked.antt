@@ -19,6 +19,7 @@ use Rattle.segment_merge.specs.Laws.{SideLaws}
 use Rattle.sp_cuts.specs.Stacks.{total_of, total_of_parts, IsPartOf, ArePiled, ArePartsOf, stack_tasks}
 use Rattle.sp_cuts.proofs.Kept.{cut_kept, rough_kept, rough, within}
 use Rattle.sp_cuts.proofs.Counts.{cut_initial, cut_fin}
+use Rattle.lists.proofs.Options.{none_some, some_same}
 
 -- ---- one part
 
@@ -95,12 +96,6 @@ par_of r0 r2 base ts ps p h e r peak =
 pub record Taken (lists : List (List ℕ)) (ts : Parts) (rest : List Term) (ps below : List Part) : Type 0 where
   pub all : ArePartsOf lists (suc (stack_tasks rest)) ts ps
   pub piled : ArePiled lists rest below
-
-pub none_some : {A : Type 0} {x : A} → None ≡ Some x → ⊥
-none_some h = cc
-
-pub some_same : {A : Type 0} {x y : A} → Some x ≡ Some y → x ≡ y
-some_same e = cc
 
 taken_go : (lists : List (List ℕ)) (k : ℕ) (st : List Term) (acc ts : Parts) (rest : List Term) (xs below done : List Part) → length xs ≡ k → ArePiled lists st (xs ++ below)
     → ArePartsOf lists (suc (stack_tasks st)) acc done → gather k st acc ≡ Some (ts, rest) → Taken lists ts rest (reverse xs ++ done) below

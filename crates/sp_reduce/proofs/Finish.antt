@@ -31,6 +31,7 @@ use Rattle.sp_reduce.proofs.Weights.{weighed}
 use Rattle.sp_reduce.proofs.RenamedTerms.{items-made}
 use Rattle.sp_reduce.proofs.Shaped.{tasks-are, items-are, size_if, size_in, size_out, ShareFits, allowed}
 use Rattle.sp_reduce.proofs.Bounds.{weigh-data, weigh-holds, size-holds, bad, small, AreBound, bounds}
+use Rattle.graphs.proofs.SystemLemmas.{end-is}
 
 -- ---- sums over numbers
 
@@ -136,10 +137,6 @@ into-counts v some (x ∷ xs) =
       hits-end x.to v some,
       into-counts v some xs,
     )
-
-end-is : (t u : ℕ) → end_of t ≡ Some u → (u ≡ t) × (1 ≤ u)
-end-is zero u e = absurd cc
-end-is (suc t) u e = let same : suc t ≡ u = cc in (sym same, omega arith)
 
 -- a task into which an arc leads is one of the graph
 some-end : (n v : ℕ) (xs : List Arc) → All (IsArcWithin n) xs → 1 ≤ counted (into (Some v)) (map item_of xs) → IsAmong n v

@@ -22,6 +22,7 @@ use Rattle.sp_terms.specs.declared.position.Position.{Position}
 use Rattle.graphs.specs.Graph.{TaskGraph, IsGraph, completed_system}
 use Rattle.sp_reduce.specs.NamedText.{name_line, name_lines, named_text}
 use Rattle.sp_reduce.specs.Reduced.{HasSystem}
+use Rattle.workflow_files.proofs.LengthLemmas.{small-decimal}
 
 -- ---- as they are printed
 
@@ -73,9 +74,6 @@ named-comments token names few small = are-comments token 1 names (omega (arith,
 abbrev IsShort : List (List ℕ) → Type 0
 IsShort line = length (line_text line) ≤ 50
 
-short-decimal : (n : ℕ) → IsSmall n → length (decimal n) ≤ 20
-short-decimal n lt = length-decimal-le 20 n (omega arith) (omega arith) lt
-
 name-short : (k v : ℕ) → IsSmall k → IsSmall v → IsShort (name_line (k, v))
 name-short k v low high =
     let last = length-append (decimal v) (10 ∷ []) in
@@ -85,8 +83,8 @@ name-short k v low high =
       length-append (codes "#" ++ 32 ∷ joined) (10 ∷ []),
       length-append (codes "#") (32 ∷ joined),
       length-append (decimal k) (32 ∷ decimal v),
-      short-decimal k low,
-      short-decimal v high,
+      small-decimal k low,
+      small-decimal v high,
     )
 
 names-short : (k : ℕ) (names : List ℕ) → k + length names < 2 ^ 64 → All IsSmall names → All IsShort (map name_line (enumerate_from k names))

@@ -17,7 +17,8 @@ use Rattle.sp_term_laws.specs.Moves.{State, States, memory_of, memory_of_parts, 
 use Rattle.sp_term_laws.proofs.At.{Ended, held-append, held-fresh, held-ended}
 use Rattle.sp_term_laws.proofs.Ends.{clash, split2}
 use Rattle.sp_term_laws.proofs.Walks.{mem-first, least-le}
-use Rattle.sp_term_laws.proofs.Next.{ne-eqb, made-outside, made-first, length-tasks, need-left, need-right, need-first, need-last, ended-at}
+use Rattle.sp_term_laws.proofs.Next.{made-outside, made-first, length-tasks, need-left, need-right, need-first, need-last, ended-at}
+use Rattle.lists.proofs.Bools.{ne_eqb as ne-eqb}
 use Rattle.sp_term_laws.proofs.Orders.{all-here, bool_cases, memory_at, start_at, traversal-ended}
 use Rattle.sp_term_laws.proofs.Trails.{Trail, walks, trail-legal, trail-join, second-trail}
 use Rattle.sp_term_laws.proofs.Composed.{held-same, made-same, eqb-iff}

@@ -13,23 +13,15 @@ use Rattle.mp_text.specs.Grammar.{first_failure, ArePassed, IsWellFormed}
 use Rattle.trees.specs.Tree.{IsNodeWithin, node_size}
 use Rattle.tree_files.specs.TreeFile.{tree_format, count_stated, node_tests, node_of, total_of, version_stated, nodes_stated, is_complete}
 use Rattle.trees.specs.declared.node.Node.{Node}
+use Rattle.lists.proofs.Bools.{both_true, positive}
+use Rattle.lists.proofs.Orders.{ends}
+use Rattle.lists.proofs.Lists.{sum_by-map_too}
 
 -- ---- tests that all hold
 
 pub passes : {K : Type 0} (holds : Bool) (rest : Option (Refusal K)) (refusal : Refusal K) → cond holds rest (Some refusal) ≡ None → (holds ≡ true) × (rest ≡ None)
 passes true rest refusal none = (refl, none)
 passes false rest refusal none = absurd cc
-
-both : (a b : Bool) → (a && b) ≡ true → (a ≡ true) × (b ≡ true)
-both true b e = (refl, e)
-both false b e = absurd cc
-
-not_true : (a : Bool) → not a ≡ true → a ≡ false
-not_true true e = absurd cc
-not_true false e = refl
-
-positive : (n : ℕ) → not (eqb n 0) ≡ true → 1 ≤ n
-positive n e = let some = eqb-false n 0 (not_true (eqb n 0) e) in omega (arith, some)
 
 within_sums : (total : ℕ) (node : Node) → total + node.out + node.extra ≤ most_total → total + node_size node ≤ most_total
 within_sums total node e = omega arith
@@ -51,18 +43,14 @@ node_passed version count total row none =
     let four = passes _ _ _ three.1 in
     let five = passes _ _ _ four.1 in
     let six = passes _ _ _ five.1 in
-    let sizes = both _ _ four.0 in
+    let sizes = both_true _ _ four.0 in
     record {
       parent = leb-true _ _ three.0;
       out = leb-true _ _ sizes.0;
       extra = leb-true _ _ sizes.1;
-      time = (positive node.time (both _ _ two.0).1, leb-true _ _ five.0);
+      time = (positive node.time (both_true _ _ two.0).1, leb-true _ _ five.0);
       sums = within_sums total node (leb-true _ _ six.0);
     }
-
-sum_by-map : {X Y : Type 0} (g : Y → ℕ) (f : X → Y) (xs : List X) → sum_by g (map f xs) ≡ sum_by (λ x. g (f x)) xs
-sum_by-map g f [] = refl
-sum_by-map g f (x ∷ xs) = omega (arith, sum_by-cons g (f x) (map f xs), sum_by-cons (λ x. g (f x)) x xs, sum_by-map g f xs)
 
 -- ---- the parts of a well-formed file
 
@@ -83,14 +71,6 @@ record AreParts (all : List Row) : Type 0 where
   whole : length rows ≡ count_stated counted
 
 -- a list with one element at least ends with one
-ends : {X : Type 0} (n : ℕ) (xs : List X) → length xs ≡ n + 1 → (front : List X) × (last : X) × ((xs ≡ front ++ last ∷ []) × (length front ≡ n))
-ends n [] e = absurd (omega arith)
-ends n (x ∷ []) e = ([], x, (refl, omega arith))
-ends n (x ∷ y ∷ xs) e =
-    let rest = ends (n - 1) (y ∷ xs) (omega arith) in
-    let split : y ∷ xs ≡ rest.0 ++ rest.1 ∷ [] = rest.2.0 in
-    let len : length rest.0 ≡ n - 1 = rest.2.1 in
-    (x ∷ rest.0, rest.1, (cc, omega arith))
 
 pub complete : (rows : List Row) (past : ℕ) → IsWellFormed tree_format rows past → is_complete rows ≡ true
 complete rows past form = (passes _ _ _ form.end).0
@@ -151,7 +131,7 @@ module _ (header counted last : Row) (rows : List Row) (whole : length rows ≡ 
       let on = node_at_passed i row lt in
       let more = sum_by_more size rows i row lt in
       let all : take (length rows - 1 + 1) rows ≡ rows = take_all (length rows - 1 + 1) rows (omega arith) in
-      omega (arith, on.sums, more, ap (sum_by size) all, sum_by-map node_size (node_of (version_stated header)) rows)
+      omega (arith, on.sums, more, ap (sum_by size) all, sum_by-map_too node_size (node_of (version_stated header)) rows)
 
   within : AreWithin nodes
   within = record { some = omega (arith, nodes_len, count_passed.0); few = omega (arith, nodes_len, count_passed.1); each = each_within; total = total_within }

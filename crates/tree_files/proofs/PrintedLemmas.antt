@@ -24,6 +24,7 @@ use Rattle.trees.specs.Tree.{IsTree, IsNodeWithin, node_size, node_at}
 use Rattle.tree_files.specs.TreeFile.{tree_format, header_tests, version_stated, count_tests, count_stated, fields_of, node_tests, node_of, total_of, last_tests, is_end, is_complete, nodes_stated, tree_line_tests, ReadsTree}
 use Rattle.tree_files.specs.TreeText.{node_numbers, node_line, header_line, count_line, end_line, lines_in, text_in, has_share, version_for, text_of, text2_of}
 use Rattle.trees.specs.declared.node.Node.{Node}
+use Rattle.lists.proofs.Lists.{within as last_or_within}
 
 -- what the laws of printed numbers and files say
 pub record AreLaws : Type 0 where
@@ -192,18 +193,6 @@ header_is Two = refl
 -- ---- all lines
 
 -- a split of a list with one element more is at that element, or within the list
-last_or_within : {X : Type 0} (xs : List X) (x : X) (before : List X) (y : X) (after : List X) → xs ++ x ∷ [] ≡ before ++ y ∷ after → ((before ≡ xs) × (y ≡ x)) ⊎ ((rest : List X) × (xs ≡ before ++ y ∷ rest))
-last_or_within [] x [] y after e = inl (refl, cc)
-last_or_within [] x (b ∷ []) y after e = cc
-last_or_within [] x (b ∷ c ∷ before) y after e = cc
-last_or_within (z ∷ xs) x [] y after e = inr (xs, cc)
-last_or_within (z ∷ xs) x (b ∷ before) y after e =
-    let tail : xs ++ x ∷ [] ≡ before ++ y ∷ after = cc in
-    let head : z ≡ b = cc in
-    elim (last_or_within xs x before y after tail) [
-      | inl h ↦ inl ((let same : b ∷ before ≡ z ∷ xs = cc (h.0) in same), h.1)
-      | inr h ↦ inr (h.0, (let same : z ∷ xs ≡ (b ∷ before) ++ y ∷ h.0 = cc (h.1) in same))
-    ]
 
 Passes : List Row → Row → Type 0
 Passes before row = first_failure (tree_line_tests before row) ≡ None

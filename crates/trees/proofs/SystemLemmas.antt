@@ -10,11 +10,11 @@ use Rattle.mp_system.specs.System.{IsTask, IsSystem, IsTaskWithin, IsItemWithin,
 use Rattle.trees.specs.declared.node.Node.{Node}
 use Rattle.trees.specs.Tree.{IsNode, IsTree, node_at, node_size, out_below, children_out, task_of, item_of, items_from, system_of_nodes}
 
-length-items_from : (v : ℕ) (nodes : List Node) → length (items_from v nodes) ≡ length nodes
+pub length-items_from : (v : ℕ) (nodes : List Node) → length (items_from v nodes) ≡ length nodes
 length-items_from v [] = refl
 length-items_from v (n ∷ ns) = ap suc (length-items_from (v + 1) ns)
 
-get_or-items_from : (v : ℕ) (nodes : List Node) (i : ℕ) (d : Item) (e : Node) → i < length nodes → get_or (items_from v nodes) i d ≡ item_of (v + i) (get_or nodes i e)
+pub get_or-items_from : (v : ℕ) (nodes : List Node) (i : ℕ) (d : Item) (e : Node) → i < length nodes → get_or (items_from v nodes) i d ≡ item_of (v + i) (get_or nodes i e)
 get_or-items_from v [] i d e lt = absurd (omega arith)
 get_or-items_from v (n ∷ ns) zero d e lt = let same : v ≡ v + 0 = omega arith in ap (λ (w : ℕ). item_of w n) same
 get_or-items_from v (n ∷ ns) (suc i) d e lt =

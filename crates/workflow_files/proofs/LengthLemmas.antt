@@ -49,7 +49,7 @@ short-decimal n le = length-decimal-le 13 n (omega arith) (omega arith) (omega a
 abbrev IsSmall : ℕ → Type 0
 IsSmall n = n < 2 ^ 64
 
-small-decimal : (n : ℕ) → IsSmall n → length (decimal n) ≤ 20
+pub small-decimal : (n : ℕ) → IsSmall n → length (decimal n) ≤ 20
 small-decimal n lt = length-decimal-le 20 n (omega arith) (omega arith) lt
 
 last-token : (a : List ℕ) → length (line_text (a ∷ [])) ≡ length a + 1

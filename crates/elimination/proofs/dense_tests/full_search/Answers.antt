@@ -6,7 +6,7 @@ use Rattle.patterns.specs.Pattern.{IsPattern, is_joined, has}
 use Rattle.elimination.specs.Elimination.{IsVertex, IsAdjacency}
 use Rattle.elimination.specs.Dense.{IsFilling, IsDense, IsDenseUnderWay, bit_in, stage_of, width_of}
 use Rattle.elimination.specs.declared.dense.DenseSearch.{DenseSearch}
-use Rattle.elimination.proofs.VertexLists.{has_at}
+use Rattle.patterns.proofs.NumberLists.{has_at}
 use Rattle.elimination.proofs.Orders.{begun_none}
 use Rattle.elimination.proofs.DenseFilling.{filled}
 use Rattle.elimination.proofs.dense_tests.full_search.Goals as goal

@@ -4,7 +4,7 @@ use Rattle.std.proofs.lemmas.List.{take_all}
 use Rattle.std.proofs.Math.Bool.{or-false}
 use Rattle.patterns.specs.Pattern.{has}
 use Rattle.elimination.specs.Dense.{bit_in}
-use Rattle.elimination.proofs.VertexLists.{has_more}
+use Rattle.patterns.proofs.NumberLists.{has_more}
 use Rattle.elimination.proofs.dense_tests.set_bits.Goals as goal
 
 pub loop-x-init : goal.loop-x-init

@@ -4,7 +4,7 @@ use Rattle.std.proofs.lemmas.List.Folds.{list_any_more}
 use Rattle.patterns.specs.Pattern.{has}
 use Rattle.rounds_run.specs.Gathering.{is_later}
 use Rattle.rounds_run.proofs.Additions.{adds_more, adds_none, later_yes, later_no}
-use Rattle.rounds_run.proofs.NumberLists.{has_push}
+use Rattle.patterns.proofs.NumberLists.{has_push}
 use Rattle.rounds_run.proofs.gathering.add_later.Goals as goal
 use Rattle.rounds_run.proofs.gathering.add_later.Goals.{then-column-first+in_ok-push, else-column-first}
 

@@ -8,7 +8,8 @@ use Rattle.elimination.specs.Quotients.{AreLinks, LeadsTo, at}
 use Rattle.elimination.specs.Twins.{AreRowsMarked}
 use Rattle.elimination.specs.Tables.{tables}
 use Rattle.elimination.specs.Turns.{HasMarks}
-use Rattle.elimination.proofs.VertexLists.{has_at, row_within}
+use Rattle.elimination.proofs.VertexLists.{row_within}
+use Rattle.patterns.proofs.NumberLists.{has_at}
 use Rattle.elimination.proofs.Choices.{marked_still}
 use Rattle.elimination.proofs.search.Search.find_twin.Goals as goal
 use Rattle.elimination.proofs.search.Search.find_twin.Goals.{After-all_marked, After-neighbours-row}

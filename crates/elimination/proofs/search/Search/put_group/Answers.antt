@@ -6,7 +6,8 @@ use Rattle.elimination.specs.Quotients.{inner_at}
 use Rattle.elimination.specs.Tables.{tables}
 use Rattle.elimination.specs.Dense.{bit_in, IsFullRow}
 use Rattle.elimination.specs.Switch.{stage_at}
-use Rattle.elimination.proofs.VertexLists.{has_at, place_of}
+use Rattle.patterns.proofs.NumberLists.{place_of}
+use Rattle.patterns.proofs.NumberLists.{has_at}
 use Rattle.elimination.proofs.ListWrites.{list_get}
 use Rattle.elimination.proofs.Switches.{group_vertex, own_stands, own_bound, twin_stands, twin_bound, twin_full}
 use Rattle.elimination.proofs.search.Search.put_group.Goals as goal
