@@ -8,6 +8,7 @@ use Rattle.std.proofs.lemmas.List.FromFn.{length-map-range_with_len, get_or-map-
 use Rattle.std.proofs.lemmas.Nat.{mul-le}
 use Rattle.std.proofs.Math.Nat.{max-le}
 use Rattle.std.proofs.lemmas.Bool.{cases_eq, eqb-true}
+use Rattle.limits.specs.Limits.{most_order}
 use Rattle.trees.specs.declared.node.Node.{Node}
 use Rattle.trees.specs.Tree.{IsNode, IsTree, IsNodeWithin, node_at, node_size, ancestor, out_below, children_out}
 use Rattle.assembly_tree.specs.declared.assembly.Super.{Super}
@@ -26,9 +27,9 @@ pub size-le : (shape : Shape) (r t : ℕ) → r ≤ t → kept_entries shape r �
 size-le Triangle r t le = omega (arith, mul-le r (r + 1) t (t + 1) le (omega arith))
 size-le Square r t le = mul-le r r t t le le
 
-pub size-small : (shape : Shape) (r : ℕ) → r ≤ 1000000 → kept_entries shape r ≤ 1000000000000
-size-small Triangle r le = omega (arith, mul-le r (r + 1) 1000000 1000001 le (omega arith))
-size-small Square r le = mul-le r r 1000000 1000000 le le
+pub size-small : (shape : Shape) (r : ℕ) → r ≤ most_order → kept_entries shape r ≤ (most_order * most_order)
+size-small Triangle r le = omega (arith, mul-le r (r + 1) most_order (most_order + 1) le (omega arith))
+size-small Square r le = mul-le r r most_order most_order le le
 
 -- ---- lists by number
 
@@ -92,7 +93,7 @@ module _ (shape : Shape) (inplace : Bool) (assembly : AssemblyTree) (is : IsAsse
   at_node : (v : ℕ) → IsSuper assembly.supers v → node_at (fronts_of shape inplace assembly.supers) v ≡ front_at shape inplace assembly.supers v
   at_node v h = (let back : 1 + (v - 1) ≡ v = omega (arith, h.0) in at (v - 1) _ (omega (arith, h.0, h.1)) ∙ ap (front_at shape inplace assembly.supers) back)
 
-  few : length assembly.supers ≤ 1000000
+  few : length assembly.supers ≤ most_order
   few = omega (arith, supers-le assembly.supers (length assembly.supers) (λ k h. (is.each k h).some) (omega arith), last-all assembly.supers, is.total, is.few)
 
   some : 1 ≤ length assembly.supers
@@ -101,13 +102,13 @@ module _ (shape : Shape) (inplace : Bool) (assembly : AssemblyTree) (is : IsAsse
   inside : (s : ℕ) → IsSuper assembly.supers s → (super_at assembly.supers s).parent ≤ length assembly.supers
   inside s h = elim (cases_eq (super_at assembly.supers s).parent 0) [ inl root ↦ omega (arith, root) | inr child ↦ ((is.each s h).parent (omega (arith, child))).1 ]
 
-  small : (s : ℕ) → IsSuper assembly.supers s → kept_entries shape (front_of (super_at assembly.supers s)) ≤ 1000000000000
+  small : (s : ℕ) → IsSuper assembly.supers s → kept_entries shape (front_of (super_at assembly.supers s)) ≤ (most_order * most_order)
   small s h = size-small shape (front_of (super_at assembly.supers s)) (omega (arith, is.fits s h, is.few))
 
   below : (s : ℕ) → block_of shape (super_at assembly.supers s) ≤ kept_entries shape (front_of (super_at assembly.supers s))
   below s = size-le shape (super_at assembly.supers s).rest (front_of (super_at assembly.supers s)) (omega arith)
 
-  sizes : (s : ℕ) → IsSuper assembly.supers s → node_size (front_at shape inplace assembly.supers s) ≤ 1000000000000
+  sizes : (s : ℕ) → IsSuper assembly.supers s → node_size (front_at shape inplace assembly.supers s) ≤ (most_order * most_order)
   sizes s h = omega (arith, small s h, below s)
 
   number : (i : ℕ) → i < length assembly.supers → IsSuper assembly.supers (1 + i)
@@ -152,8 +153,8 @@ module _ (shape : Shape) (inplace : Bool) (assembly : AssemblyTree) (is : IsAsse
         })
         );
     total = (
-        let each : All (λ (x : Node). node_size x ≤ 1000000000000) (fronts_of shape inplace assembly.supers) = λ k d lt. (let in_range : k < length assembly.supers = omega (arith, lt, len) in omega (arith, ap node_size (at k d in_range), sizes (1 + k) (number k in_range))) in
-        omega (arith, sum_by-le node_size 1000000000000 (fronts_of shape inplace assembly.supers) each, len, few)
+        let each : All (λ (x : Node). node_size x ≤ (most_order * most_order)) (fronts_of shape inplace assembly.supers) = λ k d lt. (let in_range : k < length assembly.supers = omega (arith, lt, len) in omega (arith, ap node_size (at k d in_range), sizes (1 + k) (number k in_range))) in
+        omega (arith, sum_by-le node_size (most_order * most_order) (fronts_of shape inplace assembly.supers) each, len, few)
         );
     roots = λ v h. (
         let in_range : IsSuper assembly.supers v = (h.0, omega (arith, h.1, len)) in
@@ -177,13 +178,13 @@ parents_inside assembly is k d lt =
     let here : (super_at assembly.supers (1 + k)).parent ≡ (get_or assembly.supers k d).parent = ap (λ (i : ℕ). (get_or assembly.supers i no_super).parent) back ∙ ap (λ (x : Super). x.parent) (get_or_default assembly.supers k no_super d lt) in
     omega (arith, here, inside Triangle false assembly is (1 + k) (omega arith, omega (arith, lt)))
 
-pub fronts_inside : (assembly : AssemblyTree) → IsAssembly assembly → All (λ (x : Super). front_of x ≤ 1000000) assembly.supers
+pub fronts_inside : (assembly : AssemblyTree) → IsAssembly assembly → All (λ (x : Super). front_of x ≤ most_order) assembly.supers
 fronts_inside assembly is k d lt =
     let back : 1 + k - 1 ≡ k = omega arith in
     let here : front_of (super_at assembly.supers (1 + k)) ≡ front_of (get_or assembly.supers k d) = ap (λ (i : ℕ). front_of (get_or assembly.supers i no_super)) back ∙ ap front_of (get_or_default assembly.supers k no_super d lt) in
     omega (arith, here, is.fits (1 + k) (omega arith, omega (arith, lt)), is.few)
 
-pub supers_few : (assembly : AssemblyTree) → IsAssembly assembly → length assembly.supers ≤ 1000000
+pub supers_few : (assembly : AssemblyTree) → IsAssembly assembly → length assembly.supers ≤ most_order
 supers_few assembly is = few Triangle false assembly is
 
 -- the fronts with the shares of a table

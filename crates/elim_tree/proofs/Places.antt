@@ -2,6 +2,7 @@
 use Rattle.std.proofs.Common.{sym, ◌∙◌, subst, ap, ◌+◌, ◌-◌, ◌≡◌, ◌≢◌, inl, inr, ℕ, zero, suc, ◌<◌, ◌≤◌, List, ◌++◌, length, take, arith, refl, cond, ◌==◌, slice_index}
 use Rattle.std.proofs.lemmas.Bool.{cases_eq, cases_lt, cond-true, cond-false, eq-eqb, ne_eqb}
 use Rattle.std.proofs.Math.Seq.{take-append_seam}
+use Rattle.limits.specs.Limits.{most_order}
 use Rattle.permutations.specs.Perm.{IsVertex, IsPerm, place_of}
 use Rattle.elim_tree.specs.ParentTables.{parents_in, IsParentTable}
 use Rattle.elim_tree.specs.Trees.{parent_at, IsForest, IsAbove, self, step}
@@ -184,7 +185,7 @@ module _ (table : List ℕ) (is : IsParentTable table) where
       let len = length_of_table table is in
       subst (IsRising (length table)) (sym table_is) (λ x some. let f = is.forest.rising x some in (f.0, omega arith))
 
-  pub table_short : length table ≤ 1000001
+  pub table_short : length table ≤ (most_order + 1)
   table_short = let len = length_of_table table is in let few = is.forest.few in omega arith
 
   pub table_within : (x : ℕ) → slice_index table x < length table

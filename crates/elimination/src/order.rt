@@ -2,6 +2,7 @@
 
 ghost use Rattle.std.specs.Prelude.{◌≡◌, ◌≢◌, ℕ, Bool, List, ◌+◌, ◌<◌, ◌≤◌, length, slice_set, IfOk, OnOk};
 ghost use Rattle.std.specs.List.{All};
+ghost use Rattle.limits.specs.Limits.{most_order};
 ghost use Rattle.patterns.specs.Pattern.{is_joined};
 ghost use Rattle.elimination.specs.Elimination.{IsVertex, times, GoByLeastDegree};
 ghost use Rattle.elimination.specs.Quotients.{at};
@@ -27,7 +28,7 @@ impl Search {
         effort: &mut Effort,
     ) -> Result<u32, NoMemory>
         requires lengths { AllHaveLength (length pattern.now + 1) self.old }
-        requires few { length pattern.now ≤ 1000000 }
+        requires few { length pattern.now ≤ most_order }
         requires latest { (x : ℕ) → at self.old.turns.items x < place }
         requires some { (w : ℕ) × IsVertex (length pattern.now) w × (at self.old.turns.items w ≡ 0) }
         requires start { (left : ℕ → ℕ → Bool) × IsSearch pattern.now left (tables self.old) }
@@ -51,7 +52,7 @@ impl Search {
 fn finish(n: u32, vertices: &mut Vec<u32>, turns: &[u32]) -> Result<(), NoMemory>
     requires turns { length turns.now ≡ n + 1 }
     requires some { 1 ≤ n }
-    requires few { n ≤ 1000000 }
+    requires few { n ≤ most_order }
     ensures { OnOk result ((rows : List (List ℕ)) → length rows ≡ n → IsFinishing rows vertices.old.items (at turns.now) 1
         → IsFinishing rows vertices.new.items (at turns.now) (n + 1)) }
 {
@@ -72,7 +73,7 @@ fn eliminate_rest(
     vertices: &mut Vec<u32>,
 ) -> Result<(), NoMemory>
     requires lengths { AllHaveLength (length pattern.now + 1) search.old }
-    requires few { length pattern.now ≤ 1000000 }
+    requires few { length pattern.now ≤ most_order }
     requires start { (place : ℕ) × IsUnderWay pattern.now vertices.old.items (tables search.old) place }
     ensures len { OnOk result (length vertices.new.items ≡ length pattern.now) }
     ensures begun { OnOk result (IsBegun (is_joined pattern.now) (length pattern.now) vertices.new.items) }

@@ -3,6 +3,7 @@ use Rattle.std.proofs.Common.{◌≡◌, ℕ, suc, ◌-◌, ◌<◌, ◌≤◌, 
 use Rattle.std.specs.List.{slice_get}
 use Rattle.std.proofs.lemmas.Bool.Decides.{nat_tests}
 use Rattle.std.proofs.lemmas.Grind.{common_steps}
+use Rattle.limits.specs.Limits.{most_total}
 use Rattle.side_laws.specs.Segments.{Segment, IsRising, last_up}
 use Rattle.hill_valley.specs.Side.{profile, AllUpsWithin, Run, run_numbers, run_profile, join_runs, insert_run, append_run}
 use Rattle.hill_valley.specs.Descents.{segs_of}
@@ -10,7 +11,7 @@ use Rattle.hill_valley.proofs.Inserting.{Entry}
 use Rattle.lists.proofs.Orders.{lt_or_le}
 use Rattle.side_laws.proofs.Lowest.{last_ge}
 
-pub last_within : (ss : List Segment) → AllUpsWithin ss → last_up ss ≤ 2 ^ 60
+pub last_within : (ss : List Segment) → AllUpsWithin ss → last_up ss ≤ most_total
 last_within [] h = omega arith
 last_within (s ∷ []) h = h.0
 last_within (s ∷ t ∷ ss) h = last_within (t ∷ ss) h.1

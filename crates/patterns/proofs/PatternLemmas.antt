@@ -7,6 +7,7 @@ use Rattle.std.proofs.lemmas.List.Folds.{list_any-append}
 use Rattle.std.proofs.lemmas.List.Sorted.{list_any-IsPermutation}
 use Rattle.std.proofs.lemmas.Grind.{get_or_after_one}
 use Rattle.std.proofs.lemmas.Bool.Decides.{nat_tests}
+use Rattle.limits.specs.Limits.{most_order}
 use Rattle.patterns.specs.Pattern.{neighbours_of, has, is_joined, names, are_named, IsPairWithin, IsPatternOf}
 use Rattle.patterns.specs.Table.{Rooms, list_at}
 use Rattle.patterns.specs.Partners.{partner, partners, IsPairBelow}
@@ -83,7 +84,7 @@ partners_named (pair ∷ pairs) v u =
 
 -- ---- which rows are the pattern of pairs
 
-pub is_pattern_of : (order : ℕ) (pairs : List (ℕ × ℕ)) (rows : List (List ℕ)) → (1 ≤ order) × (order ≤ 1000000) → All (IsPairWithin order) pairs → length rows ≡ order
+pub is_pattern_of : (order : ℕ) (pairs : List (ℕ × ℕ)) (rows : List (List ℕ)) → (1 ≤ order) × (order ≤ most_order) → All (IsPairWithin order) pairs → length rows ≡ order
     → ((v : ℕ) → IsStrictlyIncreasing (neighbours_of rows v)) → ((a b : ℕ) → is_joined rows a b ≡ are_named pairs a b) → IsPatternOf order pairs rows
 is_pattern_of order pairs rows few within order_is rising joined = record {
   order_is = order_is;
@@ -102,7 +103,7 @@ is_pattern_of order pairs rows few within order_is rising joined = record {
 pub neighbours_in : (table : Rooms) (i : ℕ) → neighbours_of (drop 1 table.lists) (suc i) ≡ list_at table (suc i)
 neighbours_in table i = let one : 1 + i ≡ suc i = omega arith in get_or_after_one table.lists i [] ∙ ap (list_at table) one
 
-pub sorted_pattern : (order : ℕ) (pairs moved : List (ℕ × ℕ)) (table : Rooms) → (1 ≤ order) × (order ≤ 1000000) → All (IsPairWithin order) pairs
+pub sorted_pattern : (order : ℕ) (pairs moved : List (ℕ × ℕ)) (table : Rooms) → (1 ≤ order) × (order ≤ most_order) → All (IsPairWithin order) pairs
     → IsPermutation pairs moved → length table.lists ≡ order + 1 → ((v : ℕ) → IsStrictlyIncreasing (list_at table v))
     → ((v x : ℕ) → has (list_at table v) x ≡ has (partners moved v) x) → IsPatternOf order pairs (drop 1 table.lists)
 sorted_pattern order pairs moved table few within is_moved count sorted same =

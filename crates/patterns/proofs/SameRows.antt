@@ -6,6 +6,7 @@ use Rattle.std.proofs.lemmas.Bool.{cases_eq, cases_lt, cases_Bool, eq-eqb, ne_eq
 use Rattle.std.proofs.lemmas.List.{get_or_past, get_or_default, same_lists}
 use Rattle.std.proofs.lemmas.List.Kept.{IsStrictlyIncreasing-filter}
 use Rattle.std.proofs.lemmas.List.FromFn.{length-range_with_len, get_or-range_with_len, length-map-range_with_len, get_or-map-range_with_len}
+use Rattle.limits.specs.Limits.{most_order}
 use Rattle.patterns.specs.Pattern.{neighbours_of, has, is_joined, are_named, IsPairWithin, IsPatternOf}
 use Rattle.patterns.specs.Plain.{plain_rows}
 use Rattle.patterns.proofs.NumberLists.{has_at, place_of, rises}
@@ -119,6 +120,6 @@ module _ (order : ℕ) (pairs : List (ℕ × ℕ)) (within : All (IsPairWithin o
     | inr past ↦ ap (λ (l : List ℕ). has l b) (row_none i past) ∙ sym (outside (suc i) b (λ w. absurd (let most = w.0.1 in omega arith)))
   ]
 
-  pub plain_pattern : 1 ≤ order → order ≤ 1000000 → IsPatternOf order pairs (plain_rows order pairs)
+  pub plain_pattern : 1 ≤ order → order ≤ most_order → IsPatternOf order pairs (plain_rows order pairs)
   plain_pattern some small =
       is_pattern_of order pairs (plain_rows order pairs) (some, small) within (length-map-range_with_len (λ v. filter (are_named pairs v) (range_with_len 1 order)) 1 order) row_rising row_joined

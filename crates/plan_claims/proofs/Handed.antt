@@ -3,6 +3,7 @@ use Rattle.std.proofs.Common.{◌≡◌, ℕ, ◌+◌, ◌-◌, ◌≤◌, ◌^�
 use Rattle.std.specs.Prelude.{pos, ◌-ℤ◌, if◌then◌else◌}
 use Rattle.std.proofs.lemmas.Int.{ints}
 use Rattle.std.proofs.lemmas.List.{take_at, drop_at}
+use Rattle.limits.specs.Limits.{most_total}
 use Rattle.mp_system.specs.declared.system.Task.{Task}
 use Rattle.side_laws.specs.Segments.{Segment}
 use Rattle.sp_terms.specs.declared.position.Position.{Position}
@@ -95,7 +96,7 @@ module _ (laws : LawsBelow) where
             omega (arith, (laws.stands a (unnamed a) s.allowed.2).final, (laws.stands b (unnamed b) s.allowed.3).initial)
 
     -- the sum of what is there beside the task fits
-    pub starts_fit : n.between_start + n.far_start + v.extra ≤ 2 ^ 60
+    pub starts_fit : n.between_start + n.far_start + v.extra ≤ most_total
     starts_fit = let t = starts_there in let h = s.within in let i = first_within backward a in let o = first_within forward b in omega arith
 
     pub share_fits : v.share ≤ n.between_start + n.far_start + v.extra

@@ -6,6 +6,7 @@ use Rattle.std.proofs.lemmas.Int.{ints}
 use Rattle.std.proofs.lemmas.List.{take_at, drop_at}
 use Rattle.std.specs.List.{sum_by}
 use Rattle.std.proofs.lemmas.List.Sums.{sum_by-cons}
+use Rattle.limits.specs.Limits.{most_total}
 use Rattle.side_laws.specs.Segments.{Segment, net_sum, lowest, IsRising}
 use Rattle.side_laws.specs.Merging.{merge_segments, AllRising}
 use Rattle.side_laws.specs.Levels.{level_sum, AllStart, EachStuck, AreLevels}
@@ -145,7 +146,7 @@ noted_level_is d over t n later h r =
 -- ---- their places
 
 module _ (laws : LawsBelow) where
-  place_there : (t : Term) (n : PartNote) (later : List Segment) → IsAllowed t → total_of t ≤ 2 ^ 60 → IsPartNote (numbers_at t) n → HasPlace n (segments_read (numbers_at t) n ++ later)
+  place_there : (t : Term) (n : PartNote) (later : List Segment) → IsAllowed t → total_of t ≤ most_total → IsPartNote (numbers_at t) n → HasPlace n (segments_read (numbers_at t) n ++ later)
   place_there t n later allowed within h =
       let c : CutNumbers = numbers_at t in
       let s = laws.stands t (unnamed t) allowed in
@@ -165,7 +166,7 @@ module _ (laws : LawsBelow) where
         }
       ]
 
-  pub places_there : (ts : Parts) (ns : List PartNote) → AreAllowed ts → total_of_parts ts ≤ 2 ^ 60 → ArePartNotes (numbers ts) ns → HavePlaces ns (gone_of ts ns)
+  pub places_there : (ts : Parts) (ns : List PartNote) → AreAllowed ts → total_of_parts ts ≤ most_total → ArePartNotes (numbers ts) ns → HavePlaces ns (gone_of ts ns)
   places_there no_parts [] a w h = tt
   places_there no_parts (n ∷ ns) a w h = absurd h
   places_there (part t ts) [] a w h = absurd h

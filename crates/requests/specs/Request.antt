@@ -3,7 +3,7 @@ use Rattle.std.specs.Prelude.{ℕ, ◌*◌, ◌^◌, ◌≤◌, Bool, true, fals
 use Rattle.std.specs.Prelude.{option_map, option_and_then, codes, if◌then◌else◌}
 use Rattle.std.specs.List.{list_any}
 use Rattle.std.specs.Str.{bytes_eq}
-use Rattle.limits.specs.Limits.{most_workers, most_tasks, most_mindeg}
+use Rattle.limits.specs.Limits.{most_workers, most_tasks, most_mindeg, most_zeros}
 use Rattle.mp_text.specs.Text.{number_of}
 use Rattle.assembly_tree.specs.declared.front.Shape.{Shape}
 use Rattle.assembly_tree.specs.declared.front.Shape.TheVariants as shapes
@@ -116,7 +116,7 @@ ordering_of (Some name) (Some word) = None
 
 -- a number of zeros is at most 2^40
 abbrev pub zeros_within : ℕ → Option (Option ℕ)
-zeros_within zeros = if nat_le zeros (2 ^ 40) then Some (Some zeros) else None
+zeros_within zeros = if nat_le zeros most_zeros then Some (Some zeros) else None
 
 abbrev pub zeros_of : Option (List ℕ) → Option (Option ℕ)
 zeros_of None = Some None

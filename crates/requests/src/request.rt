@@ -13,7 +13,7 @@ use crate::commands::spill::Spilling;
 use crate::commands::upgrade::Upgrade;
 use assembly_tree::Shape;
 use command_line::Line;
-use limits::MOST_WORKERS;
+use limits::{MOST_WORKERS, MOST_ZEROS};
 use mp_text::number;
 use symbolic::FrontOptions;
 
@@ -148,7 +148,7 @@ fn zeros_of(given: Option<&str>) -> Option<Option<u64>>
         return Some(None);
     };
     let zeros = number(word.as_bytes())?;
-    if zeros <= 1 << 40 {
+    if zeros <= MOST_ZEROS {
         Some(Some(zeros))
     } else {
         None

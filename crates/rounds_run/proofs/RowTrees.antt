@@ -7,6 +7,7 @@ use Rattle.std.proofs.lemmas.List.Sums.{sum_by-cons, sum_by-le, AllPass-from_lis
 use Rattle.std.proofs.lemmas.List.Folds.{list_any_at}
 use Rattle.std.proofs.lemmas.List.FromFn.{length-range_with_len, get_or-range_with_len}
 use Rattle.std.proofs.lemmas.Bool.{cases_eq, eq-eqb, ne_eqb, or_left, or_right, or_cases, not_from_false, not-true, both_ways, cond-true, cond-false}
+use Rattle.limits.specs.Limits.{most_order}
 use Rattle.mp_system.specs.declared.system.Item.{Item}
 use Rattle.mp_system.specs.System.{TaskSystem, IsTask, is_input}
 use Rattle.mp_system.specs.Memory.{stands_in, is_ready, is_produced}
@@ -38,7 +39,7 @@ module _ (assembly : AssemblyTree) (is : IsAssembly assembly) where
   nodes_long : length (map row_node assembly.supers) ≡ length assembly.supers
   nodes_long = length-map assembly.supers row_node
 
-  pub supers_few : length assembly.supers ≤ 1000000
+  pub supers_few : length assembly.supers ≤ most_order
   supers_few =
       let each : All (λ (x : Super). 1 ≤ x.columns) assembly.supers = λ k d lt.
       (let some = (is.each (suc k) (omega arith, omega (arith, lt))).some in omega (arith, some, ap (λ (x : Super). x.columns) (super_here assembly.supers k d lt))) in
@@ -71,10 +72,10 @@ module _ (assembly : AssemblyTree) (is : IsAssembly assembly) where
         subst (λ x. IsNodeWithin (map row_node assembly.supers) (row_node x)) (super_here assembly.supers k d lt)
         (within (suc k) (omega arith, omega (arith, lt))));
     total = (
-        let each : All (λ (x : Node). node_size x ≤ 1000000) (map row_node assembly.supers) =
-        All-map (λ (x : Node). node_size x ≤ 1000000) row_node assembly.supers (λ k d lt.
+        let each : All (λ (x : Node). node_size x ≤ most_order) (map row_node assembly.supers) =
+        All-map (λ (x : Node). node_size x ≤ most_order) row_node assembly.supers (λ k d lt.
         (let fits = is.fits (suc k) (omega arith, omega (arith, lt)) in omega (arith, fits, is.few, ap front_of (super_here assembly.supers k d lt)))) in
-        omega (arith, sum_by-le node_size 1000000 (map row_node assembly.supers) each, supers_few, nodes_long)
+        omega (arith, sum_by-le node_size most_order (map row_node assembly.supers) each, supers_few, nodes_long)
         );
     roots = λ v node. rising_leads (map row_node assembly.supers) (λ w there some.
         let super : IsSuper assembly.supers w = (there.0, omega (arith, there.1, nodes_long)) in

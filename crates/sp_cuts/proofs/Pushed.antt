@@ -4,6 +4,7 @@ use Rattle.std.specs.Prelude.{option_and_then}
 use Rattle.std.specs.List.{sum_by}
 use Rattle.std.proofs.lemmas.Grind.{common_steps}
 use Rattle.std.proofs.lemmas.List.Sums.{sum_by-cons}
+use Rattle.limits.specs.Limits.{most_total, most_tasks}
 use Rattle.mp_system.specs.declared.system.Task.{Task}
 use Rattle.sp_terms.specs.declared.position.Position.{Position}
 use Rattle.sp_terms.specs.declared.position.Position.TheVariants.{Hold, Par}
@@ -36,7 +37,7 @@ pub hold_done : (old : List (List ℕ)) (items : List Part) (position : Position
     → items' ≡ items ++ p ∷ [] → PositionDone old old items items' position next next
 hold_done old items position size next p items' is cut is_part peak new = subst (λ (x : Position). PositionDone old old items items' x next next) (sym is) (hold_go old items size next p items' cut is_part peak new)
 
-pub hold_fits : (lists : List (List ℕ)) (items : List Part) (position : Position) (size next : ℕ) → position ≡ Hold size → PositionReady lists items position next → size ≤ 2 ^ 60
+pub hold_fits : (lists : List (List ℕ)) (items : List Part) (position : Position) (size next : ℕ) → position ≡ Hold size → PositionReady lists items position next → size ≤ most_total
 hold_fits lists items position size next is r =
     let s = subst (λ (x : Position). PositionReady lists items x next) is r in
     let e = ap stack_total (some_same s.pushed) in
@@ -49,7 +50,7 @@ hold_fits lists items position size next is r =
 abbrev pub task_of : ℕ → ℕ → ℕ → Task
 task_of extra share time = record { extra = extra; share = share; time = time }
 
-series_go : (lists : List (List ℕ)) (items : List Part) (extra share time next : ℕ) (st st' : List Term) → ArePiled lists st (reverse items) → push (at.Task extra share time) st ≡ Some st' → AllAllowed st' → stack_total st' ≤ 2 ^ 60
+series_go : (lists : List (List ℕ)) (items : List Part) (extra share time next : ℕ) (st st' : List Term) → ArePiled lists st (reverse items) → push (at.Task extra share time) st ≡ Some st' → AllAllowed st' → stack_total st' ≤ most_total
     → SeriesReady lists items (task_of extra share time)
 series_go lists items extra share time next [] st' piled pushed allowed within = absurd (none_some pushed)
 series_go lists items extra share time next (b ∷ []) st' piled pushed allowed within = absurd (none_some pushed)
@@ -68,7 +69,7 @@ next_go extra share time [] st' pushed = absurd (none_some pushed)
 next_go extra share time (b ∷ []) st' pushed = absurd (none_some pushed)
 next_go extra share time (b ∷ a ∷ st) st' pushed = let e = ap stack_tasks (some_same pushed) in omega arith
 
-pub next_fits : (lists : List (List ℕ)) (items : List Part) (position : Position) (extra share time next : ℕ) → position ≡ at.Task extra share time → PositionReady lists items position next → next ≤ 1000000
+pub next_fits : (lists : List (List ℕ)) (items : List Part) (position : Position) (extra share time next : ℕ) → position ≡ at.Task extra share time → PositionReady lists items position next → next ≤ most_tasks
 next_fits lists items position extra share time next is r =
     let s = subst (λ (x : Position). PositionReady lists items x next) is r in
     let e = next_go extra share time s.st s.st' s.pushed in
@@ -257,9 +258,9 @@ pub record OneOn (ps : List Position) (i : ℕ) (p : Position) (st : List Term) 
   pub pushed : push p st ≡ Some st'
   pub pushed_all : push_all (take (i + 1) ps) [] ≡ Some st'
   pub allowed : AllAllowed st'
-  pub total_le : stack_total st' ≤ 2 ^ 60
+  pub total_le : stack_total st' ≤ most_total
   pub tasks_le : stack_tasks st' ≤ task_count (term_of ps)
-  pub few : stack_tasks st' ≤ 1000000
+  pub few : stack_tasks st' ≤ most_tasks
 
 pub one_on : (ps : List Position) (i : ℕ) (p : Position) (st : List Term) → IsTerms ps → i < length ps → get_or ps i p ≡ p → push_all (take i ps) [] ≡ Some st → OneOn ps i p st
 one_on ps i p st a lt here pushed =

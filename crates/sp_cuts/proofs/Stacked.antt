@@ -4,6 +4,7 @@ use Rattle.std.proofs.lemmas.Grind.{common_steps}
 use Rattle.std.specs.List.{sum_by}
 use Rattle.std.proofs.lemmas.List.{reverse-append}
 use Rattle.std.proofs.lemmas.List.Sums.{sum_by-cons}
+use Rattle.limits.specs.Limits.{most_total}
 use Rattle.hill_valley.specs.Ropes.{Extends}
 use Rattle.mp_system.specs.declared.system.Task.{Task}
 use Rattle.sp_terms.specs.Term.{Term, hold, series, par, Parts, no_parts, part, initial_of, final_of, hill_of}
@@ -181,7 +182,7 @@ pub record Joined (lists : List (List ℕ)) (v : Task) (pa pb : Part) : Type 0 w
 
 module _ (laws : SideLaws) (r0 r2 : List (List ℕ)) (st : List Term) (a b : Term) (items low1 low : List Part) (pa pb : Part) (number : ℕ) (v : Task)
     (piled : ArePiled r0 (b ∷ a ∷ st) (reverse items)) (top1 : items ≡ low1 ++ pb ∷ []) (top2 : low1 ≡ low ++ pa ∷ []) where
-  pub joins_fit : v.share ≤ final_of a → v.share ≤ v.extra + initial_of b → total_of a + v.extra + total_of b ≤ 2 ^ 60 → Joined r0 v pa pb
+  pub joins_fit : v.share ≤ final_of a → v.share ≤ v.extra + initial_of b → total_of a + v.extra + total_of b ≤ most_total → Joined r0 v pa pb
   joins_fit i o h =
       let t = two_tops r0 st a b items low1 low pa pb piled top1 top2 in
       let wa = end_within laws r0 (suc (stack_tasks st)) a pa t.first in
