@@ -3,3 +3,4 @@ pub mod InputLemmas
 pub mod NumberLemmas
 pub mod PageLemmas
 pub mod StepLemmas
+pub mod HeldTasks

@@ -39,7 +39,7 @@ use Rattle.judging.proofs.InputLemmas.{ordered_accepted, matrix_accepted, tree_a
 use Rattle.reports.proofs.OneInput.{Systems, same_texts}
 use Rattle.reports.proofs.UpgradeLemmas.{upgrade_accepted, one_upgrade_answer}
 use Rattle.reports.proofs.StairsLemmas.{one_segments, numbered_accepted}
-use Rattle.reports.proofs.SimulationLemmas.{of_traversal, of_perm, of_own}
+use Rattle.judging.proofs.HeldTasks.{of_traversal, of_perm, of_own}
 
 -- what is known of the parts of a report
 pub record Reports : Type 0 where

@@ -1,10 +1,10 @@
 -- A simulation over the texts of the input, of the order and of the priority.
-use Rattle.std.proofs.Common.{◌≡◌, ◌∙◌, ℕ, ◌≤◌, List, [], ◌∷◌, ◌++◌, Option, Some, None, length, sym, ap, subst, inl, inr, arith, append_assoc}
+use Rattle.std.proofs.Common.{◌≡◌, ◌∙◌, ℕ, ◌≤◌, List, [], ◌∷◌, ◌++◌, Option, Some, None, length, sym, ap, subst, inl, arith, append_assoc}
 use Rattle.least_peak.specs.Problem.{system_of}
 use Rattle.reports.specs.Reports.{IsReport}
 use Rattle.judging.specs.Files.{Answer, IsFirstRefusal}
 use Rattle.reports.specs.Simulate.{IsPriorityFrom, IsSimulation, setting_of}
-use Rattle.judging.specs.Priorities.{IsOwnPriority, priority_or}
+use Rattle.judging.specs.Priorities.{IsOwnPriority}
 use Rattle.judging.specs.Told.{AreTold}
 use Rattle.judging.specs.Judged.{IsStop, IsOrderedOf, IsPriorityOf, IsRefusedRanking, order_tasks, own_priority, priority_beside}
 use Rattle.requests.specs.Request.{Input, OrderSource, Simulation, FileRole, NamedFile, simulate, input_files, source_file, priority_file, priority_files, files_of}
@@ -15,29 +15,6 @@ use Rattle.judging.specs.declared.inputs.OrderedProblem.{OrderedProblem}
 use Rattle.judging.specs.declared.stop.Stop.{Stop}
 use Rattle.judging.proofs.StepLemmas.{over_both}
 use Rattle.judging.proofs.InputLemmas.{problem_has_system}
-use Rattle.activation.specs.Schedule.{HoldsEach}
-use Rattle.mp_system.specs.System.{TaskSystem}
-use Rattle.mp_system.specs.Traversal.{IsTraversal}
-use Rattle.permutations.specs.Perm.{IsPerm}
-use Rattle.plans.specs.Plan.{RanksAll, IsPriority}
-
--- ---- what holds each task once
-
-pub of_traversal : (system : TaskSystem) (order : List ℕ) → IsTraversal system order → HoldsEach system order
-of_traversal system order traversal = record { once = traversal.once; within = traversal.tasks }
-
-pub of_perm : (system : TaskSystem) (priority : List ℕ) → IsPerm (length system.tasks) priority → HoldsEach system priority
-of_perm system priority perm = record { once = perm.once; within = perm.vertices }
-
-of_ranks : (system : TaskSystem) (priority : List ℕ) → RanksAll (length system.tasks) priority → HoldsEach system priority
-of_ranks system priority ranks = record { once = ranks.once; within = ranks.tasks }
-
--- the priority that comes with a traversal of as many tasks
-pub of_own : (system : TaskSystem) (order priority : List ℕ) → IsTraversal system order → length order ≡ length system.tasks → IsPriority (length order) priority
-    → HoldsEach system (priority_or order priority)
-of_own system order [] traversal long is = of_traversal system order traversal
-of_own system order (v ∷ vs) traversal long (inl is) = absurd (cc is)
-of_own system order (v ∷ vs) traversal long (inr ranks) = of_ranks system (v ∷ vs) (subst (λ (n : ℕ). RanksAll n (v ∷ vs)) long ranks)
 
 -- ---- the priority
 

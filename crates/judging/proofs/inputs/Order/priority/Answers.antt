@@ -2,7 +2,7 @@ use Rattle.std.proofs.Common.{sym, ap, subst}
 use Rattle.activation.specs.Schedule.{HoldsEach}
 use Rattle.mp_system.specs.Traversal.{IsTraversal}
 use Rattle.judging.specs.Judged.{order_tasks}
-use Rattle.reports.proofs.SimulationLemmas.{of_traversal, of_own}
+use Rattle.judging.proofs.HeldTasks.{of_traversal, of_own}
 use Rattle.judging.proofs.inputs.Order.priority.Goals as goal
 
 pub returns-in-Listed-clause-each : goal.returns-in-Listed-clause-each

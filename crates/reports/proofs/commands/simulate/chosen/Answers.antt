@@ -2,7 +2,7 @@ use Rattle.std.proofs.Common.{sym, subst, length}
 use Rattle.activation.specs.Schedule.{HoldsEach}
 use Rattle.least_peak.specs.Problem.{system_of}
 use Rattle.judging.specs.Judged.{IsRanking}
-use Rattle.reports.proofs.SimulationLemmas.{of_perm}
+use Rattle.judging.proofs.HeldTasks.{of_perm}
 use Rattle.reports.proofs.commands.simulate.chosen.Goals as goal
 
 pub returns-in-Own-clause-each : goal.returns-in-Own-clause-each
