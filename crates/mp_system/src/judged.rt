@@ -16,8 +16,8 @@ ghost use Rattle.mp_system.specs.Judged.{TasksPass, TasksPassBefore, given_item,
 use crate::NoMemory;
 use crate::given::{GivenItem, GivenTask, items_of, tasks_of};
 use crate::shares::first_unfit_share;
-use limits::{MOST_POSITIONS, MOST_SIZE, MOST_TASKS, MOST_TIME, MOST_TOTAL};
 use crate::system::System;
+use limits::{MOST_POSITIONS, MOST_SIZE, MOST_TASKS, MOST_TIME, MOST_TOTAL};
 use std::alloc::Global;
 
 /// A test that each task of a system passes by itself.

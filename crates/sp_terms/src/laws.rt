@@ -10,7 +10,6 @@ ghost use Rattle.sp_terms.specs.Postfix.{Denotes, postfix};
 ghost use Rattle.sp_terms.specs.SystemOfTerm.{system_of_term};
 ghost use Rattle.sp_terms.specs.Values.{IsTerms, term_of};
 
-
 /// Positions within the limits denote a term whose shares are allowed, and whose system is within the limits of systems. A list of
 /// positions denotes a term exactly where it is its postfix form.
 pub fn terms_law()

@@ -11,7 +11,7 @@ mod system;
 mod terms;
 mod value;
 
-pub use builder::{PushRefusal, TermBuilder, count};
+pub use builder::{PushRefusal, TermBuilder, tasks_of_position};
 pub use position::{Position, Values};
 use std::alloc::AllocError;
 pub use system::system_of;

@@ -1,7 +1,8 @@
 -- The words of what is wrong with a workflow file.
 use Rattle.std.specs.Prelude.{ℕ, List, codes}
 use Rattle.workflow_files.specs.declared.kind.WorkflowKind.{WorkflowKind}
-use Rattle.workflow_files.specs.declared.kind.WorkflowKind.TheVariants.{Header, Word, Number, StackShort, NotOneTerm, TaskCount, NoEnd, Share}
+use Rattle.workflow_files.specs.declared.kind.WorkflowKind.TheVariants.{Header, Word, Number, StackShort, NotOneTerm}
+use Rattle.workflow_files.specs.declared.kind.WorkflowKind.TheVariants.{TaskCount, NoEnd, Share}
 
 -- the word for it in reports
 abbrev pub word_of : WorkflowKind → List ℕ

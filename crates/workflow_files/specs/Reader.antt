@@ -20,8 +20,8 @@ use Rattle.sp_terms.specs.declared.position.Position.{Position}
 use Rattle.workflow_files.specs.declared.word.Word.{Word}
 use Rattle.sp_terms.specs.Values.{stack_of, added_tasks}
 use Rattle.sp_terms.specs.Builder.{refusal_of}
-use Rattle.workflow_files.specs.WorkflowFile.{header_tests, version_stated, count_tests, count_stated, position_from, stated_or, stated_tests}
-use Rattle.workflow_files.specs.WorkflowFile.{position_of, form_tests, last_tests, is_end}
+use Rattle.workflow_files.specs.WorkflowFile.{header_tests, version_stated, count_tests, count_stated, position_from}
+use Rattle.workflow_files.specs.WorkflowFile.{stated_or, stated_tests, position_of, form_tests, last_tests, is_end}
 
 -- what the reader keeps: what comes next, the version, the stated number of tasks, and the positions
 pub record ReaderState : Type 0 where

@@ -10,8 +10,6 @@ mod lines;
 mod printing;
 mod reader;
 mod stage;
-#[cfg(test)]
-mod tests;
 mod word;
 
 pub use kind::WorkflowKind;

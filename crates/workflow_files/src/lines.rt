@@ -8,15 +8,15 @@ ghost use Rattle.mp_text.specs.Reading.{Gives, tested};
 ghost use Rattle.sp_terms.specs.Builder.{IsPosition};
 ghost use Rattle.sp_terms.specs.Postfix.{at_task};
 ghost use Rattle.sp_terms.specs.declared.position.Position.TheVariants.{Par};
-ghost use Rattle.workflow_files.specs.WorkflowFile.{header_tests, version_stated, count_tests, count_stated, only, task_from, position_from};
-ghost use Rattle.workflow_files.specs.WorkflowFile.{stated_or, stated_tests, is_end, last_tests};
+ghost use Rattle.workflow_files.specs.WorkflowFile.{header_tests, version_stated, count_tests, count_stated, only, task_from};
+ghost use Rattle.workflow_files.specs.WorkflowFile.{position_from, stated_or, stated_tests, is_end, last_tests};
 
 use crate::kind::WorkflowKind;
-use sp_terms::Position;
 use crate::word::Word;
 use limits::{LimitName, MOST_TASKS};
 use mp_system::Task;
 use mp_text::{Line, Refusal, Tokens, Version, after_word, fault, number, tokens, version_of};
+use sp_terms::Position;
 
 /// Line 1: the version.
 pub fn header_on(line: Line<'_>) -> Result<Version, Refusal<WorkflowKind>>

@@ -8,11 +8,9 @@ ghost use Rattle.sp_terms.specs.Values.{added_tasks};
 ghost use Rattle.workflow_files.specs.WorkflowText.{position_line, text_in, is_sharing, version_for, text_of, text2_of};
 
 use crate::NoMemory;
-use sp_terms::count;
-use sp_terms::Position;
-use sp_terms::TermList;
 use mp_text::laws::printed_lines;
 use mp_text::{Report, Token, Version};
+use sp_terms::{Position, TermList, tasks_of_position};
 
 fn print_position(version: Version, position: Position, report: &mut Report) -> Result<(), NoMemory>
     requires { IsTrue (is_line_start report.old) }
@@ -61,7 +59,10 @@ fn print_part(version: Version, positions: &[Position], report: &mut Report) -> 
 {
     printed_lines();
     report.line(&[Token::Word("workflow"), Token::Word(version.word())])?;
-    let tasks = positions.iter().map(|position| count(*position)).sum();
+    let tasks = positions
+        .iter()
+        .map(|position| tasks_of_position(*position))
+        .sum();
     report.line(&[Token::Word("tasks"), Token::Number(tasks)])?;
     print_positions(version, positions, report)?;
     report.line(&[Token::Word("end")])

@@ -3,14 +3,12 @@ ghost use Rattle.mp_text.specs.Ahead.{row};
 ghost use Rattle.workflow_files.specs.Reader.{refusal_at};
 ghost use Rattle.workflow_files.specs.WorkflowFile.{ReadsWorkflow, IsWorkflowRefusal};
 
-use sp_terms::{PushRefusal, TermBuilder};
 use crate::kind::WorkflowKind;
 use crate::lines::{count_on, header_on, is_end, last_on, position_on};
-use sp_terms::Position;
 use crate::stage::Stage;
-use sp_terms::TermList;
 use crate::word::{Word, next_word};
 use mp_text::{Layout, Line, Reader, Refusal, Tokens, Version, fault, read_with, tokens};
+use sp_terms::{Position, PushRefusal, TermBuilder, TermList};
 use std::alloc::Global;
 use std::marker::Model;
 
