@@ -14,8 +14,6 @@ mod roots;
 mod shares;
 mod system;
 mod term;
-#[cfg(test)]
-mod tests;
 mod tree;
 
 pub use judged::{NodeTest, NodesRefusal, tree_of_nodes};

@@ -1,4 +1,4 @@
-use Rattle.std.proofs.Common.{arith, subst, ℕ, Option}
+use Rattle.std.proofs.Common.{arith, subst, ℕ, Option, length}
 use Rattle.std.specs.Prelude.{MatchOption}
 use Rattle.trees.specs.declared.judged.NodeTest.TheVariants as tests
 use Rattle.trees.specs.Judged.{AllLead}
