@@ -153,7 +153,7 @@ more_begun joined n (suc k) gone part begun len =
     let v = first_left degree gone n in
     let f = is_first degree gone n in
     let out = some_left n gone part (omega arith) in
-    let some : v ≢ 0 = λ e. f.none e out.0 out.1 in
+    let some : v ≢ 0 = λ e. f.none e out.0 (out.1, out.2) in
     let left = f.left some in
     let long = length-append gone (v ∷ []) in
     more_begun joined n k (gone ++ v ∷ []) (part-push n gone v part left.0 left.1) (begun_push joined n gone v begun (λ u l. f.ahead some u l)) (omega arith)

@@ -5,7 +5,6 @@ use Rattle.std.proofs.lemmas.Bool.{cases_eq, eq-eqb, ne_eqb}
 use Rattle.std.proofs.lemmas.List.Elements.{All-nil, All-head, All-tail, All-push}
 use Rattle.std.proofs.lemmas.List.{get_or-drop, length-drop}
 use Rattle.std.proofs.lemmas.List.Sums.{sum_by_push, sum_by-take-drop}
-use Rattle.elimination.specs.Elimination.{IsRemaining}
 use Rattle.permutations.specs.Perm.{IsVertex, IsPerm, vertex_at, place_of, times}
 use Rattle.permutations.proofs.PlaceLemmas.{times-here, times-beyond, place-vertex, place-at, place-none, times-none, times-at}
 
@@ -115,15 +114,15 @@ place_of_vertex n order perm (suc i) le =
     place-at order i lt (perm.once (get_or order i 0) (perm.vertices i 0 lt))
 
 -- fewer than n of them leave some vertex out
-some_out : (n : ℕ) (xs : List ℕ) → total n xs < n → (w : ℕ) × IsRemaining n xs w
+some_out : (n : ℕ) (xs : List ℕ) → total n xs < n → (w : ℕ) × IsVertex n w × (times xs w ≡ 0)
 unfolding total
 some_out zero xs few = absurd (omega arith)
 some_out (suc n) xs few = elim (cases_eq (times xs (suc n)) 0) [
-  | inl none ↦ (suc n, ((omega arith, omega arith), none))
-  | inr some ↦ (let out = some_out n xs (omega arith) in let le = out.1.0.1 in (out.0, ((out.1.0.0, omega arith), out.1.1)))
+  | inl none ↦ (suc n, (omega arith, omega arith), none)
+  | inr some ↦ (let out = some_out n xs (omega arith) in let le = out.1.1 in (out.0, (out.1.0, omega arith), out.2))
 ]
 
-pub some_left : (n : ℕ) (numbers : List ℕ) → IsPart n numbers → length numbers < n → (w : ℕ) × IsRemaining n numbers w
+pub some_left : (n : ℕ) (numbers : List ℕ) → IsPart n numbers → length numbers < n → (w : ℕ) × IsVertex n w × (times numbers w ≡ 0)
 some_left n numbers part few = some_out n numbers (omega (arith, total-length n numbers part.vertices))
 
 -- a vertex of a permutation is not among those before it

@@ -38,3 +38,8 @@ pub record AreInverse (vertices places : List ℕ) : Type 0 where
   pub vertex : (k : ℕ) → k < length vertices
       → (slice_index vertices k < length vertices) × (slice_index places (slice_index vertices k) ≡ k)
   pub place : (v : ℕ) → v < length vertices → (slice_index places v < length vertices) × (slice_index vertices (slice_index places v) ≡ v)
+
+-- the vertices that come first in an order of n
+pub record PermState : Type 0 where
+  pub n : ℕ
+  pub numbers : List ℕ

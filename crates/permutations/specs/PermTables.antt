@@ -24,8 +24,3 @@ pub record ArePermTables (vertices places : List ℕ) : Type 0 where
   pub tables : AreTables vertices places
   pub perm : IsPerm (length (order_in vertices)) (order_in vertices)
   pub small : length (order_in vertices) < 2 ^ 32
-
--- the vertices that come first in an order of n
-pub record PermState : Type 0 where
-  pub n : ℕ
-  pub numbers : List ℕ

@@ -1,7 +1,7 @@
 ghost use Rattle.std.specs.Prelude.{◌≡◌, ◌==◌, ℕ, ◌+◌, ◌<◌, ◌≤◌, ◌^◌, ◌++◌, ◌∷◌, [], not, List, length, drop, slice_index, IfOk, OnOk};
 ghost use Rattle.std.specs.List.{range_with_len};
-ghost use Rattle.permutations.specs.Perm.{AreInverse, IsPerm, IsVertex, vertex_at, place_of, times};
-ghost use Rattle.permutations.specs.PermTables.{order_in, ArePermTables, ArePartTables, PermState};
+ghost use Rattle.permutations.specs.Perm.{AreInverse, IsPerm, IsVertex, PermState, vertex_at, place_of, times};
+ghost use Rattle.permutations.specs.PermTables.{order_in, ArePermTables, ArePartTables};
 
 use crate::NoMemory;
 use std::alloc::Global;
@@ -85,10 +85,12 @@ pub fn identity(alloc: Global, n: u32) -> Result<Perm, NoMemory>
     Ok(Perm { vertices, places })
 }
 
-/// The vertices that come first in an order of elimination of `n`.
+/// The vertices that come first in an order of elimination of 1 to `n`, for a reader that takes one after another: each is judged at once,
+/// by a table of places. Contracts see `n` and the list of the vertices.
 #[derive(Drop)]
 pub struct PartialPerm {
     n: u32,
+    // by place, and by vertex with 0 for one that does not stand there; at 0 stands 0
     vertices: Vec<u32>,
     places: Vec<u32>,
 }
@@ -102,7 +104,7 @@ impl Model for PartialPerm {
 }
 
 impl PartialPerm {
-    /// None yet, of n vertices.
+    /// No vertex yet, of `n`. It takes the memory of all of them.
     pub fn new(alloc: Global, n: u32) -> Result<PartialPerm, NoMemory>
         ensures { IfOk result (λ reader. reader ≡ record { n = n; numbers = [] }) }
     {
@@ -116,7 +118,14 @@ impl PartialPerm {
         })
     }
 
-    /// Whether a vertex stands in the order so far.
+    /// How many vertices the whole order has.
+    pub fn whole_len(&self) -> u32
+        ensures { result ≡ self.now.n }
+    {
+        self.n
+    }
+
+    /// Whether a vertex, from 1 to `n`, stands in the order so far.
     #[tactic(auto, using(crate::proofs::PlaceLemmas::times_test))]
     pub fn has(&self, vertex: u32) -> bool
         requires { IsVertex self.now.n vertex }
@@ -132,7 +141,7 @@ impl PartialPerm {
         self.vertices.len() - 1
     }
 
-    /// Puts a vertex at the end of the order.
+    /// Puts a vertex, from 1 to `n`, that does not stand in the order yet at its end. After want of memory the order is not to be relied on.
     #[tactic(auto, using(crate::proofs::TableLemmas::order_push))]
     pub fn push(&mut self, vertex: u32) -> Result<(), NoMemory>
         requires room { length self.old.numbers < self.old.n }
@@ -146,7 +155,7 @@ impl PartialPerm {
         Ok(())
     }
 
-    /// The order, where it has just the vertices up to as many.
+    /// The order, where its vertices are those from 1 to as many. It takes no memory.
     pub fn finish(self) -> Perm
         requires { IsPerm (length self.numbers) self.numbers }
         ensures { result ≡ self.numbers }

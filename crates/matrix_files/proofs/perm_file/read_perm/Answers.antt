@@ -1,7 +1,7 @@
 use Rattle.std.proofs.Common.{ap, sym, subst}
 use Rattle.std.proofs.lemmas.Result.{err_from_is_err_and}
 use Rattle.matrix_files.specs.PermFile.{ReadsPerm, perm_format}
-use Rattle.permutations.specs.PermTables.{PermState}
+use Rattle.permutations.specs.Perm.{PermState}
 use Rattle.matrix_files.proofs.PermFileLemmas.{perm_from_read, perm_refusal}
 use Rattle.matrix_files.proofs.perm_file.read_perm.Goals as goal
 use Rattle.matrix_files.proofs.perm_file.read_perm.Goals.{In_ok-order}

@@ -1,5 +1,6 @@
 use Rattle.std.proofs.Common.{◌≡◌, ap, arith}
-use Rattle.permutations.specs.PermTables.{order_in, PermState}
+use Rattle.permutations.specs.Perm.{PermState}
+use Rattle.permutations.specs.PermTables.{order_in}
 use Rattle.permutations.proofs.TableLemmas.{tables-push}
 use Rattle.permutations.proofs.perm.PartialPerm.push.Goals as goal
 
