@@ -4,8 +4,7 @@ use Rattle.std.proofs.Math.Seq.{take-append_seam}
 use Rattle.std.proofs.lemmas.Grind.{get_or_default_zero}
 use Rattle.std.proofs.lemmas.Bool.{cases_eq, eq-eqb, ne_eqb}
 use Rattle.column_counts.specs.Marks.{Row, IsFactorRow, IsMarked, CanGoOn, bit}
-use Rattle.lists.proofs.Orders.{written, at_here}
-use Rattle.lists.proofs.Lists.{at_other}
+use Rattle.lists.proofs.Lists.{written, at_here, at_other}
 
 -- ---- one entry of a table is written
 

@@ -12,7 +12,8 @@ use Rattle.sp_terms.specs.Term.{Term, hold, series, par, Parts, no_parts, part, 
 use Rattle.sp_term_laws.specs.Moves.{State, States, memory_of, memory_of_parts}
 use Rattle.sp_term_laws.specs.Ways.{Run, Runs}
 use Rattle.cut_laws.specs.Below.{TermLaws}
-use Rattle.lists.proofs.Bools.{eqb_same, ne_eqb}
+use Rattle.lists.proofs.Bools.{eqb_same}
+use Rattle.std.proofs.lemmas.Bool.{ne_eqb}
 use Rattle.sp_term_laws.proofs.Next.{need-first, need-last, need-right, need-left}
 use Rattle.sp_terms.proofs.SystemLemmas.{made-append}
 

@@ -5,8 +5,7 @@ use Rattle.elim_tree.specs.Reaches.{Reaches, IsFirstReached}
 use Rattle.elim_tree.specs.Forests.{IsGrown, IsOnWay, Covers}
 use Rattle.elim_tree.proofs.Fills.{clique}
 use Rattle.elim_tree.proofs.Children.{reaches_later, reaches_by_children}
-use Rattle.lists.proofs.Orders.{at_here}
-use Rattle.lists.proofs.Lists.{at_other}
+use Rattle.lists.proofs.Lists.{at_here, at_other}
 
 -- the new roots: the tree of c goes under k
 pub put_under : (ℕ → ℕ) → ℕ → ℕ → ℕ → ℕ

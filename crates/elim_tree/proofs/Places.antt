@@ -12,7 +12,7 @@ use Rattle.elim_tree.proofs.Columns.{in_table, length_of_table, parent_within}
 use Rattle.elim_tree.proofs.SpanLemmas.{IsPlaced, IsPlacedFrom, placed_all}
 use Rattle.elim_tree.proofs.CountLemmas.{IsRising, children_yes, children_to, children_all}
 use Rattle.elim_tree.proofs.Postorderings.{place_one}
-use Rattle.lists.proofs.Orders.{written}
+use Rattle.lists.proofs.Lists.{written}
 
 -- the child in whose span k falls
 locate : (parent many : ℕ → ℕ) (p m k : ℕ) → 0 < k → k ≤ in_children parent many p m

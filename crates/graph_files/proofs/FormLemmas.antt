@@ -17,8 +17,7 @@ use Rattle.graph_files.specs.GraphFile.{graph_format, tasks_stated, arcs_stated,
 use Rattle.graph_files.specs.Stated.{IsWithin}
 use Rattle.graph_files.proofs.ReaderLaws.{past_tasks}
 use Rattle.lists.proofs.Bools.{false_of_not, both_true, positive}
-use Rattle.lists.proofs.Orders.{ends}
-use Rattle.lists.proofs.Lists.{sum_by-map_too}
+use Rattle.lists.proofs.Lists.{ends, sum_by-map}
 
 -- ---- tests that all hold
 
@@ -247,7 +246,7 @@ module _ (header counted arcs_counted last : Row) (rows arcs : List Row) (whole 
     few_arcs = omega (arith, length-map arcs arc_of, complete, arcs_few);
     tasks = tasks_within;
     arcs = arcs_within;
-    total = omega (arith, sum_by-map_too extra_size task_of rows, sum_by-map_too arc_size arc_of arcs, sums_within);
+    total = omega (arith, sum_by-map extra_size task_of rows, sum_by-map arc_size arc_of arcs, sums_within);
   })
 
 pub well_formed_within : (rows : List Row) (past : ℕ) → IsWellFormed graph_format rows past → IsWithin (graph_stated rows)

@@ -19,7 +19,7 @@ unfoldable pub graph_at : (ℕ → ℕ → Bool) → ℕ → ℕ → ℕ → Boo
 graph_at joined zero a b = joined a b
 graph_at joined (suc j) a b = eliminate (graph_at joined j) j a b
 
--- whether a row is in the structure of column j: j itself, or a neighbour of j as j is eliminated
+-- whether a row is in the structure of column j: j itself, or a neighbour of j is eliminated
 abbrev pub structure_of : (ℕ → ℕ → Bool) → ℕ → ℕ → Bool
 structure_of joined j i = i == j || graph_at joined j j i
 

@@ -11,7 +11,7 @@ use Rattle.limits.specs.Limits.{most_order}
 use Rattle.patterns.specs.Pattern.{neighbours_of, has, is_joined, names, are_named, IsPairWithin, IsPatternOf}
 use Rattle.patterns.specs.Table.{Rooms, list_at}
 use Rattle.patterns.specs.Partners.{partner, partners, IsPairBelow}
-use Rattle.lists.proofs.Lists.{eqb_flip as eqb-same}
+use Rattle.lists.proofs.Bools.{eqb_flip as eqb-same}
 
 -- ---- what pairs name
 

@@ -20,8 +20,7 @@ use Rattle.rounds_run.specs.Rounds.{is_start_at, started_at, moments_of, round_c
 use Rattle.rounds_run.proofs.NumberLists.{has_append}
 use Rattle.patterns.proofs.NumberLists.{place_of as place_in}
 use Rattle.patterns.proofs.NumberLists.{has_push}
-use Rattle.lists.proofs.Bools.{same_bool}
-use Rattle.lists.proofs.Lists.{eqb_flip}
+use Rattle.lists.proofs.Bools.{same_bool, eqb_flip}
 use Rattle.activation.proofs.Safety.{phase_replicate}
 use Rattle.activation.proofs.Phases.{done_from}
 

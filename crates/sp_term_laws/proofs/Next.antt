@@ -14,7 +14,8 @@ use Rattle.sp_term_laws.proofs.Words.{made, done_or, need_with, no_task, need_in
 use Rattle.sp_term_laws.specs.Moves.{State, States, first_state, first_states}
 use Rattle.sp_term_laws.proofs.At.{Fresh, Ended, At, AllAt, held-append, held_one}
 use Rattle.sp_term_laws.proofs.Ends.{split_own, In, split2}
-use Rattle.lists.proofs.Bools.{or_false, or_true, eqb_same, ne_eqb}
+use Rattle.lists.proofs.Bools.{or_false, or_true, eqb_same}
+use Rattle.std.proofs.lemmas.Bool.{ne_eqb}
 use Rattle.sp_terms.proofs.SystemLemmas.{made-append}
 
 -- one more task is done

@@ -14,8 +14,7 @@ use Rattle.trees.specs.Tree.{IsNodeWithin, node_size}
 use Rattle.tree_files.specs.TreeFile.{tree_format, count_stated, node_tests, node_of, total_of, version_stated, nodes_stated, is_complete}
 use Rattle.trees.specs.declared.node.Node.{Node}
 use Rattle.lists.proofs.Bools.{both_true, positive}
-use Rattle.lists.proofs.Orders.{ends}
-use Rattle.lists.proofs.Lists.{sum_by-map_too}
+use Rattle.lists.proofs.Lists.{ends, sum_by-map}
 
 -- ---- tests that all hold
 
@@ -131,7 +130,7 @@ module _ (header counted last : Row) (rows : List Row) (whole : length rows ≡ 
       let on = node_at_passed i row lt in
       let more = sum_by_more size rows i row lt in
       let all : take (length rows - 1 + 1) rows ≡ rows = take_all (length rows - 1 + 1) rows (omega arith) in
-      omega (arith, on.sums, more, ap (sum_by size) all, sum_by-map_too node_size (node_of (version_stated header)) rows)
+      omega (arith, on.sums, more, ap (sum_by size) all, sum_by-map node_size (node_of (version_stated header)) rows)
 
   within : AreWithin nodes
   within = record { some = omega (arith, nodes_len, count_passed.0); few = omega (arith, nodes_len, count_passed.1); each = each_within; total = total_within }

@@ -2,8 +2,7 @@ use Rattle.std.proofs.Common.{◌≡◌, ◌+◌, ◌<◌, length, set, arith, s
 use Rattle.elim_tree.specs.Trees.{parent_at}
 use Rattle.column_counts.specs.Marks.{IsMarkedRow}
 use Rattle.column_counts.proofs.MarkLemmas.{row_start}
-use Rattle.lists.proofs.Lists.{at_other}
-use Rattle.lists.proofs.Orders.{at_here}
+use Rattle.lists.proofs.Lists.{at_other, at_here}
 use Rattle.column_counts.proofs.RowLemmas.{can_mark_up, one_more, none_more}
 use Rattle.column_counts.proofs.marking.mark_row.Goals as goal
 use Rattle.column_counts.proofs.marking.mark_row.Goals.{then-column-i, else-column-i}

@@ -5,7 +5,7 @@ use Rattle.elim_tree.specs.Postorders.{Precedes, IsPostorder}
 use Rattle.elim_tree.specs.Spans.{ArePlaces}
 use Rattle.elim_tree.proofs.Columns.{length_of_table}
 use Rattle.elim_tree.proofs.Places.{is_postorder}
-use Rattle.lists.proofs.Orders.{written}
+use Rattle.lists.proofs.Lists.{written}
 use Rattle.elim_tree.proofs.postordering.postorder.Goals as goal
 
 pub invert-requires-clause-places : goal.invert-requires-clause-places

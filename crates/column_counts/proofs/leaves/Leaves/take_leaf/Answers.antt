@@ -2,8 +2,7 @@ use Rattle.std.proofs.Common.{sym, ap, ◌∙◌, ◌+◌, ◌<◌, ◌≤◌, �
 use Rattle.permutations.specs.Perm.{vertex_at, place_of}
 use Rattle.column_counts.specs.Leaves.{AreAncestors, last_of}
 use Rattle.column_counts.proofs.MarkLemmas.{read_at}
-use Rattle.lists.proofs.Lists.{at_other}
-use Rattle.lists.proofs.Orders.{at_here}
+use Rattle.lists.proofs.Lists.{at_other, at_here}
 use Rattle.column_counts.proofs.RowLeaves.{no_leaf, first_leaf, further_leaf}
 use Rattle.column_counts.proofs.VertexRows.{other_vertex, place_within}
 use Rattle.column_counts.proofs.leaves.Leaves.take_leaf.Goals as goal
