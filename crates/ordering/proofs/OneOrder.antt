@@ -5,7 +5,8 @@ use Rattle.std.proofs.lemmas.List.{take_more, take_all, take-append-le, get_or_a
 use Rattle.std.specs.List.{All}
 use Rattle.elimination.specs.Elimination.{IsVertex, times, eliminated, degree_of, IsRemaining, IsAhead, GoByLeastDegree}
 use Rattle.ordering.specs.MinimumDegree.{IsMinimumDegreeOrder, first_left, plain_more, plain_order}
-use Rattle.permutations.proofs.PermLemmas.{IsPart, part-none, part-push, perm_from_part, some_left, fresh_at}
+use Rattle.permutations.specs.Perm.{IsPart}
+use Rattle.permutations.proofs.PermLemmas.{part-none, part-push, perm_from_part, some_left, fresh_at}
 
 -- ---- one order
 

@@ -1,4 +1,5 @@
-ghost use Rattle.std.specs.Prelude.{◌≡◌, ◌==◌, ℕ, ◌+◌, ◌<◌, ◌≤◌, ◌^◌, ◌++◌, ◌∷◌, [], not, List, length, drop, slice_index, IfOk, OnOk};
+ghost use Rattle.std.specs.Prelude.{◌≡◌, ◌==◌, ◌&&◌, ℕ, ◌+◌, ◌<◌, ◌≤◌, ◌^◌, ◌++◌, ◌∷◌, [], not, nat_le, IsTrue, List, length, drop};
+ghost use Rattle.std.specs.Prelude.{slice_index, IfOk, OnOk};
 ghost use Rattle.std.specs.List.{range_with_len};
 ghost use Rattle.permutations.specs.Perm.{AreInverse, IsPerm, IsVertex, PermState, vertex_at, place_of, times};
 ghost use Rattle.permutations.specs.PermTables.{order_in, ArePermTables, ArePartTables};
@@ -134,6 +135,16 @@ impl PartialPerm {
         self.places[vertex as usize] != 0
     }
 
+    /// Whether a number can come next: it is a vertex, from 1 to `n`, and does not stand in the order so far.
+    pub fn takes(&self, number: u64) -> bool
+        ensures value { result ≡ (nat_le 1 number && nat_le number self.now.n && (times self.now.numbers number == 0)) }
+        ensures vertex { IsTrue result → IsVertex self.now.n number }
+        ensures fresh { IsTrue result → times self.now.numbers number ≡ 0 }
+        ensures small { IsTrue result → number < 2 ^ 32 }
+    {
+        1 <= number && number <= u64::from(self.n) && !self.has(number as u32)
+    }
+
     /// How many vertices the order has so far.
     pub fn len(&self) -> usize
         ensures { result ≡ length self.now.numbers }
@@ -144,7 +155,6 @@ impl PartialPerm {
     /// Puts a vertex, from 1 to `n`, that does not stand in the order yet at its end. After want of memory the order is not to be relied on.
     #[tactic(auto, using(crate::proofs::TableLemmas::order_push))]
     pub fn push(&mut self, vertex: u32) -> Result<(), NoMemory>
-        requires room { length self.old.numbers < self.old.n }
         requires vertex { IsVertex self.old.n vertex }
         requires fresh { times self.old.numbers vertex ≡ 0 }
         ensures { OnOk result (self.new ≡ record self.old { numbers = self.old.numbers ++ vertex ∷ [] }) }
@@ -166,5 +176,14 @@ impl PartialPerm {
             ..
         } = self;
         Perm { vertices, places }
+    }
+
+    /// The vertices that the order has so far. Linear in them. It takes no memory.
+    pub fn into_vertices(self) -> Vec<u32>
+        ensures { result.items ≡ self.numbers }
+    {
+        let mut vertices = self.vertices;
+        vertices.remove(0);
+        vertices
     }
 }
