@@ -31,7 +31,7 @@ module _ (bytes : List ℕ) (tasks : List Task) (arcs : List Arc) (lines : List 
           few = subst HasFewArcs stated.graph_is few;
           task = task;
           first = subst (λ (g : TaskGraph). IsFirstWithout (length g.tasks) (CanBeOrdered g.arcs) task) stated.graph_is first;
-          refusal_is = ap (λ (line : ℕ). fault_at line kinds.Cycle) (stated.lines_are task first.task);
+          refusal_is = ap (λ (line : ℕ). fault_at line kinds.Cycle) (stated.lines_are task first.is_place);
         }))))
 
     module _ (ordered : (v : ℕ) → IsAmong (length tasks) v → CanBeOrdered arcs v) where
@@ -44,7 +44,7 @@ module _ (bytes : List ℕ) (tasks : List Task) (arcs : List Arc) (lines : List 
             ordered = subst IsOrdered stated.graph_is ordered;
             task = task;
             first = subst (λ (g : TaskGraph). IsFirstWithout (length g.tasks) (ShareFits g.tasks g.arcs) task) stated.graph_is first;
-            refusal_is = ap (λ (line : ℕ). fault_at line kinds.Share) (stated.lines_are task first.task);
+            refusal_is = ap (λ (line : ℕ). fault_at line kinds.Share) (stated.lines_are task first.is_place);
           }))))
 
       module _ (shares : (v : ℕ) → IsAmong (length tasks) v → ShareFits tasks arcs v) where
