@@ -16,14 +16,8 @@ use Rattle.mp_text.specs.Comments.{is_comment_line}
 use Rattle.mp_text.specs.Report.{is_token, line_text, text_of_lines}
 use Rattle.workflow_files.specs.WorkflowText.{text_of}
 use Rattle.sp_terms.specs.declared.position.Position.{Position}
-<<<<<<< HEAD:crates/sp_reduce/proofs/NamedLines.antt
-use Rattle.graphs.specs.Graph.{TaskGraph, IsGraph, completed_system}
-use Rattle.sp_reduce.specs.NamedText.{name_line, name_lines, named_text}
-use Rattle.sp_reduce.specs.Reduced.{HasSystem}
 use Rattle.workflow_files.proofs.LengthLemmas.{small-decimal}
-=======
 use Rattle.workflow_files.specs.NamedText.{name_line, name_lines, named_text}
->>>>>>> 61622722440571eb9d9ea9dbdeb7bc25cdb290eb:crates/workflow_files/proofs/NamedLines.antt
 
 -- ---- as they are printed
 

@@ -1,5 +1,5 @@
 use Rattle.std.proofs.Common.{◌≡◌, ℕ, List, ap, subst}
-<<<<<<< HEAD:crates/reports/proofs/laws/what_answers_say/Answers.antt
+use Rattle.sp_terms.specs.Values.{term_of}
 use Rattle.reports.specs.Reports.{IsReport}
 use Rattle.judging.specs.Files.{Answer}
 use Rattle.reports.specs.Promises.{done_answer}
@@ -12,21 +12,6 @@ use Rattle.reports.proofs.SpillLemmas.{spilled}
 use Rattle.reports.proofs.StairsLemmas.{reached}
 use Rattle.reports.proofs.ReductionLemmas.{reduced, irreducible}
 use Rattle.reports.proofs.laws.what_answers_say.Goals as goal
-=======
-use Rattle.sp_terms.specs.Values.{term_of}
-use Rattle.memplan.specs.Commands.{IsReport}
-use Rattle.memplan.specs.Files.{Answer}
-use Rattle.memplan.specs.Promises.{done_answer}
-use Rattle.memplan.specs.Request.{Request, replay, tree, post, check, planning, simulate, demo, upgrade, spill, segments, fronts, reduce}
-use Rattle.memplan.specs.declared.status.Status.TheVariants.{Done}
-use Rattle.memplan.proofs.RunLemmas.{report_when_done, report_of_rest}
-use Rattle.memplan.proofs.SoundAnswer.{certified, best, simulated}
-use Rattle.memplan.proofs.UpgradeLemmas.{upgraded}
-use Rattle.memplan.proofs.SpillLemmas.{spilled}
-use Rattle.memplan.proofs.StairsLemmas.{reached}
-use Rattle.memplan.proofs.ReductionLemmas.{reduced, irreducible}
-use Rattle.memplan.proofs.laws.what_answers_say.Goals as goal
->>>>>>> 61622722440571eb9d9ea9dbdeb7bc25cdb290eb:crates/memplan/proofs/laws/what_answers_say/Answers.antt
 
 -- the report of an answer that is done
 done_report : (request : Request) (texts : List (List ℕ)) (answer : Answer) → IsReport request texts answer → answer.status ≡ Done
