@@ -22,7 +22,10 @@ ghost use Rattle.judging.specs.declared.status.Status.TheVariants.{Done};
 use activation::laws as run_laws;
 use claim_check::laws as claim_laws;
 use elim_tree::laws as fill_laws;
-use patterns::laws as matrix_laws;
+use patterns::laws as pattern_laws;
+use matrix_files::laws as matrix_file_laws;
+use tree_files::laws as tree_file_laws;
+use graph_files::laws as graph_file_laws;
 use mp_gen::laws::made_inputs;
 use mp_system::laws as system_laws;
 use ordering::laws as order_laws;
@@ -34,7 +37,6 @@ use sp_reduce::laws as reduction_laws;
 use sp_terms::laws as term_laws;
 use symbolic::laws as front_laws;
 use workflow_files::laws as workflow_laws;
-use graphs::laws as graph_laws;
 use trees::laws as tree_laws;
 
 // The texts of an input are of one matrix, one tree, one system and one term, within the limits, and they are as many as its files; its
@@ -53,18 +55,18 @@ fn one_input()
         IsNumberedTerm input texts one numbered → IsNumberedTerm input texts two same →
         (one ≡ two) × (numbered ≡ same) × AreWithin (length one) numbered }
 {
-    tree_laws::exactly_one();
-    tree_laws::read_is_tree();
+    tree_file_laws::exactly_one();
+    tree_file_laws::read_is_tree();
     tree_laws::tree_system();
     tree_laws::forest_law();
-    matrix_laws::exactly_one();
-    order_laws::exactly_one_perm();
-    order_laws::read_is_perm();
+    matrix_file_laws::exactly_one();
+    matrix_file_laws::exactly_one_perm();
+    matrix_file_laws::read_is_perm();
     order_laws::one_minimum_degree_order();
     front_laws::one_front_tree();
     front_laws::front_tree_is_tree();
-    term_laws::exactly_one();
-    term_laws::read_law();
+    workflow_laws::exactly_one();
+    workflow_laws::read_law();
     term_laws::terms_law();
 }
 
@@ -76,13 +78,13 @@ fn one_file()
         IsRefused role earlier text two → one ≡ two }
 {
     one_input();
-    tree_laws::exactly_one();
-    term_laws::exactly_one();
-    matrix_laws::exactly_one();
-    order_laws::exactly_one();
-    order_laws::exactly_one_perm();
+    tree_file_laws::exactly_one();
+    workflow_laws::exactly_one();
+    matrix_file_laws::exactly_one();
+    matrix_file_laws::exactly_one_order();
+    matrix_file_laws::exactly_one_perm();
     plan_laws::exactly_one();
-    graph_laws::exactly_one();
+    graph_file_laws::exactly_one();
 }
 
 // A demo has one answer: plans may differ, but not their peak; the checker says yes to them, and no traversal has a lower peak.
@@ -96,7 +98,7 @@ fn one_demo()
     claim_laws::accepted_or_objected();
     system_laws::least_law();
     postorder_laws::one_best_postorder();
-    matrix_laws::one_pattern();
+    pattern_laws::one_pattern();
     order_laws::one_minimum_degree_order();
     front_laws::one_front_tree();
     front_laws::front_tree_is_tree();
@@ -110,20 +112,20 @@ fn one_upgrade()
     ensures file { (u : Upgrade) (texts : List (List ℕ)) (value : Versioned) → IsUpgradedFrom u texts value →
         IsFileOf (text_2 value) value }
 {
-    tree_laws::exactly_one();
-    tree_laws::read_is_tree();
-    tree_laws::printed_tree();
-    tree_laws::printed_length();
-    term_laws::exactly_one();
-    term_laws::read_law();
-    term_laws::printed_workflow();
-    term_laws::printed_length();
+    tree_file_laws::exactly_one();
+    tree_file_laws::read_is_tree();
+    tree_file_laws::printed_tree();
+    tree_file_laws::printed_length();
+    workflow_laws::exactly_one();
+    workflow_laws::read_law();
+    workflow_laws::printed_workflow();
+    workflow_laws::printed_length();
     plan_laws::exactly_one();
     plan_laws::read_law();
     plan_laws::printed_plan();
     plan_laws::printed_length();
-    order_laws::exactly_one_perm();
-    order_laws::read_is_perm();
+    matrix_file_laws::exactly_one_perm();
+    matrix_file_laws::read_is_perm();
 }
 
 // The fronts of a matrix have one answer, and one that is done says what it is to say.
@@ -158,9 +160,9 @@ pub fn one_answer()
 {
     one_input();
     one_file();
-    order_laws::exactly_one();
-    order_laws::exactly_one_perm();
-    order_laws::read_is_perm();
+    matrix_file_laws::exactly_one_order();
+    matrix_file_laws::exactly_one_perm();
+    matrix_file_laws::read_is_perm();
     plan_laws::exactly_one();
     plan_laws::read_law();
     system_laws::traversal_law();
@@ -183,14 +185,14 @@ pub fn what_answers_say()
 {
     one_input();
     tree_laws::tree_term();
-    term_laws::read_law();
+    workflow_laws::read_law();
     term_laws::terms_law();
     claim_laws::accepted_law();
     plan_laws::printed_plan();
     plan_laws::printed_length();
     run_laws::schedule_law();
     stair_laws::one_staircase();
-    graph_laws::read_law();
+    graph_file_laws::read_law();
     reduction_laws::named_term_law();
     reduction_laws::names_law();
     workflow_laws::named_workflow();
