@@ -9,7 +9,6 @@ ghost use Rattle.requests.specs.RequestViews.{request_view};
 use crate::request::{Request, number_given, number_up_to};
 use command_line::Line;
 use limits::{MOST_MINDEG, MOST_TASKS};
-use trees::Tree;
 
 /// What is to be made.
 #[derive(Clone, Copy, Debug)]

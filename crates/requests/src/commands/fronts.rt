@@ -8,7 +8,6 @@ ghost use Rattle.requests.specs.RequestViews.{request_view};
 use crate::request::{OrderedMatrix, Request, number_given, number_up_to, ordering_of};
 use command_line::Line;
 use limits::MOST_WORKERS;
-use rounds_run::Fronts;
 
 /// A matrix with the order of its elimination, and how the rows of its fronts are made.
 #[derive(Clone, Copy, Debug)]

@@ -7,7 +7,6 @@ ghost use Rattle.requests.specs.RequestViews.{request_view};
 
 use crate::request::{PlanFormat, Request, input_of, is_second};
 use command_line::Line;
-use plans::Plan;
 
 /// `plan`, an input, and `--print text` or `--print json` if it is given.
 pub fn plan_of<'a>(line: &Line<'a>) -> Option<Request<'a>>

@@ -7,7 +7,6 @@ ghost use Rattle.requests.specs.RequestViews.{request_view};
 
 use crate::request::{Input, OrderSource, Request, input_of, number_given, source_of};
 use command_line::Line;
-use spill_plan::Spill;
 
 /// An input, where its order stands, and in how much memory it is to run.
 #[derive(Clone, Copy, Debug)]

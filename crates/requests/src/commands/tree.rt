@@ -7,7 +7,6 @@ ghost use Rattle.requests.specs.RequestViews.{request_view};
 
 use crate::request::{Request, matrix_of};
 use command_line::Line;
-use trees::Tree;
 
 /// `tree` and a matrix.
 pub fn tree_request_of<'a>(line: &Line<'a>) -> Option<Request<'a>>

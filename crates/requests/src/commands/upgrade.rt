@@ -7,8 +7,6 @@ ghost use Rattle.requests.specs.RequestViews.{upgrade_view, request_view};
 
 use crate::request::Request;
 use command_line::Line;
-use plans::Plan;
-use trees::Tree;
 
 /// What is written as version 2, by the name of its file.
 #[derive(Clone, Copy, Debug)]
