@@ -7,12 +7,13 @@ use Rattle.mp_text.specs.Text.{Row}
 use Rattle.mp_text.specs.Ahead.{rows_of_bytes, past_of_bytes}
 use Rattle.mp_text.specs.Grammar.{Format, IsWellFormed, Refuses, fault_at}
 use Rattle.trees.specs.Tree.{IsNode, LeadsToRoot, ShareFits, IsTree, ancestor, node_at, children_out}
+use Rattle.trees.specs.Judged.{AreNodesWithin}
 use Rattle.tree_files.specs.TreeFile.{tree_format, nodes_stated, ReadsTree, RefusesCycle, RefusesShare, RefusesTree, line_stating}
 use Rattle.lists.specs.Numbers.{IsFirstWithout}
 use Rattle.trees.specs.declared.node.Node.{Node}
 use Rattle.tree_files.specs.declared.kind.TreeKind.{TreeKind}
 use Rattle.tree_files.specs.declared.kind.TreeKind.TheVariants as kinds
-use Rattle.tree_files.proofs.FormLemmas.{AreWithin, well_formed_within}
+use Rattle.tree_files.proofs.FormLemmas.{well_formed_within}
 
 -- ---- the lowest node of which a fact does not hold
 
@@ -133,5 +134,5 @@ one_refusal apart only bytes one two (inr (inr this)) (inr (inr that)) = one_sha
 
 pub reads-is_tree : (bytes : List ℕ) (nodes : List Node) → ReadsTree bytes nodes → IsTree nodes
 reads-is_tree bytes nodes reads =
-    let within = subst AreWithin (sym reads.stated) (well_formed_within (rows_of_bytes Commented bytes) (past_of_bytes bytes) reads.form) in
+    let within = subst AreNodesWithin (sym reads.stated) (well_formed_within (rows_of_bytes Commented bytes) (past_of_bytes bytes) reads.form) in
     record { some = within.some; few = within.few; each = within.each; total = within.total; roots = reads.roots; shares = reads.shares }
