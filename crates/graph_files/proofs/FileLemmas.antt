@@ -13,9 +13,9 @@ use Rattle.mp_text.specs.Grammar.{Format, IsWellFormed, Refuses, fault_at}
 use Rattle.graph_files.specs.declared.kind.GraphKind.{GraphKind}
 use Rattle.graph_files.specs.declared.kind.GraphKind.TheVariants as kinds
 use Rattle.graphs.specs.Graph.{TaskGraph, IsAmong, CanBeOrdered, ShareFits, IsGraph, completed_arcs, size_into, size_out_of, task_at}
-use Rattle.graph_files.specs.GraphFile.{graph_format, stated_by, HasFewArcs, IsOrdered, ReadsGraph, RefusesCycle, RefusesShare, RefusesGraph, line_stating}
+use Rattle.graph_files.specs.GraphFile.{graph_format, stated_by, ReadsGraph, RefusesCycle, RefusesShare, RefusesGraph, line_stating}
 use Rattle.lists.specs.Numbers.{IsFirstWithout}
-use Rattle.graph_files.specs.Stated.{IsWithin}
+use Rattle.graphs.specs.Judged.{HasFewArcs, IsOrdered, IsPlain}
 use Rattle.graph_files.proofs.FormLemmas.{well_formed_within}
 use Rattle.graphs.proofs.OrderLemmas.{ordered_or_not}
 
@@ -141,5 +141,5 @@ one_refusal apart only bytes one two (inr (inr (inr this))) (inr (inr (inr that)
 
 pub reads-is_graph : (bytes : List ℕ) (graph : TaskGraph) → ReadsGraph bytes graph → IsGraph graph
 reads-is_graph bytes graph reads =
-    let within = subst IsWithin (sym reads.stated) (well_formed_within (rows_of_bytes Commented bytes) (past_of_bytes bytes) reads.form) in
+    let within = subst IsPlain (sym reads.stated) (well_formed_within (rows_of_bytes Commented bytes) (past_of_bytes bytes) reads.form) in
     record { few_tasks = within.few_tasks; few_arcs = reads.few; tasks = within.tasks; arcs = within.arcs; total = within.total; ordered = reads.ordered; shares = reads.shares }
