@@ -15,7 +15,7 @@ use Rattle.assembly_tree.specs.declared.assembly.Super.{Super}
 use Rattle.assembly_tree.specs.declared.front.Shape.{Shape}
 use Rattle.assembly_tree.specs.declared.front.Shape.TheVariants.{Triangle, Square}
 use Rattle.assembly_tree.specs.Assembly.{AssemblyTree, IsSuper, IsAssembly, no_super, super_at, front_of}
-use Rattle.assembly_tree.specs.Fronts.{kept_entries, block_of, share_of, front_node, front_at, fronts_of}
+use Rattle.assembly_tree.specs.Fronts.{kept_entries, block_of, share_of, front_node, front_at, nodes_of_fronts}
 use Rattle.assembly_tree.proofs.ListLemmas.{sum_by-filter}
 use Rattle.lists.proofs.Lists.{sum_by-map}
 use Rattle.assembly_tree.proofs.RunLemmas.{supers-le, last-all}
@@ -84,13 +84,13 @@ rising_leads nodes rising (suc k) (suc i) is far =
 -- ---- the tree
 
 module _ (shape : Shape) (inplace : Bool) (assembly : AssemblyTree) (is : IsAssembly assembly) where
-  len : length (fronts_of shape inplace assembly.supers) ≡ length assembly.supers
+  len : length (nodes_of_fronts shape inplace assembly.supers) ≡ length assembly.supers
   len = length-map-range_with_len (front_at shape inplace assembly.supers) 1 (length assembly.supers)
 
-  at : (i : ℕ) (d : Node) → i < length assembly.supers → get_or (fronts_of shape inplace assembly.supers) i d ≡ front_at shape inplace assembly.supers (1 + i)
+  at : (i : ℕ) (d : Node) → i < length assembly.supers → get_or (nodes_of_fronts shape inplace assembly.supers) i d ≡ front_at shape inplace assembly.supers (1 + i)
   at i d lt = get_or-map-range_with_len (front_at shape inplace assembly.supers) 1 (length assembly.supers) i (1 + i) d lt refl
 
-  at_node : (v : ℕ) → IsSuper assembly.supers v → node_at (fronts_of shape inplace assembly.supers) v ≡ front_at shape inplace assembly.supers v
+  at_node : (v : ℕ) → IsSuper assembly.supers v → node_at (nodes_of_fronts shape inplace assembly.supers) v ≡ front_at shape inplace assembly.supers v
   at_node v h = (let back : 1 + (v - 1) ≡ v = omega (arith, h.0) in at (v - 1) _ (omega (arith, h.0, h.1)) ∙ ap (front_at shape inplace assembly.supers) back)
 
   few : length assembly.supers ≤ most_order
@@ -114,12 +114,12 @@ module _ (shape : Shape) (inplace : Bool) (assembly : AssemblyTree) (is : IsAsse
   number : (i : ℕ) → i < length assembly.supers → IsSuper assembly.supers (1 + i)
   number i lt = (omega arith, omega (arith, lt))
 
-  outs : (s : ℕ) → children_out (fronts_of shape inplace assembly.supers) s ≡ sum_by (λ x. cond (eqb x.parent s) (block_of shape x) 0) assembly.supers
+  outs : (s : ℕ) → children_out (nodes_of_fronts shape inplace assembly.supers) s ≡ sum_by (λ x. cond (eqb x.parent s) (block_of shape x) 0) assembly.supers
   outs s =
       let g = λ (x : Super). cond (eqb x.parent s) (block_of shape x) 0 in
       sum_by-map (out_below s) (front_at shape inplace assembly.supers) (range_with_len 1 (length assembly.supers)) ∙ sym (sum_by-map g (super_at assembly.supers) (range_with_len 1 (length assembly.supers))) ∙ ap (sum_by g) (supers-range assembly.supers)
 
-  share : (s : ℕ) → IsSuper assembly.supers s → (cond inplace (share_of shape assembly.supers s) 0 ≤ children_out (fronts_of shape inplace assembly.supers) s) × (cond inplace (share_of shape assembly.supers s) 0 ≤ kept_entries shape (front_of (super_at assembly.supers s)))
+  share : (s : ℕ) → IsSuper assembly.supers s → (cond inplace (share_of shape assembly.supers s) 0 ≤ children_out (nodes_of_fronts shape inplace assembly.supers) s) × (cond inplace (share_of shape assembly.supers s) 0 ≤ kept_entries shape (front_of (super_at assembly.supers s)))
   share s h =
       let sum = share-sum shape (λ x. eqb x.parent s) assembly.supers in
       let bound = share-bound shape (λ x. eqb x.parent s) (kept_entries shape (front_of (super_at assembly.supers s))) assembly.supers (λ k d lt passes.
@@ -132,12 +132,12 @@ module _ (shape : Shape) (inplace : Bool) (assembly : AssemblyTree) (is : IsAsse
       let child = ap (λ (x : Super). x.rest) here in
       size-le shape (get_or assembly.supers k d).rest (front_of (super_at assembly.supers s)) (omega (arith, rest, parent, child))) in
       let whole = outs s in
-      elim inplace as (λ b. (cond b (share_of shape assembly.supers s) 0 ≤ children_out (fronts_of shape inplace assembly.supers) s) × (cond b (share_of shape assembly.supers s) 0 ≤ kept_entries shape (front_of (super_at assembly.supers s)))) [
+      elim inplace as (λ b. (cond b (share_of shape assembly.supers s) 0 ≤ children_out (nodes_of_fronts shape inplace assembly.supers) s) × (cond b (share_of shape assembly.supers s) 0 ≤ kept_entries shape (front_of (super_at assembly.supers s)))) [
         | true ↦ (omega (arith, sum, whole), bound)
         | false ↦ (omega arith, omega arith)
       ]
 
-  pub fronts_tree : IsTree (fronts_of shape inplace assembly.supers)
+  pub fronts_tree : IsTree (nodes_of_fronts shape inplace assembly.supers)
   fronts_tree = record {
     some = omega (arith, len, some);
     few = omega (arith, len, few);
@@ -145,7 +145,7 @@ module _ (shape : Shape) (inplace : Bool) (assembly : AssemblyTree) (is : IsAsse
         let in_range : k < length assembly.supers = omega (arith, lt, len) in
         let h = number k in_range in
         let s = 1 + k in
-        subst (IsNodeWithin (fronts_of shape inplace assembly.supers)) (sym (at k d in_range)) (record {
+        subst (IsNodeWithin (nodes_of_fronts shape inplace assembly.supers)) (sym (at k d in_range)) (record {
           parent = omega (arith, inside s h, len);
           out = omega (arith, small s h, below s);
           extra = omega (arith, small s h);
@@ -153,16 +153,16 @@ module _ (shape : Shape) (inplace : Bool) (assembly : AssemblyTree) (is : IsAsse
         })
         );
     total = (
-        let each : All (λ (x : Node). node_size x ≤ (most_order * most_order)) (fronts_of shape inplace assembly.supers) = λ k d lt. (let in_range : k < length assembly.supers = omega (arith, lt, len) in omega (arith, ap node_size (at k d in_range), sizes (1 + k) (number k in_range))) in
-        omega (arith, sum_by-le node_size (most_order * most_order) (fronts_of shape inplace assembly.supers) each, len, few)
+        let each : All (λ (x : Node). node_size x ≤ (most_order * most_order)) (nodes_of_fronts shape inplace assembly.supers) = λ k d lt. (let in_range : k < length assembly.supers = omega (arith, lt, len) in omega (arith, ap node_size (at k d in_range), sizes (1 + k) (number k in_range))) in
+        omega (arith, sum_by-le node_size (most_order * most_order) (nodes_of_fronts shape inplace assembly.supers) each, len, few)
         );
     roots = λ v h. (
         let in_range : IsSuper assembly.supers v = (h.0, omega (arith, h.1, len)) in
-        rising_leads (fronts_of shape inplace assembly.supers) (λ w node some.
+        rising_leads (nodes_of_fronts shape inplace assembly.supers) (λ w node some.
         let super_w : IsSuper assembly.supers w = (node.0, omega (arith, node.1, len)) in
         let up = ap (λ (x : Node). x.parent) (at_node w super_w) in
         let above = (is.each w super_w).parent (omega (arith, up, some)) in
-        (omega (arith, up, above.0), omega (arith, up, above.1, len))) (length (fronts_of shape inplace assembly.supers)) v h (omega (arith, h.0))
+        (omega (arith, up, above.0), omega (arith, up, above.1, len))) (length (nodes_of_fronts shape inplace assembly.supers)) v h (omega (arith, h.0))
         );
     shares = λ v h. (
         let in_range : IsSuper assembly.supers v = (h.0, omega (arith, h.1, len)) in
@@ -189,6 +189,6 @@ supers_few assembly is = few Triangle false assembly is
 
 -- the fronts with the shares of a table
 pub fronts_with : (shape : Shape) (inplace : Bool) (supers : List Super) (shares : List ℕ) → ((s : ℕ) → s ≤ length supers → get_or shares s 0 ≡ cond inplace (share_of shape supers s) 0)
-    → map (λ (s : ℕ). front_node shape (get_or shares s 0) (super_at supers s)) (range_with_len 1 (length supers)) ≡ fronts_of shape inplace supers
+    → map (λ (s : ℕ). front_node shape (get_or shares s 0) (super_at supers s)) (range_with_len 1 (length supers)) ≡ nodes_of_fronts shape inplace supers
 fronts_with shape inplace supers shares are =
     map-range_same (λ (s : ℕ). front_node shape (get_or shares s 0) (super_at supers s)) (front_at shape inplace supers) (length supers) (λ s low high. ap (λ (share : ℕ). front_node shape share (super_at supers s)) (are s high))

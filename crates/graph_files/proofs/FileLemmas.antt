@@ -12,7 +12,7 @@ use Rattle.mp_text.specs.Ahead.{rows_of_bytes, past_of_bytes}
 use Rattle.mp_text.specs.Grammar.{Format, IsWellFormed, Refuses, fault_at}
 use Rattle.graph_files.specs.declared.kind.GraphKind.{GraphKind}
 use Rattle.graph_files.specs.declared.kind.GraphKind.TheVariants as kinds
-use Rattle.graphs.specs.Graph.{TaskGraph, IsAmong, CanBeOrdered, ShareFits, IsGraph, completed_arcs, size_into, size_out_of, task_at}
+use Rattle.graphs.specs.Graph.{TaskGraph, IsAmong, CanBeOrdered, TaskShareFits, IsGraph, completed_arcs, size_into, size_out_of, listed_task}
 use Rattle.graph_files.specs.GraphFile.{graph_format, stated_by, ReadsGraph, RefusesCycle, RefusesShare, RefusesGraph, line_stating}
 use Rattle.lists.specs.Numbers.{IsFirstWithout}
 use Rattle.graphs.specs.Judged.{HasFewArcs, IsOrdered, IsPlain}
@@ -52,9 +52,9 @@ few_or_not graph = elim (cases_lt most_arcs (length (completed_arcs (length grap
   | inr few ↦ inl few
 ]
 
-fits_or_not : (graph : TaskGraph) → IsEither (ShareFits graph.tasks graph.arcs) (length graph.tasks)
+fits_or_not : (graph : TaskGraph) → IsEither (TaskShareFits graph.tasks graph.arcs) (length graph.tasks)
 fits_or_not graph v among =
-    let task = task_at graph.tasks v in
+    let task = listed_task graph.tasks v in
     elim (cases_lt (sum_by (size_into v) graph.arcs) task.share) [
       | inl gt ↦ inr (λ fits. absurd (omega (arith, gt, fits.0)))
       | inr below ↦ elim (cases_lt (task.extra + sum_by (size_out_of v) graph.arcs) task.share) [
@@ -86,7 +86,7 @@ read_or_refused outcome bytes =
         | inr many ↦ inr (refusals.Limit limits.Arcs, inr (inl (record { form = form; many = many; refusal_is = refl })))
         | inl few ↦ elim (lowest (CanBeOrdered graph.arcs) n (ordered_or_not n graph.arcs (well_formed_within rows (past_of_bytes bytes) form).arcs)) [
           | inr first ↦ inr (fault_at (line_stating rows first.0) kinds.Cycle, inr (inr (inl (record { form = form; few = few; task = first.0; first = first.1; refusal_is = refl }))))
-          | inl ordered ↦ elim (lowest (ShareFits graph.tasks graph.arcs) n (fits_or_not graph)) [
+          | inl ordered ↦ elim (lowest (TaskShareFits graph.tasks graph.arcs) n (fits_or_not graph)) [
             | inr first ↦ inr (fault_at (line_stating rows first.0) kinds.Share, inr (inr (inr (record { form = form; few = few; ordered = ordered; task = first.0; first = first.1; refusal_is = refl }))))
             | inl shares ↦ inl (graph, record { form = form; stated = refl; few = few; ordered = ordered; shares = shares })
           ]
@@ -102,8 +102,8 @@ module _ (bytes : List ℕ) (graph : TaskGraph) (reads : ReadsGraph bytes graph)
   ordered_stated : IsOrdered (stated_by bytes)
   ordered_stated = subst IsOrdered reads.stated reads.ordered
 
-  shares_stated : (v : ℕ) → IsAmong (length (stated_by bytes).tasks) v → ShareFits (stated_by bytes).tasks (stated_by bytes).arcs v
-  shares_stated = subst (λ (g : TaskGraph). (v : ℕ) → IsAmong (length g.tasks) v → ShareFits g.tasks g.arcs v) reads.stated reads.shares
+  shares_stated : (v : ℕ) → IsAmong (length (stated_by bytes).tasks) v → TaskShareFits (stated_by bytes).tasks (stated_by bytes).arcs v
+  shares_stated = subst (λ (g : TaskGraph). (v : ℕ) → IsAmong (length g.tasks) v → TaskShareFits g.tasks g.arcs v) reads.stated reads.shares
 
 pub not_both : NotBoth → (bytes : List ℕ) (graph : TaskGraph) (refusal : Refusal GraphKind) → ReadsGraph bytes graph → RefusesGraph bytes refusal → ⊥
 not_both apart bytes graph refusal reads (inl refused) = apart graph_format (rows_of_bytes Commented bytes) (past_of_bytes bytes) refusal reads.form refused

@@ -13,7 +13,7 @@ use Rattle.mp_system.specs.declared.system.Task.{Task}
 use Rattle.mp_system.specs.System.{IsTaskWithin, extra_size}
 use Rattle.graphs.specs.declared.arc.Arc.{Arc}
 use Rattle.graphs.specs.Graph.{TaskGraph, IsArcWithin, arc_size}
-use Rattle.graph_files.specs.GraphFile.{graph_format, tasks_stated, arcs_stated, task_tests, task_of, extras_of, arc_tests, arc_of, sizes_of, is_whole, is_complete, arc_part_tests, graph_stated}
+use Rattle.graph_files.specs.GraphFile.{graph_format, tasks_stated, arcs_stated, task_tests, task_on_row, extras_of, arc_tests, arc_of, sizes_of, is_whole, is_complete, arc_part_tests, graph_stated}
 use Rattle.graphs.specs.Judged.{IsPlain}
 use Rattle.graph_files.proofs.ReaderLaws.{past_tasks}
 use Rattle.lists.proofs.Bools.{false_of_not, both_true, positive}
@@ -31,9 +31,9 @@ record IsTaskOn (total : ℕ) (task : Task) : Type 0 where
   pub within : IsTaskWithin task
   pub sums : total + extra_size task ≤ most_total
 
-task_passed : (total : ℕ) (row : Row) → first_failure (task_tests total row) ≡ None → IsTaskOn total (task_of row)
+task_passed : (total : ℕ) (row : Row) → first_failure (task_tests total row) ≡ None → IsTaskOn total (task_on_row row)
 task_passed total row none =
-    let task = task_of row in
+    let task = task_on_row row in
     let one = passes _ _ _ none in
     let two = passes _ _ _ one.1 in
     let three = passes _ _ _ two.1 in
@@ -144,7 +144,7 @@ module _ (header counted arcs_counted last : Row) (rows arcs : List Row) (whole 
   cut : {X : Type 0} (xs : List X) (i : ℕ) (d : X) → i < length xs → xs ≡ take i xs ++ get_or xs i d ∷ drop (i + 1) xs
   cut {X} xs i d lt = sym (take-append-drop i xs) ∙ ap (λ (ys : List X). take i xs ++ ys) (drop_more xs i d lt)
 
-  task_at_passed : (i : ℕ) (d : Row) → i < length rows → IsTaskOn (extras_of (take i rows)) (task_of (get_or rows i d))
+  task_at_passed : (i : ℕ) (d : Row) → i < length rows → IsTaskOn (extras_of (take i rows)) (task_on_row (get_or rows i d))
   task_at_passed i d lt =
       let row = get_or rows i d in
       let split : rows ++ arcs_counted ∷ (arcs ++ last ∷ []) ≡ take i rows ++ row ∷ (drop (i + 1) rows ++ arcs_counted ∷ (arcs ++ last ∷ [])) =
@@ -185,7 +185,7 @@ module _ (header counted arcs_counted last : Row) (rows arcs : List Row) (whole 
       arc_passed _ _ row (rw fewer at tests)
 
   graph : TaskGraph
-  graph = record { tasks = map task_of rows; arcs = map arc_of arcs }
+  graph = record { tasks = map task_on_row rows; arcs = map arc_of arcs }
 
   stated_is : graph_stated (header ∷ counted ∷ (rows ++ arcs_counted ∷ (arcs ++ last ∷ []))) ≡ graph
   unfolding graph
@@ -196,17 +196,17 @@ module _ (header counted arcs_counted last : Row) (rows arcs : List Row) (whole 
       let three = take_at arcs (last ∷ []) (arcs_stated arcs_counted) complete in
       rw (one, two, three) refl
 
-  tasks_within : All IsTaskWithin (map task_of rows)
+  tasks_within : All IsTaskWithin (map task_on_row rows)
   tasks_within i d lt =
-      let short : i < length rows = omega (arith, length-map rows task_of, lt) in
+      let short : i < length rows = omega (arith, length-map rows task_on_row, lt) in
       let row : Row = record { number = 0; tokens = [] } in
-      rw (get_or-map task_of rows i row d short) (task_at_passed i row short).within
+      rw (get_or-map task_on_row rows i row d short) (task_at_passed i row short).within
 
-  arcs_within : All (IsArcWithin (length (map task_of rows))) (map arc_of arcs)
+  arcs_within : All (IsArcWithin (length (map task_on_row rows))) (map arc_of arcs)
   arcs_within i d lt =
       let short : i < length arcs = omega (arith, length-map arcs arc_of, lt) in
       let row : Row = record { number = 0; tokens = [] } in
-      let n : tasks_stated counted ≡ length (map task_of rows) = omega (arith, whole, length-map rows task_of) in
+      let n : tasks_stated counted ≡ length (map task_on_row rows) = omega (arith, whole, length-map rows task_on_row) in
       rw (get_or-map arc_of arcs i row d short) (subst (λ (k : ℕ). IsArcWithin k (arc_of (get_or arcs i row))) n (arc_at_passed i row short).within)
 
   -- the sum up to the last of the lines is within the total
@@ -216,7 +216,7 @@ module _ (header counted arcs_counted last : Row) (rows arcs : List Row) (whole 
     | inl some ↦ (let row : Row = record { number = 0; tokens = [] } in
         let i = length rows - 1 in
         let on = task_at_passed (length rows - 1) row (omega arith) in
-        let more = sum_by_more (λ (r : Row). extra_size (task_of r)) rows (length rows - 1) row (omega arith) in
+        let more = sum_by_more (λ (r : Row). extra_size (task_on_row r)) rows (length rows - 1) row (omega arith) in
         let all : take (length rows - 1 + 1) rows ≡ rows = take_all (length rows - 1 + 1) rows (omega arith) in
         omega (arith, on.sums, more, ap extras_of all))
   ]
@@ -242,11 +242,11 @@ module _ (header counted arcs_counted last : Row) (rows arcs : List Row) (whole 
   pub within : IsPlain (graph_stated (header ∷ counted ∷ (rows ++ arcs_counted ∷ (arcs ++ last ∷ []))))
   unfolding graph
   within = rw stated_is (record {
-    few_tasks = omega (arith, length-map rows task_of, whole, tasks_few);
+    few_tasks = omega (arith, length-map rows task_on_row, whole, tasks_few);
     few_arcs = omega (arith, length-map arcs arc_of, complete, arcs_few);
     tasks = tasks_within;
     arcs = arcs_within;
-    total = omega (arith, sum_by-map extra_size task_of rows, sum_by-map arc_size arc_of arcs, sums_within);
+    total = omega (arith, sum_by-map extra_size task_on_row rows, sum_by-map arc_size arc_of arcs, sums_within);
   })
 
 pub well_formed_within : (rows : List Row) (past : ℕ) → IsWellFormed graph_format rows past → IsPlain (graph_stated rows)

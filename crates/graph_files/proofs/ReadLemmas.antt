@@ -6,7 +6,7 @@ use Rattle.mp_system.specs.declared.system.Task.{Task}
 use Rattle.lists.specs.Numbers.{IsFirstWithout}
 use Rattle.graphs.specs.declared.arc.Arc.{Arc}
 use Rattle.graphs.specs.declared.judged.GraphFault.TheVariants as faults
-use Rattle.graphs.specs.Graph.{TaskGraph, CanBeOrdered, ShareFits}
+use Rattle.graphs.specs.Graph.{TaskGraph, CanBeOrdered, TaskShareFits}
 use Rattle.graphs.specs.Judged.{HasFewArcs, IsOrdered, IsGraphFault}
 use Rattle.graph_files.specs.declared.kind.GraphKind.{GraphKind}
 use Rattle.graph_files.specs.declared.kind.GraphKind.TheVariants as kinds
@@ -34,6 +34,6 @@ module _ (bytes : List ℕ) (tasks : List Task) (arcs : List Arc) (lines : List 
         few = subst HasFewArcs stated.graph_is fault.0;
         ordered = subst IsOrdered stated.graph_is fault.1;
         task = task;
-        first = subst (λ (g : TaskGraph). IsFirstWithout (length g.tasks) (ShareFits g.tasks g.arcs) task) stated.graph_is fault.2;
+        first = subst (λ (g : TaskGraph). IsFirstWithout (length g.tasks) (TaskShareFits g.tasks g.arcs) task) stated.graph_is fault.2;
         refusal_is = ap (λ (line : ℕ). fault_at line kinds.Share) (stated.lines_are task fault.2.is_place);
       }))))

@@ -10,7 +10,7 @@ use Rattle.mp_text.specs.Reading.{Follows, tested}
 use Rattle.mp_text.specs.ReadingLaws.{tested-follows}
 use Rattle.mp_system.specs.System.{extra_size}
 use Rattle.graphs.specs.Graph.{arc_size}
-use Rattle.graph_files.specs.GraphFile.{graph_format, graph_line_tests, graph_end_tests, header_tests, task_count_tests, tasks_stated, arc_count_tests, arcs_stated, task_tests, task_of, extras_of, arc_tests, arc_of, sizes_of, last_tests, arc_part_tests, body_tests, is_complete}
+use Rattle.graph_files.specs.GraphFile.{graph_format, graph_line_tests, graph_end_tests, header_tests, task_count_tests, tasks_stated, arc_count_tests, arcs_stated, task_tests, task_on_row, extras_of, arc_tests, arc_of, sizes_of, last_tests, arc_part_tests, body_tests, is_complete}
 use Rattle.graph_files.specs.Reader.{ReaderState, IsFresh, TookTasks, TookArcs, staged_step, staged_end, staged_took, tasks_step, arcs_step, with_task, with_arc, graph_step, graph_end, took}
 use Rattle.graph_files.specs.declared.kind.GraphKind.{GraphKind}
 use Rattle.graph_files.specs.declared.kind.GraphKind.TheVariants as kinds
@@ -52,7 +52,7 @@ more_tasks : (s : ReaderState) (counted row : Row) (rows : List Row) → TookTas
     TookTasks (with_task s row) counted (rows ++ row ∷ [])
 more_tasks s counted row rows taken lt = record {
   count = taken.count;
-  tasks = rw taken.tasks (sym (map_push task_of rows row));
+  tasks = rw taken.tasks (sym (map_push task_on_row rows row));
   lines = rw taken.lines (sym (map_push (λ (r : Row). r.number) rows row));
   within = omega (arith, length_push rows row);
 }
@@ -74,7 +74,7 @@ at_task s header counted row rows stage taken total none lt =
             task_rows = rows ++ row ∷ [];
             rows_are = refl;
             taken = more_tasks s counted row rows taken lt;
-            total = rw total (sym (sum_by_push (λ (r : Row). extra_size (task_of r)) rows row));
+            total = rw total (sym (sum_by_push (λ (r : Row). extra_size (task_on_row r)) rows row));
             none = none;
           }),
       refl,
@@ -111,7 +111,7 @@ at_tasks : (s : ReaderState) (header counted row : Row) (rows : List Row) → s.
     Follows (body_tests (tasks_stated counted) rows row) (IsNext (header ∷ counted ∷ (rows ++ row ∷ []))) (tasks_step s row)
 at_tasks s header counted row rows stage taken total none = go (nat_lt (length rows) (tasks_stated counted)) refl where
   long : length s.tasks ≡ length rows
-  long = ap length taken.tasks ∙ length-map rows task_of
+  long = ap length taken.tasks ∙ length-map rows task_on_row
 
   same : nat_lt (length s.tasks) s.count ≡ nat_lt (length rows) (tasks_stated counted)
   same = rw (long, taken.count) refl

@@ -6,7 +6,7 @@ use Rattle.mp_text.specs.declared.layout.Layout.TheVariants.{Commented}
 use Rattle.mp_text.specs.Text.{Row}
 use Rattle.mp_text.specs.Ahead.{rows_of_bytes, past_of_bytes}
 use Rattle.graphs.specs.Graph.{TaskGraph}
-use Rattle.graph_files.specs.GraphFile.{HasForm, tasks_stated, arcs_stated, task_of, arc_of, graph_stated, line_stating, is_whole, is_complete}
+use Rattle.graph_files.specs.GraphFile.{HasForm, tasks_stated, arcs_stated, task_on_row, arc_of, graph_stated, line_stating, is_whole, is_complete}
 use Rattle.graph_files.specs.Reader.{ReaderState, TookArcs, staged_took, took}
 use Rattle.graph_files.specs.Stated.{IsStated}
 use Rattle.graphs.specs.Judged.{IsPlain}
@@ -19,7 +19,7 @@ held s = record { tasks = s.tasks; arcs = s.arcs }
 
 module _ (header counted arcs_counted last : Row) (rows arcs : List Row) (whole : length rows ≡ tasks_stated counted)
     (complete : length arcs ≡ arcs_stated arcs_counted) where
-  stated_is : graph_stated (header ∷ counted ∷ (rows ++ arcs_counted ∷ (arcs ++ last ∷ []))) ≡ record { tasks = map task_of rows; arcs = map arc_of arcs }
+  stated_is : graph_stated (header ∷ counted ∷ (rows ++ arcs_counted ∷ (arcs ++ last ∷ []))) ≡ record { tasks = map task_on_row rows; arcs = map arc_of arcs }
   stated_is =
       let one = take_at rows (arcs_counted ∷ (arcs ++ last ∷ [])) (tasks_stated counted) whole in
       let two = drop_at rows (arcs_counted ∷ (arcs ++ last ∷ [])) (tasks_stated counted) whole in
@@ -40,9 +40,9 @@ module _ (header counted arcs_counted last : Row) (rows arcs : List Row) (whole 
   whole_stated : (bytes : List ℕ) (s : ReaderState) → rows_of_bytes Commented bytes ≡ header ∷ counted ∷ (rows ++ arcs_counted ∷ (arcs ++ last ∷ []))
       → HasForm bytes → TookArcs s counted rows arcs_counted arcs → IsStated bytes (held s) s.lines
   whole_stated bytes s rows_are form taken =
-      let here : held s ≡ record { tasks = map task_of rows; arcs = map arc_of arcs } = λ i. record { tasks = taken.tasks.tasks i; arcs = taken.arcs i } in
+      let here : held s ≡ record { tasks = map task_on_row rows; arcs = map arc_of arcs } = λ i. record { tasks = taken.tasks.tasks i; arcs = taken.arcs i } in
       let graph_is : held s ≡ graph_stated (rows_of_bytes Commented bytes) = here ∙ sym (ap graph_stated rows_are ∙ stated_is) in
-      let len : length s.tasks ≡ length rows = ap length taken.tasks.tasks ∙ length-map rows task_of in
+      let len : length s.tasks ≡ length rows = ap length taken.tasks.tasks ∙ length-map rows task_on_row in
       record {
         form = form;
         graph_is = graph_is;

@@ -21,7 +21,7 @@ use Rattle.graph_files.specs.declared.fields.ArcFields.{ArcFields}
 use Rattle.graph_files.specs.declared.kind.GraphKind.{GraphKind}
 use Rattle.graph_files.specs.declared.kind.GraphKind.TheVariants as kinds
 use Rattle.lists.specs.Numbers.{IsFirstWithout}
-use Rattle.graphs.specs.Graph.{TaskGraph, IsAmong, CanBeOrdered, ShareFits, arc_size}
+use Rattle.graphs.specs.Graph.{TaskGraph, IsAmong, CanBeOrdered, TaskShareFits, arc_size}
 use Rattle.graphs.specs.Judged.{HasFewArcs, IsOrdered}
 
 -- ---- line 1: `graph 1`
@@ -64,27 +64,27 @@ arcs_stated row = count_stated (codes "arcs") row
 -- ---- a task line: `extra share time`
 
 -- a task of just these numbers
-abbrev pub task_from : Option (List ℕ) → Option Task
-task_from (Some (extra ∷ share ∷ time ∷ [])) = Some (record { extra = extra; share = share; time = time })
-task_from _ = None
+abbrev pub task_of_numbers : Option (List ℕ) → Option Task
+task_of_numbers (Some (extra ∷ share ∷ time ∷ [])) = Some (record { extra = extra; share = share; time = time })
+task_of_numbers _ = None
 
 abbrev pub task_stated : Row → Option Task
-task_stated row = task_from (numbers_of row.tokens)
+task_stated row = task_of_numbers (numbers_of row.tokens)
 
-abbrev pub task_of : Row → Task
-task_of row = unwrap_or (task_stated row) (record { extra = 0; share = 0; time = 0 })
+abbrev pub task_on_row : Row → Task
+task_on_row row = unwrap_or (task_stated row) (record { extra = 0; share = 0; time = 0 })
 
 -- with the sum of all extras of the task lines before
 abbrev pub task_tests : ℕ → Row → List (Test GraphKind)
 task_tests total row =
-    test (is_some (task_stated row) && not ((task_of row).time == 0)) (fault kinds.Number row)
-    ∷ test (nat_le (task_of row).extra most_size) (refusals.Limit limits.Size)
-    ∷ test (nat_le (task_of row).time most_time) (refusals.Limit limits.Time)
-    ∷ test (nat_le (total + (task_of row).extra) most_total) (refusals.Limit limits.Total)
+    test (is_some (task_stated row) && not ((task_on_row row).time == 0)) (fault kinds.Number row)
+    ∷ test (nat_le (task_on_row row).extra most_size) (refusals.Limit limits.Size)
+    ∷ test (nat_le (task_on_row row).time most_time) (refusals.Limit limits.Time)
+    ∷ test (nat_le (total + (task_on_row row).extra) most_total) (refusals.Limit limits.Total)
     ∷ []
 
 abbrev pub extras_of : List Row → ℕ
-extras_of rows = sum_by (λ row. extra_size (task_of row)) rows
+extras_of rows = sum_by (λ row. extra_size (task_on_row row)) rows
 
 -- ---- an arc line: `from to size`
 
@@ -175,7 +175,7 @@ abbrev pub graph_stated : List Row → TaskGraph
 graph_stated [] = record { tasks = []; arcs = [] }
 graph_stated (header ∷ []) = record { tasks = []; arcs = [] }
 graph_stated (header ∷ counted ∷ rows) =
-    record { tasks = map task_of (take (tasks_stated counted) rows); arcs = map arc_of (arc_rows (drop (tasks_stated counted) rows)) }
+    record { tasks = map task_on_row (take (tasks_stated counted) rows); arcs = map arc_of (arc_rows (drop (tasks_stated counted) rows)) }
 
 -- the number of the line that states task v
 abbrev pub line_stating : List Row → ℕ → ℕ
@@ -197,7 +197,7 @@ pub record ReadsGraph (bytes : List ℕ) (graph : TaskGraph) : Type 0 where
   pub stated : graph ≡ stated_by bytes
   pub few : HasFewArcs graph
   pub ordered : IsOrdered graph
-  pub shares : (v : ℕ) → IsAmong (length graph.tasks) v → ShareFits graph.tasks graph.arcs v
+  pub shares : (v : ℕ) → IsAmong (length graph.tasks) v → TaskShareFits graph.tasks graph.arcs v
 
 -- every line passes, and the completed graph has too many arcs
 pub record RefusesArcs (bytes : List ℕ) (refusal : Refusal GraphKind) : Type 0 where
@@ -219,7 +219,7 @@ pub record RefusesShare (bytes : List ℕ) (refusal : Refusal GraphKind) : Type 
   pub few : HasFewArcs (stated_by bytes)
   pub ordered : IsOrdered (stated_by bytes)
   pub task : ℕ
-  pub first : IsFirstWithout (length (stated_by bytes).tasks) (ShareFits (stated_by bytes).tasks (stated_by bytes).arcs) task
+  pub first : IsFirstWithout (length (stated_by bytes).tasks) (TaskShareFits (stated_by bytes).tasks (stated_by bytes).arcs) task
   pub refusal_is : refusal ≡ fault_at (line_stating (rows_of_bytes Commented bytes) task) kinds.Share
 
 abbrev pub RefusesGraph : List ℕ → Refusal GraphKind → Type 0

@@ -12,7 +12,7 @@ use Rattle.graph_files.specs.declared.kind.GraphKind.{GraphKind}
 use Rattle.graph_files.specs.declared.kind.GraphKind.TheVariants as kinds
 use Rattle.graph_files.specs.declared.stage.Stage.{Stage}
 use Rattle.graph_files.specs.declared.stage.Stage.TheVariants as stages
-use Rattle.graph_files.specs.GraphFile.{header_tests, task_count_tests, tasks_stated, arc_count_tests, arcs_stated, task_tests, task_of}
+use Rattle.graph_files.specs.GraphFile.{header_tests, task_count_tests, tasks_stated, arc_count_tests, arcs_stated, task_tests, task_on_row}
 use Rattle.graph_files.specs.GraphFile.{extras_of, arc_tests, arc_of, sizes_of, last_tests}
 
 -- what the reader keeps: what comes next, the stated numbers of tasks and of arcs, the tasks with the numbers of their lines, the
@@ -37,9 +37,9 @@ pub record IsReaderState (s : ReaderState) : Type 0 where
 abbrev pub with_task : ReaderState → Row → ReaderState
 with_task s row =
     record s {
-      tasks = s.tasks ++ task_of row ∷ [];
+      tasks = s.tasks ++ task_on_row row ∷ [];
       lines = s.lines ++ row.number ∷ [];
-      total = s.total + (task_of row).extra;
+      total = s.total + (task_on_row row).extra;
     }
 
 abbrev pub with_arc : ReaderState → Row → ReaderState
@@ -89,7 +89,7 @@ pub record IsFresh (s : ReaderState) : Type 0 where
 -- the reader took the line with the number of tasks, and these task lines
 pub record TookTasks (s : ReaderState) (counted : Row) (rows : List Row) : Type 0 where
   pub count : s.count ≡ tasks_stated counted
-  pub tasks : s.tasks ≡ map task_of rows
+  pub tasks : s.tasks ≡ map task_on_row rows
   pub lines : s.lines ≡ map (λ row. row.number) rows
   pub within : length rows ≤ tasks_stated counted
 

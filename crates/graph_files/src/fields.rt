@@ -1,6 +1,6 @@
 ghost use Rattle.std.specs.Prelude.{◌≡◌};
 ghost use Rattle.mp_text.specs.Text.{tokens_of, numbers_of};
-ghost use Rattle.graph_files.specs.GraphFile.{task_from, arc_from};
+ghost use Rattle.graph_files.specs.GraphFile.{task_of_numbers, arc_from};
 
 use mp_system::Task;
 use mp_text::tokens;
@@ -15,7 +15,7 @@ pub struct ArcFields {
 
 /// The task of a line that has just so many numbers.
 pub fn task_on_line(text: &[u8]) -> Option<Task>
-    ensures { result ≡ task_from (numbers_of (tokens_of text.now)) }
+    ensures { result ≡ task_of_numbers (numbers_of (tokens_of text.now)) }
 {
     let [extra, share, time] = tokens(text).numbers::<3>()?;
     Some(Task { extra, share, time })

@@ -8,7 +8,7 @@ ghost use Rattle.mp_text.specs.Text.{tokens_of};
 ghost use Rattle.mp_text.specs.Ahead.{row};
 ghost use Rattle.mp_text.specs.Reading.{Gives, tested};
 ghost use Rattle.graph_files.specs.GraphFile.{header_tests, task_count_tests, tasks_stated, arc_count_tests, arcs_stated, task_tests};
-ghost use Rattle.graph_files.specs.GraphFile.{task_of, arc_tests, arc_of, last_tests};
+ghost use Rattle.graph_files.specs.GraphFile.{task_on_row, arc_tests, arc_of, last_tests};
 
 use crate::fields::{arc_on_line, task_on_line};
 use crate::kind::GraphKind;
@@ -69,7 +69,7 @@ pub fn arc_count_on(line: Line<'_>) -> Result<u64, Refusal<GraphKind>>
 pub fn task_on(total: u64, line: Line<'_>) -> Result<Task, Refusal<GraphKind>>
     requires { total ≤ most_total }
     ensures judged { let r = row line.entry.number line.entry.text.now in
-        Gives (tested (task_tests total r) (task_of r)) result }
+        Gives (tested (task_tests total r) (task_on_row r)) result }
     ensures sizes { IfOk result (λ task. total + task.extra ≤ most_total) }
 {
     let task = task_on_line(line.text).ok_or(fault(line.number, GraphKind::Number))?;

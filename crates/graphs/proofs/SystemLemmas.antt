@@ -9,7 +9,7 @@ use Rattle.std.proofs.lemmas.List.Sums.{sum_by-cons}
 use Rattle.mp_system.specs.declared.system.Item.{Item}
 use Rattle.mp_system.specs.System.{IsSystem, IsItemWithin, is_named, is_input, is_output, size_if, size_where, item_size}
 use Rattle.graphs.specs.declared.arc.Arc.{Arc}
-use Rattle.graphs.specs.Graph.{TaskGraph, IsAmong, IsGraph, IsArcWithin, end_of, item_of, size_into, size_out_of, arc_size, arc_between, without_into, without_out, added_arcs, completed_arcs, completed_system}
+use Rattle.graphs.specs.Graph.{TaskGraph, IsAmong, IsGraph, IsArcWithin, end_of, item_of_arc, size_into, size_out_of, arc_size, arc_between, without_into, without_out, added_arcs, completed_arcs, completed_system}
 use Rattle.graphs.proofs.CompletionLemmas.{where-same}
 
 -- ---- ends
@@ -48,29 +48,29 @@ completed-within n arcs own =
 
 -- ---- sums
 
-into-size : (v : ℕ) (x : Arc) → 1 ≤ v → size_if (is_input v) (item_of x) ≡ size_into v x
+into-size : (v : ℕ) (x : Arc) → 1 ≤ v → size_if (is_input v) (item_of_arc x) ≡ size_into v x
 into-size v x some = ap (λ b. cond b x.size 0) (named-end x.to v some)
 
-out-size : (v : ℕ) (x : Arc) → 1 ≤ v → size_if (is_output v) (item_of x) ≡ size_out_of v x
+out-size : (v : ℕ) (x : Arc) → 1 ≤ v → size_if (is_output v) (item_of_arc x) ≡ size_out_of v x
 out-size v x some = ap (λ b. cond b x.size 0) (named-end x.from v some)
 
-inputs-arcs : (v : ℕ) (xs : List Arc) → 1 ≤ v → size_where (is_input v) (map item_of xs) ≡ sum_by (size_into v) xs
+inputs-arcs : (v : ℕ) (xs : List Arc) → 1 ≤ v → size_where (is_input v) (map item_of_arc xs) ≡ sum_by (size_into v) xs
 inputs-arcs v [] some = refl
 inputs-arcs v (x ∷ xs) some =
-    omega (arith, sum_by-cons (size_if (is_input v)) (item_of x) (map item_of xs), sum_by-cons (size_into v) x xs, into-size v x some, inputs-arcs v xs some)
+    omega (arith, sum_by-cons (size_if (is_input v)) (item_of_arc x) (map item_of_arc xs), sum_by-cons (size_into v) x xs, into-size v x some, inputs-arcs v xs some)
 
-outputs-arcs : (v : ℕ) (xs : List Arc) → 1 ≤ v → size_where (is_output v) (map item_of xs) ≡ sum_by (size_out_of v) xs
+outputs-arcs : (v : ℕ) (xs : List Arc) → 1 ≤ v → size_where (is_output v) (map item_of_arc xs) ≡ sum_by (size_out_of v) xs
 outputs-arcs v [] some = refl
 outputs-arcs v (x ∷ xs) some =
-    omega (arith, sum_by-cons (size_if (is_output v)) (item_of x) (map item_of xs), sum_by-cons (size_out_of v) x xs, out-size v x some, outputs-arcs v xs some)
+    omega (arith, sum_by-cons (size_if (is_output v)) (item_of_arc x) (map item_of_arc xs), sum_by-cons (size_out_of v) x xs, out-size v x some, outputs-arcs v xs some)
 
 always-sizes : (items : List Item) → size_where (λ x. true) items ≡ sum_by item_size items
 always-sizes [] = refl
 always-sizes (x ∷ xs) = omega (arith, sum_by-cons (size_if (λ y. true)) x xs, sum_by-cons item_size x xs, always-sizes xs)
 
-arc-sizes : (xs : List Arc) → sum_by item_size (map item_of xs) ≡ sum_by arc_size xs
+arc-sizes : (xs : List Arc) → sum_by item_size (map item_of_arc xs) ≡ sum_by arc_size xs
 arc-sizes [] = refl
-arc-sizes (x ∷ xs) = omega (arith, sum_by-cons item_size (item_of x) (map item_of xs), sum_by-cons arc_size x xs, arc-sizes xs)
+arc-sizes (x ∷ xs) = omega (arith, sum_by-cons item_size (item_of_arc x) (map item_of_arc xs), sum_by-cons arc_size x xs, arc-sizes xs)
 
 -- ---- the whole
 
@@ -79,13 +79,13 @@ completed-is_system graph is =
     let n = length graph.tasks in
     let all = completed_arcs (length graph.tasks) graph.arcs in
     let within = completed-within (length graph.tasks) graph.arcs is.arcs in
-    let sizes : sum_by item_size (map item_of all) ≡ sum_by arc_size graph.arcs =
-    sym (always-sizes (map item_of all)) ∙ where-same graph (λ x. true) ∙ always-sizes (map item_of graph.arcs) ∙ arc-sizes graph.arcs in
+    let sizes : sum_by item_size (map item_of_arc all) ≡ sum_by arc_size graph.arcs =
+    sym (always-sizes (map item_of_arc all)) ∙ where-same graph (λ x. true) ∙ always-sizes (map item_of_arc graph.arcs) ∙ arc-sizes graph.arcs in
     record {
       few_tasks = is.few_tasks;
-      few_items = omega (arith, length-map all item_of, is.few_arcs);
+      few_items = omega (arith, length-map all item_of_arc, is.few_arcs);
       tasks = is.tasks;
-      items = All-map (IsItemWithin (completed_system graph)) item_of all
+      items = All-map (IsItemWithin (completed_system graph)) item_of_arc all
           (λ i d lt. let w = within i d lt in
           record { size = w.size; producer = end-within n (get_or all i d).from w.from; consumer = end-within n (get_or all i d).to w.to });
       total = omega (arith, sizes, is.total);

@@ -27,12 +27,12 @@ abbrev pub end_of : ℕ → Option ℕ
 end_of zero = None
 end_of (suc v) = Some (suc v)
 
-abbrev pub item_of : Arc → Item
-item_of arc = record { size = arc.size; from = end_of arc.from; to = end_of arc.to }
+abbrev pub item_of_arc : Arc → Item
+item_of_arc arc = record { size = arc.size; from = end_of arc.from; to = end_of arc.to }
 
 -- one item for each arc
-abbrev pub system_of : TaskGraph → TaskSystem
-system_of graph = record { tasks = graph.tasks; items = map item_of graph.arcs }
+abbrev pub own_system : TaskGraph → TaskSystem
+own_system graph = record { tasks = graph.tasks; items = map item_of_arc graph.arcs }
 
 -- ---- the completed graph
 
@@ -65,7 +65,7 @@ abbrev pub completed : TaskGraph → TaskGraph
 completed graph = record { tasks = graph.tasks; arcs = completed_arcs (length graph.tasks) graph.arcs }
 
 abbrev pub completed_system : TaskGraph → TaskSystem
-completed_system graph = system_of (completed graph)
+completed_system graph = own_system (completed graph)
 
 -- ---- which tasks can be ordered
 
@@ -96,14 +96,14 @@ abbrev pub size_out_of : ℕ → Arc → ℕ
 size_out_of v arc = if is_out_of v arc then arc.size else 0
 
 -- the task with this number
-abbrev pub task_at : List Task → ℕ → Task
-task_at tasks v = slice_index_or tasks (v - 1) (record { extra = 0; share = 0; time = 0 })
+abbrev pub listed_task : List Task → ℕ → Task
+listed_task tasks v = slice_index_or tasks (v - 1) (record { extra = 0; share = 0; time = 0 })
 
 -- the share of a task is at most what it consumes, and at most its extra and what it produces
-abbrev pub ShareFits : List Task → List Arc → ℕ → Type 0
-ShareFits tasks arcs v =
-    ((task_at tasks v).share ≤ sum_by (size_into v) arcs)
-    × ((task_at tasks v).share ≤ (task_at tasks v).extra + sum_by (size_out_of v) arcs)
+abbrev pub TaskShareFits : List Task → List Arc → ℕ → Type 0
+TaskShareFits tasks arcs v =
+    ((listed_task tasks v).share ≤ sum_by (size_into v) arcs)
+    × ((listed_task tasks v).share ≤ (listed_task tasks v).extra + sum_by (size_out_of v) arcs)
 
 -- ---- graphs within the limits
 
@@ -126,7 +126,7 @@ pub record IsGraph (graph : TaskGraph) : Type 0 where
   pub arcs : All (IsArcWithin (length graph.tasks)) graph.arcs
   pub total : sum_by extra_size graph.tasks + sum_by arc_size graph.arcs ≤ most_total
   pub ordered : (v : ℕ) → IsAmong (length graph.tasks) v → CanBeOrdered graph.arcs v
-  pub shares : (v : ℕ) → IsAmong (length graph.tasks) v → ShareFits graph.tasks graph.arcs v
+  pub shares : (v : ℕ) → IsAmong (length graph.tasks) v → TaskShareFits graph.tasks graph.arcs v
 
 -- the arcs of the completed graph, of which so many are the graph's own
 pub record IsCompleted (tasks : List Task) (all : List Arc) (own : ℕ) : Type 0 where

@@ -5,7 +5,7 @@ use Rattle.std.specs.List.{sum_by}
 use Rattle.limits.specs.Limits.{most_tasks, most_arcs, most_total}
 use Rattle.lists.specs.Numbers.{IsFirstWithout}
 use Rattle.mp_system.specs.System.{IsTaskWithin, extra_size}
-use Rattle.graphs.specs.Graph.{TaskGraph, IsAmong, IsArcWithin, CanBeOrdered, ShareFits, arc_size, completed_arcs}
+use Rattle.graphs.specs.Graph.{TaskGraph, IsAmong, IsArcWithin, CanBeOrdered, TaskShareFits, arc_size, completed_arcs}
 use Rattle.graphs.specs.declared.judged.GraphFault.{GraphFault}
 use Rattle.graphs.specs.declared.judged.GraphFault.TheVariants as faults
 
@@ -31,5 +31,5 @@ abbrev pub IsGraphFault : TaskGraph → GraphFault → Type 0
 IsGraphFault graph faults.Arcs = HasFewArcs graph → ⊥
 IsGraphFault graph (faults.Cycle v) = HasFewArcs graph × IsFirstWithout (length graph.tasks) (CanBeOrdered graph.arcs) v
 IsGraphFault graph (faults.Share v) =
-    HasFewArcs graph × IsOrdered graph × IsFirstWithout (length graph.tasks) (ShareFits graph.tasks graph.arcs) v
+    HasFewArcs graph × IsOrdered graph × IsFirstWithout (length graph.tasks) (TaskShareFits graph.tasks graph.arcs) v
 IsGraphFault graph faults.NoMemory = Unit {0}

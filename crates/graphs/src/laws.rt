@@ -4,7 +4,7 @@ ghost use Rattle.std.specs.Prelude.{◌≡◌, ◌≤◌, ◌↔◌, ℕ, List, 
 ghost use Rattle.mp_system.specs.System.{IsSystem};
 ghost use Rattle.mp_system.specs.Memory.{peak_of};
 ghost use Rattle.mp_system.specs.Traversal.{IsTraversal, IsLeast};
-ghost use Rattle.graphs.specs.Graph.{TaskGraph, IsGraph, IsAmong, IsArcWithin, Rises, is_into, is_out_of, completed, system_of};
+ghost use Rattle.graphs.specs.Graph.{TaskGraph, IsGraph, IsAmong, IsArcWithin, Rises, is_into, is_out_of, completed, own_system};
 ghost use Rattle.graphs.specs.Graph.{completed_system};
 
 /// The completed system is within the limits of systems.
@@ -15,9 +15,9 @@ pub fn system_law()
 /// A list is a traversal of the graph's own system exactly where it is one of the completed system, with the same peak.
 pub fn completion_law()
     ensures traversal { (graph : TaskGraph) (order : List ℕ) →
-        IsTraversal (system_of graph) order ↔ IsTraversal (completed_system graph) order }
-    ensures peak { (graph : TaskGraph) (order : List ℕ) → peak_of (completed_system graph) order ≡ peak_of (system_of graph) order }
-    ensures least { (graph : TaskGraph) (peak : ℕ) → IsLeast (system_of graph) peak ↔ IsLeast (completed_system graph) peak }
+        IsTraversal (own_system graph) order ↔ IsTraversal (completed_system graph) order }
+    ensures peak { (graph : TaskGraph) (order : List ℕ) → peak_of (completed_system graph) order ≡ peak_of (own_system graph) order }
+    ensures least { (graph : TaskGraph) (peak : ℕ) → IsLeast (own_system graph) peak ↔ IsLeast (completed_system graph) peak }
 {}
 
 /// In the completed graph an arc leads into each task, and one out of it, and each arc keeps to the limits. Its tasks have ranks such

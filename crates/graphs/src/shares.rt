@@ -4,7 +4,7 @@ ghost use Rattle.std.specs.Prelude.{◌≡◌, ◌≤◌, ◌<◌, ◌+◌, ◌^
 ghost use Rattle.std.specs.List.{sum_by};
 ghost use Rattle.limits.specs.Limits.{most_tasks, most_total};
 ghost use Rattle.mp_system.specs.System.{extra_size};
-ghost use Rattle.graphs.specs.Graph.{IsAmong, IsArcWithin, ShareFits, size_into, size_out_of, arc_size};
+ghost use Rattle.graphs.specs.Graph.{IsAmong, IsArcWithin, TaskShareFits, size_into, size_out_of, arc_size};
 ghost use Rattle.lists.specs.Numbers.{IsFirstWithout};
 
 use crate::NoMemory;
@@ -55,8 +55,8 @@ fn first_unfit(tasks: &[Task], arcs: &[Arc], into: &[u64], out: &[u64]) -> Optio
     requires into { (length into.now ≡ length tasks.now + 1) × ((v : ℕ) → slice_index into.now v ≡ sum_by (size_into v) arcs.now) }
     requires out { (length out.now ≡ length tasks.now + 1) × ((v : ℕ) → slice_index out.now v ≡ sum_by (size_out_of v) arcs.now) }
     ensures { MatchOption result
-        ((v : ℕ) → IsAmong (length tasks.now) v → ShareFits tasks.now arcs.now v)
-        (λ v. IsFirstWithout (length tasks.now) (ShareFits tasks.now arcs.now) v) }
+        ((v : ℕ) → IsAmong (length tasks.now) v → TaskShareFits tasks.now arcs.now v)
+        (λ v. IsFirstWithout (length tasks.now) (TaskShareFits tasks.now arcs.now) v) }
 {
     for i in 0..tasks.len() {
         if !fits(tasks[i], into[i + 1], out[i + 1]) {
@@ -76,8 +76,8 @@ pub fn first_unfit_share(
     requires within { All (IsArcWithin (length tasks.now)) arcs.now }
     requires total { sum_by extra_size tasks.now + sum_by arc_size arcs.now ≤ most_total }
     ensures { IfOk result (λ found. MatchOption found
-        ((v : ℕ) → IsAmong (length tasks.now) v → ShareFits tasks.now arcs.now v)
-        (λ v. IsFirstWithout (length tasks.now) (ShareFits tasks.now arcs.now) v)) }
+        ((v : ℕ) → IsAmong (length tasks.now) v → TaskShareFits tasks.now arcs.now v)
+        (λ v. IsFirstWithout (length tasks.now) (TaskShareFits tasks.now arcs.now) v)) }
 {
     let count = tasks.len() as u32;
     let into = sizes_into(alloc, count, arcs)?;

@@ -1,5 +1,5 @@
 ghost use Rattle.std.specs.Prelude.{◌≡◌, IfOk, map};
-ghost use Rattle.graphs.specs.Graph.{item_of, end_of, completed_system};
+ghost use Rattle.graphs.specs.Graph.{item_of_arc, end_of, completed_system};
 
 use crate::NoMemory;
 use crate::arc::Arc;
@@ -15,7 +15,7 @@ fn end_of(number: u32) -> Option<u32>
 }
 
 fn items_of(alloc: Global, arcs: &[Arc]) -> Result<Vec<Item>, NoMemory>
-    ensures { IfOk result (λ items. items.items ≡ map item_of arcs.now) }
+    ensures { IfOk result (λ items. items.items ≡ map item_of_arc arcs.now) }
 {
     arcs.iter()
         .map(|arc| Item {

@@ -7,7 +7,7 @@ use Rattle.mp_system.specs.System.{TaskSystem}
 use Rattle.sp_terms.specs.declared.position.Position.{Position}
 use Rattle.sp_terms.specs.Values.{term_of}
 use Rattle.trees.specs.declared.node.Node.{Node}
-use Rattle.judging.specs.Files.{Answer, HasValue, IsMatrixFile, CanBeOrdered, IsOrderOf, IsOrderedMatrix, IsOrderFrom, IsMatrixTree, IsTreeOf, IsSystemOf, IsSystemWithTerm, IsFirstRefusal, AreAccepted}
+use Rattle.judging.specs.Files.{Answer, HasValue, IsMatrixFile, HasOrdering, IsOrderOf, IsOrderedMatrix, IsOrderFrom, IsMatrixTree, IsTreeOf, IsSystemOf, IsSystemWithTerm, IsFirstRefusal, AreAccepted}
 use Rattle.judging.specs.Told.{AreTold, HasFailed}
 use Rattle.judging.specs.Judged.{IsStop, IsRefusedOrder, IsMatrixRead, IsProblemOf, IsOrderRead, IsOrderedOf, IsRefusedSource, order_tasks}
 use Rattle.judging.specs.declared.inputs.Order.{Order}
@@ -59,7 +59,7 @@ module _ (told now : List ℕ → Option (List ℕ)) (same : (name : List ℕ) �
       (λ one two answer are more refused. alone_told told (matrix_at (perm_named perm) name) (λ texts. IsFirstRefusal (ordering_files (perm_named perm)) texts two answer)
       (λ text is. perm_refused rows perm text two answer (is_matrix text is) refused) one are) e h
 
-can_be_ordered : (o : Ordering) (rows texts : List (List ℕ)) (order : List ℕ) → IsOrderOf o rows texts order → CanBeOrdered o (length rows)
+can_be_ordered : (o : Ordering) (rows texts : List (List ℕ)) (order : List ℕ) → IsOrderOf o rows texts order → HasOrdering o (length rows)
 can_be_ordered natural rows texts order is = tt
 can_be_ordered min_degree rows [] order is = is.0
 can_be_ordered min_degree rows (text ∷ texts) order is = absurd is

@@ -15,7 +15,7 @@ use Rattle.trees.specs.declared.node.Node.{Node}
 use Rattle.trees.specs.Forest.{Forest, no_trees, tree, roots_of, all_numbers}
 use Rattle.trees.specs.TreeTerm.{beside_positions, own_positions, tree_positions, forest_positions}
 use Rattle.judging.specs.Judged.{IsNaming, AreWithin}
-use Rattle.judging.specs.Numbered.{task_positions, position_of, node_positions}
+use Rattle.judging.specs.Numbered.{task_positions, position_named, node_positions}
 
 -- ---- the positions of tasks
 
@@ -140,7 +140,7 @@ names_of names n is =
 
 -- the position of the task of a name
 pub position_at : (v i : ℕ) (names ks : List ℕ) → i < length names → i < length ks → get_or names i 0 ≡ v
-    → ((j : ℕ) → j < i → get_or names j 0 ≢ v) → position_of v names ks ≡ get_or ks i 0
+    → ((j : ℕ) → j < i → get_or names j 0 ≢ v) → position_named v names ks ≡ get_or ks i 0
 position_at v i [] ks many more is first = absurd (omega (arith, many))
 position_at v i (name ∷ names) [] many more is first = absurd (omega (arith, more))
 position_at v zero (name ∷ names) (k ∷ ks) many more is first = rw (eq-eqb name v is) refl
@@ -157,36 +157,36 @@ module _ (names ks : List ℕ) (are : IsNaming names) (many : length ks ≡ leng
   ]
 
   -- the position at the place of a name
-  pub position_there : (i : ℕ) → i < length names → position_of (get_or names i 0) names ks ≡ get_or ks i 0
+  pub position_there : (i : ℕ) → i < length names → position_named (get_or names i 0) names ks ≡ get_or ks i 0
   position_there i h =
       position_at (get_or names i 0) i names ks h (omega (arith, h, many)) refl (λ j lt e. are.once j i lt h e)
 
   -- a table that has, for the name at each place, what stands there
   pub by_names : (named : List ℕ) → length named ≡ length names
       → ((i : ℕ) → i < length names → get_or named (get_or names i 0 - 1) 0 ≡ get_or ks i 0)
-      → named ≡ map (λ v. position_of v names ks) (range_with_len 1 (length names))
+      → named ≡ map (λ v. position_named v names ks) (range_with_len 1 (length names))
   by_names named long each =
-      ext_get_or 0 named (map (λ v. position_of v names ks) (range_with_len 1 (length names)))
-      (long ∙ sym (length-map-range_with_len (λ v. position_of v names ks) 1 (length names)))
+      ext_get_or 0 named (map (λ v. position_named v names ks) (range_with_len 1 (length names)))
+      (long ∙ sym (length-map-range_with_len (λ v. position_named v names ks) 1 (length names)))
       (λ q h.
       let found = are.each (q + 1) (omega arith) (omega (arith, h, long)) in
       let i = found.0 in
       let is : get_or names i 0 ≡ q + 1 = sym (get_or_default_zero names i (q + 1) found.1) ∙ found.2 in
       let here : get_or names i 0 - 1 ≡ q = omega (arith, is) in
       subst (λ (p : ℕ). get_or named p 0 ≡ get_or ks i 0) here (each i found.1)
-      ∙ sym (position_there i found.1) ∙ ap (λ (v : ℕ). position_of v names ks) is
-      ∙ sym (get_or-map-range_with_len (λ v. position_of v names ks) 1 (length names) q (q + 1) 0 (omega (arith, h, long)) (omega arith)))
+      ∙ sym (position_there i found.1) ∙ ap (λ (v : ℕ). position_named v names ks) is
+      ∙ sym (get_or-map-range_with_len (λ v. position_named v names ks) 1 (length names) q (q + 1) 0 (omega (arith, h, long)) (omega arith)))
 
   -- each name has a position
-  pub named_within : (most : ℕ) → AreWithin most ks → AreWithin most (map (λ v. position_of v names ks) (range_with_len 1 (length names)))
+  pub named_within : (most : ℕ) → AreWithin most ks → AreWithin most (map (λ v. position_named v names ks) (range_with_len 1 (length names)))
   named_within most within q d h =
-      let few = length-map-range_with_len (λ v. position_of v names ks) 1 (length names) in
+      let few = length-map-range_with_len (λ v. position_named v names ks) 1 (length names) in
       let found = are.each (q + 1) (omega arith) (omega (arith, h, few)) in
       let i = found.0 in
       let is : get_or names i 0 ≡ q + 1 = sym (get_or_default_zero names i (q + 1) found.1) ∙ found.2 in
-      let value : get_or ks i 0 ≡ get_or (map (λ v. position_of v names ks) (range_with_len 1 (length names))) q d =
-      sym (position_there i found.1) ∙ ap (λ (v : ℕ). position_of v names ks) is
-      ∙ sym (get_or-map-range_with_len (λ v. position_of v names ks) 1 (length names) q (q + 1) d (omega (arith, h, few)) (omega arith)) in
+      let value : get_or ks i 0 ≡ get_or (map (λ v. position_named v names ks) (range_with_len 1 (length names))) q d =
+      sym (position_there i found.1) ∙ ap (λ (v : ℕ). position_named v names ks) is
+      ∙ sym (get_or-map-range_with_len (λ v. position_named v names ks) 1 (length names) q (q + 1) d (omega (arith, h, few)) (omega arith)) in
       subst (λ (k : ℕ). (1 ≤ k) × (k ≤ most)) value (within i 0 (omega (arith, found.1, many)))
 
 pub nodes_within : (names : List ℕ) (ps : List Position) → IsNaming names → length (task_positions 1 ps) ≡ length names → AreWithin (length ps) (node_positions names ps)

@@ -104,10 +104,10 @@ abbrev pub IsPlanFile : List ℕ → PlanValue → Type 0
 IsPlanFile text plan = IsWithinBytes text × ReadsPlan text plan
 
 -- a matrix of n rows can be eliminated in this order: by minimum degree only up to a limit
-abbrev pub CanBeOrdered : Ordering → ℕ → Type 0
-CanBeOrdered natural n = Unit {0}
-CanBeOrdered min_degree n = n ≤ most_mindeg
-CanBeOrdered (perm_named name) n = Unit {0}
+abbrev pub HasOrdering : Ordering → ℕ → Type 0
+HasOrdering natural n = Unit {0}
+HasOrdering min_degree n = n ≤ most_mindeg
+HasOrdering (perm_named name) n = Unit {0}
 
 -- the order in which the rows of a matrix are eliminated: 1, 2, .., n, by minimum degree, or of its permutation file
 abbrev pub IsOrderOf : Ordering → List (List ℕ) → List (List ℕ) → List ℕ → Type 0
@@ -203,24 +203,24 @@ IsAcceptedPlanPriority (first ∷ earlier) text =
     (plan : PlanValue) × (priority : List ℕ) × IsPlanFile first plan × IsPermFile (length plan.order) text priority
 
 -- the file is refused with this answer, after these texts of earlier files
-abbrev pub IsRefused : FileRole → List (List ℕ) → List ℕ → Answer → Type 0
-IsRefused tree_file earlier text answer = IsRefusedFile (codes "tree") tree_word (RefusesTree text) text answer
-IsRefused workflow_file earlier text answer = IsRefusedFile (codes "workflow") workflow_word (RefusesWorkflow text) text answer
-IsRefused graph_file earlier text answer = IsRefusedFile (codes "graph") graph_word (RefusesGraph text) text answer
-IsRefused (matrix_file ordering) earlier text answer =
+abbrev pub IsRefusedInRole : FileRole → List (List ℕ) → List ℕ → Answer → Type 0
+IsRefusedInRole tree_file earlier text answer = IsRefusedFile (codes "tree") tree_word (RefusesTree text) text answer
+IsRefusedInRole workflow_file earlier text answer = IsRefusedFile (codes "workflow") workflow_word (RefusesWorkflow text) text answer
+IsRefusedInRole graph_file earlier text answer = IsRefusedFile (codes "graph") graph_word (RefusesGraph text) text answer
+IsRefusedInRole (matrix_file ordering) earlier text answer =
     IsRefusedFile (codes "matrix") matrix_word (RefusesPattern text) text answer ⊎ IsTooLarge ordering text answer
-IsRefused perm_file earlier text answer = IsRefusedPerm earlier text answer
-IsRefused order_file earlier text answer = IsRefusedFile (codes "order") order_file_word (RefusesOrder text) text answer
-IsRefused plan_file earlier text answer = IsRefusedFile (codes "plan") plan_word (RefusesPlan text) text answer
-IsRefused (priority_file input) earlier text answer = IsRefusedPriority input earlier text answer
-IsRefused plan_priority_file earlier text answer = IsRefusedPlanPriority earlier text answer
+IsRefusedInRole perm_file earlier text answer = IsRefusedPerm earlier text answer
+IsRefusedInRole order_file earlier text answer = IsRefusedFile (codes "order") order_file_word (RefusesOrder text) text answer
+IsRefusedInRole plan_file earlier text answer = IsRefusedFile (codes "plan") plan_word (RefusesPlan text) text answer
+IsRefusedInRole (priority_file input) earlier text answer = IsRefusedPriority input earlier text answer
+IsRefusedInRole plan_priority_file earlier text answer = IsRefusedPlanPriority earlier text answer
 
 -- the file has a value, after these texts of earlier files
 abbrev pub HasValue : FileRole → List (List ℕ) → List ℕ → Type 0
 HasValue tree_file earlier text = (nodes : List Node) × IsTreeFile text nodes
 HasValue workflow_file earlier text = (positions : List Position) × IsWorkflowFile text positions
 HasValue graph_file earlier text = (graph : TaskGraph) × IsGraphFile text graph
-HasValue (matrix_file ordering) earlier text = (rows : List (List ℕ)) × IsMatrixFile text rows × CanBeOrdered ordering (length rows)
+HasValue (matrix_file ordering) earlier text = (rows : List (List ℕ)) × IsMatrixFile text rows × HasOrdering ordering (length rows)
 HasValue perm_file earlier text = IsAcceptedPerm earlier text
 HasValue order_file earlier text = (numbers : List ℕ) × IsOrderFile text numbers
 HasValue plan_file earlier text = (plan : PlanValue) × IsPlanFile text plan
@@ -232,7 +232,7 @@ abbrev pub IsFirstRefusal : List NamedFile → List (List ℕ) → List (List �
 IsFirstRefusal [] earlier texts answer = ⊥
 IsFirstRefusal (file ∷ files) earlier [] answer = ⊥
 IsFirstRefusal (file ∷ files) earlier (text ∷ texts) answer =
-    IsRefused file.role earlier text answer ⊎ (HasValue file.role earlier text × IsFirstRefusal files (earlier ++ text ∷ []) texts answer)
+    IsRefusedInRole file.role earlier text answer ⊎ (HasValue file.role earlier text × IsFirstRefusal files (earlier ++ text ∷ []) texts answer)
 
 -- each of these files has a value; after earlier texts
 abbrev pub AreAccepted : List NamedFile → List (List ℕ) → List (List ℕ) → Type 0

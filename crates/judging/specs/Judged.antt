@@ -13,7 +13,7 @@ use Rattle.permutations.specs.Perm.{IsPerm}
 use Rattle.matrix_files.specs.PermFile.{RefusesPerm}
 use Rattle.sp_terms.specs.Postfix.{Denotes}
 use Rattle.sp_terms.specs.Values.{term_of}
-use Rattle.judging.specs.Files.{limit_refused, Answer, IsRefused, IsRefusedAs, IsRefusedFile, IsOrderFrom, IsOrderedMatrix}
+use Rattle.judging.specs.Files.{limit_refused, Answer, IsRefusedInRole, IsRefusedAs, IsRefusedFile, IsOrderFrom, IsOrderedMatrix}
 use Rattle.judging.specs.Files.{IsPermFile, IsTreeOf, IsWorkflowFile, AreAccepted}
 use Rattle.judging.specs.Priorities.{IsOwnPriority, priority_or}
 use Rattle.judging.specs.Numbered.{IsNumberedTerm}
@@ -127,7 +127,7 @@ IsOrderRead source texts order = ⊥
 
 -- the file of a source is refused, after any others
 abbrev pub IsRefusedSource : OrderSource → List (List ℕ) → Answer → Type 0
-IsRefusedSource source (text ∷ []) answer = (earlier : List (List ℕ)) → IsRefused (source_file source).role earlier text answer
+IsRefusedSource source (text ∷ []) answer = (earlier : List (List ℕ)) → IsRefusedInRole (source_file source).role earlier text answer
 IsRefusedSource source texts answer = ⊥
 
 -- the problem of an input, and the order of a source

@@ -19,14 +19,14 @@ task_positions k (at.Task extra share time ∷ ps) = k ∷ task_positions (k + 1
 task_positions k (Par parts ∷ ps) = task_positions (k + 1) ps
 
 -- the position of the task of this name; the names of the tasks and their positions are given in the same order. 0 where none has it
-abbrev pub position_of : ℕ → List ℕ → List ℕ → ℕ
-position_of v [] ks = 0
-position_of v (name ∷ names) [] = 0
-position_of v (name ∷ names) (k ∷ ks) = if name == v then k else position_of v names ks
+abbrev pub position_named : ℕ → List ℕ → List ℕ → ℕ
+position_named v [] ks = 0
+position_named v (name ∷ names) [] = 0
+position_named v (name ∷ names) (k ∷ ks) = if name == v then k else position_named v names ks
 
 -- the positions of the nodes 1, 2, .., each that of its task, by the nodes that the tasks are
 abbrev pub node_positions : List ℕ → List Position → List ℕ
-node_positions names ps = map (λ v. position_of v names (task_positions 1 ps)) (range_with_len 1 (length names))
+node_positions names ps = map (λ v. position_named v names (task_positions 1 ps)) (range_with_len 1 (length names))
 
 -- the positions of an input's term, and those of them that the numbers 1, 2, .. of the report stand for: of a tree those of its nodes, of a
 -- workflow all

@@ -6,7 +6,7 @@ ghost use Rattle.trees.specs.Forest.{Forest, IsForestOf, all_numbers};
 ghost use Rattle.trees.specs.TreeTerm.{forest_positions};
 ghost use Rattle.judging.specs.Files.{IsFirstRefusal};
 ghost use Rattle.judging.specs.Judged.{AreJudged, IsNumbered, IsNaming, AreWithin};
-ghost use Rattle.judging.specs.Numbered.{node_positions, position_of, task_positions};
+ghost use Rattle.judging.specs.Numbered.{node_positions, position_named, task_positions};
 ghost use Rattle.requests.specs.Request.{input_files};
 ghost use Rattle.requests.specs.RequestViews.{input_view};
 
@@ -46,7 +46,7 @@ fn by_name(alloc: Global, names: &[u32], positions: &[u32]) -> Result<Vec<u32>, 
     requires names { IsNaming names.now }
     requires many { length positions.now ≡ length names.now }
     ensures { IfOk result (λ named. named.items
-        ≡ map (λ v. position_of v names.now positions.now) (range_with_len 1 (length names.now))) }
+        ≡ map (λ v. position_named v names.now positions.now) (range_with_len 1 (length names.now))) }
 {
     let mut named = vec![in alloc; 0; names.len()]?;
     for (i, name) in names.iter().enumerate() {

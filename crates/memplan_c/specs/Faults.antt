@@ -128,27 +128,27 @@ abbrev pub of_degree : MindegRefusal → Answer
 of_degree degrees.Limit = answer status.limit kinds.degree 0 0
 of_degree degrees.NoMemory = no_memory
 
-abbrev pub answer_of : Refusal → Answer
-answer_of (refusals.Room needed) = answer status.usage kinds.room 0 needed
-answer_of (refusals.ClaimRoom needed) = answer status.usage kinds.claim_room 0 needed
-answer_of (refusals.NodeRoom needed) = answer status.usage kinds.node_room 0 needed
-answer_of refusals.Shape = answer status.usage kinds.shape 0 0
-answer_of refusals.Workers = answer status.usage kinds.workers 0 0
-answer_of (refusals.Nodes refusal) = of_nodes refusal
-answer_of (refusals.System refusal) = of_system refusal
-answer_of (refusals.Replay refusal) = of_replay refusal
-answer_of (refusals.Core refusal) = of_core refusal
-answer_of (refusals.Spill refusal) = of_spill refusal
-answer_of (refusals.Columns refusal) = of_columns refusal
-answer_of (refusals.Perm refusal) = of_perm refusal
-answer_of (refusals.Degree refusal) = of_degree refusal
-answer_of (refusals.Plan fault) = of_plan fault
-answer_of (refusals.Objection objection) = of_objection objection
-answer_of refusals.NoMemory = no_memory
+abbrev pub answer_to : Refusal → Answer
+answer_to (refusals.Room needed) = answer status.usage kinds.room 0 needed
+answer_to (refusals.ClaimRoom needed) = answer status.usage kinds.claim_room 0 needed
+answer_to (refusals.NodeRoom needed) = answer status.usage kinds.node_room 0 needed
+answer_to refusals.Shape = answer status.usage kinds.shape 0 0
+answer_to refusals.Workers = answer status.usage kinds.workers 0 0
+answer_to (refusals.Nodes refusal) = of_nodes refusal
+answer_to (refusals.System refusal) = of_system refusal
+answer_to (refusals.Replay refusal) = of_replay refusal
+answer_to (refusals.Core refusal) = of_core refusal
+answer_to (refusals.Spill refusal) = of_spill refusal
+answer_to (refusals.Columns refusal) = of_columns refusal
+answer_to (refusals.Perm refusal) = of_perm refusal
+answer_to (refusals.Degree refusal) = of_degree refusal
+answer_to (refusals.Plan fault) = of_plan fault
+answer_to (refusals.Objection objection) = of_objection objection
+answer_to refusals.NoMemory = no_memory
 
 -- a call is refused for a cause: the status and the fault are those of a refusal that has it
-pub record IsRefused (cause : Refusal → Type 0) (status : ℕ) (fault : Fault) : Type 0 where
+pub record IsRefusedFor (cause : Refusal → Type 0) (status : ℕ) (fault : Fault) : Type 0 where
   pub refusal : Refusal
   pub because : cause refusal
-  pub status_is : status ≡ (answer_of refusal).status
-  pub fault_is : fault ≡ (answer_of refusal).fault
+  pub status_is : status ≡ (answer_to refusal).status
+  pub fault_is : fault ≡ (answer_to refusal).fault

@@ -55,15 +55,15 @@ IsSpillCallRefusal nodes order bound room other = ⊥
 -- ---- plans with claims
 
 -- claims of a caller's array that a plan may have: within the limits, and each at a greater position than the one before
-abbrev pub AreClaims : List Claim → Type 0
-AreClaims claims = All IsClaimWithin (map claim_given claims) × RiseFrom 0 (map claim_given claims)
+abbrev pub AreRisingClaims : List Claim → Type 0
+AreRisingClaims claims = All IsClaimWithin (map claim_given claims) × RiseFrom 0 (map claim_given claims)
 
 -- the first claim, counted from 1, with which they are not
 pub record IsFirstWrong (claims : List Claim) (k : ℕ) : Type 0 where
   pub positive : 1 ≤ k
   pub there : k ≤ length claims
-  pub before : AreClaims (take (k - 1) claims)
-  pub wrong : AreClaims (take k claims) → ⊥
+  pub before : AreRisingClaims (take (k - 1) claims)
+  pub wrong : AreRisingClaims (take k claims) → ⊥
 
 -- the fault is a claim, of which this is said
 abbrev pub IfClaim : PlanFault → (ℕ → Type 0) → Type 0

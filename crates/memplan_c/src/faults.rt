@@ -3,7 +3,7 @@
 ghost use Rattle.std.specs.Prelude.{◌≡◌};
 ghost use Rattle.mp_system.specs.declared.judged.SystemRefusal.TheVariants as systems;
 ghost use Rattle.trees.specs.declared.judged.NodesRefusal.TheVariants as nodes;
-ghost use Rattle.memplan_c.specs.Faults.{answer, answer_of, of_nodes, of_system, of_replay, of_order, of_core, of_spill, of_plan};
+ghost use Rattle.memplan_c.specs.Faults.{answer, answer_to, of_nodes, of_system, of_replay, of_order, of_core, of_spill, of_plan};
 ghost use Rattle.memplan_c.specs.Faults.{of_objection, of_columns, of_perm, of_degree};
 
 use crate::{kinds, statuses};
@@ -47,7 +47,7 @@ fn say(status: u32, kind: u32, at: u64, value: u64) -> Answer
 }
 
 fn no_memory() -> Answer
-    ensures { result ≡ answer_of Refusal.NoMemory }
+    ensures { result ≡ answer_to Refusal.NoMemory }
 {
     say(statuses::NO_MEMORY, kinds::NO_MEMORY, 0, 0)
 }
@@ -215,7 +215,7 @@ fn of_degree(refusal: MindegRefusal) -> Answer
 }
 
 fn answer_of(refusal: Refusal) -> Answer
-    ensures { result ≡ answer_of refusal }
+    ensures { result ≡ answer_to refusal }
 {
     match refusal {
         Refusal::Room { needed } => say(statuses::USAGE, kinds::ROOM, 0, needed),
@@ -239,8 +239,8 @@ fn answer_of(refusal: Refusal) -> Answer
 
 /// The status of a refusal, whose fault is written.
 pub fn refuse(refusal: Refusal, fault: &mut Fault) -> u32
-    ensures status { result ≡ (answer_of refusal).status }
-    ensures fault { fault.new ≡ (answer_of refusal).fault }
+    ensures status { result ≡ (answer_to refusal).status }
+    ensures fault { fault.new ≡ (answer_to refusal).fault }
 {
     let answer = answer_of(refusal);
     *fault = answer.fault;

@@ -5,7 +5,7 @@ ghost use Rattle.limits.specs.Limits.{most_order};
 ghost use Rattle.permutations.specs.Perm.{IsPerm};
 ghost use Rattle.symbolic.specs.FrontTree.{relaxed};
 ghost use Rattle.memplan_c.specs.declared.refusal.Refusal.TheVariants as refusals;
-ghost use Rattle.memplan_c.specs.Faults.{IsRefused};
+ghost use Rattle.memplan_c.specs.Faults.{IsRefusedFor};
 ghost use Rattle.memplan_c.specs.Fronts.{AreFronts, HaveFronts, IsMatrixFrontsRefusal, IsMatrixOrder, IsMatrixOrderRefusal};
 ghost use Rattle.memplan_c.specs.Fronts.{fronts_of_columns, matrix_given, options_given, shape_given};
 
@@ -196,7 +196,7 @@ pub extern "C" fn memplan_fronts(
     // there are at most as many as columns
     ensures few { result ≡ 0 → count.new ≤ length front_of.new }
     ensures past { result ≡ 0 → drop count.new nodes.new ≡ drop count.new nodes.old }
-    ensures refused { result ≢ 0 → IsRefused
+    ensures refused { result ≢ 0 → IsRefusedFor
         (IsMatrixFrontsRefusal (matrix_given base starts.now rows.now order.now) options.now (length nodes.old) (length front_of.old))
         result fault.new }
     ensures unchanged { result ≢ 0 → (nodes.new ≡ nodes.old) × (count.new ≡ count.old) × (front_of.new ≡ front_of.old) }

@@ -7,7 +7,7 @@ ghost use Rattle.plans.specs.Plan.{PlanValue, IsPlan};
 ghost use Rattle.memplan_c.specs.declared.faults.Fault.{Fault};
 ghost use Rattle.memplan_c.specs.declared.kinds.TheConstants.{CLAIM_ROOM};
 ghost use Rattle.memplan_c.specs.Answers.{IsCertificate};
-ghost use Rattle.memplan_c.specs.Faults.{IsRefused};
+ghost use Rattle.memplan_c.specs.Faults.{IsRefusedFor};
 ghost use Rattle.memplan_c.specs.Refusals.{IsCertifyRefusal, most_claims};
 
 use trees::laws::forest_law;
@@ -18,13 +18,13 @@ pub fn room_for_claims()
     ensures most { (nodes : List Node) (plan : PlanValue) → IsTree nodes → IsPlan plan → IsCertificate nodes plan →
         length plan.claims ≤ most_claims (length nodes) }
     ensures told { (nodes : List Node) (places room status : ℕ) (fault : Fault) →
-        IsRefused (IsCertifyRefusal nodes places room) status fault → fault.kind ≡ CLAIM_ROOM →
+        IsRefusedFor (IsCertifyRefusal nodes places room) status fault → fault.kind ≡ CLAIM_ROOM →
         (room < most_claims (length nodes)) × (fault.value ≡ most_claims (length nodes)) }
     ensures enough { (nodes : List Node) (places room status : ℕ) (fault : Fault) → most_claims (length nodes) ≤ room →
-        IsRefused (IsCertifyRefusal nodes places room) status fault → fault.kind ≢ CLAIM_ROOM }
+        IsRefusedFor (IsCertifyRefusal nodes places room) status fault → fault.kind ≢ CLAIM_ROOM }
     ensures again { (nodes : List Node) (places room status second : ℕ) (fault other : Fault) →
-        IsRefused (IsCertifyRefusal nodes places room) status fault → fault.kind ≡ CLAIM_ROOM →
-        IsRefused (IsCertifyRefusal nodes places fault.value) second other → other.kind ≢ CLAIM_ROOM }
+        IsRefusedFor (IsCertifyRefusal nodes places room) status fault → fault.kind ≡ CLAIM_ROOM →
+        IsRefusedFor (IsCertifyRefusal nodes places fault.value) second other → other.kind ≢ CLAIM_ROOM }
 {
     forest_law();
 }

@@ -1,7 +1,7 @@
 -- The starts of columns rise from the base to the end of the entries.
 use Rattle.std.proofs.Common.{◌≡◌, ℕ, zero, suc, ◌+◌, ◌-◌, ◌<◌, ◌≤◌, All, List, length, take, drop, get_or, subst, arith}
 use Rattle.std.proofs.lemmas.List.Elements.{All-from_get_or, All-take, All-drop}
-use Rattle.patterns.specs.Columns.{AreColumns, StartsFit, columns_in}
+use Rattle.patterns.specs.Columns.{AreColumns, StartsFit, column_count}
 use Rattle.lists.specs.Numbers.{IsNumberFrom, number_at}
 
 -- so many places on, a start is no lower
@@ -48,15 +48,15 @@ span base starts rows are j some inside =
       subst (λ (i : ℕ). get_or starts i 0 ≤ base + length rows) at end,
     )
 
-pub all_rows : (base : ℕ) (starts rows : List ℕ) → AreColumns base starts rows → All (IsNumberFrom base (columns_in starts)) rows
+pub all_rows : (base : ℕ) (starts rows : List ℕ) → AreColumns base starts rows → All (IsNumberFrom base (column_count starts)) rows
 all_rows base starts rows are =
-    All-from_get_or (IsNumberFrom base (columns_in starts)) rows 0 (λ i inside.
+    All-from_get_or (IsNumberFrom base (column_count starts)) rows 0 (λ i inside.
     let at : i + 1 - 1 ≡ i = omega arith in
-    subst (λ (k : ℕ). IsNumberFrom base (columns_in starts) (get_or rows k 0)) at (are.rows_fit (i + 1) (omega arith, omega arith)))
+    subst (λ (k : ℕ). IsNumberFrom base (column_count starts) (get_or rows k 0)) at (are.rows_fit (i + 1) (omega arith, omega arith)))
 
 -- the rows of a part of the entries
 pub part_rows : (base : ℕ) (starts rows : List ℕ) → AreColumns base starts rows → (from many : ℕ)
-    → All (IsNumberFrom base (columns_in starts)) (take many (drop from rows))
+    → All (IsNumberFrom base (column_count starts)) (take many (drop from rows))
 part_rows base starts rows are from many =
-    let P = IsNumberFrom base (columns_in starts) in
+    let P = IsNumberFrom base (column_count starts) in
     All-take P many (drop from rows) (All-drop P from rows (all_rows base starts rows are))

@@ -11,8 +11,8 @@ use Rattle.patterns.specs.declared.columns.ColumnsRefusal.{ColumnsRefusal}
 use Rattle.patterns.specs.declared.columns.ColumnsRefusal.TheVariants as refusals
 
 -- how many columns there are: the last start is where they end
-abbrev pub columns_in : List ℕ → ℕ
-columns_in starts = length starts - 1
+abbrev pub column_count : List ℕ → ℕ
+column_count starts = length starts - 1
 
 -- how many entries come before those of column j
 abbrev pub entries_before : ℕ → List ℕ → ℕ → ℕ
@@ -28,7 +28,7 @@ column_pairs base starts rows j = map (λ row. (from_one base row, j)) (rows_in 
 
 -- all entries
 abbrev pub pairs_given : ℕ → List ℕ → List ℕ → List (ℕ × ℕ)
-pairs_given base starts rows = flat_map (column_pairs base starts rows) (range_with_len 1 (columns_in starts))
+pairs_given base starts rows = flat_map (column_pairs base starts rows) (range_with_len 1 (column_count starts))
 
 -- ---- what compressed columns keep to
 
@@ -38,10 +38,10 @@ pub record StartFits (base : ℕ) (starts : List ℕ) (j : ℕ) : Type 0 where
   pub rising : number_at starts (j - 1) ≤ number_at starts j
 
 -- the base, and how many columns and entries there may be
-pub record AreCounted (base : ℕ) (starts rows : List ℕ) : Type 0 where
+pub record AreEntriesCounted (base : ℕ) (starts rows : List ℕ) : Type 0 where
   pub base_is : base ≤ 1
-  pub some : 1 ≤ columns_in starts
-  pub few : columns_in starts ≤ most_order
+  pub some : 1 ≤ column_count starts
+  pub few : column_count starts ≤ most_order
   pub few_entries : length rows ≤ most_entries
 
 abbrev pub StartsFit : ℕ → List ℕ → Type 0
@@ -53,10 +53,10 @@ EndTogether base starts rows = number_at starts (length starts) ≡ base + lengt
 
 -- the row of entry k is one
 abbrev pub RowFits : ℕ → List ℕ → List ℕ → ℕ → Type 0
-RowFits base starts rows k = IsNumberFrom base (columns_in starts) (number_at rows k)
+RowFits base starts rows k = IsNumberFrom base (column_count starts) (number_at rows k)
 
 pub record AreColumns (base : ℕ) (starts rows : List ℕ) : Type 0 where
-  pub counted : AreCounted base starts rows
+  pub counted : AreEntriesCounted base starts rows
   pub starts_fit : StartsFit base starts
   pub together : EndTogether base starts rows
   pub rows_fit : Each (length rows) (RowFits base starts rows)
@@ -64,15 +64,15 @@ pub record AreColumns (base : ℕ) (starts rows : List ℕ) : Type 0 where
 -- the first test that fails, with the first place that fails it; want of memory tells nothing
 abbrev pub IsColumnsRefusal : ℕ → List ℕ → List ℕ → ColumnsRefusal → Type 0
 IsColumnsRefusal base starts rows refusals.Base = 1 < base
-IsColumnsRefusal base starts rows refusals.NoColumn = (base ≤ 1) × (columns_in starts ≡ 0)
-IsColumnsRefusal base starts rows refusals.ManyColumns = (base ≤ 1) × (most_order < columns_in starts)
+IsColumnsRefusal base starts rows refusals.NoColumn = (base ≤ 1) × (column_count starts ≡ 0)
+IsColumnsRefusal base starts rows refusals.ManyColumns = (base ≤ 1) × (most_order < column_count starts)
 IsColumnsRefusal base starts rows refusals.ManyEntries =
-    (base ≤ 1) × (1 ≤ columns_in starts) × (columns_in starts ≤ most_order) × (most_entries < length rows)
+    (base ≤ 1) × (1 ≤ column_count starts) × (column_count starts ≤ most_order) × (most_entries < length rows)
 IsColumnsRefusal base starts rows (refusals.Start j) =
-    AreCounted base starts rows × IsFirstWithout (length starts) (StartFits base starts) j
+    AreEntriesCounted base starts rows × IsFirstWithout (length starts) (StartFits base starts) j
 IsColumnsRefusal base starts rows (refusals.Entries told) =
-    AreCounted base starts rows × StartsFit base starts × (told ≢ length rows) × (number_at starts (length starts) ≡ base + told)
+    AreEntriesCounted base starts rows × StartsFit base starts × (told ≢ length rows) × (number_at starts (length starts) ≡ base + told)
 IsColumnsRefusal base starts rows (refusals.Row k) =
-    AreCounted base starts rows × StartsFit base starts × EndTogether base starts rows
+    AreEntriesCounted base starts rows × StartsFit base starts × EndTogether base starts rows
     × IsFirstWithout (length rows) (RowFits base starts rows) k
 IsColumnsRefusal base starts rows refusals.NoMemory = Unit {0}

@@ -3,7 +3,7 @@
 ghost use Rattle.std.specs.Prelude.{◌≡◌, ◌≤◌, ◌<◌, ◌-◌, ◌++◌, All, length, map, slice_index, IfOk, OnOk};
 ghost use Rattle.limits.specs.Limits.{most_order, most_entries};
 ghost use Rattle.patterns.specs.Pattern.{IsPairWithin};
-ghost use Rattle.patterns.specs.Columns.{AreColumns, columns_in, pairs_given, rows_in};
+ghost use Rattle.patterns.specs.Columns.{AreColumns, column_count, pairs_given, rows_in};
 ghost use Rattle.lists.specs.Numbers.{IsNumberFrom, from_one};
 
 use crate::NoMemory;
@@ -31,7 +31,7 @@ fn rows_of<'a>(base: u32, starts: &[u32], rows: &'a [u32], column: usize) -> &'a
     requires column { (1 ≤ column) × (column < length starts.now) }
     ensures rows { result.now ≡ rows_in base starts.now rows.now column }
     ensures len { length result.now ≡ slice_index starts.now column - slice_index starts.now (column - 1) }
-    ensures numbers { All (IsNumberFrom base (columns_in starts.now)) result.now }
+    ensures numbers { All (IsNumberFrom base (column_count starts.now)) result.now }
 {
     let first = (starts[column - 1] - base) as usize;
     let end = (starts[column] - base) as usize;
@@ -48,7 +48,7 @@ pub fn pairs_of(
     requires { AreColumns base starts.now rows.now }
     ensures value { IfOk result (λ pairs. pairs.items ≡ pairs_given base starts.now rows.now) }
     ensures few { IfOk result (λ pairs. length pairs.items ≤ most_entries) }
-    ensures within { IfOk result (λ pairs. All (IsPairWithin (columns_in starts.now)) pairs.items) }
+    ensures within { IfOk result (λ pairs. All (IsPairWithin (column_count starts.now)) pairs.items) }
 {
     let mut pairs: Vec<(u32, u32)> = Vec::with_capacity(alloc, rows.len())?;
     for j in 1..starts.len() {

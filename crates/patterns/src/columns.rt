@@ -2,8 +2,8 @@
 
 ghost use Rattle.std.specs.Prelude.{◌≡◌, ◌<◌, ◌+◌, ◌-◌, ◌↔◌, length, IfOk, IfErr, IsTrue, MatchResult};
 ghost use Rattle.patterns.specs.Pattern.{IsPatternOf};
-ghost use Rattle.patterns.specs.Columns.{AreColumns, AreCounted, IsColumnsRefusal, StartFits, StartsFit, EndTogether, RowFits};
-ghost use Rattle.patterns.specs.Columns.{columns_in, pairs_given};
+ghost use Rattle.patterns.specs.Columns.{AreColumns, AreEntriesCounted, IsColumnsRefusal, StartFits, StartsFit, EndTogether, RowFits};
+ghost use Rattle.patterns.specs.Columns.{column_count, pairs_given};
 ghost use Rattle.lists.specs.Numbers.{Each, IsNumberFrom};
 
 use crate::NoMemory;
@@ -45,7 +45,7 @@ impl From<NoMemory> for ColumnsRefusal {
 
 // Whether there is a number of columns and entries that there may be.
 fn judge_counts(base: u32, starts: &[u32], rows: &[u32]) -> Result<(), ColumnsRefusal>
-    ensures { MatchResult result (λ _. AreCounted base starts.now rows.now) (IsColumnsRefusal base starts.now rows.now) }
+    ensures { MatchResult result (λ _. AreEntriesCounted base starts.now rows.now) (IsColumnsRefusal base starts.now rows.now) }
 {
     if base > 1 {
         return Err(ColumnsRefusal::Base);
@@ -76,7 +76,7 @@ fn start_fits(base: u32, starts: &[u32], i: usize) -> bool
 
 // Whether the columns start one after the other.
 fn judge_starts(base: u32, starts: &[u32], rows: &[u32]) -> Result<(), ColumnsRefusal>
-    requires { AreCounted base starts.now rows.now }
+    requires { AreEntriesCounted base starts.now rows.now }
     ensures { MatchResult result (λ _. StartsFit base starts.now) (IsColumnsRefusal base starts.now rows.now) }
 {
     for i in 0..starts.len() {
@@ -89,7 +89,7 @@ fn judge_starts(base: u32, starts: &[u32], rows: &[u32]) -> Result<(), ColumnsRe
 
 // Whether the last column ends where the entries do.
 fn judge_end(base: u32, starts: &[u32], rows: &[u32]) -> Result<(), ColumnsRefusal>
-    requires counted { AreCounted base starts.now rows.now }
+    requires counted { AreEntriesCounted base starts.now rows.now }
     requires starts { StartsFit base starts.now }
     ensures { MatchResult result (λ _. EndTogether base starts.now rows.now) (IsColumnsRefusal base starts.now rows.now) }
 {
@@ -109,7 +109,7 @@ fn row_fits(base: u32, columns: usize, row: u32) -> bool
 
 // Whether the row of each entry is one.
 fn judge_rows(base: u32, starts: &[u32], rows: &[u32]) -> Result<(), ColumnsRefusal>
-    requires counted { AreCounted base starts.now rows.now }
+    requires counted { AreEntriesCounted base starts.now rows.now }
     requires starts { StartsFit base starts.now }
     requires together { EndTogether base starts.now rows.now }
     ensures { MatchResult result (λ _. Each (length rows.now) (RowFits base starts.now rows.now))
@@ -141,7 +141,7 @@ pub fn pattern_of_columns(
     starts: &[u32],
     rows: &[u32],
 ) -> Result<Pattern, ColumnsRefusal>
-    ensures pattern { IfOk result (λ pattern. IsPatternOf (columns_in starts.now) (pairs_given base starts.now rows.now) pattern) }
+    ensures pattern { IfOk result (λ pattern. IsPatternOf (column_count starts.now) (pairs_given base starts.now rows.now) pattern) }
     ensures columns { IfOk result (λ _. AreColumns base starts.now rows.now) }
     ensures refused { IfErr result (IsColumnsRefusal base starts.now rows.now) }
 {

@@ -14,10 +14,10 @@ pub record PlaceFits (base n : ℕ) (numbers : List ℕ) (k : ℕ) : Type 0 wher
   pub fresh : (earlier : ℕ) → 1 ≤ earlier → earlier < k → number_at numbers earlier ≢ number_at numbers k
 
 -- the first place that is not right; want of memory tells nothing
-abbrev pub IsPermRefusal : ℕ → ℕ → List ℕ → PermRefusal → Type 0
-IsPermRefusal base n numbers refusals.Places = length numbers ≢ n
-IsPermRefusal base n numbers (refusals.Unknown k) =
+abbrev pub IsNumbersRefusal : ℕ → ℕ → List ℕ → PermRefusal → Type 0
+IsNumbersRefusal base n numbers refusals.Places = length numbers ≢ n
+IsNumbersRefusal base n numbers (refusals.Unknown k) =
     (length numbers ≡ n) × IsFirstWithout n (PlaceFits base n numbers) k × (IsNumberFrom base n (number_at numbers k) → ⊥)
-IsPermRefusal base n numbers (refusals.Repeated k) =
+IsNumbersRefusal base n numbers (refusals.Repeated k) =
     (length numbers ≡ n) × IsFirstWithout n (PlaceFits base n numbers) k × IsNumberFrom base n (number_at numbers k)
-IsPermRefusal base n numbers refusals.NoMemory = Unit {0}
+IsNumbersRefusal base n numbers refusals.NoMemory = Unit {0}

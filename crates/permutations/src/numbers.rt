@@ -2,7 +2,7 @@
 
 ghost use Rattle.std.specs.Prelude.{◌≡◌, ◌≤◌, ◌<◌, ◌+◌, ◌∷◌, All, length, IfOk, IfErr, OnOk, MatchOption};
 ghost use Rattle.permutations.specs.Perm.{IsPerm};
-ghost use Rattle.permutations.specs.Order.{IsPermRefusal, PlaceFits, order_given};
+ghost use Rattle.permutations.specs.Order.{IsNumbersRefusal, PlaceFits, order_given};
 ghost use Rattle.permutations.specs.PlaceTables.{ArePlaced};
 ghost use Rattle.lists.specs.Numbers.{IsNumberFrom, from_one, number_at};
 
@@ -59,7 +59,7 @@ fn vertex_at_place(
     ensures vertex { IfOk result (λ v. v ≡ from_one base (number_at numbers.now (i + 1))) }
     ensures within { IfOk result (λ v. (1 ≤ v) × (v ≤ n)) }
     ensures fits { OnOk result (PlaceFits base n numbers.now (i + 1)) }
-    ensures refused { IfErr result (IsPermRefusal base n numbers.now) }
+    ensures refused { IfErr result (IsNumbersRefusal base n numbers.now) }
 {
     let Some(vertex) = vertex_of(base, n, numbers[i]) else {
         return Err(PermRefusal::Unknown(i as u32 + 1));
@@ -74,7 +74,7 @@ fn vertex_at_place(
 fn places_of(alloc: Global, base: u32, numbers: &[u32], n: u32) -> Result<Vec<u32>, PermRefusal>
     requires { length numbers.now ≡ n }
     ensures placed { IfOk result (λ places. ArePlaced base n numbers.now places.items n) }
-    ensures refused { IfErr result (IsPermRefusal base n numbers.now) }
+    ensures refused { IfErr result (IsNumbersRefusal base n numbers.now) }
 {
     let mut places: Vec<u32> = vec![in alloc; 0; n as usize + 1]?;
     for i in 0..numbers.len() {
@@ -108,7 +108,7 @@ pub fn perm_of_numbers(
 ) -> Result<Perm, PermRefusal>
     ensures order { IfOk result (λ perm. perm ≡ order_given base numbers.now) }
     ensures perm { IfOk result (λ perm. IsPerm n perm) }
-    ensures refused { IfErr result (IsPermRefusal base n numbers.now) }
+    ensures refused { IfErr result (IsNumbersRefusal base n numbers.now) }
 {
     if numbers.len() != n as usize {
         return Err(PermRefusal::Places);

@@ -11,7 +11,7 @@ use Rattle.assembly_tree.specs.Assembly.{AssemblyTree, IsAssembly, IsSuper}
 use Rattle.assembly_tree.specs.Supernodes.{AreSupernodes, first_of, last_of}
 use Rattle.symbolic.specs.FrontTree.{columns, IsAnalysis}
 use Rattle.activation.specs.Machine.{Setting}
-use Rattle.rounds_run.specs.FrontRows.{rows_of, list_of}
+use Rattle.rounds_run.specs.FrontRows.{rows_of_front, list_of_front}
 use Rattle.rounds_run.specs.RowSystem.{row_peak, row_setting}
 use Rattle.rounds_run.specs.Rounds.{AreRounds}
 use Rattle.judging.specs.Files.{Answer, IsOrderedMatrix}
@@ -22,17 +22,17 @@ use Rattle.judging.specs.declared.status.Status.TheVariants.{Done}
 -- ---- the lists
 
 pub front_list : (joined : ℕ → ℕ → Bool) (n : ℕ) (supers : List Super) (s : ℕ) → IsSuper supers s
-    → list_of (front_lists joined n supers) s ≡ rows_of joined n (first_of supers s)
+    → list_of_front (front_lists joined n supers) s ≡ rows_of_front joined n (first_of supers s)
 front_list joined n supers s super =
-    get_or-map-range_with_len (λ (t : ℕ). rows_of joined n (first_of supers t)) 1 (length supers) (s - 1) s [] (omega (arith, super.0, super.1))
+    get_or-map-range_with_len (λ (t : ℕ). rows_of_front joined n (first_of supers t)) 1 (length supers) (s - 1) s [] (omega (arith, super.0, super.1))
     (omega (arith, super.0))
 
 pub front_lists_long : (joined : ℕ → ℕ → Bool) (n : ℕ) (supers : List Super) → length (front_lists joined n supers) ≡ length supers
-front_lists_long joined n supers = length-map-range_with_len (λ (t : ℕ). rows_of joined n (first_of supers t)) 1 (length supers)
+front_lists_long joined n supers = length-map-range_with_len (λ (t : ℕ). rows_of_front joined n (first_of supers t)) 1 (length supers)
 
 -- lists of as many supernodes, each with the same rows
 same_front_lists : (count : ℕ) (one two : List (List ℕ)) → length one ≡ count → length two ≡ count
-    → ((s : ℕ) → 1 ≤ s → s ≤ count → list_of one s ≡ list_of two s) → one ≡ two
+    → ((s : ℕ) → 1 ≤ s → s ≤ count → list_of_front one s ≡ list_of_front two s) → one ≡ two
 same_front_lists count one two long_one long_two each =
     same_lists one two (long_one ∙ sym long_two) (λ k d lt.
     let back : k + 1 - 1 ≡ k = omega arith in
@@ -42,7 +42,7 @@ same_front_lists count one two long_one long_two each =
     ∙ ap (λ (i : ℕ). get_or two i []) back ∙ sym (get_or_default two k d [] within))
 
 pub are_front_lists : (joined : ℕ → ℕ → Bool) (n : ℕ) (supers : List Super) (lists : List (List ℕ)) → length lists ≡ length supers
-    → ((s : ℕ) → IsSuper supers s → list_of lists s ≡ rows_of joined n (first_of supers s)) → lists ≡ front_lists joined n supers
+    → ((s : ℕ) → IsSuper supers s → list_of_front lists s ≡ rows_of_front joined n (first_of supers s)) → lists ≡ front_lists joined n supers
 are_front_lists joined n supers lists long each =
     same_front_lists (length supers) lists (front_lists joined n supers) long (front_lists_long joined n supers)
     (λ s some within. each s (some, within) ∙ sym (front_list joined n supers s (some, within)))
@@ -53,7 +53,7 @@ are_front_lists joined n supers lists long each =
 pub one_line_more : ((text : List ℕ) (lines : List (List (List ℕ))) (line : List (List ℕ))
     → (text ++ text_of_lines lines) ++ line_text line ≡ text ++ text_of_lines (lines ++ line ∷ []))
     → (lists : List (List ℕ)) (i : ℕ) → i < length lists → (start old new here : List ℕ) → old ≡ start ++ text_of_lines (map number_line (take i lists))
-    → here ≡ list_of lists (i + 1) → new ≡ old ++ line_text (number_line here) → new ≡ start ++ text_of_lines (map number_line (take (i + 1) lists))
+    → here ≡ list_of_front lists (i + 1) → new ≡ old ++ line_text (number_line here) → new ≡ start ++ text_of_lines (map number_line (take (i + 1) lists))
 one_line_more more lists i lt start old new here is is_here printed =
     let back : i + 1 - 1 ≡ i = omega arith in
     let at : here ≡ get_or lists i [] = is_here ∙ ap (λ (k : ℕ). get_or lists k []) back in
@@ -152,7 +152,7 @@ pub factored : ((o : Ordering) (texts rows other : List (List ℕ)) (order same 
     → ((c : Setting) (rounds : List (List ℕ)) (used : ℕ) → AreRounds c rounds used → used ≤ c.bound)
     → ((joined : ℕ → ℕ → Bool) (n : ℕ) (assembly : AssemblyTree) (s j : ℕ) → IsAdjacency joined → IsWithin n joined
     → AreSupernodes (parents_of joined n) (counts_of joined n) assembly → IsSuper assembly.supers s → first_of assembly.supers s ≤ j
-    → j ≤ last_of assembly.supers s → rows_of joined n j ≡ drop (j - first_of assembly.supers s) (rows_of joined n (first_of assembly.supers s)))
+    → j ≤ last_of assembly.supers s → rows_of_front joined n j ≡ drop (j - first_of assembly.supers s) (rows_of_front joined n (first_of assembly.supers s)))
     → (m : OrderedMatrix) (bound workers : ℕ) (texts : List (List ℕ)) (answer : Answer)
     → IsFrontsOf m bound workers texts answer → answer.status ≡ Done → IsFactored m bound workers texts answer.text
 factored matrices pattern inside within further m bound workers texts answer (rows, order, matrix, (perm, assembly, analysis, inl (below, e))) done =

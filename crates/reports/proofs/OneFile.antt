@@ -18,7 +18,7 @@ use Rattle.graph_files.specs.GraphFile.{ReadsGraph, RefusesGraph}
 use Rattle.graph_files.specs.Kinds.{word_of as graph_word}
 use Rattle.tree_files.specs.Kinds.{word_of as tree_word}
 use Rattle.tree_files.specs.TreeFile.{ReadsTree, RefusesTree}
-use Rattle.judging.specs.Files.{Answer, IsMatrixFile, CanBeOrdered, IsTooLarge, IsWithinBytes, IsRefusedAs, IsRefusedFile, HasValue, IsRefused, IsSystemOf, IsPlanFile}
+use Rattle.judging.specs.Files.{Answer, IsMatrixFile, HasOrdering, IsTooLarge, IsWithinBytes, IsRefusedAs, IsRefusedFile, HasValue, IsRefusedInRole, IsSystemOf, IsPlanFile}
 use Rattle.requests.specs.Request.{Ordering, natural, min_degree, perm_named, Input, FileRole, tree_file, workflow_file, graph_file, matrix_file, perm_file, order_file, plan_file, priority_file, plan_priority_file}
 use Rattle.reports.proofs.OneInput.{Systems, same_texts}
 
@@ -70,7 +70,7 @@ module _ (f : Formats) where
   same_ranks : (text : List ℕ) (a b : PlanValue) → IsPlanFile text a → IsPlanFile text b → length a.order ≡ length b.order
   same_ranks text a b is is' = ap (λ (p : PlanValue). length p.order) (f.one_plan text a b is.1 is'.1)
 
-  not_too_large : (o : Ordering) (text : List ℕ) (answer : Answer) (rows : List (List ℕ)) → IsMatrixFile text rows → CanBeOrdered o (length rows) → IsTooLarge o text answer → ⊥
+  not_too_large : (o : Ordering) (text : List ℕ) (answer : Answer) (rows : List (List ℕ)) → IsMatrixFile text rows → HasOrdering o (length rows) → IsTooLarge o text answer → ⊥
   not_too_large natural text answer rows is fits large = large
   not_too_large min_degree text answer rows is fits (other, is_other, more, line) = omega (arith, ap length (f.patterns text rows other is.1 is_other.1), fits, more)
   not_too_large (perm_named name) text answer rows is fits large = large
@@ -86,7 +86,7 @@ module _ (f : Formats) where
   large_once min_degree text one two (rows, is, more, line) (rows', is', more', line') = line ∙ sym line'
   large_once (perm_named name) text one two large other = absurd large
 
-  pub not_both : (role : FileRole) (earlier : List (List ℕ)) (text : List ℕ) (answer : Answer) → HasValue role earlier text → IsRefused role earlier text answer → ⊥
+  pub not_both : (role : FileRole) (earlier : List (List ℕ)) (text : List ℕ) (answer : Answer) → HasValue role earlier text → IsRefusedInRole role earlier text answer → ⊥
   not_both tree_file earlier text answer (nodes, is) refused = not_refused (codes "tree") tree_word ReadsTree RefusesTree f.trees text answer nodes is refused
   not_both workflow_file earlier text answer (positions, is) refused = not_refused (codes "workflow") workflow_word ReadsWorkflow RefusesWorkflow f.workflows text answer positions is refused
   not_both graph_file earlier text answer (graph, is) refused = not_refused (codes "graph") graph_word ReadsGraph RefusesGraph f.graphs text answer graph is refused
@@ -108,7 +108,7 @@ module _ (f : Formats) where
       not_refused (codes "priority") perm_word (ReadsPerm n) (RefusesPerm n) (f.perms n) text answer order is
       (subst (λ (k : ℕ). perm_refused (codes "priority") k text answer) (same_ranks first plan' plan is_plan' is_plan) refused)
 
-  pub one_refusal : (role : FileRole) (earlier : List (List ℕ)) (text : List ℕ) (one two : Answer) → IsRefused role earlier text one → IsRefused role earlier text two → one ≡ two
+  pub one_refusal : (role : FileRole) (earlier : List (List ℕ)) (text : List ℕ) (one two : Answer) → IsRefusedInRole role earlier text one → IsRefusedInRole role earlier text two → one ≡ two
   one_refusal tree_file earlier text one two is other = refused_once (codes "tree") tree_word ReadsTree RefusesTree f.trees text one two is other
   one_refusal workflow_file earlier text one two is other = refused_once (codes "workflow") workflow_word ReadsWorkflow RefusesWorkflow f.workflows text one two is other
   one_refusal graph_file earlier text one two is other = refused_once (codes "graph") graph_word ReadsGraph RefusesGraph f.graphs text one two is other

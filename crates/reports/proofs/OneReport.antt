@@ -22,7 +22,7 @@ use Rattle.trees.specs.declared.node.Node.{Node}
 use Rattle.trees.specs.Tree.{IsTree, system_of_nodes}
 use Rattle.reports.specs.Reports.{IsReport, IsDecided}
 use Rattle.reports.specs.Check.{IsCheckOf, verdict_answer}
-use Rattle.judging.specs.Files.{Answer, AreAccepted, HasValue, IsRefused, IsFirstRefusal, IsOrderFrom, IsTreeOf, IsSystemOf, IsSystemWithTerm, order_refused}
+use Rattle.judging.specs.Files.{Answer, AreAccepted, HasValue, IsRefusedInRole, IsFirstRefusal, IsOrderFrom, IsTreeOf, IsSystemOf, IsSystemWithTerm, order_refused}
 use Rattle.reports.specs.Demo.{IsDemoOf}
 use Rattle.reports.specs.Fronts.{IsFrontsOf}
 use Rattle.reports.specs.Post.{IsPost, post_answer}
@@ -217,8 +217,8 @@ module _ (r : Reports) where
 -- ---- refusals in turn
 
 module _
-    (not_both : (role : FileRole) (earlier : List (List ℕ)) (text : List ℕ) (answer : Answer) → HasValue role earlier text → IsRefused role earlier text answer → ⊥)
-    (one_refusal : (role : FileRole) (earlier : List (List ℕ)) (text : List ℕ) (a b : Answer) → IsRefused role earlier text a → IsRefused role earlier text b → a ≡ b) where
+    (not_both : (role : FileRole) (earlier : List (List ℕ)) (text : List ℕ) (answer : Answer) → HasValue role earlier text → IsRefusedInRole role earlier text answer → ⊥)
+    (one_refusal : (role : FileRole) (earlier : List (List ℕ)) (text : List ℕ) (a b : Answer) → IsRefusedInRole role earlier text a → IsRefusedInRole role earlier text b → a ≡ b) where
   pub one_first_refusal : (files : List NamedFile) (earlier texts : List (List ℕ)) (a b : Answer) → IsFirstRefusal files earlier texts a → IsFirstRefusal files earlier texts b → a ≡ b
   one_first_refusal [] earlier texts a b is is' = absurd is
   one_first_refusal (f ∷ fs) earlier [] a b is is' = absurd is

@@ -13,7 +13,7 @@ use Rattle.sp_terms.specs.SystemOfTerm.{system_of_term}
 use Rattle.sp_terms.specs.Term.{Term}
 use Rattle.sp_terms.specs.Values.{IsTerms, term_of}
 use Rattle.workflow_files.specs.WorkflowFile.{ReadsWorkflow}
-use Rattle.graphs.specs.Graph.{TaskGraph, IsGraph, completed_system, system_of}
+use Rattle.graphs.specs.Graph.{TaskGraph, IsGraph, completed_system, own_system}
 use Rattle.graph_files.specs.GraphFile.{ReadsGraph}
 use Rattle.judging.specs.Files.{Answer, IsWorkflowFile}
 use Rattle.reports.specs.Reduce.{IsReduceOf, IsReduced, HasIrreducibleRest}
@@ -24,11 +24,11 @@ pub record AreLaws : Type 0 where
   pub read : (bytes : List ℕ) (graph : TaskGraph) → ReadsGraph bytes graph → IsGraph graph
   pub denotes : (positions : List Position) → IsTerms positions → Denotes positions (term_of positions)
   pub traversal : (graph : TaskGraph) (names : List ℕ) (t : Term) (order : List ℕ) → HasSystem names t (completed_system graph)
-      → (IsTraversal (system_of_term t) order ↔ IsTraversal (system_of graph) (map (name_in names) order))
+      → (IsTraversal (system_of_term t) order ↔ IsTraversal (own_system graph) (map (name_in names) order))
   pub peak : (graph : TaskGraph) (names : List ℕ) (t : Term) (order : List ℕ) → HasSystem names t (completed_system graph)
-      → IsTraversal (system_of_term t) order → peak_of (system_of graph) (map (name_in names) order) ≡ peak_of (system_of_term t) order
+      → IsTraversal (system_of_term t) order → peak_of (own_system graph) (map (name_in names) order) ≡ peak_of (system_of_term t) order
   pub least : (graph : TaskGraph) (names : List ℕ) (t : Term) (peak : ℕ) → HasSystem names t (completed_system graph)
-      → (IsLeast (system_of_term t) peak ↔ IsLeast (system_of graph) peak)
+      → (IsLeast (system_of_term t) peak ↔ IsLeast (own_system graph) peak)
   pub reads : (graph : TaskGraph) (positions : List Position) (names : List ℕ) → IsGraph graph → IsTerms positions
       → HasSystem names (term_of positions) (completed_system graph) → ReadsWorkflow (named_text positions names) positions
   pub short : (graph : TaskGraph) (positions : List Position) (names : List ℕ) → IsGraph graph → IsTerms positions

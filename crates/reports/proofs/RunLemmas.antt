@@ -15,7 +15,7 @@ use Rattle.matrix_files.specs.Kinds.{word_of as matrix_word}
 use Rattle.matrix_files.specs.MatrixFile.{RefusesPattern}
 use Rattle.plan_files.specs.PlanFile.{RefusesPlan}
 use Rattle.reports.specs.Reports.{IsAnswer, IsReport}
-use Rattle.judging.specs.Files.{Answer, IsRefusedAs, IsRefusedFile, IsRefusedPerm, IsRefusedPlanPriority, IsRefused, IsFirstRefusal, IsTooLarge}
+use Rattle.judging.specs.Files.{Answer, IsRefusedAs, IsRefusedFile, IsRefusedPerm, IsRefusedPlanPriority, IsRefusedInRole, IsFirstRefusal, IsTooLarge}
 use Rattle.reports.specs.Promises.{IsPossible, Says}
 use Rattle.reports.specs.Clauses.{IsAnswered, IsCutShort}
 use Rattle.judging.specs.Told.{AreTold}
@@ -65,7 +65,7 @@ module _ (ended : Status) (reports : IsOfReports ended) where
   too_large min_degree text answer (rows, is, more, line) at = with_limit _ answer line at
   too_large (perm_named name) text answer large at = large
 
-  refused : (role : FileRole) (earlier : List (List ℕ)) (text : List ℕ) (answer : Answer) → IsRefused role earlier text answer → answer.status ≡ ended → ⊥
+  refused : (role : FileRole) (earlier : List (List ℕ)) (text : List ℕ) (answer : Answer) → IsRefusedInRole role earlier text answer → answer.status ≡ ended → ⊥
   refused tree_file earlier text answer r at = refused_file (codes "tree") tree_word (RefusesTree text) text answer r at
   refused workflow_file earlier text answer r at = refused_file (codes "workflow") workflow_word (RefusesWorkflow text) text answer r at
   refused graph_file earlier text answer r at = refused_file (codes "graph") graph_word (RefusesGraph text) text answer r at

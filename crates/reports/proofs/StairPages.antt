@@ -12,7 +12,7 @@ use Rattle.sp_terms.specs.declared.position.Values.{Values}
 use Rattle.sp_terms.specs.Values.{values_of, term_at}
 use Rattle.sp_cuts.specs.Stairs.{BothSteps, both_of, all_of}
 use Rattle.sp_cuts.specs.declared.reaching.Stairs.{Stairs}
-use Rattle.reports.specs.Segments.{no_steps, row_at, rows_of, row_lines, both_lines, side_line, step_tokens}
+use Rattle.reports.specs.Segments.{no_steps, report_row_at, report_rows, row_lines, both_lines, side_line, step_tokens}
 
 -- ---- the tokens of a line
 
@@ -67,30 +67,30 @@ framed_lines more one last lines a b c ea eb ec =
 
 -- ---- the rows
 
-pub length-rows : (ps : List Position) (all : List BothSteps) (numbered : List ℕ) → length (rows_of ps all numbered) ≡ length numbered
-length-rows ps all numbered = length-map (enumerate_from 1 numbered) (row_at ps all) ∙ length-enumerate_from 1 numbered
+pub length-rows : (ps : List Position) (all : List BothSteps) (numbered : List ℕ) → length (report_rows ps all numbered) ≡ length numbered
+length-rows ps all numbered = length-map (enumerate_from 1 numbered) (report_row_at ps all) ∙ length-enumerate_from 1 numbered
 
 -- of the first numbers
 abbrev pub rows_before : List Position → List BothSteps → List ℕ → ℕ → List (List (List ℕ))
-rows_before ps all numbered i = flat_map row_lines (map (row_at ps all) (take i (enumerate_from 1 numbered)))
+rows_before ps all numbered i = flat_map row_lines (map (report_row_at ps all) (take i (enumerate_from 1 numbered)))
 
-pub rows_of_all : (ps : List Position) (all : List BothSteps) (numbered : List ℕ) → rows_before ps all numbered (length numbered) ≡ flat_map row_lines (rows_of ps all numbered)
+pub rows_of_all : (ps : List Position) (all : List BothSteps) (numbered : List ℕ) → rows_before ps all numbered (length numbered) ≡ flat_map row_lines (report_rows ps all numbered)
 rows_of_all ps all numbered =
-    ap (λ (xs : List (ℕ × ℕ)). flat_map row_lines (map (row_at ps all) xs))
+    ap (λ (xs : List (ℕ × ℕ)). flat_map row_lines (map (report_row_at ps all) xs))
     (take_all (length numbered) (enumerate_from 1 numbered) (omega (arith, length-enumerate_from 1 numbered)))
 
 module _ (ps : List Position) (stairs : List Stairs) (numbered : List ℕ) (i : ℕ) (h : i < length numbered) where
-  one_row : rows_before ps (all_of stairs) numbered (i + 1) ≡ rows_before ps (all_of stairs) numbered i ++ row_lines (row_at ps (all_of stairs) (i + 1, get_or numbered i 0))
+  one_row : rows_before ps (all_of stairs) numbered (i + 1) ≡ rows_before ps (all_of stairs) numbered i ++ row_lines (report_row_at ps (all_of stairs) (i + 1, get_or numbered i 0))
   one_row =
       let all = all_of stairs in
       let listed = enumerate_from 1 numbered in
       let here : get_or listed i (0, 0) ≡ (i + 1, get_or numbered i 0) =
       get_or-enumerate_from 1 numbered i (0, 0) h ∙ ap (λ (n : ℕ). (n, get_or numbered i 0)) (omega arith) in
-      ap (λ (xs : List (ℕ × ℕ)). flat_map row_lines (map (row_at ps all) xs)) (take_more listed i (0, 0) (omega (arith, h, length-enumerate_from 1 numbered)))
-      ∙ ap (flat_map row_lines) (map-append (row_at ps all) (take i listed) (get_or listed i (0, 0) ∷ []))
-      ∙ flat_map-append row_lines (map (row_at ps all) (take i listed)) (row_at ps all (get_or listed i (0, 0)) ∷ [])
+      ap (λ (xs : List (ℕ × ℕ)). flat_map row_lines (map (report_row_at ps all) xs)) (take_more listed i (0, 0) (omega (arith, h, length-enumerate_from 1 numbered)))
+      ∙ ap (flat_map row_lines) (map-append (report_row_at ps all) (take i listed) (get_or listed i (0, 0) ∷ []))
+      ∙ flat_map-append row_lines (map (report_row_at ps all) (take i listed)) (report_row_at ps all (get_or listed i (0, 0)) ∷ [])
       ∙ ap (λ (lines : List (List (List ℕ))). rows_before ps all numbered i ++ lines)
-      (append-nil (row_lines (row_at ps all (get_or listed i (0, 0)))) ∙ ap (λ (p : ℕ × ℕ). row_lines (row_at ps all p)) here)
+      (append-nil (row_lines (report_row_at ps all (get_or listed i (0, 0)))) ∙ ap (λ (p : ℕ × ℕ). row_lines (report_row_at ps all p)) here)
 
   -- a loop prints one row more
   pub row_printed : ((xs ys : List (List (List ℕ))) → text_of_lines (xs ++ ys) ≡ text_of_lines xs ++ text_of_lines ys)
@@ -102,7 +102,7 @@ module _ (ps : List Position) (stairs : List Stairs) (numbered : List ℕ) (i : 
   row_printed parts v s d few v_is s_is old before after was is =
       let all = all_of stairs in
       let k = get_or numbered i 0 in
-      let row = row_at ps all (i + 1, k) in
+      let row = report_row_at ps all (i + 1, k) in
       let steps : both_of s ≡ get_or all (k - 1) no_steps = ap both_of s_is ∙ sym (get_or-map both_of stairs (k - 1) d no_steps few) in
       let lines : both_lines (i + 1) v.initial v.fin (both_of s) ≡ row_lines row =
       ap₂ (λ (w : Values) (b : BothSteps). both_lines (i + 1) w.initial w.fin b) v_is steps in

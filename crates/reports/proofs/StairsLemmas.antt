@@ -13,7 +13,7 @@ use Rattle.sp_cuts.specs.Stairs.{BothSteps, IsStaircaseOf, AreStairsOf, AreStair
 use Rattle.judging.specs.Files.{Answer, AreAccepted}
 use Rattle.judging.specs.Judged.{AreWithin}
 use Rattle.requests.specs.Request.{Input, tree_input, workflow_named, input_files}
-use Rattle.reports.specs.Segments.{IsSegmentsAnswer, IsSegmentsOf, IsReached, Row, no_steps, row_at, rows_of, segments_answer, steps_in}
+use Rattle.reports.specs.Segments.{IsSegmentsAnswer, IsSegmentsOf, IsReached, ReportRow, no_steps, report_row_at, report_rows, segments_answer, steps_in}
 use Rattle.judging.specs.Numbered.{IsNumberedTerm}
 use Rattle.judging.specs.declared.status.Status.TheVariants.{Done}
 use Rattle.judging.proofs.InputLemmas.{tree_accepted}
@@ -28,30 +28,30 @@ stairs_at ps k i j [] are h e = absurd (omega (arith, h))
 stairs_at ps k zero j (s ∷ all) are h e = let same : k ≡ j = omega (arith, e) in subst (λ (n : ℕ). AreStairsOf (term_at ps n) s) same are.0
 stairs_at ps k (suc i) j (s ∷ all) are h e = stairs_at ps (k + 1) i j all are.1 (omega (arith, h)) (omega (arith, e))
 
-row_is : (ps : List Position) (all : List BothSteps) (numbered : List ℕ) (i : ℕ) (d : Row) → i < length numbered
-    → get_or (rows_of ps all numbered) i d ≡ row_at ps all (i + 1, get_or numbered i 0)
+row_is : (ps : List Position) (all : List BothSteps) (numbered : List ℕ) (i : ℕ) (d : ReportRow) → i < length numbered
+    → get_or (report_rows ps all numbered) i d ≡ report_row_at ps all (i + 1, get_or numbered i 0)
 row_is ps all numbered i d h =
-    get_or-map (row_at ps all) (enumerate_from 1 numbered) i (0, 0) d (omega (arith, h, length-enumerate_from 1 numbered))
-    ∙ ap (row_at ps all) (get_or-enumerate_from 1 numbered i (0, 0) h ∙ ap (λ (n : ℕ). (n, get_or numbered i 0)) (omega arith))
+    get_or-map (report_row_at ps all) (enumerate_from 1 numbered) i (0, 0) d (omega (arith, h, length-enumerate_from 1 numbered))
+    ∙ ap (report_row_at ps all) (get_or-enumerate_from 1 numbered i (0, 0) h ∙ ap (λ (n : ℕ). (n, get_or numbered i 0)) (omega arith))
 
 each_row : (ps : List Position) (all : List BothSteps) (numbered : List ℕ) → AreStairs ps all → AreWithin (length ps) numbered
-    → (row : Row) → Contains (rows_of ps all numbered) row → AreStairsOf row.term row.steps
+    → (row : ReportRow) → Contains (report_rows ps all numbered) row → AreStairsOf row.term row.steps
 each_row ps all numbered stairs within row (i, h, is) =
     let short : i < length numbered = omega (arith, h, length-rows ps all numbered) in
     let k = get_or numbered i 0 in
     let at = within i 0 short in
-    subst (λ (r : Row). AreStairsOf r.term r.steps) (sym (row_is ps all numbered i row short) ∙ is)
+    subst (λ (r : ReportRow). AreStairsOf r.term r.steps) (sym (row_is ps all numbered i row short) ∙ is)
     (stairs_at ps 0 (k - 1) (k - 1) all stairs.each (omega (arith, at.0, at.1, stairs.many)) (omega arith))
 
-numbers_from : (ps : List Position) (all : List BothSteps) (n : ℕ) (ks : List ℕ) → map (λ row. row.number) (map (row_at ps all) (enumerate_from n ks)) ≡ range_with_len n (length ks)
+numbers_from : (ps : List Position) (all : List BothSteps) (n : ℕ) (ks : List ℕ) → map (λ row. row.number) (map (report_row_at ps all) (enumerate_from n ks)) ≡ range_with_len n (length ks)
 numbers_from ps all n [] = refl
 numbers_from ps all n (k ∷ ks) = ap (λ (ns : List ℕ). n ∷ ns) (numbers_from ps all (n + 1) ks)
 
-terms_from : (ps : List Position) (all : List BothSteps) (n : ℕ) (ks : List ℕ) → map (λ row. row.term) (map (row_at ps all) (enumerate_from n ks)) ≡ map (term_of_position ps) ks
+terms_from : (ps : List Position) (all : List BothSteps) (n : ℕ) (ks : List ℕ) → map (λ row. row.term) (map (report_row_at ps all) (enumerate_from n ks)) ≡ map (term_of_position ps) ks
 terms_from ps all n [] = refl
 terms_from ps all n (k ∷ ks) = ap (λ (ts : List Term). term_of_position ps k ∷ ts) (terms_from ps all (n + 1) ks)
 
-staircase_in : (d : Direction) (row : Row) → AreStairsOf row.term row.steps → IsStaircaseOf d row.term (steps_in d row.steps)
+staircase_in : (d : Direction) (row : ReportRow) → AreStairsOf row.term row.steps → IsStaircaseOf d row.term (steps_in d row.steps)
 staircase_in forward row are = are.front
 staircase_in backward row are = are.back
 
@@ -67,7 +67,7 @@ reached each within input texts answer (ps, numbered, is, inr (all, stairs, few,
       positions = ps;
       numbered = numbered;
       is_numbered = is;
-      rows = rows_of ps all numbered;
+      rows = report_rows ps all numbered;
       many = length-rows ps all numbered;
       numbers = numbers_from ps all 1 numbered;
       terms = terms_from ps all 1 numbered;
@@ -85,7 +85,7 @@ one_answer one input ps numbered a b (inl (passes, e)) (inr (all, stairs, few, e
 one_answer one input ps numbered a b (inr (all, stairs, few, e)) (inl (passes, e')) =
     absurd (omega (arith, passes.many, few, ap step_total (one ps passes.all all passes.are stairs)))
 one_answer one input ps numbered a b (inr (all, stairs, few, e)) (inr (others, stairs', few', e')) =
-    e ∙ ap (λ (ss : List BothSteps). segments_answer (rows_of ps ss numbered)) (one ps all others stairs stairs') ∙ sym e'
+    e ∙ ap (λ (ss : List BothSteps). segments_answer (report_rows ps ss numbered)) (one ps all others stairs stairs') ∙ sym e'
 
 pub one_segments : ((input : Input) (texts : List (List ℕ)) (ps qs : List Position) (ks ls : List ℕ) → IsNumberedTerm input texts ps ks → IsNumberedTerm input texts qs ls
     → (ps ≡ qs) × (ks ≡ ls) × AreWithin (length ps) ks)

@@ -8,7 +8,7 @@ use Rattle.assembly_tree.specs.declared.assembly.Super.{Super}
 use Rattle.assembly_tree.specs.Assembly.{AssemblyTree, IsSuper}
 use Rattle.assembly_tree.specs.Supernodes.{first_of, last_of}
 use Rattle.symbolic.specs.FrontTree.{columns, IsAnalysis}
-use Rattle.rounds_run.specs.FrontRows.{rows_of, list_of}
+use Rattle.rounds_run.specs.FrontRows.{rows_of_front, list_of_front}
 use Rattle.rounds_run.specs.RowSystem.{row_peak, row_setting}
 use Rattle.rounds_run.specs.Rounds.{AreRounds}
 use Rattle.requests.specs.Request.{fronts, OrderedMatrix}
@@ -17,7 +17,7 @@ use Rattle.judging.specs.Files.{IsOrderedMatrix, bound_refused, Answer}
 
 -- the rows of the fronts, by number: of each the structure of the first column of its supernode
 abbrev pub front_lists : (ℕ → ℕ → Bool) → ℕ → List Super → List (List ℕ)
-front_lists joined n supers = map (λ s. rows_of joined n (first_of supers s)) (range_with_len 1 (length supers))
+front_lists joined n supers = map (λ s. rows_of_front joined n (first_of supers s)) (range_with_len 1 (length supers))
 
 -- a word and a number
 abbrev pub counted : List ℕ → ℕ → List (List ℕ)
@@ -69,9 +69,9 @@ pub record IsFactored (m : OrderedMatrix) (bound workers : ℕ) (texts : List (L
   pub lists : List (List ℕ)
   pub len : length lists ≡ length assembly.supers
   pub first : (s : ℕ) → IsSuper assembly.supers s →
-      list_of lists s ≡ rows_of (columns rows perm) (length perm) (first_of assembly.supers s)
+      list_of_front lists s ≡ rows_of_front (columns rows perm) (length perm) (first_of assembly.supers s)
   pub further : (s j : ℕ) → IsSuper assembly.supers s → first_of assembly.supers s ≤ j → j ≤ last_of assembly.supers s →
-      rows_of (columns rows perm) (length perm) j ≡ drop (j - first_of assembly.supers s) (list_of lists s)
+      rows_of_front (columns rows perm) (length perm) j ≡ drop (j - first_of assembly.supers s) (list_of_front lists s)
   pub rounds : List (List ℕ)
   pub used : ℕ
   pub are_rounds : AreRounds (row_setting assembly.supers bound workers) rounds used

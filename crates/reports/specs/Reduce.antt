@@ -9,7 +9,7 @@ use Rattle.sp_terms.specs.Postfix.{Denotes}
 use Rattle.sp_terms.specs.SystemOfTerm.{system_of_term}
 use Rattle.sp_terms.specs.Term.{Term}
 use Rattle.sp_terms.specs.Values.{IsTerms, term_of}
-use Rattle.graphs.specs.Graph.{TaskGraph, completed, completed_system, system_of}
+use Rattle.graphs.specs.Graph.{TaskGraph, completed, completed_system, own_system}
 use Rattle.workflow_files.specs.NamedText.{named_text}
 use Rattle.sp_reduce.specs.Reduced.{HasSystem}
 use Rattle.sp_reduce.specs.Reductions.{ends_of, IsRestOf}
@@ -59,10 +59,10 @@ pub record IsReduced (texts : List (List ℕ)) (printed : List ℕ) : Type 0 whe
   pub names : List ℕ
   pub printed_is : printed ≡ named_text positions names
   pub has : HasSystem names term (completed_system graph)
-  pub traversal : (order : List ℕ) → IsTraversal (system_of_term term) order ↔ IsTraversal (system_of graph) (map (name_in names) order)
+  pub traversal : (order : List ℕ) → IsTraversal (system_of_term term) order ↔ IsTraversal (own_system graph) (map (name_in names) order)
   pub peak : (order : List ℕ) → IsTraversal (system_of_term term) order →
-      peak_of (system_of graph) (map (name_in names) order) ≡ peak_of (system_of_term term) order
-  pub least : (peak : ℕ) → IsLeast (system_of_term term) peak ↔ IsLeast (system_of graph) peak
+      peak_of (own_system graph) (map (name_in names) order) ≡ peak_of (system_of_term term) order
+  pub least : (peak : ℕ) → IsLeast (system_of_term term) peak ↔ IsLeast (own_system graph) peak
 
 -- no term has the system of the completed graph, and the arcs of an irreducible rest of it were printed. The text is that of
 -- the graph's file

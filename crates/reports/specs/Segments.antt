@@ -20,7 +20,7 @@ use Rattle.judging.specs.Numbered.{IsNumberedTerm}
 -- ---- the terms that are told
 
 -- a term under its number, with the steps of both staircases
-pub record Row : Type 0 where
+pub record ReportRow : Type 0 where
   pub number : ℕ
   pub term : Term
   pub steps : BothSteps
@@ -29,11 +29,11 @@ abbrev pub no_steps : BothSteps
 no_steps = record { front = []; back = [] }
 
 -- of a number and the position for which it stands
-abbrev pub row_at : List Position → List BothSteps → ℕ × ℕ → Row
-row_at ps all p = record { number = p.0; term = term_of_position ps p.1; steps = slice_index_or all (p.1 - 1) no_steps }
+abbrev pub report_row_at : List Position → List BothSteps → ℕ × ℕ → ReportRow
+report_row_at ps all p = record { number = p.0; term = term_of_position ps p.1; steps = slice_index_or all (p.1 - 1) no_steps }
 
-abbrev pub rows_of : List Position → List BothSteps → List ℕ → List Row
-rows_of ps all numbered = map (row_at ps all) (enumerate_from 1 numbered)
+abbrev pub report_rows : List Position → List BothSteps → List ℕ → List ReportRow
+report_rows ps all numbered = map (report_row_at ps all) (enumerate_from 1 numbered)
 
 -- ---- the report
 
@@ -50,14 +50,14 @@ abbrev pub both_lines : ℕ → ℕ → ℕ → BothSteps → List (List (List �
 both_lines number initial fin steps =
     side_line number (codes "F") initial steps.front ∷ side_line number (codes "R") fin steps.back ∷ []
 
-abbrev pub row_lines : Row → List (List (List ℕ))
+abbrev pub row_lines : ReportRow → List (List (List ℕ))
 row_lines row = both_lines row.number (initial_of row.term) (final_of row.term) row.steps
 
 -- `segments N`, two lines for each of them, `end`
-abbrev pub segments_lines : List Row → List (List (List ℕ))
+abbrev pub segments_lines : List ReportRow → List (List (List ℕ))
 segments_lines rows = (codes "segments" ∷ decimal (length rows) ∷ []) ∷ flat_map row_lines rows ++ (codes "end" ∷ []) ∷ []
 
-abbrev pub segments_answer : List Row → Answer
+abbrev pub segments_answer : List ReportRow → Answer
 segments_answer rows = record { status = status.Done; text = text_of_lines (segments_lines rows) }
 
 -- the word for the file that an input is read from
@@ -70,7 +70,7 @@ input_word (workflow_named name) = codes "workflow"
 abbrev pub IsSegmentsAnswer : Input → List Position → List ℕ → Answer → Type 0
 IsSegmentsAnswer input ps numbered answer =
     (PassesLimit ps × (answer ≡ limit_refused (input_word input) (limit_word limits.Steps)))
-    ⊎ ((all : List BothSteps) × AreStairs ps all × (step_total all ≤ most_steps) × (answer ≡ segments_answer (rows_of ps all numbered)))
+    ⊎ ((all : List BothSteps) × AreStairs ps all × (step_total all ≤ most_steps) × (answer ≡ segments_answer (report_rows ps all numbered)))
 
 -- the texts are those of the input's files
 abbrev pub IsSegmentsOf : Input → List (List ℕ) → Answer → Type 0
@@ -90,14 +90,14 @@ pub record IsReached (input : Input) (texts : List (List ℕ)) (printed : List �
   pub positions : List Position
   pub numbered : List ℕ
   pub is_numbered : IsNumberedTerm input texts positions numbered
-  pub rows : List Row
+  pub rows : List ReportRow
   pub many : length rows ≡ length numbered
   -- the i-th row is of the term at the i-th of these positions
   pub numbers : map (λ row. row.number) rows ≡ range_with_len 1 (length numbered)
   pub terms : map (λ row. row.term) rows ≡ map (term_of_position positions) numbered
   -- for every bound
-  pub stairs : (row : Row) → Contains rows row → AreStairsOf row.term row.steps
+  pub stairs : (row : ReportRow) → Contains rows row → AreStairsOf row.term row.steps
   -- of each pair
-  pub pairs : (row : Row) → Contains rows row → (d : Direction) (s : Step) → Contains (steps_in d row.steps) s
+  pub pairs : (row : ReportRow) → Contains rows row → (d : Direction) (s : Step) → Contains (steps_in d row.steps) s
       → IsLowestReached d row.term (s.bound + 1) s.level
   pub printed_is : printed ≡ (segments_answer rows).text

@@ -7,7 +7,7 @@ ghost use Rattle.sp_terms.specs.declared.position.Position.{Position};
 ghost use Rattle.trees.specs.Tree.{IsTree};
 ghost use Rattle.trees.specs.declared.node.Node.{Node};
 ghost use Rattle.reports.specs.Reports.{IsAnswer, IsDecided};
-ghost use Rattle.judging.specs.Files.{Answer, HasValue, IsRefused, IsSystemOf, IsOrderedMatrix, IsSystemWithTerm, IsTreeOf};
+ghost use Rattle.judging.specs.Files.{Answer, HasValue, IsRefusedInRole, IsSystemOf, IsOrderedMatrix, IsSystemWithTerm, IsTreeOf};
 ghost use Rattle.reports.specs.Demo.{IsDemoOf, IsShown};
 ghost use Rattle.judging.specs.Judged.{AreWithin};
 ghost use Rattle.reports.specs.Fronts.{IsFactored, IsFrontsOf};
@@ -73,9 +73,9 @@ fn one_input()
 // A file is accepted or refused, never both, and refused with one answer.
 fn one_file()
     ensures not_both { (role : FileRole) (earlier : List (List ℕ)) (text : List ℕ) (answer : Answer) → HasValue role earlier text →
-        ¬ (IsRefused role earlier text answer) }
-    ensures one_refusal { (role : FileRole) (earlier : List (List ℕ)) (text : List ℕ) (one two : Answer) → IsRefused role earlier text one →
-        IsRefused role earlier text two → one ≡ two }
+        ¬ (IsRefusedInRole role earlier text answer) }
+    ensures one_refusal { (role : FileRole) (earlier : List (List ℕ)) (text : List ℕ) (one two : Answer) → IsRefusedInRole role earlier text one →
+        IsRefusedInRole role earlier text two → one ≡ two }
 {
     one_input();
     tree_file_laws::exactly_one();

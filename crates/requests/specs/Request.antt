@@ -118,13 +118,13 @@ ordering_of (Some name) (Some word) = None
 abbrev pub zeros_within : ℕ → Option (Option ℕ)
 zeros_within zeros = if nat_le zeros most_zeros then Some (Some zeros) else None
 
-abbrev pub zeros_of : Option (List ℕ) → Option (Option ℕ)
-zeros_of None = Some None
-zeros_of (Some word) = option_and_then zeros_within (number_of word)
+abbrev pub zeros_named : Option (List ℕ) → Option (Option ℕ)
+zeros_named None = Some None
+zeros_named (Some word) = option_and_then zeros_within (number_of word)
 
-abbrev pub shape_of : Bool → Shape
-shape_of false = shapes.Triangle
-shape_of true = shapes.Square
+abbrev pub front_shape : Bool → Shape
+front_shape false = shapes.Triangle
+front_shape true = shapes.Square
 
 -- the matrix of this name, and what is given of `--perm NAME` or `--ordering natural|mindeg`, `--shape triangle|square`,
 -- `--amalgamate ZEROS` and `--inplace no|yes`
@@ -136,11 +136,11 @@ matrix_of name options =
     option_map (λ ordering. record {
       name = name;
       ordering = ordering;
-      fronts = record { shape = shape_of square; zeros = zeros; inplace = inplace };
+      fronts = record { shape = front_shape square; zeros = zeros; inplace = inplace };
     })
     (ordering_of (value_of (codes "perm") options) (value_of (codes "ordering") options)))
     (is_second (codes "no") (codes "yes") (value_of (codes "inplace") options)))
-    (zeros_of (value_of (codes "amalgamate") options)))
+    (zeros_named (value_of (codes "amalgamate") options)))
     (is_second (codes "triangle") (codes "square") (value_of (codes "shape") options))
 
 -- ---- inputs

@@ -1,5 +1,5 @@
 ghost use Rattle.std.specs.Prelude.{◌≡◌, ◌<◌, ◌≤◌, ◌^◌, IfSome, option_map};
-ghost use Rattle.requests.specs.Request.{is_second, ordering_named, ordering_of, zeros_of, matrix_of, gives_any, tree_input_of, input_of};
+ghost use Rattle.requests.specs.Request.{is_second, ordering_named, ordering_of, zeros_named, matrix_of, gives_any, tree_input_of, input_of};
 ghost use Rattle.requests.specs.Request.{source_of, number_given, number_up_to, workers_or_one, AreWorkers};
 ghost use Rattle.requests.specs.Table.{matrix_options, tree_names};
 ghost use Rattle.requests.specs.RequestViews.{ordering_view, matrix_view, tree_input_view, input_view, source_view};
@@ -142,7 +142,7 @@ pub fn ordering_of<'a>(perm: Option<&'a str>, ordering: Option<&'a str>) -> Opti
 
 // How many zeros a merge may add: at most 2^40.
 fn zeros_of(given: Option<&str>) -> Option<Option<u64>>
-    ensures { result ≡ zeros_of (option_map (λ s. s.now) given.entry) }
+    ensures { result ≡ zeros_named (option_map (λ s. s.now) given.entry) }
 {
     let Some(word) = given else {
         return Some(None);

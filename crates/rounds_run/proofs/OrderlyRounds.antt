@@ -7,7 +7,7 @@ use Rattle.std.proofs.lemmas.List.Folds.{list_any_at}
 use Rattle.patterns.specs.Pattern.{has}
 use Rattle.mp_system.specs.System.{TaskSystem, IsTask, task_at}
 use Rattle.trees.specs.declared.node.Node.{Node}
-use Rattle.trees.specs.Tree.{task_of}
+use Rattle.trees.specs.Tree.{task_of_node}
 use Rattle.assembly_tree.specs.declared.assembly.Super.{Super}
 use Rattle.assembly_tree.specs.Assembly.{AssemblyTree, IsAssembly, IsSuper, no_super, super_at}
 use Rattle.activation.specs.declared.events.Event.{Event}
@@ -60,7 +60,7 @@ unit_time assembly is t task =
     let super = super_of_task assembly is t task in
     let lt : t - 1 < length assembly.supers = omega (arith, super.0, super.1) in
     let long = length-map assembly.supers row_node in
-    ap (λ x. x.time) (get_or-map task_of (map row_node assembly.supers) (t - 1) (row_node no_super) _ (omega (arith, lt, long)))
+    ap (λ x. x.time) (get_or-map task_of_node (map row_node assembly.supers) (t - 1) (row_node no_super) _ (omega (arith, lt, long)))
     ∙ ap (λ (x : Node). x.time) (get_or-map row_node assembly.supers (t - 1) no_super (row_node no_super) lt)
 
 module _ (assembly : AssemblyTree) (is : IsAssembly assembly) (bound workers : ℕ) (events : List Event) (rounds : List (List ℕ))

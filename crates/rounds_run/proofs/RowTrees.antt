@@ -13,7 +13,7 @@ use Rattle.mp_system.specs.System.{TaskSystem, IsTask, is_input}
 use Rattle.mp_system.specs.Memory.{stands_in, is_ready, is_produced}
 use Rattle.mp_system.specs.Traversal.{IsTraversal}
 use Rattle.trees.specs.declared.node.Node.{Node}
-use Rattle.trees.specs.Tree.{IsNode, IsTree, IsNodeWithin, node_at, node_size, ancestor, task_of, item_of, items_from}
+use Rattle.trees.specs.Tree.{IsNode, IsTree, IsNodeWithin, node_at, node_size, ancestor, task_of_node, item_of_node, items_from}
 use Rattle.assembly_tree.specs.declared.assembly.Super.{Super}
 use Rattle.assembly_tree.specs.Assembly.{AssemblyTree, IsSuper, IsAssembly, no_super, super_at, columns_in, front_of}
 use Rattle.rounds_run.specs.RowSystem.{row_node, row_system, row_order}
@@ -145,7 +145,7 @@ child_produced v u p done item from to here some passes =
 
 module _ (assembly : AssemblyTree) (is : IsAssembly assembly) where
   pub tasks_long : length (row_system assembly.supers).tasks ≡ length assembly.supers
-  tasks_long = length-map (map row_node assembly.supers) task_of ∙ length-map assembly.supers row_node
+  tasks_long = length-map (map row_node assembly.supers) task_of_node ∙ length-map assembly.supers row_node
 
   -- tasks are supernodes
   pub super_of_task : (t : ℕ) → IsTask (row_system assembly.supers) t → IsSuper assembly.supers t
@@ -155,14 +155,14 @@ module _ (assembly : AssemblyTree) (is : IsAssembly assembly) where
   task_of_super t super = (super.0, omega (arith, super.1, tasks_long))
 
   item_is : (k : ℕ) (d : Item) → k < length assembly.supers
-      → get_or (row_system assembly.supers).items k d ≡ item_of (suc k) (row_node (super_at assembly.supers (suc k)))
+      → get_or (row_system assembly.supers).items k d ≡ item_of_node (suc k) (row_node (super_at assembly.supers (suc k)))
   item_is k d lt =
       let more : 1 + k ≡ suc k = omega arith in
       let long = length-map assembly.supers row_node in
       get_or-items_from 1 (map row_node assembly.supers) k d (row_node no_super) (omega (arith, lt, long))
-      ∙ ap (λ x. item_of (1 + k) x) (get_or-map row_node assembly.supers k no_super (row_node no_super) lt)
-      ∙ ap (λ x. item_of (1 + k) (row_node x)) (sym (super_here assembly.supers k no_super lt))
-      ∙ ap (λ (i : ℕ). item_of i (row_node (super_at assembly.supers (suc k)))) more
+      ∙ ap (λ x. item_of_node (1 + k) x) (get_or-map row_node assembly.supers k no_super (row_node no_super) lt)
+      ∙ ap (λ x. item_of_node (1 + k) (row_node x)) (sym (super_here assembly.supers k no_super lt))
+      ∙ ap (λ (i : ℕ). item_of_node i (row_node (super_at assembly.supers (suc k)))) more
 
   -- a task that is ready has all its children done
   pub child_done : (done : ℕ → Bool) (s c : ℕ) → is_ready (row_system assembly.supers) done s ≡ true → IsSuper assembly.supers c
@@ -172,7 +172,7 @@ module _ (assembly : AssemblyTree) (is : IsAssembly assembly) where
       let test = λ (item : Item). not (is_input s item) || is_produced done item in
       let lt : k < length assembly.supers = omega (arith, child.1) in
       let long = length-items_from 1 (map row_node assembly.supers) ∙ length-map assembly.supers row_node in
-      let item = item_of (suc k) (row_node (super_at assembly.supers (suc k))) in
+      let item = item_of_node (suc k) (row_node (super_at assembly.supers (suc k))) in
       let all = AllPass-from_list_all test (row_system assembly.supers).items ready in
       let passes : test item ≡ true =
       subst (λ z. test z ≡ true) (item_is k item lt) (all k item (omega (arith, lt, long))) in
@@ -209,7 +209,7 @@ module _ (assembly : AssemblyTree) (is : IsAssembly assembly) where
         let child : IsSuper assembly.supers (suc k) = (omega arith, omega (arith, in_range)) in
         let x = super_at assembly.supers (suc k) in
         subst (λ z. test z ≡ true) (sym (item_is k d in_range))
-        (consumes_child v (suc k) x.parent (stands_in before) (item_of (suc k) (row_node x)) refl refl
+        (consumes_child v (suc k) x.parent (stands_in before) (item_of_node (suc k) (row_node x)) refl refl
         (λ same some. stands (suc k) (omega arith) (let above = (is.each (suc k) child).parent some in omega (arith, above.0, same)))))
         );
   } where

@@ -14,7 +14,7 @@ use Rattle.elim_tree.specs.Trees.{parent_at}
 use Rattle.assembly_tree.specs.declared.assembly.Super.{Super}
 use Rattle.assembly_tree.specs.Assembly.{AssemblyTree, IsSuper, no_super, super_at, super_of, columns_in, front_of}
 use Rattle.assembly_tree.specs.Supernodes.{AreSupernodes, Continues, count_at, first_of, last_of}
-use Rattle.rounds_run.specs.FrontRows.{rows_of}
+use Rattle.rounds_run.specs.FrontRows.{rows_of_front}
 use Rattle.rounds_run.proofs.RowLists.{Laws, has_rest, rows_long, rows_next}
 use Rattle.assembly_tree.proofs.CountLemmas.{count-listed}
 use Rattle.elim_tree.proofs.Columns.{parent_in_list}
@@ -77,8 +77,8 @@ module _ (joined : ℕ → ℕ → Bool) (n : ℕ) (laws : Laws joined n) (super
   -- ---- the rows of each column
 
   pub rows_from : (s k : ℕ) → IsSuper supers s → first_of supers s + k ≤ last_of supers s
-      → rows_of joined n (first_of supers s + k) ≡ drop k (rows_of joined n (first_of supers s))
-  rows_from s zero super le = ap (rows_of joined n) (let e : first_of supers s + zero ≡ first_of supers s = omega arith in e)
+      → rows_of_front joined n (first_of supers s + k) ≡ drop k (rows_of_front joined n (first_of supers s))
+  rows_from s zero super le = ap (rows_of_front joined n) (let e : first_of supers s + zero ≡ first_of supers s = omega arith in e)
   rows_from s (suc k) super le =
       let j = first_of supers s + k in
       let here = column_vertex s j super (omega arith) (omega (arith, le)) in
@@ -94,21 +94,21 @@ module _ (joined : ℕ → ℕ → Bool) (n : ℕ) (laws : Laws joined n) (super
       ) in
       let at : first_of supers s + suc k ≡ suc j = omega arith in
       let count : k + 1 ≡ suc k = omega arith in
-      ap (rows_of joined n) at ∙ rows_next joined n laws j here next up fewer ∙ ap (drop 1) (rows_from s k super (omega (arith, le)))
-      ∙ drop-drop 1 k (rows_of joined n (first_of supers s)) ∙ ap (λ (i : ℕ). drop i (rows_of joined n (first_of supers s))) count
+      ap (rows_of_front joined n) at ∙ rows_next joined n laws j here next up fewer ∙ ap (drop 1) (rows_from s k super (omega (arith, le)))
+      ∙ drop-drop 1 k (rows_of_front joined n (first_of supers s)) ∙ ap (λ (i : ℕ). drop i (rows_of_front joined n (first_of supers s))) count
 
   -- past its columns a list has the rows of the last column but that column
   rest_is : (s : ℕ) → IsSuper supers s
-      → drop (super_at supers s).columns (rows_of joined n (first_of supers s)) ≡ drop 1 (rows_of joined n (last_of supers s))
+      → drop (super_at supers s).columns (rows_of_front joined n (first_of supers s)) ≡ drop 1 (rows_of_front joined n (last_of supers s))
   rest_is s super =
       let count = (super_at supers s).columns in
       let long = span supers s super in
       let some = is.some s super in
       let last : first_of supers s + (count - 1) ≡ last_of supers s = omega (arith, long, some) in
       let back : count - 1 + 1 ≡ count = omega (arith, long, some) in
-      ap (λ (i : ℕ). drop i (rows_of joined n (first_of supers s))) (sym back)
-      ∙ sym (drop-drop 1 (count - 1) (rows_of joined n (first_of supers s)))
-      ∙ ap (drop 1) (sym (rows_from s (count - 1) super (omega (arith, last))) ∙ ap (rows_of joined n) last)
+      ap (λ (i : ℕ). drop i (rows_of_front joined n (first_of supers s))) (sym back)
+      ∙ sym (drop-drop 1 (count - 1) (rows_of_front joined n (first_of supers s)))
+      ∙ ap (drop 1) (sym (rows_from s (count - 1) super (omega (arith, last))) ∙ ap (rows_of_front joined n) last)
 
   -- ---- children
 
@@ -181,7 +181,7 @@ module _ (joined : ℕ → ℕ → Bool) (n : ℕ) (laws : Laws joined n) (super
     -- what the children leave to a supernode is what its first column gets from its children
     pub from_children : (s i : ℕ) → IsSuper supers s
         → ((c : ℕ) × IsSuper supers c × ((super_at supers c).parent ≡ s)
-        × IsTrue (has (drop (super_at supers c).columns (rows_of joined n (first_of supers c))) i))
+        × IsTrue (has (drop (super_at supers c).columns (rows_of_front joined n (first_of supers c))) i))
         ↔ IsFromChild joined n (first_of supers s) i
     from_children s i super = (
       λ (c, child, up, there).

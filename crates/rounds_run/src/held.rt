@@ -5,7 +5,7 @@ ghost use Rattle.std.specs.Prelude.{length, slice_set, slice_index_or, IfOk, OnO
 ghost use Rattle.patterns.specs.Pattern.{has};
 ghost use Rattle.assembly_tree.specs.Assembly.{IsSuper, super_at};
 ghost use Rattle.assembly_tree.specs.Supernodes.{first_of};
-ghost use Rattle.rounds_run.specs.FrontRows.{list_of};
+ghost use Rattle.rounds_run.specs.FrontRows.{list_of_front};
 ghost use Rattle.rounds_run.specs.Holding.{Factor, IsFactor, IsHeld, AreJobsOf, AreMadeOf, AreDue, AreFirsts, or_in};
 
 use crate::NoMemory;

@@ -6,7 +6,7 @@ ghost use Rattle.patterns.specs.Pattern.{is_joined};
 ghost use Rattle.ordering.specs.Fill.{renumbered, parents_of, counts_of};
 ghost use Rattle.assembly_tree.specs.Assembly.{IsSuper};
 ghost use Rattle.assembly_tree.specs.Supernodes.{AreSupernodes, first_of, last_of};
-ghost use Rattle.rounds_run.specs.FrontRows.{rows_of, list_of};
+ghost use Rattle.rounds_run.specs.FrontRows.{rows_of_front, list_of_front};
 ghost use Rattle.rounds_run.specs.RowSystem.{row_peak, row_setting};
 ghost use Rattle.rounds_run.specs.Rounds.{AreRounds};
 ghost use Rattle.rounds_run.specs.Fronts.{IsFrontsRefusal};
@@ -96,8 +96,8 @@ fn run_rounds<R: Threads + Sync, G: Gate>(
     requires rounds { AreOrderly supers.now rounds.now }
     requires short { All (λ round. length round < 2 ^ 32) rounds.now }
     ensures len { IfOk result (λ rows. length rows.items ≡ length supers.now) }
-    ensures rows { IfOk result (λ rows. (s : ℕ) → IsSuper supers.now s → list_of rows.items s
-        ≡ rows_of (renumbered (is_joined pattern.now) perm.now) (length perm.now) (first_of supers.now s)) }
+    ensures rows { IfOk result (λ rows. (s : ℕ) → IsSuper supers.now s → list_of_front rows.items s
+        ≡ rows_of_front (renumbered (is_joined pattern.now) perm.now) (length perm.now) (first_of supers.now s)) }
 {
     let firsts = first_columns(alloc, supers)?;
     let mut held = Held::new(alloc, supers.len())?;
@@ -141,13 +141,13 @@ pub fn run_fronts<R: Threads + Sync, G: Gate>(
     requires workers { (1 ≤ workers) × (workers ≤ most_workers) }
     // each list is the structure of the first column, in rising order; and of each column its structure is the list from there on
     ensures len { IfOk result (λ fronts. length fronts.rows ≡ length assembly.now.supers) }
-    ensures rows { IfOk result (λ fronts. (s : ℕ) → IsSuper assembly.now.supers s → list_of fronts.rows s
-        ≡ rows_of (renumbered (is_joined pattern.now) numbered.now.perm) (length numbered.now.perm)
+    ensures rows { IfOk result (λ fronts. (s : ℕ) → IsSuper assembly.now.supers s → list_of_front fronts.rows s
+        ≡ rows_of_front (renumbered (is_joined pattern.now) numbered.now.perm) (length numbered.now.perm)
         (first_of assembly.now.supers s)) }
     ensures columns { IfOk result (λ fronts. (s j : ℕ) → IsSuper assembly.now.supers s →
         first_of assembly.now.supers s ≤ j → j ≤ last_of assembly.now.supers s →
-        rows_of (renumbered (is_joined pattern.now) numbered.now.perm) (length numbered.now.perm) j
-        ≡ drop (j - first_of assembly.now.supers s) (list_of fronts.rows s)) }
+        rows_of_front (renumbered (is_joined pattern.now) numbered.now.perm) (length numbered.now.perm) j
+        ≡ drop (j - first_of assembly.now.supers s) (list_of_front fronts.rows s)) }
     // the rounds are those of the activation machine, under the bound
     ensures rounds { IfOk result (λ fronts.
         AreRounds (row_setting assembly.now.supers bound workers) fronts.rounds fronts.used) }

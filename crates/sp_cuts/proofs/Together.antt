@@ -16,7 +16,7 @@ use Rattle.sp_terms.specs.Term.{Direction, forward, backward}
 use Rattle.cut_laws.specs.Cuts.{Cut, par_cut, fronts, backs, top_of, starts, sides}
 use Rattle.cut_laws.specs.Tops.{MeetsAtLeast, BothRise, tops}
 use Rattle.sp_cuts.specs.declared.parts.Part.{Part}
-use Rattle.sp_cuts.specs.Parts.{cut_of, cuts_of, AreParts, fronts_of, backs_of, moves_in}
+use Rattle.sp_cuts.specs.Parts.{cut_of, cuts_of, AreParts, front_sides, backs_of, moves_in}
 use Rattle.sp_cuts.specs.Splits.{IsRough, AreRough, AreSplit}
 use Rattle.sp_cuts.proofs.Kept.{same_cut, sides_of, peak_of_cut, within, rough}
 
@@ -83,7 +83,7 @@ splitting_ends yielded rest parts fs bs start end low most s e =
 
 -- ---- what merge needs
 
-fronts_ropes : (lists : List (List ℕ)) (ps : List Part) → AreRough lists ps → AllHaveRopes lists (fronts_of ps)
+fronts_ropes : (lists : List (List ℕ)) (ps : List Part) → AreRough lists ps → AllHaveRopes lists (front_sides ps)
 fronts_ropes lists [] h = tt
 fronts_ropes lists (p ∷ ps) h = (h.0.both.front_ropes, fronts_ropes lists ps h.1)
 
@@ -96,7 +96,7 @@ pub record Sums (ps : List Part) : Type 0 where
   pub start : sum_by (λ p. p.initial) ps ≤ sum_by (λ p. p.peak) ps
   pub end : sum_by (λ p. p.fin) ps ≤ sum_by (λ p. p.peak) ps
   pub low : sum_by (λ p. p.least) ps ≤ sum_by (λ p. p.peak) ps
-  pub front : net_sum_all (fronts_of ps) ≤ sum_by (λ p. p.peak) ps
+  pub front : net_sum_all (front_sides ps) ≤ sum_by (λ p. p.peak) ps
   pub back : net_sum_all (backs_of ps) ≤ sum_by (λ p. p.peak) ps
 
 pub sums : SideLaws → (lists : List (List ℕ)) (ps : List Part) → AreRough lists ps → Sums ps
@@ -112,7 +112,7 @@ sums laws lists (p ∷ ps) h =
       start = omega (arith, sum_by-cons (λ (q : Part). q.initial) p ps);
       end = omega (arith, sum_by-cons (λ (q : Part). q.fin) p ps);
       low = omega (arith, sum_by-cons (λ (q : Part). q.least) p ps);
-      front = omega (arith, sum_by-cons (λ (s : List Seg). net_sum (profile s)) p.front (fronts_of ps));
+      front = omega (arith, sum_by-cons (λ (s : List Seg). net_sum (profile s)) p.front (front_sides ps));
       back = omega (arith, sum_by-cons (λ (s : List Seg). net_sum (profile s)) p.back (backs_of ps));
     }
 
@@ -162,7 +162,7 @@ tops_le backward lists (p ∷ ps) h = let b = h.0.bound in omega (arith, tops_le
 
 -- the sides and the numbers of several parts are those of their cuts
 pub record Told (lists : List (List ℕ)) (ps : List Part) : Type 0 where
-  pub front : all_runs_of lists (fronts_of ps) ≡ fronts (cuts_of lists ps)
+  pub front : all_runs_of lists (front_sides ps) ≡ fronts (cuts_of lists ps)
   pub back : all_runs_of lists (backs_of ps) ≡ backs (cuts_of lists ps)
   pub start : sum_by (λ p. p.initial) ps ≡ sum_by (λ c. c.initial) (cuts_of lists ps)
   pub end : sum_by (λ p. p.fin) ps ≡ sum_by (λ c. c.fin) (cuts_of lists ps)

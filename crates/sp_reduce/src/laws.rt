@@ -7,7 +7,7 @@ ghost use Rattle.mp_system.specs.Renaming.{name_in};
 ghost use Rattle.mp_system.specs.Traversal.{IsTraversal, IsLeast};
 ghost use Rattle.sp_terms.specs.SystemOfTerm.{system_of_term};
 ghost use Rattle.sp_terms.specs.Term.{Term};
-ghost use Rattle.graphs.specs.Graph.{TaskGraph, IsGraph, system_of, completed_system};
+ghost use Rattle.graphs.specs.Graph.{TaskGraph, IsGraph, own_system, completed_system};
 ghost use Rattle.sp_reduce.specs.Reduced.{HasSystem};
 
 use graphs::laws::completion_law;
@@ -17,11 +17,11 @@ use mp_system::laws::renaming_law;
 /// least peak.
 pub fn named_term_law()
     ensures traversal { (graph : TaskGraph) (names : List ℕ) (t : Term) (order : List ℕ) → HasSystem names t (completed_system graph) →
-        (IsTraversal (system_of_term t) order ↔ IsTraversal (system_of graph) (map (name_in names) order)) }
+        (IsTraversal (system_of_term t) order ↔ IsTraversal (own_system graph) (map (name_in names) order)) }
     ensures peak { (graph : TaskGraph) (names : List ℕ) (t : Term) (order : List ℕ) → HasSystem names t (completed_system graph) →
-        IsTraversal (system_of_term t) order → peak_of (system_of graph) (map (name_in names) order) ≡ peak_of (system_of_term t) order }
+        IsTraversal (system_of_term t) order → peak_of (own_system graph) (map (name_in names) order) ≡ peak_of (system_of_term t) order }
     ensures least { (graph : TaskGraph) (names : List ℕ) (t : Term) (peak : ℕ) → HasSystem names t (completed_system graph) →
-        (IsLeast (system_of_term t) peak ↔ IsLeast (system_of graph) peak) }
+        (IsLeast (system_of_term t) peak ↔ IsLeast (own_system graph) peak) }
 {
     renaming_law();
     completion_law();

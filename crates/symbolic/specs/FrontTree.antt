@@ -7,7 +7,7 @@ use Rattle.ordering.specs.Fill.{renumbered, parents_of, counts_of}
 use Rattle.elim_tree.specs.Postorders.{IsPostorder, IsPostordered}
 use Rattle.assembly_tree.specs.Amalgamation.{amalgamated}
 use Rattle.assembly_tree.specs.Assembly.{AssemblyTree}
-use Rattle.assembly_tree.specs.Fronts.{fronts_of}
+use Rattle.assembly_tree.specs.Fronts.{nodes_of_fronts}
 use Rattle.assembly_tree.specs.Supernodes.{AreSupernodes}
 use Rattle.trees.specs.declared.node.Node.{Node}
 use Rattle.symbolic.specs.declared.options.FrontOptions.{FrontOptions}
@@ -38,4 +38,4 @@ pub record IsFrontTree (options : FrontOptions) (rows : List (List ℕ)) (order 
       (parents_of (columns rows (map (vertex_at order) post)) (length order))
       (counts_of (columns rows (map (vertex_at order) post)) (length order)) assembly
   -- and each is a front
-  pub fronts : nodes ≡ fronts_of options.shape options.inplace (relaxed options.zeros assembly).supers
+  pub fronts : nodes ≡ nodes_of_fronts options.shape options.inplace (relaxed options.zeros assembly).supers

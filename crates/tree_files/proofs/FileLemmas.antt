@@ -6,7 +6,7 @@ use Rattle.mp_text.specs.declared.refusals.Refusal.{Refusal}
 use Rattle.mp_text.specs.Text.{Row}
 use Rattle.mp_text.specs.Ahead.{rows_of_bytes, past_of_bytes}
 use Rattle.mp_text.specs.Grammar.{Format, IsWellFormed, Refuses, fault_at}
-use Rattle.trees.specs.Tree.{IsNode, LeadsToRoot, ShareFits, IsTree, ancestor, node_at, children_out}
+use Rattle.trees.specs.Tree.{IsNode, LeadsToRoot, NodeShareFits, IsTree, ancestor, node_at, children_out}
 use Rattle.trees.specs.Judged.{AreNodesWithin}
 use Rattle.tree_files.specs.TreeFile.{tree_format, nodes_stated, ReadsTree, RefusesCycle, RefusesShare, RefusesTree, line_stating}
 use Rattle.lists.specs.Numbers.{IsFirstWithout}
@@ -59,7 +59,7 @@ one_lowest fact nodes v w one two =
 leads_or_not : (nodes : List Node) → IsEither (LeadsToRoot nodes)
 leads_or_not nodes v = cases_eq (ancestor nodes (length nodes) v) 0
 
-fits_or_not : (nodes : List Node) → IsEither (ShareFits nodes)
+fits_or_not : (nodes : List Node) → IsEither (NodeShareFits nodes)
 fits_or_not nodes v =
     let node = node_at nodes v in
     elim (cases_le node.share (children_out nodes v)) [
@@ -90,7 +90,7 @@ read_or_refused outcome bytes =
       | inr refused ↦ inr (refused.0, inl refused.1)
       | inl form ↦ elim (lowest (LeadsToRoot nodes) (leads_or_not nodes) nodes) [
         | inr first ↦ inr (fault_at (line_stating rows first.0) kinds.Cycle, inr (inl (record { form = form; node = first.0; first = first.1; refusal_is = refl })))
-        | inl roots ↦ elim (lowest (ShareFits nodes) (fits_or_not nodes) nodes) [
+        | inl roots ↦ elim (lowest (NodeShareFits nodes) (fits_or_not nodes) nodes) [
           | inr first ↦ inr (fault_at (line_stating rows first.0) kinds.Share, inr (inr (record { form = form; roots = roots; node = first.0; first = first.1; refusal_is = refl })))
           | inl shares ↦ inl (nodes, record { form = form; stated = refl; roots = roots; shares = shares })
         ]
@@ -101,8 +101,8 @@ read_or_refused outcome bytes =
 stated_roots : (bytes : List ℕ) (nodes : List Node) → ReadsTree bytes nodes → (v : ℕ) → IsNode (nodes_stated (rows_of_bytes Commented bytes)) v → LeadsToRoot (nodes_stated (rows_of_bytes Commented bytes)) v
 stated_roots bytes nodes reads = subst (λ (ns : List Node). (v : ℕ) → IsNode ns v → LeadsToRoot ns v) reads.stated reads.roots
 
-stated_shares : (bytes : List ℕ) (nodes : List Node) → ReadsTree bytes nodes → (v : ℕ) → IsNode (nodes_stated (rows_of_bytes Commented bytes)) v → ShareFits (nodes_stated (rows_of_bytes Commented bytes)) v
-stated_shares bytes nodes reads = subst (λ (ns : List Node). (v : ℕ) → IsNode ns v → ShareFits ns v) reads.stated reads.shares
+stated_shares : (bytes : List ℕ) (nodes : List Node) → ReadsTree bytes nodes → (v : ℕ) → IsNode (nodes_stated (rows_of_bytes Commented bytes)) v → NodeShareFits (nodes_stated (rows_of_bytes Commented bytes)) v
+stated_shares bytes nodes reads = subst (λ (ns : List Node). (v : ℕ) → IsNode ns v → NodeShareFits ns v) reads.stated reads.shares
 
 pub not_both : NotBoth → (bytes : List ℕ) (nodes : List Node) (refusal : Refusal TreeKind) → ReadsTree bytes nodes → RefusesTree bytes refusal → ⊥
 not_both apart bytes nodes refusal reads (inl refused) = apart tree_format (rows_of_bytes Commented bytes) (past_of_bytes bytes) refusal reads.form refused

@@ -19,7 +19,7 @@ use Rattle.mp_text.specs.Ahead.{rows_of_bytes, past_of_bytes}
 use Rattle.mp_text.specs.Grammar.{Test, test, Format, IsWellFormed, Refuses, fault, fault_at}
 use Rattle.tree_files.specs.declared.fields.NodeFields.{NodeFields}
 use Rattle.lists.specs.Numbers.{IsFirstWithout}
-use Rattle.trees.specs.Tree.{IsNode, LeadsToRoot, ShareFits, node_size}
+use Rattle.trees.specs.Tree.{IsNode, LeadsToRoot, NodeShareFits, node_size}
 use Rattle.trees.specs.declared.node.Node.{Node}
 use Rattle.tree_files.specs.declared.kind.TreeKind.{TreeKind}
 use Rattle.tree_files.specs.declared.kind.TreeKind.TheVariants as kinds
@@ -131,7 +131,7 @@ pub record ReadsTree (bytes : List ℕ) (nodes : List Node) : Type 0 where
   pub form : IsWellFormed tree_format (rows_of_bytes Commented bytes) (past_of_bytes bytes)
   pub stated : nodes ≡ nodes_stated (rows_of_bytes Commented bytes)
   pub roots : (v : ℕ) → IsNode nodes v → LeadsToRoot nodes v
-  pub shares : (v : ℕ) → IsNode nodes v → ShareFits nodes v
+  pub shares : (v : ℕ) → IsNode nodes v → NodeShareFits nodes v
 
 -- every line passes, and v is the lowest node whose parents lead to no root
 pub record RefusesCycle (bytes : List ℕ) (refusal : Refusal TreeKind) : Type 0 where
@@ -145,7 +145,7 @@ pub record RefusesShare (bytes : List ℕ) (refusal : Refusal TreeKind) : Type 0
   pub form : IsWellFormed tree_format (rows_of_bytes Commented bytes) (past_of_bytes bytes)
   pub roots : let nodes = nodes_stated (rows_of_bytes Commented bytes) in (v : ℕ) → IsNode nodes v → LeadsToRoot nodes v
   pub node : ℕ
-  pub first : let nodes = nodes_stated (rows_of_bytes Commented bytes) in IsFirstWithout (length nodes) (ShareFits nodes) node
+  pub first : let nodes = nodes_stated (rows_of_bytes Commented bytes) in IsFirstWithout (length nodes) (NodeShareFits nodes) node
   pub refusal_is : refusal ≡ fault_at (line_stating (rows_of_bytes Commented bytes) node) kinds.Share
 
 abbrev pub RefusesTree : List ℕ → Refusal TreeKind → Type 0

@@ -5,11 +5,11 @@ use Rattle.std.proofs.str.Laws.{order}
 use Rattle.std.proofs.lemmas.List.Sums.{sum_by-set, count_by-le-length}
 use Rattle.std.proofs.lemmas.Bool.{cases_eq, ne_eqb}
 use Rattle.trees.specs.declared.node.Node.{Node}
-use Rattle.trees.specs.Tree.{parent_of, ancestor, LeadsToRoot}
+use Rattle.trees.specs.Tree.{parent_of_node, ancestor, LeadsToRoot}
 use Rattle.lists.specs.Numbers.{IsFirstWithout}
 use Rattle.trees.specs.Ascent.{IsAscent, unmarked}
 
-pub ancestor-one : (nodes : List Node) (k v : ℕ) → ancestor nodes (suc k) v ≡ ancestor nodes k (parent_of nodes v)
+pub ancestor-one : (nodes : List Node) (k v : ℕ) → ancestor nodes (suc k) v ≡ ancestor nodes k (parent_of_node nodes v)
 unfolding ancestor
 ancestor-one nodes k v = refl
 
@@ -24,7 +24,7 @@ ancestor-zero nodes (suc k) = ancestor-one nodes k 0 ∙ ancestor-zero nodes k
 pub ancestor-add : (nodes : List Node) (a b v : ℕ) → ancestor nodes (a + b) v ≡ ancestor nodes b (ancestor nodes a v)
 ancestor-add nodes zero b v = (let e : 0 + b ≡ b = omega arith in ap (λ (k : ℕ). ancestor nodes k v) e) ∙ ap (ancestor nodes b) (sym (ancestor-none nodes v))
 ancestor-add nodes (suc a) b v =
-    (let e : suc a + b ≡ suc (a + b) = omega arith in ap (λ (k : ℕ). ancestor nodes k v) e) ∙ ancestor-one nodes (a + b) v ∙ ancestor-add nodes a b (parent_of nodes v) ∙ ap (ancestor nodes b) (sym (ancestor-one nodes a v))
+    (let e : suc a + b ≡ suc (a + b) = omega arith in ap (λ (k : ℕ). ancestor nodes k v) e) ∙ ancestor-one nodes (a + b) v ∙ ancestor-add nodes a b (parent_of_node nodes v) ∙ ap (ancestor nodes b) (sym (ancestor-one nodes a v))
 
 ancestor-turns : (nodes : List Node) (b s m : ℕ) → ancestor nodes (suc b) s ≡ s → ancestor nodes (m * suc b) s ≡ s
 ancestor-turns nodes b s zero e = (let z : 0 * suc b ≡ 0 = omega arith in ap (λ (k : ℕ). ancestor nodes k s) z) ∙ ancestor-none nodes s
@@ -78,11 +78,11 @@ IsAscent-start nodes marks from len high below = record {
   own = inl refl;
 }
 
-pub IsAscent-next : (nodes : List Node) (old new : List ℕ) (from at next : ℕ) → IsAscent nodes old new from at → at ≢ 0 → from ≢ 0 → get_or new (at - 1) 0 ≡ 0 → next ≡ parent_of nodes at → next ≤ length nodes → IsAscent nodes old (set new (at - 1) from) from next
+pub IsAscent-next : (nodes : List Node) (old new : List ℕ) (from at next : ℕ) → IsAscent nodes old new from at → at ≢ 0 → from ≢ 0 → get_or new (at - 1) 0 ≡ 0 → next ≡ parent_of_node nodes at → next ≤ length nodes → IsAscent nodes old (set new (at - 1) from) from next
 IsAscent-next nodes old new from at next c ne some free next_is next_high =
     let room : at - 1 < length new = omega (arith, c.len, c.within) in
     let falls = unmarked-set new (at - 1) from room free some in
-    let step : ancestor nodes 1 at ≡ next = ancestor-one nodes 0 at ∙ ancestor-none nodes (parent_of nodes at) ∙ sym next_is in
+    let step : ancestor nodes 1 at ≡ next = ancestor-one nodes 0 at ∙ ancestor-none nodes (parent_of_node nodes at) ∙ sym next_is in
     record {
       len = length-set new (at - 1) from ∙ c.len;
       within = next_high;
@@ -196,7 +196,7 @@ below_after nodes old new from stop way below w =
       | inr le ↦ omega (arith, get_or_past new w 0 le, below w)
     ]
 
-pub parent_is : (nodes : List Node) (v : ℕ) → v ≢ 0 → (get_or nodes (v - 1) (record { parent = 0; out = 0; extra = 0; share = 0; time = 0 })).parent ≡ parent_of nodes v
+pub parent_is : (nodes : List Node) (v : ℕ) → v ≢ 0 → (get_or nodes (v - 1) (record { parent = 0; out = 0; extra = 0; share = 0; time = 0 })).parent ≡ parent_of_node nodes v
 parent_is nodes zero ne = absurd (ne refl)
 parent_is nodes (suc v) ne = refl
 

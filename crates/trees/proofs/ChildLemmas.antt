@@ -6,7 +6,7 @@ use Rattle.std.proofs.lemmas.List.Sums.{length-filter, count_by-le-length}
 use Rattle.std.proofs.lemmas.List.FromFn.{length-range_with_len}
 use Rattle.row_table.specs.Rows.{row_at, numbers_with}
 use Rattle.trees.specs.declared.node.Node.{Node}
-use Rattle.trees.specs.Tree.{parent_of}
+use Rattle.trees.specs.Tree.{parent_of_node}
 use Rattle.trees.specs.Forest.{children_of}
 use Rattle.trees.specs.Children.{AreChildren, parent_in}
 use Rattle.trees.proofs.AscentLemmas.{parent_is}
@@ -23,7 +23,7 @@ module _ (nodes : List Node) where
   none : Node
   none = record { parent = 0; out = 0; extra = 0; share = 0; time = 0 }
 
-  parent_at : (i : ℕ) → i < length nodes → parent_of nodes (1 + i) ≡ get_or parents i 0
+  parent_at : (i : ℕ) → i < length nodes → parent_of_node nodes (1 + i) ≡ get_or parents i 0
   unfolding parents none
   parent_at i lt =
       let place : (1 + i) - 1 ≡ i = omega arith in
@@ -38,13 +38,13 @@ module _ (nodes : List Node) where
   pub rows-children : AreFiltered → (p : ℕ) → numbers_with (map parent_in nodes) 1 p ≡ children_of nodes p
   unfolding parents
   rows-children filtered p =
-      let q : ℕ → Bool = λ v. eqb (parent_of nodes v) p in
+      let q : ℕ → Bool = λ v. eqb (parent_of_node nodes v) p in
       sym (filtered (map parent_in nodes) 1 p q (λ i lt. ap (λ (u : ℕ). eqb u p) (parent_at i (omega (arith, length-map nodes parent_in, lt)))))
       ∙ ap (λ (n : ℕ). filter q (range_with_len 1 n)) (length-map nodes parent_in)
 
   pub children-few : (p : ℕ) → length (children_of nodes p) ≤ length nodes
   children-few p =
-      let q : ℕ → Bool = λ v. eqb (parent_of nodes v) p in
+      let q : ℕ → Bool = λ v. eqb (parent_of_node nodes v) p in
       omega (arith, length-filter q (range_with_len 1 (length nodes)), count_by-le-length q (range_with_len 1 (length nodes)), length-range_with_len 1 (length nodes))
 
 -- as the code reads a row

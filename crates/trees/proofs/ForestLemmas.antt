@@ -6,28 +6,28 @@ use Rattle.std.proofs.lemmas.List.FromFn.{length-range_with_len}
 use Rattle.std.proofs.lemmas.List.Sorted.{length_permutation}
 use Rattle.std.proofs.lemmas.Bool.{cases_eq, ne_eqb, eqb-true}
 use Rattle.trees.specs.declared.node.Node.{Node}
-use Rattle.trees.specs.Tree.{IsNode, IsTree, parent_of, ancestor}
+use Rattle.trees.specs.Tree.{IsNode, IsTree, parent_of_node, ancestor}
 use Rattle.trees.specs.Forest.{Forest, no_trees, tree, roots_of, all_numbers, children_of, HasChildren, IsForestOf}
 use Rattle.trees.proofs.AscentLemmas.{ancestor-one, ancestor-none, ancestor-add}
 use Rattle.trees.proofs.CountLemmas.{bit, times, bit-same, bit-other, times-cons, times-append, times-filter, times-filter_none, times-range, each-filter_range, permutation-range}
 
 -- a node whose parent is p
 abbrev pub IsChild : List Node → ℕ → ℕ → Type 0
-IsChild nodes p c = IsNode nodes c × (parent_of nodes c ≡ p)
+IsChild nodes p c = IsNode nodes c × (parent_of_node nodes c ≡ p)
 
 module _ (nodes : List Node) where
   -- ---- the children of a node
 
   pub children-are : (p : ℕ) → AllByRecursion (IsChild nodes p) (children_of nodes p)
-  children-are p = each-filter_range (IsChild nodes p) (λ v. eqb (parent_of nodes v) p) 1 (length nodes)
-      (λ v low high passes. ((low, omega (arith, high)), eqb-true (parent_of nodes v) p passes))
+  children-are p = each-filter_range (IsChild nodes p) (λ v. eqb (parent_of_node nodes v) p) 1 (length nodes)
+      (λ v low high passes. ((low, omega (arith, high)), eqb-true (parent_of_node nodes v) p passes))
 
-  pub times-children : (p v : ℕ) → IsNode nodes v → times (children_of nodes p) v ≡ bit p (parent_of nodes v)
-  times-children p v node = elim (cases_eq (parent_of nodes v) p) [
-    | inl same ↦ times-filter (λ u. eqb (parent_of nodes u) p) (range_with_len 1 (length nodes)) v (eq-eqb (parent_of nodes v) p same)
-        ∙ times-range 1 (length nodes) v node.0 (omega (arith, node.1)) ∙ sym (bit-same p (parent_of nodes v) (sym same))
-    | inr other ↦ times-filter_none (λ u. eqb (parent_of nodes u) p) (range_with_len 1 (length nodes)) v (ne_eqb (parent_of nodes v) p other)
-        ∙ sym (bit-other p (parent_of nodes v) (λ e. other (sym e)))
+  pub times-children : (p v : ℕ) → IsNode nodes v → times (children_of nodes p) v ≡ bit p (parent_of_node nodes v)
+  times-children p v node = elim (cases_eq (parent_of_node nodes v) p) [
+    | inl same ↦ times-filter (λ u. eqb (parent_of_node nodes u) p) (range_with_len 1 (length nodes)) v (eq-eqb (parent_of_node nodes v) p same)
+        ∙ times-range 1 (length nodes) v node.0 (omega (arith, node.1)) ∙ sym (bit-same p (parent_of_node nodes v) (sym same))
+    | inr other ↦ times-filter_none (λ u. eqb (parent_of_node nodes u) p) (range_with_len 1 (length nodes)) v (ne_eqb (parent_of_node nodes v) p other)
+        ∙ sym (bit-other p (parent_of_node nodes v) (λ e. other (sym e)))
   ]
 
   -- ---- where trees hang
@@ -68,10 +68,10 @@ module _ (nodes : List Node) where
       )
 
   -- a node stands in a forest as often as on top of it, and as often as its parent
-  pub times-forest : (f : Forest) (v : ℕ) → HasChildren nodes f → IsNode nodes v → times (all_numbers f) v ≡ times (roots_of f) v + times (all_numbers f) (parent_of nodes v)
+  pub times-forest : (f : Forest) (v : ℕ) → HasChildren nodes f → IsNode nodes v → times (all_numbers f) v ≡ times (roots_of f) v + times (all_numbers f) (parent_of_node nodes v)
   times-forest no_trees v h node = refl
   times-forest (tree u children others) v (is, below, beside) node =
-      let up = parent_of nodes v in
+      let up = parent_of_node nodes v in
       let top : times (roots_of children) v ≡ bit u up = ap (λ (xs : List ℕ). times xs v) is ∙ times-children u v node in
       omega (
         arith,
@@ -92,7 +92,7 @@ module _ (nodes : List Node) where
     once-up : (k v : ℕ) → IsNode nodes v → ancestor nodes k v ≡ 0 → times (all_numbers f) v ≡ 1
     once-up zero v node ends = absurd (omega (arith, node.0, sym (ancestor-none nodes v) ∙ ends))
     once-up (suc k) v node ends =
-        let up : ℕ = parent_of nodes v in
+        let up : ℕ = parent_of_node nodes v in
         let all : times (all_numbers f) v ≡ times (roots_of f) v + times (all_numbers f) up = times-forest f v h.below node in
         let top : times (roots_of f) v ≡ bit 0 up = ap (λ (xs : List ℕ). times xs v) h.roots ∙ times-children 0 v node in
         elim (cases_eq up 0) [
@@ -100,7 +100,7 @@ module _ (nodes : List Node) where
           | inr some ↦ omega (arith, all, top, bit-other 0 up (λ e. some (sym e)), once-up k up (omega (arith, some), high v node) (sym (ancestor-one nodes k v) ∙ ends))
         ]
       where
-        high : (v : ℕ) → IsNode nodes v → parent_of nodes v ≤ length nodes
+        high : (v : ℕ) → IsNode nodes v → parent_of_node nodes v ≤ length nodes
         high zero node = omega arith
         high (suc i) node = (is.each (suc i - 1) (record { parent = 0; out = 0; extra = 0; share = 0; time = 0 }) (omega (arith, node.1))).parent
 
@@ -143,10 +143,10 @@ module _ (nodes : List Node) where
   abbrev IsShallow : ℕ → ℕ → Type 0
   IsShallow k p = (v : ℕ) → IsNode nodes v → ancestor nodes k v ≢ p
 
-  shallow-child : (k p c : ℕ) → IsShallow (suc k) p → parent_of nodes c ≡ p → IsShallow k c
+  shallow-child : (k p c : ℕ) → IsShallow (suc k) p → parent_of_node nodes c ≡ p → IsShallow k c
   shallow-child k p c none up v node e =
       let more : k + 1 ≡ suc k = omega arith in
-      none v node (ap (λ (j : ℕ). ancestor nodes j v) (sym more) ∙ ancestor-add nodes k 1 v ∙ ap (ancestor nodes 1) e ∙ ancestor-one nodes 0 c ∙ ancestor-none nodes (parent_of nodes c) ∙ up)
+      none v node (ap (λ (j : ℕ). ancestor nodes j v) (sym more) ∙ ancestor-add nodes k 1 v ∙ ap (ancestor nodes 1) e ∙ ancestor-one nodes 0 c ∙ ancestor-none nodes (parent_of_node nodes c) ∙ up)
 
   each-below : (k p : ℕ) (vs : List ℕ) → ((c : ℕ) → IsChild nodes p c → IsBelow (trees_to k (children_of nodes c)) c) → AllByRecursion (IsChild nodes p) vs → AllByRecursion (λ v. IsBelow (trees_to k (children_of nodes v)) v) vs
   each-below k p [] one each = tt

@@ -5,7 +5,7 @@ use Rattle.std.proofs.lemmas.List.Elements.{All-from_get_or}
 use Rattle.limits.specs.Limits.{most_size, most_time}
 use Rattle.trees.specs.declared.node.Node.{Node}
 use Rattle.trees.specs.declared.judged.NodeTest.TheVariants as tests
-use Rattle.trees.specs.Tree.{IsNode, IsNodeWithin, IsTree, ShareFits}
+use Rattle.trees.specs.Tree.{IsNode, IsNodeWithin, IsTree, NodeShareFits}
 use Rattle.trees.specs.Judged.{AllLead, AllPass, AreNodesWithin, HasTotal, PassAll}
 
 abbrev pub none : Node
@@ -46,7 +46,7 @@ are_within nodes pass total = record {
 }
 
 pub are_tree : (nodes : List Node) → AreNodesWithin nodes → AllLead nodes
-    → ((v : ℕ) → IsNode nodes v → ShareFits nodes v) → IsTree nodes
+    → ((v : ℕ) → IsNode nodes v → NodeShareFits nodes v) → IsTree nodes
 are_tree nodes within roots shares = record {
   some = within.some;
   few = within.few;

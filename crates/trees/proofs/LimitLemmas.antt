@@ -13,7 +13,7 @@ use Rattle.sp_terms.specs.SystemOfTerm.{system_of_term}
 use Rattle.sp_terms.specs.Postfix.{Denotes, at_task, postfix}
 use Rattle.sp_terms.specs.Values.{stack_from, last_term, term_of, added_size, added_tasks, IsWithinLimits, Leaves, IsTerms}
 use Rattle.trees.specs.declared.node.Node.{Node}
-use Rattle.trees.specs.Tree.{IsNode, IsTree, IsNodeWithin, node_at, node_size, task_of, children_out, system_of_nodes}
+use Rattle.trees.specs.Tree.{IsNode, IsTree, IsNodeWithin, node_at, node_size, task_of_node, children_out, system_of_nodes}
 use Rattle.trees.specs.Forest.{Forest, no_trees, tree, roots_of, all_numbers, HasChildren, IsForestOf}
 use Rattle.trees.specs.TreeTerm.{beside_positions, own_positions, tree_positions, forest_positions}
 use Rattle.trees.proofs.ForestLemmas.{Hangs, forest-hangs, forest-each, forest-length}
@@ -78,7 +78,7 @@ module _ (nodes : List Node) (is : IsTree nodes) where
   own-sums n v node =
       let b = beside_positions n in
       let x = Hold (node_at nodes v).out in
-      let y = at_task (task_of (node_at nodes v)) in
+      let y = at_task (task_of_node (node_at nodes v)) in
       let w = node-within v node in
       record {
         within = All-append IsWithinLimits b (x ∷ (y ∷ [])) (beside-within n) (All-cons IsWithinLimits x (y ∷ []) w.out (one-within y (w.extra, w.time.0, w.time.1)));

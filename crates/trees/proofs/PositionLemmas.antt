@@ -5,7 +5,7 @@ use Rattle.sp_terms.specs.declared.position.Position.{Position}
 use Rattle.sp_terms.specs.declared.position.Position.TheVariants.{Hold}
 use Rattle.sp_terms.specs.Postfix.{at_task}
 use Rattle.trees.specs.declared.node.Node.{Node}
-use Rattle.trees.specs.Tree.{node_at, task_of}
+use Rattle.trees.specs.Tree.{node_at, task_of_node}
 use Rattle.trees.specs.Forest.{Forest, no_trees, tree, roots_of, all_numbers, children_of, HasChildren, IsForestOf}
 use Rattle.trees.specs.TreeTerm.{beside_positions, own_positions, tree_positions, forest_positions}
 use Rattle.trees.specs.Children.{positions_of}
@@ -43,11 +43,11 @@ flat-read nodes now names ns found f same ns_are h names_are found_is =
 
 -- one node more
 pub position-more : (nodes : List Node) (names : List ℕ) (n v count : ℕ) (before one two three : List Position) → n < length names → get_or names n 0 ≡ v → count ≡ length (children_of nodes v) → before ≡ positions_of nodes (take n names)
-    → one ≡ before ++ beside_positions count → two ≡ one ++ Hold (node_at nodes v).out ∷ [] → three ≡ two ++ at_task (task_of (node_at nodes v)) ∷ []
+    → one ≡ before ++ beside_positions count → two ≡ one ++ Hold (node_at nodes v).out ∷ [] → three ≡ two ++ at_task (task_of_node (node_at nodes v)) ∷ []
     → three ≡ positions_of nodes (take (n + 1) names)
 position-more nodes names n v count before one two three lt e count_is b h k l =
     let x : List Position = Hold (node_at nodes v).out ∷ [] in
-    let y : List Position = at_task (task_of (node_at nodes v)) ∷ [] in
+    let y : List Position = at_task (task_of_node (node_at nodes v)) ∷ [] in
     let side : List Position = beside_positions (length (children_of nodes v)) in
     let all : List Position = positions_of nodes (take n names) in
     let more : take (n + 1) names ≡ take n names ++ v ∷ [] = take_more names n 0 lt ∙ ap (λ (z : ℕ). take n names ++ z ∷ []) e in

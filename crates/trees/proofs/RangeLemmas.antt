@@ -3,7 +3,7 @@ use Rattle.std.proofs.Common.{◌≡◌, ℕ, suc, ◌+◌, ◌-◌, ◌<◌, Bo
 use Rattle.std.specs.List.{sum_by, range_with_len}
 use Rattle.std.proofs.lemmas.List.Sums.{sum_by-cons}
 use Rattle.trees.specs.declared.node.Node.{Node}
-use Rattle.trees.specs.Tree.{node_at, parent_of, out_below, children_out, node_size, item_of, items_from}
+use Rattle.trees.specs.Tree.{node_at, parent_of_node, out_below, children_out, node_size, item_of_node, items_from}
 use Rattle.trees.specs.Forest.{children_of}
 use Rattle.trees.proofs.AscentLemmas.{parent_is}
 
@@ -29,9 +29,9 @@ module _ (g : ℕ → Node) (d : Node) where
         sizes-range (k + 1) ns (numbered-rest k n ns h),
       )
 
-  items-range : (k : ℕ) (nodes : List Node) → AreNumbered k nodes → map (λ v. item_of v (g v)) (range_with_len k (length nodes)) ≡ items_from k nodes
+  items-range : (k : ℕ) (nodes : List Node) → AreNumbered k nodes → map (λ v. item_of_node v (g v)) (range_with_len k (length nodes)) ≡ items_from k nodes
   items-range k [] h = refl
-  items-range k (n ∷ ns) h = λ i. item_of k (numbered-first k n ns h i) ∷ items-range (k + 1) ns (numbered-rest k n ns h) i
+  items-range k (n ∷ ns) h = λ i. item_of_node k (numbered-first k n ns h i) ∷ items-range (k + 1) ns (numbered-rest k n ns h) i
 
   module _ (p : ℕ) (q : ℕ → Bool) where
     -- the numbers that pass are those of the nodes with the parent p
@@ -70,11 +70,11 @@ module _ (nodes : List Node) where
   pub sizes-all : sum_by (λ v. node_size (node_at nodes v)) (range_with_len 1 (length nodes)) ≡ sum_by node_size nodes
   sizes-all = sizes-range (node_at nodes) (record { parent = 0; out = 0; extra = 0; share = 0; time = 0 }) 1 nodes numbered-all
 
-  pub items-all : map (λ v. item_of v (node_at nodes v)) (range_with_len 1 (length nodes)) ≡ items_from 1 nodes
+  pub items-all : map (λ v. item_of_node v (node_at nodes v)) (range_with_len 1 (length nodes)) ≡ items_from 1 nodes
   items-all = items-range (node_at nodes) (record { parent = 0; out = 0; extra = 0; share = 0; time = 0 }) 1 nodes numbered-all
 
   pub outs-all : (p : ℕ) → sum_by (λ v. (node_at nodes v).out) (children_of nodes p) ≡ children_out nodes p
   outs-all p =
       let d : Node = record { parent = 0; out = 0; extra = 0; share = 0; time = 0 } in
-      outs-range (node_at nodes) d p (λ v. eqb (parent_of nodes v) p) 1 nodes numbered-all
+      outs-range (node_at nodes) d p (λ v. eqb (parent_of_node nodes v) p) 1 nodes numbered-all
       (λ i lt. ap (λ (u : ℕ). eqb u p) (sym (parent_is nodes (1 + i) (omega arith)) ∙ ap (λ (x : Node). x.parent) (numbered-all i lt)))

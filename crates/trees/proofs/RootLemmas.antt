@@ -6,35 +6,35 @@ use Rattle.std.proofs.lemmas.Bool.{cases_eq, ne_eqb, eqb-true}
 use Rattle.std.proofs.lemmas.Map.Keys.{IsDistinct-from_apart}
 use Rattle.std.proofs.lemmas.Map.Steps.{length-le_from_distinct_below}
 use Rattle.trees.specs.declared.node.Node.{Node}
-use Rattle.trees.specs.Tree.{IsNode, parent_of, ancestor, LeadsToRoot}
+use Rattle.trees.specs.Tree.{IsNode, parent_of_node, ancestor, LeadsToRoot}
 use Rattle.trees.proofs.AscentLemmas.{ancestor-one, ancestor-none, ancestor-add, no_root, leads_to_root}
 
 module _ (nodes : List Node) (parents : All (λ node. node.parent ≤ length nodes) nodes) where
   -- the first nodes on the way up
   way : ℕ → ℕ → List ℕ
   way zero v = []
-  way (suc k) v = v ∷ way k (parent_of nodes v)
+  way (suc k) v = v ∷ way k (parent_of_node nodes v)
 
   way-length : (k v : ℕ) → length (way k v) ≡ k
   unfolding way
   way-length zero v = refl
-  way-length (suc k) v = ap suc (way-length k (parent_of nodes v))
+  way-length (suc k) v = ap suc (way-length k (parent_of_node nodes v))
 
   way-at : (k v i d : ℕ) → i < k → get_or (way k v) i d ≡ ancestor nodes i v
   unfolding way
   way-at zero v i d lt = absurd (omega (arith, lt))
   way-at (suc k) v zero d lt = sym (ancestor-none nodes v)
-  way-at (suc k) v (suc i) d lt = way-at k (parent_of nodes v) i d (omega (arith, lt)) ∙ sym (ancestor-one nodes i v)
+  way-at (suc k) v (suc i) d lt = way-at k (parent_of_node nodes v) i d (omega (arith, lt)) ∙ sym (ancestor-one nodes i v)
 
-  parent-within : (v : ℕ) → v ≤ length nodes → parent_of nodes v ≤ length nodes
+  parent-within : (v : ℕ) → v ≤ length nodes → parent_of_node nodes v ≤ length nodes
   parent-within zero le = omega arith
   parent-within (suc i) le = parents (suc i - 1) (record { parent = 0; out = 0; extra = 0; share = 0; time = 0 }) (omega (arith, le))
 
   way-within : (k v q : ℕ) → v ≤ length nodes → list_any (eqb q) (way k v) ≡ true → q < length nodes + 1
   unfolding way
   way-within zero v q le is = absurd cc
-  way-within (suc k) v q le is = go (eqb q v) refl (way-within k (parent_of nodes v) q (parent-within v le)) where
-    go : (b : Bool) → eqb q v ≡ b → (list_any (eqb q) (way k (parent_of nodes v)) ≡ true → q < length nodes + 1) → q < length nodes + 1
+  way-within (suc k) v q le is = go (eqb q v) refl (way-within k (parent_of_node nodes v) q (parent-within v le)) where
+    go : (b : Bool) → eqb q v ≡ b → (list_any (eqb q) (way k (parent_of_node nodes v)) ≡ true → q < length nodes + 1) → q < length nodes + 1
     go true e rest = omega (arith, le, eqb-true q v e)
     go false e rest = rest (rw e at is)
 

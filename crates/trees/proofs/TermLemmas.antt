@@ -13,7 +13,7 @@ use Rattle.sp_terms.specs.Term.{Term, hold, series, par, Parts, no_parts, part, 
 use Rattle.sp_terms.specs.SystemOfTerm.{task_count, task_count_of_parts, tasks_of_term, tasks_of_parts, own_number, items_of_term, items_of_parts, system_of_term}
 use Rattle.sp_terms.specs.Postfix.{postfix, all_postfix}
 use Rattle.trees.specs.declared.node.Node.{Node}
-use Rattle.trees.specs.Tree.{IsTree, node_at, task_of, item_of, items_from, system_of_nodes}
+use Rattle.trees.specs.Tree.{IsTree, node_at, task_of_node, item_of_node, items_from, system_of_nodes}
 use Rattle.trees.specs.Forest.{Forest, no_trees, tree, roots_of, all_numbers, IsForestOf}
 use Rattle.trees.specs.TreeTerm.{beside_positions, own_positions, tree_positions, forest_positions}
 use Rattle.trees.proofs.AscentLemmas.{parent_is}
@@ -30,7 +30,7 @@ side (part t (part u us)) = par (part t (part u us))
 abbrev pub tree_parts : List Node → Forest → Parts
 tree_parts nodes no_trees = no_parts
 tree_parts nodes (tree v children others) =
-    part (series (side (tree_parts nodes children)) (task_of (node_at nodes v)) (hold (node_at nodes v).out)) (tree_parts nodes others)
+    part (series (side (tree_parts nodes children)) (task_of_node (node_at nodes v)) (hold (node_at nodes v).out)) (tree_parts nodes others)
 
 abbrev pub forest_term : List Node → Forest → Term
 forest_term nodes f = side (tree_parts nodes f)
@@ -80,7 +80,7 @@ solid-append name xs ys = ap (map (renamed name)) (filter-append is_solid xs ys)
 
 module _ (nodes : List Node) where
   abbrev task_at_node : ℕ → Task
-  task_at_node v = task_of (node_at nodes v)
+  task_at_node v = task_of_node (node_at nodes v)
 
   parts-count : (f : Forest) → task_count_of_parts (tree_parts nodes f) ≡ length (all_numbers f)
   parts-count no_trees = refl
@@ -136,7 +136,7 @@ module _ (nodes : List Node) where
   taker p = cond (eqb p 0) None (Some p)
 
   abbrev item_of_number : ℕ → Item
-  item_of_number v = item_of v (node_at nodes v)
+  item_of_number v = item_of_node v (node_at nodes v)
 
   taker-node : (v : ℕ) → 1 ≤ v → taker v ≡ Some v
   taker-node v some = rw (ne_eqb v 0 (omega (arith, some))) refl
@@ -152,7 +152,7 @@ module _ (nodes : List Node) where
 
 all-solid : (v : ℕ) (nodes : List Node) → filter is_solid (items_from v nodes) ≡ items_from v nodes
 all-solid v [] = refl
-all-solid v (n ∷ ns) = ap (λ (xs : List Item). item_of v n ∷ xs) (all-solid (v + 1) ns)
+all-solid v (n ∷ ns) = ap (λ (xs : List Item). item_of_node v n ∷ xs) (all-solid (v + 1) ns)
 
 get_or-map_default : {A B : Type 0} (f : A → B) (xs : List A) (k : ℕ) (d : A) → get_or (map f xs) k (f d) ≡ f (get_or xs k d)
 get_or-map_default f [] k d = refl
@@ -167,7 +167,7 @@ map-same f g (x ∷ xs) h = λ i. h x i ∷ map-same f g xs h i
 pub term-renamed : (nodes : List Node) (f : Forest) → IsTree nodes → IsForestOf nodes f → IsRenamed (all_numbers f) (system_of_term (forest_term nodes f)) (system_of_nodes nodes)
 term-renamed nodes f is h =
     let names = all_numbers f in
-    let len : length (map task_of nodes) ≡ length nodes = length-map nodes task_of in
+    let len : length (map task_of_node nodes) ≡ length nodes = length-map nodes task_of_node in
     let order : AreNames nodes (name_in names) 1 names = (λ k lt. rw (ne_eqb (1 + k) 0 (omega arith)) (let e : (1 + k) - 1 ≡ k = omega arith in ap (λ (n : ℕ). get_or names n 0) e)) in
     let items : solid (name_in names) (items_of_term 1 None None (forest_term nodes f)) ≡ map (item_of_number nodes) names =
     ap (map (renamed (name_in names))) (side-items 1 None (tree_parts nodes f)) ∙ parts-items nodes (name_in names) 1 None f order ∙ below-items nodes 0 f (forest-hangs nodes f h) in
@@ -176,10 +176,10 @@ term-renamed nodes f is h =
     record {
       once = λ v task. once nodes is f h v (task.0, omega (arith, task.1, len));
       within = within;
-      tasks = side-tasks (tree_parts nodes f) ∙ parts-tasks nodes f ∙ map-same (task_at_node nodes) _ names (λ v. sym (get_or-map_default task_of nodes (v - 1) (record { parent = 0; out = 0; extra = 0; share = 0; time = 0 })));
+      tasks = side-tasks (tree_parts nodes f) ∙ parts-tasks nodes f ∙ map-same (task_at_node nodes) _ names (λ v. sym (get_or-map_default task_of_node nodes (v - 1) (record { parent = 0; out = 0; extra = 0; share = 0; time = 0 })));
       items = subst (λ (z : List Item). IsPermutation z (filter is_solid (items_from 1 nodes))) (sym items)
           (subst (λ (z : List Item). IsPermutation (map (item_of_number nodes) names) z) (sym (all-solid 1 nodes)) all);
     }
   where
-    within : All (λ v. (1 ≤ v) × (v ≤ length (map task_of nodes))) (all_numbers f)
-    within = numbers-are nodes (λ v. (1 ≤ v) × (v ≤ length (map task_of nodes))) 0 f (λ v node. (node.0, omega (arith, node.1, length-map nodes task_of))) (forest-hangs nodes f h)
+    within : All (λ v. (1 ≤ v) × (v ≤ length (map task_of_node nodes))) (all_numbers f)
+    within = numbers-are nodes (λ v. (1 ≤ v) × (v ≤ length (map task_of_node nodes))) 0 f (λ v node. (node.0, omega (arith, node.1, length-map nodes task_of_node))) (forest-hangs nodes f h)

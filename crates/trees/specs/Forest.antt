@@ -2,7 +2,7 @@
 use Rattle.std.specs.Prelude.{◌≡◌, ◌==◌, ℕ, List, [], ◌∷◌, ◌++◌, length}
 use Rattle.std.specs.List.{filter, range_with_len}
 use Rattle.trees.specs.declared.node.Node.{Node}
-use Rattle.trees.specs.Tree.{parent_of}
+use Rattle.trees.specs.Tree.{parent_of_node}
 
 -- a forest: no trees; or the tree of a node, with the trees of its children below it, and the trees beside it
 pub data Forest : Type 0 where
@@ -21,7 +21,7 @@ all_numbers (tree v children others) = (all_numbers children ++ v ∷ []) ++ all
 
 -- the nodes with this parent, in rising number; those with the parent 0 are the roots
 abbrev pub children_of : List Node → ℕ → List ℕ
-children_of nodes p = filter (λ v. parent_of nodes v == p) (range_with_len 1 (length nodes))
+children_of nodes p = filter (λ v. parent_of_node nodes v == p) (range_with_len 1 (length nodes))
 
 -- below each node stand the trees of its children
 abbrev pub HasChildren : List Node → Forest → Type 0

@@ -2,7 +2,7 @@
 use Rattle.std.specs.Prelude.{◌≡◌, ℕ, ◌<◌, ◌≤◌, All, List, length}
 use Rattle.std.specs.List.{sum_by}
 use Rattle.limits.specs.Limits.{most_tasks, most_size, most_time, most_total}
-use Rattle.trees.specs.Tree.{IsNode, IsNodeWithin, LeadsToRoot, ShareFits, node_at, node_size}
+use Rattle.trees.specs.Tree.{IsNode, IsNodeWithin, LeadsToRoot, NodeShareFits, node_at, node_size}
 use Rattle.lists.specs.Numbers.{IsFirstWithout}
 use Rattle.trees.specs.declared.node.Node.{Node}
 use Rattle.trees.specs.declared.faults.TreeFault.{TreeFault}
@@ -13,15 +13,15 @@ use Rattle.trees.specs.declared.judged.NodesRefusal.{NodesRefusal}
 use Rattle.trees.specs.declared.judged.NodesRefusal.TheVariants as refusals
 
 -- node v passes a test: the parent is a node or 0, there is a time, the sizes and the time are within the limits
-abbrev pub Passes : List Node → NodeTest → ℕ → Type 0
-Passes nodes tests.Parent v = (node_at nodes v).parent ≤ length nodes
-Passes nodes tests.Time v = 1 ≤ (node_at nodes v).time
-Passes nodes tests.Size v = ((node_at nodes v).out ≤ most_size) × ((node_at nodes v).extra ≤ most_size)
-Passes nodes tests.LongTime v = (node_at nodes v).time ≤ most_time
+abbrev pub NodePasses : List Node → NodeTest → ℕ → Type 0
+NodePasses nodes tests.Parent v = (node_at nodes v).parent ≤ length nodes
+NodePasses nodes tests.Time v = 1 ≤ (node_at nodes v).time
+NodePasses nodes tests.Size v = ((node_at nodes v).out ≤ most_size) × ((node_at nodes v).extra ≤ most_size)
+NodePasses nodes tests.LongTime v = (node_at nodes v).time ≤ most_time
 
 -- each node passes it
 abbrev pub AllPass : List Node → NodeTest → Type 0
-AllPass nodes test = (v : ℕ) → IsNode nodes v → Passes nodes test v
+AllPass nodes test = (v : ℕ) → IsNode nodes v → NodePasses nodes test v
 
 -- each node passes the tests before this one
 abbrev pub PassBefore : List Node → NodeTest → Type 0
@@ -55,16 +55,16 @@ pub record AreNodesWithin (nodes : List Node) : Type 0 where
 -- the lowest node whose parents lead to no root; or all lead to roots, and it is the lowest whose share does not fit
 abbrev pub IsTreeFault : List Node → TreeFault → Type 0
 IsTreeFault nodes (faults.Cycle v) = IsFirstWithout (length nodes) (LeadsToRoot nodes) v
-IsTreeFault nodes (faults.Share v) = AllLead nodes × IsFirstWithout (length nodes) (ShareFits nodes) v
+IsTreeFault nodes (faults.Share v) = AllLead nodes × IsFirstWithout (length nodes) (NodeShareFits nodes) v
 
 -- the first test that fails, with the lowest node that fails it; want of memory tells nothing
 abbrev pub IsNodesRefusal : List Node → NodesRefusal → Type 0
 IsNodesRefusal nodes refusals.NoNode = length nodes ≡ 0
 IsNodesRefusal nodes refusals.ManyNodes = most_tasks < length nodes
 IsNodesRefusal nodes (refusals.Node test v) =
-    AreCounted nodes × PassBefore nodes test × IsFirstWithout (length nodes) (Passes nodes test) v
+    AreCounted nodes × PassBefore nodes test × IsFirstWithout (length nodes) (NodePasses nodes test) v
 IsNodesRefusal nodes refusals.Total = PassAll nodes × (most_total < sum_by node_size nodes)
 IsNodesRefusal nodes (refusals.Cycle v) = PassAll nodes × HasTotal nodes × IsFirstWithout (length nodes) (LeadsToRoot nodes) v
 IsNodesRefusal nodes (refusals.Share v) =
-    PassAll nodes × HasTotal nodes × AllLead nodes × IsFirstWithout (length nodes) (ShareFits nodes) v
+    PassAll nodes × HasTotal nodes × AllLead nodes × IsFirstWithout (length nodes) (NodeShareFits nodes) v
 IsNodesRefusal nodes refusals.NoMemory = Unit {0}

@@ -5,7 +5,7 @@ use Rattle.sp_terms.specs.declared.position.Position.{Position}
 use Rattle.sp_terms.specs.declared.position.Position.TheVariants.{Hold, Par}
 use Rattle.sp_terms.specs.Postfix.{at_task}
 use Rattle.trees.specs.declared.node.Node.{Node}
-use Rattle.trees.specs.Tree.{node_at, task_of}
+use Rattle.trees.specs.Tree.{node_at, task_of_node}
 use Rattle.trees.specs.Forest.{Forest, no_trees, tree, roots_of}
 
 -- sets so many terms side by side: `data 0` stands for none, and one stays as it is
@@ -16,7 +16,7 @@ beside_positions (suc (suc k)) = Par (suc (suc k)) ∷ []
 
 -- the block of a node, and its task
 abbrev pub own_positions : List Node → ℕ → List Position
-own_positions nodes v = Hold (node_at nodes v).out ∷ (at_task (task_of (node_at nodes v)) ∷ [])
+own_positions nodes v = Hold (node_at nodes v).out ∷ (at_task (task_of_node (node_at nodes v)) ∷ [])
 
 -- the terms of the trees one after the other: for each the terms of the children side by side, then the block and the task of the node
 abbrev pub tree_positions : List Node → Forest → List Position

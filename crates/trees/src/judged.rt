@@ -6,7 +6,7 @@ ghost use Rattle.limits.specs.Limits.{most_tasks};
 ghost use Rattle.trees.specs.declared.node.Node.{Node};
 ghost use Rattle.trees.specs.declared.judged.NodeTest.TheVariants as tests;
 ghost use Rattle.trees.specs.Tree.{IsTree, node_at, node_size};
-ghost use Rattle.trees.specs.Judged.{AllPass, AreCounted, IsNodesRefusal, PassAll, PassBefore, Passes};
+ghost use Rattle.trees.specs.Judged.{AllPass, AreCounted, IsNodesRefusal, PassAll, PassBefore, NodePasses};
 
 use crate::NoMemory;
 use crate::faults::{TreeFault, first_fault};
@@ -59,7 +59,7 @@ impl From<NoMemory> for NodesRefusal {
 
 // Whether a node, one of so many, passes a test.
 fn passes(test: NodeTest, node: Node, count: usize) -> bool
-    ensures { (nodes : List Node) (v : ℕ) → length nodes ≡ count → node_at nodes v ≡ node → (IsTrue result ↔ Passes nodes test v) }
+    ensures { (nodes : List Node) (v : ℕ) → length nodes ≡ count → node_at nodes v ≡ node → (IsTrue result ↔ NodePasses nodes test v) }
 {
     match test {
         NodeTest::Parent => node.parent as usize <= count,

@@ -4,7 +4,7 @@ ghost use Rattle.std.specs.Prelude.{◌≡◌, ◌≤◌, ◌<◌, ◌-◌, ◌+
 ghost use Rattle.std.specs.List.{sum_by};
 ghost use Rattle.limits.specs.Limits.{most_tasks, most_total};
 ghost use Rattle.trees.specs.declared.node.Node.{Node};
-ghost use Rattle.trees.specs.Tree.{IsNode, ShareFits, children_out, node_size};
+ghost use Rattle.trees.specs.Tree.{IsNode, NodeShareFits, children_out, node_size};
 ghost use Rattle.lists.specs.Numbers.{IsFirstWithout};
 
 use crate::NoMemory;
@@ -41,8 +41,8 @@ fn first_unfit(nodes: &[Node], outs: &[u64]) -> Option<u32>
     requires total { sum_by node_size nodes.now ≤ most_total }
     requires sums { (v : ℕ) → IsNode nodes.now v → slice_index_or outs.now (v - 1) 0 ≡ children_out nodes.now v }
     ensures { MatchOption result
-        ((v : ℕ) → IsNode nodes.now v → ShareFits nodes.now v)
-        (λ v. IsFirstWithout (length nodes.now) (ShareFits nodes.now) v) }
+        ((v : ℕ) → IsNode nodes.now v → NodeShareFits nodes.now v)
+        (λ v. IsFirstWithout (length nodes.now) (NodeShareFits nodes.now) v) }
 {
     for i in 0..nodes.len() {
         if !fits(nodes[i], outs[i]) {
@@ -58,8 +58,8 @@ pub fn first_unfit_share(alloc: Global, nodes: &[Node]) -> Result<Option<u32>, N
     requires parents { (i : ℕ) (d : Node) → i < length nodes.now → (slice_index_or nodes.now i d).parent ≤ length nodes.now }
     requires total { sum_by node_size nodes.now ≤ most_total }
     ensures { IfOk result (λ found. MatchOption found
-        ((v : ℕ) → IsNode nodes.now v → ShareFits nodes.now v)
-        (λ v. IsFirstWithout (length nodes.now) (ShareFits nodes.now) v)) }
+        ((v : ℕ) → IsNode nodes.now v → NodeShareFits nodes.now v)
+        (λ v. IsFirstWithout (length nodes.now) (NodeShareFits nodes.now) v)) }
 {
     let outs = children_outs(alloc, nodes)?;
     Ok(first_unfit(nodes, &outs))

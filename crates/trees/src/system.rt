@@ -1,6 +1,6 @@
 ghost use Rattle.std.specs.Prelude.{◌≡◌, ◌≤◌, ◌+◌, ◌==◌, length, IfOk, map, Some, None, if◌then◌else◌};
 ghost use Rattle.limits.specs.Limits.{most_tasks};
-ghost use Rattle.trees.specs.Tree.{system_of_nodes, task_of, items_from};
+ghost use Rattle.trees.specs.Tree.{system_of_nodes, task_of_node, items_from};
 
 use crate::NoMemory;
 use crate::node::Node;
@@ -9,7 +9,7 @@ use mp_system::{Item, System, Task};
 use std::alloc::Global;
 
 fn tasks_of(alloc: Global, nodes: &[Node]) -> Result<Vec<Task>, NoMemory>
-    ensures { IfOk result (λ v. v.items ≡ map task_of nodes.now) }
+    ensures { IfOk result (λ v. v.items ≡ map task_of_node nodes.now) }
 {
     nodes
         .iter()

@@ -33,7 +33,7 @@ use Rattle.reports.specs.Check.{verdict_answer, IsCheck, IsCertified}
 use Rattle.reports.specs.Plan.{plan_answer}
 use Rattle.reports.specs.Simulate.{simulation_answer, setting_of, IsSimulation}
 use Rattle.reports.specs.Spill.{spill_answer, working_set_refused}
-use Rattle.reports.specs.Segments.{no_steps, rows_of, segments_answer}
+use Rattle.reports.specs.Segments.{no_steps, report_rows, segments_answer}
 use Rattle.judging.specs.Numbered.{node_positions}
 use Rattle.reports.specs.Reduce.{rest_answer, HasIrreducibleRest}
 use Rattle.reports.specs.Fronts.{fronts_answer}
@@ -94,7 +94,7 @@ abbrev pub falls : BothSteps
 falls = record { front = []; back = record { bound = 9; level = 0 } ∷ [] }
 
 pub segments_lines :
-    segments_answer (rows_of one_term (no_steps ∷ no_steps ∷ falls ∷ []) (node_positions (1 ∷ []) one_term))
+    segments_answer (report_rows one_term (no_steps ∷ no_steps ∷ falls ∷ []) (node_positions (1 ∷ []) one_term))
     ≡ done (codes "segments 1\n1 F 0\n1 R 7 9 0\nend\n")
 unfolding digits
 segments_lines = refl

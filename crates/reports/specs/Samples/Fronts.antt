@@ -16,7 +16,7 @@ use Rattle.activation.specs.declared.events.EventKind.TheVariants.{Activate, Sta
 use Rattle.activation.specs.declared.events.Event.{Event}
 use Rattle.activation.specs.Machine.{phase_in, with_phase, start_state}
 use Rattle.activation.specs.Schedule.{most_used}
-use Rattle.rounds_run.specs.FrontRows.{rows_of, list_of}
+use Rattle.rounds_run.specs.FrontRows.{rows_of_front, list_of_front}
 use Rattle.rounds_run.specs.RowSystem.{row_system, row_order, row_peak, row_setting}
 use Rattle.rounds_run.specs.Rounds.{round_count, started_at}
 
@@ -50,12 +50,12 @@ merged_on_demand = refl
 -- ---- rows
 
 -- of each column
-pub rows_of_columns : map (rows_of (columns rows order) 4) (1 ∷ 2 ∷ 3 ∷ 4 ∷ []) ≡ (1 ∷ 3 ∷ []) ∷ (2 ∷ 3 ∷ []) ∷ (3 ∷ 4 ∷ []) ∷ (4 ∷ []) ∷ []
+pub rows_of_columns : map (rows_of_front (columns rows order) 4) (1 ∷ 2 ∷ 3 ∷ 4 ∷ []) ≡ (1 ∷ 3 ∷ []) ∷ (2 ∷ 3 ∷ []) ∷ (3 ∷ 4 ∷ []) ∷ (4 ∷ []) ∷ []
 unfolding graph_at eliminate
 rows_of_columns = refl
 
 -- the third supernode has the columns 3 and 4; a fourth has no list
-pub lists_of_supernodes : map (list_of ((1 ∷ 3 ∷ []) ∷ (2 ∷ 3 ∷ []) ∷ (3 ∷ 4 ∷ []) ∷ [])) (1 ∷ 3 ∷ 4 ∷ [])
+pub lists_of_supernodes : map (list_of_front ((1 ∷ 3 ∷ []) ∷ (2 ∷ 3 ∷ []) ∷ (3 ∷ 4 ∷ []) ∷ [])) (1 ∷ 3 ∷ 4 ∷ [])
     ≡ (1 ∷ 3 ∷ []) ∷ (3 ∷ 4 ∷ []) ∷ [] ∷ []
 lists_of_supernodes = refl
 

@@ -6,7 +6,7 @@ ghost use Rattle.limits.specs.Limits.{most_steps};
 ghost use Rattle.mp_text.specs.Report.{is_line_start, is_token, line_text, text_of_lines};
 ghost use Rattle.sp_terms.specs.Values.{AreValues};
 ghost use Rattle.sp_cuts.specs.Stairs.{AreStairs, PassesLimit, step_total, both_of, all_of};
-ghost use Rattle.reports.specs.Segments.{side_line, both_lines, row_lines, rows_of, segments_answer, input_word};
+ghost use Rattle.reports.specs.Segments.{side_line, both_lines, row_lines, report_rows, segments_answer, input_word};
 ghost use Rattle.reports.specs.Segments.{IsSegmentsAnswer};
 ghost use Rattle.judging.specs.Judged.{AreWithin};
 ghost use Rattle.reports.specs.Reported.{IsReported};
@@ -114,7 +114,7 @@ fn print_rows(
     requires known { AreValues numbered.now.terms values.now (length numbered.now.terms) }
     ensures start { OnOk result (IsTrue (is_line_start report.new)) }
     ensures text { OnOk result (report.new ≡ report.old
-        ++ text_of_lines (flat_map row_lines (rows_of numbered.now.terms (all_of stairs.now) numbered.now.positions.items))) }
+        ++ text_of_lines (flat_map row_lines (report_rows numbered.now.terms (all_of stairs.now) numbered.now.positions.items))) }
 {
     printed_lines();
     for (i, position) in numbered.positions.iter().enumerate() {
@@ -133,7 +133,7 @@ fn stairs_page(
     requires within { AreWithin (length numbered.now.terms) numbered.now.positions.items }
     requires stairs { length stairs.now ≡ length numbered.now.terms }
     ensures { IfOk result (λ page. answer_of page
-        ≡ segments_answer (rows_of numbered.now.terms (all_of stairs.now) numbered.now.positions.items)) }
+        ≡ segments_answer (report_rows numbered.now.terms (all_of stairs.now) numbered.now.positions.items)) }
 {
     printed_lines();
     let values = values(alloc, &numbered.terms)?;

@@ -2,7 +2,7 @@ use Rattle.std.proofs.Common.{◌≡◌, ◌∙◌, ◌+◌, ◌-◌, ◌++◌, 
 use Rattle.std.specs.List.{flat_map, range_with_len}
 use Rattle.std.proofs.lemmas.List.{length-append, length-map}
 use Rattle.patterns.specs.Pattern.{IsPairWithin}
-use Rattle.patterns.specs.Columns.{column_pairs, columns_in}
+use Rattle.patterns.specs.Columns.{column_pairs, column_count}
 use Rattle.patterns.proofs.Entries.{one_column_more, one_more, paired}
 use Rattle.patterns.proofs.Starts.{span}
 use Rattle.patterns.proofs.column_pairs.pairs_of.Goals as goal
@@ -27,7 +27,7 @@ loop-j-preserved c =
           ∙ sym (one_more (column_pairs base starts rows) j c.loop-j.auto.j);
       long = ap length is ∙ subst (λ (k : ℕ). length (old ++ more) ≡ get_or starts k 0 - base) (sym at)
           (omega (arith, length-append old more, long, c.loop-j.invariant.long, s.0, s.1));
-      within = subst (All (IsPairWithin (columns_in starts))) (sym is)
-          (one_column_more base (columns_in starts) j old column c.loop-j.auto.j (omega (arith, c.loop-j-test.true))
+      within = subst (All (IsPairWithin (column_count starts))) (sym is)
+          (one_column_more base (column_count starts) j old column c.loop-j.auto.j (omega (arith, c.loop-j-test.true))
           c.loop-j.invariant.within c.rows_of.ensures.numbers);
     }

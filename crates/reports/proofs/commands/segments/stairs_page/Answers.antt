@@ -2,7 +2,7 @@ use Rattle.std.proofs.Common.{◌≡◌, ◌∙◌, ◌++◌, ◌∷◌, [], Lis
 use Rattle.std.specs.List.{flat_map}
 use Rattle.mp_text.specs.Report.{line_text}
 use Rattle.sp_cuts.specs.Stairs.{all_of}
-use Rattle.reports.specs.Segments.{row_lines, rows_of}
+use Rattle.reports.specs.Segments.{row_lines, report_rows}
 use Rattle.judging.specs.declared.status.Status.TheVariants as status
 use Rattle.reports.proofs.StairPages.{framed_lines, length-rows}
 use Rattle.reports.proofs.commands.segments.stairs_page.Goals as goal
@@ -12,7 +12,7 @@ returns c =
     let ps = c.args.numbered.now.terms in
     let all = all_of c.args.stairs.now in
     let numbered = c.args.numbered.now.positions.items in
-    let rows = rows_of ps all numbered in
+    let rows = report_rows ps all numbered in
     let many : c.len.result ≡ length rows = omega (arith, c.len.ensures, length-rows ps all numbered) in
     let first = λ (n : ℕ). codes "segments" ∷ decimal n ∷ [] in
     ap (λ (text : List ℕ). record { status = status.Done; text = text })
