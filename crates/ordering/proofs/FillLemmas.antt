@@ -10,7 +10,7 @@ use Rattle.elimination.proofs.Eliminations.{keep_new, keep_old, kept}
 -- ---- one elimination
 
 -- what a pair of the pattern after an elimination comes from
-record Kept (joined : ℕ → ℕ → Bool) (v a b : ℕ) : Type 0 where
+pub record Kept (joined : ℕ → ℕ → Bool) (v a b : ℕ) : Type 0 where
   left : a ≢ v
   right : b ≢ v
   from : (joined a b ≡ true) ⊎ ((a ≢ b) × (joined v a ≡ true) × (joined v b ≡ true))

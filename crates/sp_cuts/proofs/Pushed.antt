@@ -180,7 +180,7 @@ gather_allowed k st acc ts rest e h g = (go k st acc ts rest e h g).0
     go (suc k) (t ∷ st) acc ts rest e h g = let r = go k st (part t acc) ts rest e h g in ((r.1.0, r.0), r.1.1)
 
 -- what a position adds, and that what was allowed after it was so before
-record Adds (q : Position) (st st' : List Term) : Type 0 where
+pub record Adds (q : Position) (st st' : List Term) : Type 0 where
   total_is : stack_total st' ≡ stack_total st + added_size q
   tasks_is : stack_tasks st' ≡ stack_tasks st + added_tasks q
   allowed : AllAllowed st' → AllAllowed st
@@ -206,7 +206,7 @@ pub pushed_pick : (o : Option (List Term)) (qs : List Position) (out : List Term
 pushed_pick None qs out e = absurd (none_some e)
 pushed_pick (Some next) qs out e = (next, refl, e)
 
-record AllAdd (qs : List Position) (st out : List Term) : Type 0 where
+pub record AllAdd (qs : List Position) (st out : List Term) : Type 0 where
   total_is : stack_total out ≡ stack_total st + sum_by added_size qs
   tasks_is : stack_tasks out ≡ stack_tasks st + sum_by added_tasks qs
   allowed : AllAllowed out → AllAllowed st
