@@ -15,10 +15,7 @@ use Rattle.cut_laws.specs.Below.{TermLaws}
 use Rattle.lists.proofs.Bools.{eqb_same}
 use Rattle.std.proofs.lemmas.Bool.{ne_eqb}
 use Rattle.sp_term_laws.proofs.Next.{need-first, need-last, need-right, need-left}
-use Rattle.sp_terms.proofs.SystemLemmas.{made-append}
-
-abbrev made : List Item → ℕ → ℕ
-made items v = size_where (is_output v) items
+use Rattle.sp_terms.proofs.SystemLemmas.{made-append, made}
 
 abbrev no_task : Task
 no_task = record { extra = 0; share = 0; time = 0 }

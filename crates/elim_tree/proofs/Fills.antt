@@ -4,15 +4,9 @@ use Rattle.std.proofs.lemmas.Bool.{and_parts, or_cases, and_from, or_left, or_ri
 use Rattle.ordering.specs.Fill.{eliminate, graph_at, IsAdjacency}
 use Rattle.elim_tree.specs.Reaches.{Reaches}
 use Rattle.ordering.proofs.FillLemmas.{to_suc_new, to_suc_old, at_suc, later}
-use Rattle.elimination.proofs.Eliminations.{keep_new, keep_old, kept}
+use Rattle.elimination.proofs.Eliminations.{keep_new, keep_old, kept, Kept}
 
 -- ---- one elimination
-
--- what an edge of the graph after an elimination comes from
-pub record Kept (joined : ℕ → ℕ → Bool) (v a b : ℕ) : Type 0 where
-  pub left : a ≢ v
-  pub right : b ≢ v
-  pub from : (joined a b ≡ true) ⊎ ((a ≢ b) × (joined v a ≡ true) × (joined v b ≡ true))
 
 -- ---- the graph at each moment
 

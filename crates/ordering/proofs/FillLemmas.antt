@@ -5,15 +5,9 @@ use Rattle.std.specs.List.{range_with_len}
 use Rattle.std.proofs.lemmas.Bool.{cases_Bool, cases_eq, and_parts, or_cases, and_from, or_left, or_right, eqb-false, ne_eqb, not-true, not_from_false, lt-ltb}
 use Rattle.ordering.specs.Fill.{IsAdjacency, eliminate, graph_at, filled, structure_of, parent_of, IsParent}
 use Rattle.lists.proofs.Bools.{same_bool, ne_from_not}
-use Rattle.elimination.proofs.Eliminations.{keep_new, keep_old, kept}
+use Rattle.elimination.proofs.Eliminations.{keep_new, keep_old, kept, Kept}
 
 -- ---- one elimination
-
--- what a pair of the pattern after an elimination comes from
-pub record Kept (joined : ℕ → ℕ → Bool) (v a b : ℕ) : Type 0 where
-  left : a ≢ v
-  right : b ≢ v
-  from : (joined a b ≡ true) ⊎ ((a ≢ b) × (joined v a ≡ true) × (joined v b ≡ true))
 
 -- ---- the pattern as each column is eliminated
 

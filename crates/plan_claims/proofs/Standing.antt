@@ -13,7 +13,7 @@ use Rattle.sp_terms.specs.Term.{Term, hold, series, par, Parts, no_parts, part, 
 use Rattle.sp_terms.specs.Values.{IsTerms, AllAllowed, added_size, last_term, stack_from, stack_of, term_of, term_at}
 use Rattle.sp_cuts.specs.Stacks.{total_of, total_of_parts}
 use Rattle.plan_claims.specs.Rows.{row_of, IsNextRow}
-use Rattle.sp_cuts.proofs.Pushed.{pushed_pick, split_at, take_more, adds, all_add, push_all_append}
+use Rattle.sp_cuts.proofs.Pushed.{Adds, AllAdd, pushed_pick, split_at, take_more, adds, all_add, push_all_append}
 use Rattle.lists.proofs.Options.{none_some, some_same}
 
 -- ---- sums over a stack
@@ -112,15 +112,6 @@ reverse_allowed [] h = tt
 reverse_allowed (t ∷ xs) h =
     let e : reverse (t ∷ xs) ≡ reverse xs ++ t ∷ [] = grind (arith, common_steps) in
     subst AllAllowed (sym e) (allowed_append (reverse xs) (t ∷ []) (reverse_allowed xs h.1) (h.0, tt))
-
--- what a position adds, and that what was allowed after it was so before
-record Adds (q : Position) (st st' : List Term) : Type 0 where
-  total_is : stack_total st' ≡ stack_total st + added_size q
-  allowed : AllAllowed st' → AllAllowed st
-
-record AllAdd (qs : List Position) (st out : List Term) : Type 0 where
-  total_is : stack_total out ≡ stack_total st + sum_by added_size qs
-  allowed : AllAllowed out → AllAllowed st
 
 split_push : (qs rs : List Position) (st out : List Term) → push_all (qs ++ rs) st ≡ Some out → (mid : List Term) × (push_all qs st ≡ Some mid) × (push_all rs mid ≡ Some out)
 split_push [] rs st out e = (st, refl, e)

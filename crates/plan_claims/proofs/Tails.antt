@@ -21,10 +21,7 @@ use Rattle.plan_claims.specs.Levels.{counted, HavePlaces, left_over, wanted_each
 use Rattle.plan_claims.specs.Wants.{ShowsIf, AreHanded, none_each}
 use Rattle.plan_claims.proofs.Loops.{segments_from, segments_take, segments_length}
 use Rattle.plan_claims.proofs.Parted.{numbers, gone_of, none_shown, places_there, counted_is, noted_count, par_handed}
-use Rattle.sp_cuts.proofs.Noted.{same_lists}
-
-abbrev lists : List SeriesNote → List PartNote → List Segment → Noted
-lists ss ps gone = record { series = ss; parts = ps; gone = gone }
+use Rattle.sp_cuts.proofs.Noted.{same_lists, lists}
 
 -- ---- a list taken apart at the length of its first part
 

@@ -34,7 +34,7 @@ use Rattle.sp_cuts.proofs.Unnamed.{same_numbers}
 
 -- ---- lists of notes
 
-abbrev lists : List SeriesNote → List PartNote → List Segment → Noted
+abbrev pub lists : List SeriesNote → List PartNote → List Segment → Noted
 lists ss ps gone = record { series = ss; parts = ps; gone = gone }
 
 pub same_lists : (s s' : List SeriesNote) (p p' : List PartNote) (g g' : List Segment) → s ≡ s' → p ≡ p' → g ≡ g' → lists s p g ≡ lists s' p' g'

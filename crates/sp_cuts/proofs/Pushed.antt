@@ -181,9 +181,9 @@ gather_allowed k st acc ts rest e h g = (go k st acc ts rest e h g).0
 
 -- what a position adds, and that what was allowed after it was so before
 pub record Adds (q : Position) (st st' : List Term) : Type 0 where
-  total_is : stack_total st' ≡ stack_total st + added_size q
-  tasks_is : stack_tasks st' ≡ stack_tasks st + added_tasks q
-  allowed : AllAllowed st' → AllAllowed st
+  pub total_is : stack_total st' ≡ stack_total st + added_size q
+  pub tasks_is : stack_tasks st' ≡ stack_tasks st + added_tasks q
+  pub allowed : AllAllowed st' → AllAllowed st
 
 pub adds : (q : Position) (st st' : List Term) → push q st ≡ Some st' → Adds q st st'
 adds (Hold size) st st' e =
@@ -207,9 +207,9 @@ pushed_pick None qs out e = absurd (none_some e)
 pushed_pick (Some next) qs out e = (next, refl, e)
 
 pub record AllAdd (qs : List Position) (st out : List Term) : Type 0 where
-  total_is : stack_total out ≡ stack_total st + sum_by added_size qs
-  tasks_is : stack_tasks out ≡ stack_tasks st + sum_by added_tasks qs
-  allowed : AllAllowed out → AllAllowed st
+  pub total_is : stack_total out ≡ stack_total st + sum_by added_size qs
+  pub tasks_is : stack_tasks out ≡ stack_tasks st + sum_by added_tasks qs
+  pub allowed : AllAllowed out → AllAllowed st
 
 pub all_add : (qs : List Position) (st out : List Term) → push_all qs st ≡ Some out → AllAdd qs st out
 all_add [] st out e = let t = ap stack_total (some_same e) in let w = ap stack_tasks (some_same e) in record { total_is = omega arith; tasks_is = omega arith; allowed = λ h. subst AllAllowed (sym (some_same e)) h }
