@@ -8,7 +8,7 @@ use Rattle.column_counts.proofs.marking.mark_rows.Goals.{After-order-i-end}
 
 rows_are : (c : After-order-i-end) → AreRows c.args.pattern.now c.args.perm.now
 rows_are c = record {
-  pattern = c.order-i-end.ensures.pattern;
+  pattern = c.rows-i-end.ensures.pattern;
   same = c.requires.len;
   vertex_back = c.places_are_inverse.ensures.vertex (length c.args.perm.now) c.args.perm.now c.keeps.ensures;
   place_back = c.places_are_inverse.ensures.place (length c.args.perm.now) c.args.perm.now c.keeps.ensures;
@@ -17,8 +17,8 @@ rows_are c = record {
 factor_is : (c : After-order-i-end) → IsFactor (renumbered (is_joined c.args.pattern.now) c.args.perm.now) (length c.args.perm.now) c.args.parents.now
 factor_is c =
     let joined = renumbered (is_joined c.args.pattern.now) c.args.perm.now in
-    let pattern = c.renumbered_pattern.ensures.pattern c.args.pattern.now c.args.perm.now c.order-i-end.ensures.pattern in
-    let inside = c.renumbered_pattern.ensures.within c.args.pattern.now c.args.perm.now c.order-i-end.ensures.pattern in
+    let pattern = c.renumbered_pattern.ensures.pattern c.args.pattern.now c.args.perm.now c.rows-i-end.ensures.pattern in
+    let inside = c.renumbered_pattern.ensures.within c.args.pattern.now c.args.perm.now c.rows-i-end.ensures.pattern in
     record {
       pattern = pattern;
       inside = inside;
