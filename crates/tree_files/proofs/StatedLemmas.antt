@@ -1,13 +1,12 @@
 -- What a reader that took all lines holds.
-use Rattle.std.proofs.Common.{◌≡◌, ℕ, suc, ◌+◌, ◌-◌, ◌<◌, ◌≤◌, true, eqb, List, [], ◌∷◌, ◌++◌, length, get_or, take, map, sym, ap, subst, ◌∙◌, arith}
-use Rattle.std.proofs.lemmas.List.{length-map, get_or-map, get_or_append_left}
+use Rattle.std.proofs.Common.{◌≡◌, ℕ, ◌+◌, true, eqb, List, [], ◌∷◌, ◌++◌, length, take, map, sym, ap, subst, ◌∙◌, arith}
 use Rattle.std.proofs.Math.Seq.{take-append_seam}
 use Rattle.std.proofs.lemmas.Bool.{eqb-true}
 use Rattle.mp_text.specs.declared.layout.Layout.TheVariants.{Commented}
 use Rattle.mp_text.specs.Text.{Row}
 use Rattle.mp_text.specs.Ahead.{rows_of_bytes, past_of_bytes}
 use Rattle.mp_text.specs.Grammar.{IsWellFormed}
-use Rattle.tree_files.specs.TreeFile.{tree_format, count_stated, node_of, version_stated, nodes_stated, line_stating, is_complete}
+use Rattle.tree_files.specs.TreeFile.{tree_format, count_stated, node_of, version_stated, nodes_stated, is_complete}
 use Rattle.tree_files.specs.Reader.{ReaderState, TookNodes, staged_took, took}
 use Rattle.tree_files.specs.Stated.{AreStated}
 use Rattle.trees.specs.Judged.{AreNodesWithin}
