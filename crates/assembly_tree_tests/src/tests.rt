@@ -2,8 +2,7 @@
 
 use assembly_tree::{Assembly, Shape, amalgamate, are_counts, fronts, is_count, supernodes};
 use elim_tree::{Parents, etree};
-use matrix_files::read_pattern;
-use matrix_files::read_perm;
+use matrix_files::{read_pattern, read_perm};
 use std::alloc::Global;
 use std::process::Abort;
 use std::test::Fail;

@@ -13,9 +13,9 @@ use crate::NoMemory;
 use crate::ancestors::Ancestors;
 use elim_tree::Parents;
 use elim_tree::laws::{no_earlier_row, renumbered_pattern, row_subtrees};
+use ordering::laws::parent_is_first;
 use patterns::Pattern;
 use permutations::Perm;
-use ordering::laws::parent_is_first;
 use permutations::laws::places_are_inverse;
 use std::alloc::Global;
 

@@ -9,9 +9,9 @@ ghost use Rattle.column_counts.specs.Marks.{Row, CanMarkUp, IsMarkedUp, CanMarkR
 use crate::NoMemory;
 use elim_tree::Parents;
 use elim_tree::laws::{no_earlier_row, renumbered_pattern, row_subtrees};
+use ordering::laws::parent_is_first;
 use patterns::Pattern;
 use permutations::Perm;
-use ordering::laws::parent_is_first;
 use permutations::laws::places_are_inverse;
 use std::alloc::Global;
 

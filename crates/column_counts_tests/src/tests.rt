@@ -4,11 +4,10 @@ ghost use Rattle.std.specs.Prelude.{◌≡◌, length, IfOk};
 
 use column_counts::{counts, counts_by_marking};
 use elim_tree::{Numbered, postordered_etree};
-use patterns::Pattern;
-use matrix_files::read_pattern;
+use matrix_files::{read_pattern, read_perm};
 use mp_text::Report;
+use patterns::Pattern;
 use permutations::Perm;
-use matrix_files::read_perm;
 use std::alloc::Global;
 use std::collections::BTreeSet;
 use std::process::Abort;

@@ -11,9 +11,9 @@ ghost use Rattle.elim_tree.specs.Reaches.{IsFirstReached};
 
 use crate::NoMemory;
 use crate::parents::Parents;
+use ordering::laws::parent_is_first;
 use patterns::Pattern;
 use permutations::Perm;
-use ordering::laws::parent_is_first;
 use permutations::laws::places_are_inverse;
 use std::alloc::Global;
 

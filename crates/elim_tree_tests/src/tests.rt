@@ -3,11 +3,10 @@
 ghost use Rattle.std.specs.Prelude.{◌≡◌, length, IfOk};
 
 use elim_tree::{Numbered, Parents, etree, postorder, postordered_etree, renumber};
-use patterns::Pattern;
-use matrix_files::read_pattern;
+use matrix_files::{read_pattern, read_perm};
 use mp_text::{Report, Token};
+use patterns::Pattern;
 use permutations::Perm;
-use matrix_files::read_perm;
 use std::alloc::Global;
 use std::collections::BTreeSet;
 use std::process::Abort;

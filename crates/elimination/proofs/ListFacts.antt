@@ -83,4 +83,3 @@ mark_here seen b m lt = get_or-set_at seen b b m false refl lt
 -- what is not in a list stands at no place of it
 pub absent : (xs : List ℕ) (x : ℕ) → has xs x ≡ false → (n : ℕ) → n ≤ length xs → (j : ℕ) → j < n → get_or xs j 0 ≢ x
 absent xs x none' n le j lt e = both_ways _ none' (subst (λ z. has xs z ≡ true) e (has_at xs j (omega arith)))
-

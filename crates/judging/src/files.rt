@@ -16,22 +16,23 @@ ghost use Rattle.judging.specs.Judged.{IsStopAt, IsStopFor, IsJudged, IsRefusalO
 
 use crate::page::{format_page, limit_page};
 use crate::stop::Stop;
+use graph_files::{GraphKind, read_graph};
+use graphs::Graph;
 use limits::LimitName;
-use matrix_files::{MatrixKind, read_pattern_owned};
-use patterns::Pattern;
+use matrix_files::{
+    MatrixKind, OrderFileKind, PermKind, read_order, read_pattern_owned, read_perm,
+};
 use mp_outside::{Files, ReadRefusal, read_whole};
 use mp_text::{Kind, Refusal};
-use matrix_files::{OrderFileKind, PermKind, read_order, read_perm};
+use patterns::Pattern;
 use permutations::Perm;
 use plan_files::{PlanKind, read_plan};
 use plans::Plan;
 use sp_terms::TermList;
-use workflow_files::{WorkflowKind, read_workflow};
 use std::alloc::Global;
-use graphs::Graph;
-use graph_files::{GraphKind, read_graph};
-use trees::Tree;
 use tree_files::{TreeKind, read_tree};
+use trees::Tree;
+use workflow_files::{WorkflowKind, read_workflow};
 
 /// What a file is read as.
 pub trait FileKind {

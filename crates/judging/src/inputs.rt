@@ -14,19 +14,21 @@ ghost use Rattle.requests.specs.Request.{FileRole, matrix_files, ordered_matrix_
 ghost use Rattle.requests.specs.Request.{input_files, source_file, priority_files};
 ghost use Rattle.requests.specs.RequestViews.{ordering_view, matrix_view, ordered_matrix_view, tree_input_view, input_view, source_view};
 
-use crate::files::{MatrixFile, OrderFile, PermFile, PlanFile, Ranked, TreeFile, WorkflowFile, judge};
+use crate::files::{
+    MatrixFile, OrderFile, PermFile, PlanFile, Ranked, TreeFile, WorkflowFile, judge,
+};
 use crate::page::limit_page;
-use requests::{Input, Matrix, OrderSource, OrderedMatrix, Ordering, TreeInput};
 use crate::stop::Stop;
 use least_peak::Problem;
 use limits::LimitName;
-use patterns::Pattern;
+use matrix_files::laws::read_is_perm;
 use mp_outside::Files;
 use mp_system::laws::traversal_law;
-use matrix_files::laws::read_is_perm;
 use ordering::{MindegRefusal, min_degree};
+use patterns::Pattern;
 use permutations::{Perm, identity};
 use plans::Plan;
+use requests::{Input, Matrix, OrderSource, OrderedMatrix, Ordering, TreeInput};
 use sp_terms::laws::terms_law;
 use std::alloc::{AllocError, Global};
 use symbolic::front_tree;

@@ -10,13 +10,18 @@ mod page;
 mod status;
 mod stop;
 
-pub use files::{FileKind, GraphFile, MatrixFile, OrderFile, PlanFile, Ranked, RankedFile, TreeFile, WorkflowFile, judge};
+pub use files::{
+    FileKind, GraphFile, MatrixFile, OrderFile, PlanFile, Ranked, RankedFile, TreeFile,
+    WorkflowFile, judge,
+};
 pub use inputs::{
-    Order, OrderedPattern, OrderedProblem, Priority, judge_input, judge_matrix, judge_ordered, judge_pattern, judge_priority, judge_tree,
+    Order, OrderedPattern, OrderedProblem, Priority, judge_input, judge_matrix, judge_ordered,
+    judge_pattern, judge_priority, judge_tree,
 };
 pub use numbered::{NumberedTerm, judge_numbered};
 pub use page::{
-    Page, PageKind, bound_page, format_page, limit_page, line_page, order_page, print_count, print_end, print_list, print_numbers,
+    Page, PageKind, bound_page, format_page, limit_page, line_page, order_page, print_count,
+    print_end, print_list, print_numbers,
 };
 pub use status::{Status, code_of, complaint};
 pub use stop::Stop;

@@ -12,9 +12,9 @@ ghost use Rattle.requests.specs.RequestViews.{input_view};
 
 use crate::files::{WorkflowFile, judge};
 use crate::inputs::judge_tree;
-use requests::Input;
 use crate::stop::Stop;
 use mp_outside::Files;
+use requests::Input;
 use sp_terms::{Position, TermList};
 use std::alloc::{AllocError, Global};
 use trees::laws::forest_law;

@@ -17,7 +17,6 @@ ends n (x ∷ y ∷ ys) e =
     let rest = ends (length ys) (y ∷ ys) (omega arith) in
     (x ∷ rest.0, rest.1, (ap (λ zs. x ∷ zs) rest.2.0, omega (arith, rest.2.1)))
 
-
 pub within : {X : Type 0} (xs : List X) (x : X) (before : List X) (y : X) (after : List X) → xs ++ x ∷ [] ≡ before ++ y ∷ after → ((before ≡ xs) × (y ≡ x)) ⊎ ((rest : List X) × (xs ≡ before ++ y ∷ rest))
 within [] x [] y after e = inl (refl, cc)
 within [] x (b ∷ []) y after e = cc

@@ -19,8 +19,8 @@ use crate::slot::{
     Slot, activate, begin, begin_system, booked, end, finish, is_done, is_startable, make, start,
     used,
 };
-use std::alloc::Global;
 use mp_system::{GivenItem, GivenTask};
+use std::alloc::Global;
 use trees::Node;
 
 /// What C sees of a slot.

@@ -6,16 +6,15 @@ ghost use Rattle.trees.specs.declared.judged.NodesRefusal.TheVariants as nodes;
 ghost use Rattle.memplan_c.specs.Faults.{answer, answer_to, of_nodes, of_system, of_replay, of_order, of_core, of_spill, of_plan};
 ghost use Rattle.memplan_c.specs.Faults.{of_objection, of_columns, of_perm, of_degree};
 
-use crate::{kinds, statuses};
 use crate::refusal::{PlanFault, Refusal};
+use crate::{kinds, statuses};
 use activation::CoreRefusal;
 use claim_check::Objection;
+use mp_system::{ItemTest, OrderFault, OrderKind, ReplayRefusal, SystemRefusal, TaskTest};
+use ordering::MindegRefusal;
 use patterns::ColumnsRefusal;
 use permutations::PermRefusal;
-use mp_system::{OrderFault, OrderKind, ReplayRefusal};
-use ordering::MindegRefusal;
 use spill_plan::SpillRefusal;
-use mp_system::{ItemTest, SystemRefusal, TaskTest};
 use trees::{NodeTest, NodesRefusal};
 
 /// What is wrong, and with which node, place, position or step.
@@ -152,7 +151,12 @@ fn of_spill(refusal: SpillRefusal) -> Answer
 {
     match refusal {
         SpillRefusal::Order(fault) => of_order(fault),
-        SpillRefusal::WorkingSet { step, need, .. } => say(statuses::WORKING_SET, kinds::WORKING_SET, step, need),
+        SpillRefusal::WorkingSet { step, need, .. } => say(
+            statuses::WORKING_SET,
+            kinds::WORKING_SET,
+            step,
+            need,
+        ),
         SpillRefusal::NoMemory => no_memory(),
     }
 }
@@ -175,7 +179,12 @@ fn of_objection(objection: Objection) -> Answer
         Objection::Order(fault) => of_order(fault),
         Objection::Peak { replayed, .. } => say(statuses::NO, kinds::OTHER_PEAK, 0, replayed),
         Objection::Root { last } => say(statuses::NO, kinds::NO_ROOT_CLAIM, u64::from(last), 0),
-        Objection::Claim { position, .. } => say(statuses::NO, kinds::WRONG_CLAIM, u64::from(position), 0),
+        Objection::Claim { position, .. } => say(
+            statuses::NO,
+            kinds::WRONG_CLAIM,
+            u64::from(position),
+            0,
+        ),
     }
 }
 
@@ -199,8 +208,18 @@ fn of_perm(refusal: PermRefusal) -> Answer
 {
     match refusal {
         PermRefusal::Places => say(statuses::USAGE, kinds::PLACES, 0, 0),
-        PermRefusal::Unknown(place) => say(statuses::FORMAT, kinds::NO_SUCH_COLUMN, u64::from(place), 0),
-        PermRefusal::Repeated(place) => say(statuses::FORMAT, kinds::COLUMN_REPEATED, u64::from(place), 0),
+        PermRefusal::Unknown(place) => say(
+            statuses::FORMAT,
+            kinds::NO_SUCH_COLUMN,
+            u64::from(place),
+            0,
+        ),
+        PermRefusal::Repeated(place) => say(
+            statuses::FORMAT,
+            kinds::COLUMN_REPEATED,
+            u64::from(place),
+            0,
+        ),
         PermRefusal::NoMemory => no_memory(),
     }
 }

@@ -5,13 +5,12 @@ ghost use Rattle.memplan_c.specs.declared.refusal.Refusal.TheVariants as refusal
 
 use activation::CoreRefusal;
 use claim_check::Objection;
+use mp_system::{ReplayRefusal, SystemRefusal};
+use ordering::MindegRefusal;
 use patterns::ColumnsRefusal;
 use permutations::PermRefusal;
-use mp_system::ReplayRefusal;
-use ordering::MindegRefusal;
 use spill_plan::SpillRefusal;
 use std::alloc::AllocError;
-use mp_system::SystemRefusal;
 use trees::NodesRefusal;
 
 /// Why an order, a peak and claims are no plan that could be judged.

@@ -10,10 +10,9 @@ ghost use Rattle.memplan_c.specs.Refusals.{IsReplayRefusal, IsSpillCallRefusal, 
 use crate::faults::{Fault, refuse};
 use crate::orders::check_room;
 use crate::refusal::Refusal;
-use mp_system::{System, replay};
+use mp_system::{GivenItem, GivenTask, System, replay, system_of_arrays};
 use spill_plan::{Spill, spill};
 use std::alloc::Global;
-use mp_system::{GivenItem, GivenTask, system_of_arrays};
 use trees::{Node, NodesRefusal, system_of_tree, tree_of_nodes};
 
 /// The system of the tree of these nodes.

@@ -16,9 +16,9 @@ use crate::refusal::Refusal;
 use crate::replays::system_of;
 use activation::Core;
 use limits::MOST_WORKERS;
+use mp_system::{GivenItem, GivenTask, system_of_arrays};
 use std::alloc::Global;
 use std::marker::Model;
-use mp_system::{GivenItem, GivenTask, system_of_arrays};
 use trees::Node;
 
 /// Room for a core, which is empty until one begins.

@@ -9,9 +9,9 @@ use crate::slot::{
     Slot, activate, begin, begin_system, booked, end, finish, is_done, is_startable, make, start,
     used,
 };
+use mp_system::{GivenItem, GivenTask};
 use std::alloc::Global;
 use std::process::Abort;
-use mp_system::{GivenItem, GivenTask};
 use trees::Node;
 
 fn node(parent: u32, out: u64, extra: u64) -> Node {

@@ -65,4 +65,3 @@ module _ (laws : LawsBelow) (a b : Cut) (task hill : ℕ) (ma : MeetsAtLeast a) 
         near_stuck = λ limit. laws.sides.by_last limit a.initial (run_profile a.front) rises.front (let m = ma.front in omega arith);
         turned_stuck = λ limit. laws.sides.by_last limit a.fin (run_profile a.back) rises.back (omega arith);
       }
-

@@ -1,6 +1,5 @@
 //! The commands, each with what it asks for, what it reads, what it answers and how that is printed.
 
-
 pub mod check;
 pub mod demo;
 pub mod fronts;
@@ -19,10 +18,9 @@ ghost use Rattle.reports.specs.Reported.{IsReported};
 ghost use Rattle.requests.specs.Request.{IsInRange};
 ghost use Rattle.requests.specs.RequestViews.{request_view};
 
-use judging::Page;
-use requests::Request;
-use judging::Stop;
+use judging::{Page, Stop};
 use mp_outside::{Files, Gate};
+use requests::Request;
 use std::alloc::Global;
 use std::thread::Threads;
 

@@ -22,13 +22,12 @@ ghost use Rattle.judging.specs.declared.status.Status.TheVariants.{Done};
 use activation::laws as run_laws;
 use claim_check::laws as claim_laws;
 use elim_tree::laws as fill_laws;
-use patterns::laws as pattern_laws;
-use matrix_files::laws as matrix_file_laws;
-use tree_files::laws as tree_file_laws;
 use graph_files::laws as graph_file_laws;
+use matrix_files::laws as matrix_file_laws;
 use mp_gen::laws::made_inputs;
 use mp_system::laws as system_laws;
 use ordering::laws as order_laws;
+use patterns::laws as pattern_laws;
 use plan_files::laws as plan_laws;
 use postorder_best::laws as postorder_laws;
 use rounds_run::laws as rounds_laws;
@@ -36,8 +35,9 @@ use sp_cuts::laws as stair_laws;
 use sp_reduce::laws as reduction_laws;
 use sp_terms::laws as term_laws;
 use symbolic::laws as front_laws;
-use workflow_files::laws as workflow_laws;
+use tree_files::laws as tree_file_laws;
 use trees::laws as tree_laws;
+use workflow_files::laws as workflow_laws;
 
 // The texts of an input are of one matrix, one tree, one system and one term, within the limits, and they are as many as its files; its
 // positions have one numbering.

@@ -7,14 +7,11 @@ ghost use Rattle.reports.specs.Clauses.{HasText, IsAnswered, IsCutShort};
 ghost use Rattle.judging.specs.Told.{AreTold, HasFailed, AreQuiet};
 ghost use Rattle.requests.specs.Words.{Asks, AsksNothing};
 
-use requests::Request;
 use crate::commands::report;
-use requests::request_of;
 use crate::laws::what_answers_say;
-use judging::{Page, PageKind};
-use judging::Status;
-use judging::Stop;
+use judging::{Page, PageKind, Status, Stop};
 use mp_outside::{Files, Gate, Sink, write_all};
+use requests::{Request, request_of};
 use std::alloc::Global;
 use std::thread::Threads;
 

@@ -1,6 +1,5 @@
 //! The commands, each with the words that ask for it.
 
-
 pub mod check;
 pub mod demo;
 pub mod fronts;

@@ -15,4 +15,6 @@ pub use commands::request_of;
 pub use commands::simulate::Simulation;
 pub use commands::spill::Spilling;
 pub use commands::upgrade::Upgrade;
-pub use request::{Input, Matrix, OrderSource, OrderedMatrix, Ordering, PlanFormat, Request, TreeInput};
+pub use request::{
+    Input, Matrix, OrderSource, OrderedMatrix, Ordering, PlanFormat, Request, TreeInput,
+};

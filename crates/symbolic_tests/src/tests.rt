@@ -1,12 +1,11 @@
 //! Trees of fronts worked by hand.
 
-use symbolic::{FrontOptions, front_tree};
 use assembly_tree::Shape;
-use matrix_files::read_pattern;
-use matrix_files::read_perm;
+use matrix_files::{read_pattern, read_perm};
 use std::alloc::Global;
 use std::process::Abort;
 use std::test::Fail;
+use symbolic::{FrontOptions, front_tree};
 
 // Vertex 1 is joined to all others.
 const ARROW: &str = "%%MatrixMarket matrix coordinate pattern symmetric\n4 4 3\n2 1\n3 1\n4 1\n";

@@ -7,14 +7,11 @@ ghost use Rattle.judging.specs.Pages.{answer_of};
 ghost use Rattle.requests.specs.Request.{AreWorkers, check};
 ghost use Rattle.requests.specs.RequestViews.{input_view};
 
-use requests::Check;
-use judging::{PlanFile, judge};
-use judging::judge_input;
-use judging::{Page, PageKind, line_page, order_page};
-use judging::Stop;
 use claim_check::{Objection, Verdict};
+use judging::{Page, PageKind, PlanFile, Stop, judge, judge_input, line_page, order_page};
 use mp_outside::{Files, Gate};
 use mp_text::Token::{Number, Word};
+use requests::Check;
 use std::alloc::{AllocError, Global};
 use std::thread::Threads;
 

@@ -8,13 +8,14 @@ ghost use Rattle.judging.specs.Pages.{answer_of};
 ghost use Rattle.requests.specs.Request.{AreWorkers, fronts as making};
 ghost use Rattle.requests.specs.RequestViews.{ordered_matrix_view};
 
-use requests::FrontRun;
-use judging::{OrderedPattern, judge_pattern};
-use judging::{Page, PageKind, bound_page, print_count, print_end, print_list};
-use judging::Stop;
+use judging::{
+    OrderedPattern, Page, PageKind, Stop, bound_page, judge_pattern, print_count, print_end,
+    print_list,
+};
 use mp_outside::{Files, Gate};
 use mp_text::Report;
 use mp_text::laws::printed_lines;
+use requests::FrontRun;
 use rounds_run::{Fronts, FrontsRefusal, run_fronts};
 use std::alloc::{AllocError, Global};
 use std::thread::Threads;

@@ -7,15 +7,13 @@ ghost use Rattle.judging.specs.Pages.{answer_of};
 ghost use Rattle.requests.specs.Request.{planning};
 ghost use Rattle.requests.specs.RequestViews.{input_view, format_view};
 
-use judging::judge_input;
-use judging::{Page, PageKind, line_page};
-use requests::{Input, PlanFormat};
-use judging::Stop;
+use judging::{Page, PageKind, Stop, judge_input, line_page};
 use mp_outside::Files;
 use mp_text::Report;
 use mp_text::Token::Word;
 use plan_files::{plan_json, print_plan};
 use plans::Plan;
+use requests::{Input, PlanFormat};
 use std::alloc::{AllocError, Global};
 
 // A plan file, or the JSON of the plan.

@@ -7,14 +7,12 @@ ghost use Rattle.judging.specs.Pages.{answer_of};
 ghost use Rattle.requests.specs.Request.{post};
 ghost use Rattle.requests.specs.RequestViews.{tree_input_view};
 
-use judging::judge_tree;
-use judging::{Page, PageKind, print_count, print_end, print_numbers};
-use requests::TreeInput;
-use judging::Stop;
+use judging::{Page, PageKind, Stop, judge_tree, print_count, print_end, print_numbers};
 use mp_outside::Files;
 use mp_text::Report;
 use mp_text::laws::printed_lines;
 use postorder_best::best_postorder;
+use requests::TreeInput;
 use std::alloc::{AllocError, Global};
 use trees::Tree;
 

@@ -7,16 +7,14 @@ ghost use Rattle.reports.specs.Reported.{IsReported};
 ghost use Rattle.judging.specs.Pages.{answer_of};
 ghost use Rattle.requests.specs.Request.{reduce as reducing};
 
-use judging::{GraphFile, judge};
-use judging::{Page, PageKind, print_end};
-use judging::Stop;
+use graphs::Graph;
+use judging::{GraphFile, Page, PageKind, Stop, judge, print_end};
 use mp_outside::Files;
 use mp_text::Report;
 use mp_text::Token::{Number, Word};
 use mp_text::laws::printed_lines;
 use sp_reduce::{ReduceRefusal, Reduced, reduce};
 use std::alloc::{AllocError, Global};
-use graphs::Graph;
 use workflow_files::print_named;
 
 // ---- the report

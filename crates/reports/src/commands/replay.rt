@@ -8,14 +8,12 @@ ghost use Rattle.requests.specs.Request.{replay};
 ghost use Rattle.requests.specs.RequestViews.{input_view, source_view};
 ghost use Rattle.least_peak.specs.Problem.{system_of};
 
-use requests::Replay;
-use judging::judge_ordered;
-use judging::{Page, PageKind, line_page, order_page};
-use judging::Stop;
+use judging::{Page, PageKind, Stop, judge_ordered, line_page, order_page};
 use least_peak::Problem;
 use mp_outside::Files;
 use mp_system::ReplayRefusal;
 use mp_text::Token::{Number, Word};
+use requests::Replay;
 use std::alloc::{AllocError, Global};
 
 // `peak PEAK`, or where the order is no traversal.

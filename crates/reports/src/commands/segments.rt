@@ -14,15 +14,15 @@ ghost use Rattle.judging.specs.Pages.{answer_of};
 ghost use Rattle.requests.specs.Request.{segments};
 ghost use Rattle.requests.specs.RequestViews.{input_view};
 
-use judging::{NumberedTerm, judge_numbered};
-use judging::{Page, PageKind, limit_page, print_count, print_end};
-use requests::{Input, TreeInput};
-use judging::Stop;
 use hill_valley::Step;
+use judging::{
+    NumberedTerm, Page, PageKind, Stop, judge_numbered, limit_page, print_count, print_end,
+};
 use limits::LimitName;
 use mp_outside::Files;
 use mp_text::Report;
 use mp_text::laws::{printed_line, printed_lines};
+use requests::{Input, TreeInput};
 use sp_cuts::{Stairs, StairsRefusal, staircases};
 use sp_terms::{TermList, Values, values};
 use std::alloc::{AllocError, Global};

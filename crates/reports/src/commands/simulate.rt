@@ -13,15 +13,16 @@ ghost use Rattle.requests.specs.Request.{AreWorkers, simulate as simulation};
 ghost use Rattle.requests.specs.RequestViews.{input_view, source_view, simulation_view};
 ghost use Rattle.judging.specs.declared.status.Status.TheVariants.{Done};
 
-use requests::Simulation;
-use judging::{OrderedProblem, Priority, judge_ordered, judge_priority};
-use judging::{Page, PageKind, bound_page, order_page, print_count, print_end};
-use judging::Stop;
 use activation::{CoreRefusal, Event, EventKind, Simulator, Trace};
+use judging::{
+    OrderedProblem, Page, PageKind, Priority, Stop, bound_page, judge_ordered, judge_priority,
+    order_page, print_count, print_end,
+};
 use mp_outside::Files;
 use mp_text::Report;
 use mp_text::Token::{Number, Word};
 use mp_text::laws::printed_lines;
+use requests::Simulation;
 use std::alloc::{AllocError, Global};
 
 // ---- the report

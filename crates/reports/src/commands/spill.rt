@@ -9,15 +9,13 @@ ghost use Rattle.judging.specs.Pages.{answer_of};
 ghost use Rattle.requests.specs.Request.{spill as spilling};
 ghost use Rattle.requests.specs.RequestViews.{input_view, source_view};
 
-use requests::Spilling;
-use judging::judge_ordered;
-use judging::{Page, PageKind, line_page, order_page, print_count, print_end};
-use judging::Stop;
+use judging::{Page, PageKind, Stop, judge_ordered, line_page, order_page, print_count, print_end};
 use least_peak::Problem;
 use mp_outside::Files;
 use mp_text::Report;
 use mp_text::Token::{Number, Word};
 use mp_text::laws::printed_lines;
+use requests::Spilling;
 use spill_plan::{Spill, SpillRefusal};
 use std::alloc::{AllocError, Global};
 

@@ -7,15 +7,13 @@ ghost use Rattle.judging.specs.Pages.{answer_of};
 ghost use Rattle.requests.specs.Request.{tree};
 ghost use Rattle.requests.specs.RequestViews.{matrix_view};
 
-use judging::judge_matrix;
-use judging::{Page, PageKind};
-use requests::Matrix;
-use judging::Stop;
+use judging::{Page, PageKind, Stop, judge_matrix};
 use mp_outside::Files;
 use mp_text::Report;
+use requests::Matrix;
 use std::alloc::{AllocError, Global};
-use trees::Tree;
 use tree_files::print_tree;
+use trees::Tree;
 
 // A tree file.
 fn tree_page(alloc: Global, tree: &Tree) -> Result<Page, AllocError>

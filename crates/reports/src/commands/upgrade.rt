@@ -9,20 +9,19 @@ ghost use Rattle.judging.specs.Pages.{answer_of};
 ghost use Rattle.requests.specs.Request.{upgrade, plan_upgrade, upgrade_files};
 ghost use Rattle.requests.specs.RequestViews.{upgrade_view};
 
-use requests::Upgrade;
-use judging::{PlanFile, TreeFile, WorkflowFile, judge};
-use judging::{Priority, judge_priority};
-use judging::{Page, PageKind};
-use judging::Stop;
+use judging::{
+    Page, PageKind, PlanFile, Priority, Stop, TreeFile, WorkflowFile, judge, judge_priority,
+};
 use mp_outside::Files;
 use mp_text::Report;
 use plan_files::print_plan_2;
 use plans::Plan;
+use requests::Upgrade;
 use sp_terms::TermList;
-use workflow_files::print_workflow_2;
 use std::alloc::{AllocError, Global};
-use trees::Tree;
 use tree_files::print_tree_2;
+use trees::Tree;
+use workflow_files::print_workflow_2;
 
 // ---- the files
 

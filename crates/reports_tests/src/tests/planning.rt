@@ -8,13 +8,13 @@ use crate::Status::Done;
 use mp_gen::{gen_tree, gen_workflow};
 use mp_outside::{MemFiles, MemSink};
 use mp_text::Report;
-use workflow_files::print_workflow;
 use std::alloc::{AllocError, Global};
 use std::process::Abort;
 use std::str;
 use std::test::Fail;
 use std::thread::Threads;
 use tree_files::print_tree;
+use workflow_files::print_workflow;
 
 // The peak that a plan states.
 fn peak_of(plan: &[u8]) -> Option<&str> {

@@ -5,7 +5,9 @@ ghost use Rattle.requests.specs.Words.{simulate_of};
 ghost use Rattle.requests.specs.Request.{IsInRange};
 ghost use Rattle.requests.specs.RequestViews.{request_view};
 
-use crate::request::{Input, OrderSource, Request, input_of, number_given, number_up_to, source_of};
+use crate::request::{
+    Input, OrderSource, Request, input_of, number_given, number_up_to, source_of,
+};
 use command_line::Line;
 use limits::MOST_WORKERS;
 
