@@ -20,8 +20,9 @@ pub enum TreeFault {
     Share(u32),
 }
 
-/// What keeps these nodes from being a tree: the lowest whose parents lead to no root, or else the lowest whose share does not fit.
-/// Near linear in the nodes; where each parent has a greater number and no node has a share, one look at each suffices.
+/// What keeps nodes that are within the limits from being a tree: the lowest whose parents lead to no root, or else the lowest whose
+/// share does not fit; none where they are a tree. `NoMemory` says nothing of the nodes. Near linear; where each parent has a greater
+/// number and no node has a share, one look at each node suffices, and no memory is taken.
 pub fn first_fault(alloc: Global, nodes: &[Node]) -> Result<Option<TreeFault>, NoMemory>
     requires { AreNodesWithin nodes.now }
     ensures { IfOk result (λ fault. MatchOption fault (IsTree nodes.now) (IsTreeFault nodes.now)) }
