@@ -14,11 +14,12 @@ mod replays;
 mod segments;
 mod simulations;
 mod spills;
+mod statuses;
 mod upgrades;
 mod usage;
 
-use crate::{Status, run_words};
 use mp_outside::{Files, MemFiles, MemSink, NoGate};
+use reports::{Status, run_words};
 use std::alloc::{AllocError, Global};
 use std::process::Abort;
 use std::test::Fail;

@@ -3,7 +3,7 @@
 use super::{
     BRANCHES, CHECK_TREE, Case, FIVE, FOUR, NO_TASKS, NOTHING, ONE, PLAN, ROOTS, SHARE, check_cases,
 };
-use crate::Status::{Done, Format, Limit, No};
+use reports::Status::{Done, Format, Limit, No};
 use std::test::Fail;
 
 #[rattlefmt::skip]

@@ -1,7 +1,7 @@
 //! Files that end early: before each of their lines, and without their last bytes.
 
 use super::{ARROW, BRANCHES, CHECK_TREE, FIVE, ORDER, PLAN, TURNED, Texts, check_run, files_of};
-use crate::Status::{Done, Format};
+use reports::Status::{Done, Format};
 use std::alloc::{AllocError, Global};
 use std::process::Abort;
 use std::test::Fail;

@@ -1,8 +1,8 @@
 //! Demos: inputs that are made from a number, planned and checked.
 
 use super::{Case, check_cases, files_of, run_into};
-use crate::Status::{Done, Usage};
 use mp_outside::MemSink;
+use reports::Status::{Done, Usage};
 use std::alloc::{AllocError, Global};
 use std::process::Abort;
 use std::str;

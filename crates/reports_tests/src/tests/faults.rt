@@ -8,8 +8,8 @@ use super::spills::BOTH;
 use super::{
     ARROW, Case, FIVE, FOUR, ORDER, PLAN, TURNED, Texts, check_cases, check_run, files_of, run_into,
 };
-use crate::Status::{self, Done, Format, ReadFault, WriteFault};
 use mp_outside::MemSink;
+use reports::Status::{self, Done, Format, ReadFault, WriteFault};
 use std::alloc::{AllocError, Global};
 use std::process::Abort;
 use std::str;

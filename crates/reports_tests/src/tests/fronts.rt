@@ -1,7 +1,7 @@
 //! The rows of all fronts, by hand.
 
 use super::{ARROW, Case, EMPTY, TURNED, Texts, check_cases};
-use crate::Status::{Bound, Done, Format, Limit};
+use reports::Status::{Bound, Done, Format, Limit};
 use std::test::Fail;
 
 const ARROWS: Texts = &[("m", ARROW), ("p", TURNED)];

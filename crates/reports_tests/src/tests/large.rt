@@ -2,8 +2,8 @@
 
 use super::planning::check_plan;
 use super::{FIVE, check_run};
-use crate::Status::{self, Done, Limit, No};
 use mp_outside::{Failed, Files, MemFiles};
+use reports::Status::{self, Done, Limit, No};
 use std::alloc::{AllocError, Global};
 use std::process::Abort;
 use std::test::Fail;

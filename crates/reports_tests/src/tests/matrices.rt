@@ -1,7 +1,7 @@
 //! Matrices, permutations, the trees of their fronts, and best postorders.
 
 use super::{ARROW, Case, EMPTY, FIVE, FOUR, GRID, ROOTS, TURNED, check_cases};
-use crate::Status::{Done, Format, Limit, No};
+use reports::Status::{Done, Format, Limit, No};
 use std::test::Fail;
 
 // The arrow in another spelling, with values, the diagonal and both triangles.

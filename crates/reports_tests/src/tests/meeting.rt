@@ -2,8 +2,8 @@
 
 use super::fronts::ABREAST;
 use super::{ARROW, FIVE, PLAN, TURNED, files_of, words_of};
-use crate::{Status, run_words};
 use mp_outside::{Gate, MemSink};
+use reports::{Status, run_words};
 use std::alloc::Global;
 use std::process::Abort;
 use std::sync::atomic::{AtomicBool, Ordering};

@@ -4,10 +4,10 @@ use super::{
     ARROW, BRANCHES, Case, EMPTY, FIVE, FOUR, GRID, NO_TASKS, NOTHING, ONE, ROOTS, SHARE, TURNED,
     Texts, check_cases, check_run, files_of, run_into,
 };
-use crate::Status::Done;
 use mp_gen::{gen_tree, gen_workflow};
 use mp_outside::{MemFiles, MemSink};
 use mp_text::Report;
+use reports::Status::Done;
 use std::alloc::{AllocError, Global};
 use std::process::Abort;
 use std::str;

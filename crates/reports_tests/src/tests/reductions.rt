@@ -2,8 +2,8 @@
 
 use super::planning::check_plan;
 use super::{Case, check_cases, files_of, run_into};
-use crate::Status::{Done, Format, Limit, NotSeriesParallel};
 use mp_outside::MemSink;
+use reports::Status::{Done, Format, Limit, NotSeriesParallel};
 use std::alloc::{AllocError, Global};
 use std::process::Abort;
 use std::test::Fail;

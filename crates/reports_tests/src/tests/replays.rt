@@ -1,7 +1,7 @@
 //! Orders replayed over trees and workflows, and the refusals of their files.
 
 use super::{BRANCHES, Case, FIVE, FOUR, NO_TASKS, NOTHING, ORDER, PLAN, SHARE, check_cases};
-use crate::Status::{Done, Format, Limit, No};
+use reports::Status::{Done, Format, Limit, No};
 use std::test::Fail;
 
 const TREE: &[&str] = &["replay --tree t --order o"];

@@ -4,8 +4,8 @@ use super::{
     ARROW, BRANCHES, Case, FIVE, FOUR, NO_TASKS, NOTHING, ONE, ROOTS, SHARE, TURNED, check_cases,
     check_run,
 };
-use crate::Status::{Done, Format, Limit};
 use mp_outside::MemFiles;
+use reports::Status::{Done, Format, Limit};
 use std::alloc::{AllocError, Global};
 use std::test::Fail;
 

@@ -1,7 +1,7 @@
 //! Runs on several workers within a bound.
 
 use super::{ARROW, BRANCHES, Case, FIVE, FOUR, NO_TASKS, ORDER, TURNED, Texts, check_cases};
-use crate::Status::{Bound, Done, Format, No};
+use reports::Status::{Bound, Done, Format, No};
 use std::test::Fail;
 
 // The tree of five nodes within its peak: one leaf after the other.

@@ -4,7 +4,7 @@ use super::{
     BRANCHES, Case, FIVE, FOUR, NO_TASKS, NOTHING, ONE, ORDER, PLAN, ROOTS, SHARE, Texts,
     check_cases,
 };
-use crate::Status::{Done, Format, No, WorkingSet};
+use reports::Status::{Done, Format, No, WorkingSet};
 use std::test::Fail;
 
 const NONE: &str = "volume 0\nitems 0\nend\n";

@@ -1,7 +1,7 @@
 //! Files that are written as version 2.
 
 use super::{ARROW, Case, FIVE, NOTHING, PLAN, SHARE, check_cases};
-use crate::Status::{Done, Format, Limit};
+use reports::Status::{Done, Format, Limit};
 use std::test::Fail;
 
 const FIVE_2: &str =

@@ -2,7 +2,7 @@
 
 use super::reductions::GRAPH;
 use super::{ARROW, FIVE, ORDER, PLAN, TURNED, Texts, check_run, files_of};
-use crate::Status::Usage;
+use reports::Status::Usage;
 use std::alloc::Global;
 use std::process::Abort;
 use std::test::Fail;
