@@ -11,7 +11,7 @@ mod status;
 mod stop;
 
 pub use files::{
-    FileKind, GraphFile, MatrixFile, OrderFile, PlanFile, Ranked, RankedFile, TreeFile,
+    FileKind, GraphFile, MatrixFile, OrderFile, PermFile, PlanFile, Ranked, TreeFile,
     WorkflowFile, judge,
 };
 pub use inputs::{
