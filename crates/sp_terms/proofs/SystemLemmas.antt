@@ -23,7 +23,7 @@ use Rattle.sp_terms.specs.Pending.{tasks_in, task_of}
 use Rattle.sp_terms.proofs.Stacks.{all_pushed, all-split, length-postfix}
 
 -- what is made and used among these items
-abbrev made : List Item → ℕ → ℕ
+abbrev pub made : List Item → ℕ → ℕ
 made items v = size_where (is_output v) items
 
 abbrev used : List Item → ℕ → ℕ
