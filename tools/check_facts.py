@@ -17,6 +17,7 @@ The last line is 'N passed, M failed', and the status is 0 where none failed.
 """
 import ast
 import importlib
+import math
 import re
 import sys
 from collections import Counter
@@ -91,17 +92,32 @@ SENTENCES = {
 }
 
 
-def number_of(text: str) -> int:
-    """`1_000`, `1,000`, `2 ^ 40`, `2^40`, `2**40` or `1 << 40` as a number."""
-    plain = re.sub(r"[ _,]", "", text).replace("**", "^")
-    base, power, exponent = plain.partition("^")
-    one, shift, count = plain.partition("<<")
-    return int(base) ** int(exponent) if power else int(one) << int(count) if shift else int(plain)
+def factor_of(text: str, known: Numbers) -> int:
+    """`1_000`, `1,000`, `2 ^ 40`, `1 << 40`, or a name that is known, as a number."""
+    base, power, exponent = text.partition("^")
+    one, shift, count = text.partition("<<")
+    if power or shift:
+        return factor_of(base, known) ** factor_of(exponent, known) if power else factor_of(one, known) << factor_of(count, known)
+    return known.get(text.strip()) or int(re.sub(r"[_,]", "", text))
+
+
+def number_of(text: str, known: Numbers = {}) -> int:
+    """A number, or a sum of products, as `4 * MOST_TASKS + 1`."""
+    terms = text.replace("**", "^").split("+")
+    return sum(math.prod(factor_of(factor, known) for factor in term.split("*")) for term in terms)
 
 
 def numbers_in(text: str, pattern: str) -> Numbers:
-    """The names and numbers that a pattern with these two groups finds."""
-    return {name: number_of(number) for name, number in re.findall(pattern, text, re.M)}
+    """The names and numbers that a pattern with these two groups finds; a number may be told by the names before it."""
+    found: Numbers = {}
+    for name, number in re.findall(pattern, text, re.M):
+        found[name] = number_of(number, found)
+    return found
+
+
+def short(numbers: Numbers) -> Numbers:
+    """`MOST_TASKS` and `most_tasks` as `TASKS`."""
+    return {name[len("most_") :].upper(): number for name, number in numbers.items()}
 
 
 def written_in(text: str) -> List[int]:
@@ -136,7 +152,7 @@ class Facts:
         sys.dont_write_bytecode = True
         sys.path.insert(0, str(top / "tools"))
         self.said = {as_constant(name): number for name, number in numbers_in(self.code_of_statuses(), r"Status::(\w+) => (\d+)").items()}
-        self.most = numbers_in(self.text(LIMIT_CODE), r"^pub const MOST_(\w+): u\d+ = (.+);")
+        self.most = short(numbers_in(self.text(LIMIT_CODE), r"^pub const (MOST_\w+): u\d+ = (.+);"))
         self.fault_kinds = numbers_in(self.text("crates/memplan_c/src/kinds.rt"), r"^pub const (\w+): u32 = (\d+);")
 
     def text(self, name: str) -> str:
@@ -214,7 +230,7 @@ class Facts:
 
     def limits(self) -> Iterator[Finding]:
         most = self.most
-        yield LIMIT_SPECS, upper(numbers_in(self.text(LIMIT_SPECS), r"^most_(\w+) = (.+)$")), most
+        yield LIMIT_SPECS, short(numbers_in(self.text(LIMIT_SPECS), r"^(most_\w+) = (.+)$")), most
         refused = {name.upper() for name in re.findall(r"^most \w+ = most_(\w+)$", self.text(LIMIT_SPECS), re.M)}
         yield "tools/explaining/judged.py", upper(self.literal("tools/explaining/judged.py", "LIMITS")), {name: most[name] for name in refused}
         of_fuzz = {name[5:]: number for name, number in vars(self.module("fuzz.formats")).items() if name.startswith("MOST_")}

@@ -1,5 +1,6 @@
 """That tools/make_crates.py writes what crates stand on, and finds what they must not: in a made repository, and in copies of this one."""
 
+import re
 import shutil
 import subprocess
 import sys
@@ -139,14 +140,16 @@ class Here(unittest.TestCase):
     def tearDownClass(cls) -> None:
         cls.folder.cleanup()
 
-    def check_found(self, complaint: str, name: str, old: str, new: str) -> None:
+    def check_found(self, complaint: str, name: str, pattern: str, put: str) -> None:
         file = self.top / name
         kept = file.read_text(encoding="utf-8")
-        self.assertIn(old, kept)
+        changed, count = re.subn(pattern, put, kept, count=1)
+        self.assertEqual(count, 1)
         self.assertNotIn(complaint, said(self.top, "--check"))
-        file.write_text(kept.replace(old, new, 1), encoding="utf-8")
-        self.assertIn(complaint, said(self.top, "--check"))
+        file.write_text(changed, encoding="utf-8")
+        found = said(self.top, "--check")
         file.write_text(kept, encoding="utf-8")
+        self.assertIn(complaint, found)
 
     def test_a_crate_of_values_that_names_a_text(self) -> None:
         told = "FAILED: plans: names mp_text, which stands later, in the section 'Files'"
@@ -161,10 +164,10 @@ class Here(unittest.TestCase):
         self.check_found(told, "crates/mp_system/specs/System.antt", "\nuse ", "\nuse Rattle.activation.specs.Machine.{Step}\nuse ")
 
     def test_a_missing_edge(self) -> None:
-        self.check_found("FAILED: hill_valley: side_laws is missing", "crates.txt", "\nhill_valley: limits side_laws\n", "\nhill_valley: limits\n")
+        self.check_found("FAILED: hill_valley: side_laws is missing", "crates.txt", r"(\nhill_valley:.*) side_laws\b", r"\1")
 
     def test_an_edge_too_much(self) -> None:
-        self.check_found("FAILED: command_line: limits is too much", "crates.txt", "\ncommand_line: clap\n", "\ncommand_line: limits clap\n")
+        self.check_found("FAILED: command_line: limits is too much", "crates.txt", r"\ncommand_line: ", "\ncommand_line: limits ")
 
 
 if __name__ == "__main__":

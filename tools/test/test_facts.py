@@ -74,6 +74,7 @@ REFUSALS = [
 OF_LIMITS = [
     (f"{LIMITS}/src/lib.rt", r"MOST_WORKERS: u32 = 4_096", "MOST_WORKERS: u32 = 8_192", "WORKERS is 4096 and not 8192"),
     (f"{LIMITS}/src/lib.rt", r"MOST_ENTRIES: u64 = 10_000_000", "MOST_ENTRIES: u64 = 20_000_000", f"{PAGE}: ENTRIES is 10000000 and not 20000000"),
+    (f"{LIMITS}/src/lib.rt", r"MOST_POSITIONS: u64 = [^;]*", "MOST_POSITIONS: u64 = 5 * MOST_ORDER + 1", "POSITIONS is 4000001 and not 5000001"),
     (f"{LIMITS}/specs/Limits.antt", r"most_total = 2 \^ 60", "most_total = 2 ^ 62", f"TOTAL is {2**62} and not {2**60}"),
     (PAGE, r"\| `order` \| 1,000,000 ", "| `order` | 900,000 ", "ORDER is 900000 and not 1000000"),
     (PAGE, r"N is from 1 to the limit `tasks`", "N is from 1 to 1,000,000", "which states each once: 1000000 is 3 and not 2"),
@@ -93,7 +94,7 @@ OF_LIMITS = [
     ("python/memplan/_numbers.py", r"at most 2\^60 together", "at most 2^62 together", f"sizes are at most N together is {2**62} and not {2**60}"),
     ("python/memplan/_numbers.py", r"U32 = Width", "# of 1,000,000 tasks\nU32 = Width", "python/memplan/_numbers.py, which states no limit elsewhere"),
     (FUZZ, r"MOST_ARCS = 2_000_001", "MOST_ARCS = 2_000_000", "ARCS is 2000000 and not 2000001"),
-    (f"{REQUESTS}/request.rt", r"zeros <= 1 << 40", "zeros <= 1 << 41", f"ZEROS is {2**40} and not {2**41}"),
+    (f"{REQUESTS}/request.rt", r"zeros <= (1 << 40|MOST_ZEROS)", "zeros <= 1 << 41", f"ZEROS is {2**40} and not {2**41}"),
     ("tools/explaining/judged.py", r'"arcs": 2_000_001', '"arcs": 2_000_000', "ARCS is 2000000 and not 2000001"),
     ("tools/drawing/system.py", r"TASK_LIMIT = 1_000_000", "TASK_LIMIT = 2_000_000", "TASK is 2000000 and not 1000000"),
     ("tools/drawing/system.py", r"= 2\*\*40, 2\*\*60, 2\*\*40", "= 2**40, 2**61, 2**40", f"TOTAL is {2**61} and not {2**60}"),
