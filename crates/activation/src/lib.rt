@@ -21,6 +21,8 @@ mod running;
 mod simulation;
 mod start;
 mod sums;
+#[cfg(test)]
+mod tests;
 mod waiting;
 
 pub use cores::Core;

@@ -1,4 +1,3 @@
-mod parts;
 mod plain;
 mod random;
 mod rows;

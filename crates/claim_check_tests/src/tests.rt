@@ -454,10 +454,13 @@ impl Gate for Counts {
     }
 }
 
-// 13 positions come to chunks of 13, 7, 5, 2 and 1. Each chunk sets a bit. Any number of workers accepts the plan.
+// Workers, and the chunks that 13 positions come to: of 13, 7, 5, 2 and 1.
+const CHUNKS: [(u32, u32); 6] = [(1, 1), (2, 2), (3, 3), (12, 7), (13, 13), (4096, 13)];
+
+// Each chunk sets a bit. Any number of workers accepts the plan.
 #[test]
 fn each_chunk_is_entered_once(rt: HostRuntime) -> Result<(), Fail> {
-    for (workers, chunks) in [(1, 1), (2, 2), (3, 3), (12, 7), (13, 13), (4096, 13)] {
+    for (workers, chunks) in CHUNKS {
         let gate = Counts {
             entered: AtomicU32::new(0),
             numbers: AtomicU32::new(0),
@@ -514,14 +517,17 @@ fn two_chunks_meet(rt: HostRuntime) -> Result<(), Fail> {
     Ok(())
 }
 
+// Shapes, and their words.
+const WORDS: [(Shape, &str); 4] = [
+    (Shape::Hold, "data"),
+    (Shape::Series, "series"),
+    (Shape::Par, "par"),
+    (Shape::Outside, "outside"),
+];
+
 #[test]
 fn shapes_have_their_words(rt: HostRuntime) -> Result<(), Fail> {
-    for (shape, word) in [
-        (Shape::Hold, "data"),
-        (Shape::Series, "series"),
-        (Shape::Par, "par"),
-        (Shape::Outside, "outside"),
-    ] {
+    for (shape, word) in WORDS {
         assert_eq!(rt; shape.word(), word);
         let text = format!(in rt.alloc(); "{shape}")?;
         assert_eq!(rt; text.as_str(), word);

@@ -53,34 +53,37 @@ fn a_line_has_its_command_and_no_other_option(rt: HostRuntime) -> Result<(), Fai
     Ok(())
 }
 
+// Words that are no line.
+const NO_LINES: [&str; 23] = [
+    "",
+    "help",
+    "--help",
+    "--",
+    "plan --tree a",
+    "post help",
+    "post --help",
+    "post --",
+    "post -- a",
+    "post --=a",
+    "post tree",
+    "post -tree a",
+    "post --tree",
+    "post --tree ",
+    "post --tree=",
+    "post --tree -a",
+    "post --tree=-a",
+    "post --tree --matrix=m",
+    "post --tree=a b",
+    "post --tree=a --tree b",
+    "post --trees a",
+    "post --seed 1",
+    "post --tree=a --seed=1",
+];
+
 #[test]
 fn words_that_are_no_line(rt: HostRuntime) -> Result<(), Fail> {
     let alloc = rt.alloc();
-    for text in [
-        "",
-        "help",
-        "--help",
-        "--",
-        "plan --tree a",
-        "post help",
-        "post --help",
-        "post --",
-        "post -- a",
-        "post --=a",
-        "post tree",
-        "post -tree a",
-        "post --tree",
-        "post --tree ",
-        "post --tree=",
-        "post --tree -a",
-        "post --tree=-a",
-        "post --tree --matrix=m",
-        "post --tree=a b",
-        "post --tree=a --tree b",
-        "post --trees a",
-        "post --seed 1",
-        "post --tree=a --seed=1",
-    ] {
+    for text in NO_LINES {
         let words = words_of(alloc, text)?;
         let found = read_words(alloc, &SHAPES, &words)?;
         assert!(rt; found.is_none(), "{text}");

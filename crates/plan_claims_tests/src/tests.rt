@@ -84,21 +84,23 @@ const TWO_ROOTS: &[u8] =
 const HILLS: &[u8] =
     b"workflow 1\ntasks 3\ndata 0\ndata 1\ntask 9 1\ndata 0\ndata 8\ntask 4 1\npar 2\ndata 0\ntask 0 1\nend\n";
 
+// Workflows, and their least peaks.
+const PEAKS: [(&[u8], u64); 9] = [
+    (FIVE, 11),
+    (ONE_NODE, 9),
+    (NOTHING, 0),
+    (NODE_OF_NOTHING, 0),
+    (STAR, 6),
+    (DATA_ALONE, 20),
+    (TWO_CHAINS, 13),
+    (TWO_ROOTS, 7),
+    (HILLS, 13),
+];
+
 #[test]
 fn the_peaks_of_the_worked_rows_are_certified(rt: HostRuntime) -> Result<(), Fail> {
     let alloc = rt.alloc();
-    let rows: [(&[u8], u64); 9] = [
-        (FIVE, 11),
-        (ONE_NODE, 9),
-        (NOTHING, 0),
-        (NODE_OF_NOTHING, 0),
-        (STAR, 6),
-        (DATA_ALONE, 20),
-        (TWO_CHAINS, 13),
-        (TWO_ROOTS, 7),
-        (HILLS, 13),
-    ];
-    for (text, peak) in rows {
+    for (text, peak) in PEAKS {
         let terms = read_workflow(alloc, text)?;
         assert_eq!(rt; assert_accepted(&rt, alloc, &terms)?, peak);
     }

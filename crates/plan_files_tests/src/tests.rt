@@ -63,14 +63,17 @@ fn check_file(
     Ok(())
 }
 
+// Plan files, in the lowest version that each has, and in version 2.
+const FILES: [(&[u8], &[u8], &[u8]); 4] = [
+    (FIVE, FIVE, FIVE_2),
+    (FIVE_2, FIVE, FIVE_2),
+    (RANKED, RANKED, RANKED),
+    (LEAST, LEAST, LEAST_2),
+];
+
 #[test]
 fn reads_and_prints(rt: HostRuntime) -> Result<(), Fail> {
-    for (text, one, two) in [
-        (FIVE, FIVE, FIVE_2),
-        (FIVE_2, FIVE, FIVE_2),
-        (RANKED, RANKED, RANKED),
-        (LEAST, LEAST, LEAST_2),
-    ] {
+    for (text, one, two) in FILES {
         check_file(&rt, rt.alloc(), text, one, two)?;
     }
     Ok(())

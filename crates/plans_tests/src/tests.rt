@@ -6,14 +6,36 @@ const MOST: u64 = 1_152_921_504_606_846_976;
 
 const LEAST_BOUND: i64 = -1_152_921_504_606_846_976;
 
-fn claim(position: u32, dir: Direction, bound: i64, rest: u64) -> Claim {
-    Claim {
-        position,
-        dir,
-        bound,
-        rest,
-    }
-}
+const SECOND: Claim = Claim {
+    position: 2,
+    dir: Direction::Forward,
+    bound: -5,
+    rest: 0,
+};
+
+const SEVENTH: Claim = Claim {
+    position: 7,
+    dir: Direction::Backward,
+    bound: 0,
+    rest: MOST,
+};
+
+const AT_0: Claim = Claim {
+    position: 0,
+    bound: 0,
+    ..SECOND
+};
+
+const TOO_LOW: Claim = Claim {
+    bound: LEAST_BOUND - 1,
+    ..SECOND
+};
+
+const TOO_HIGH: Claim = Claim {
+    bound: 0,
+    rest: MOST + 1,
+    ..SECOND
+};
 
 #[test]
 fn a_plan_of_no_tasks(rt: HostRuntime) {
@@ -22,28 +44,26 @@ fn a_plan_of_no_tasks(rt: HostRuntime) {
     assert!(rt; plan.order().is_empty());
 }
 
+// A peak, claims and a priority, and whether they make a plan with an order of three tasks.
+type Parts = (u64, &'static [Claim], &'static [u32], bool);
+
+const PARTS: [Parts; 11] = [
+    (MOST, &[SECOND, SEVENTH], &[2, 3, 1], true),
+    (0, &[], &[], true),
+    (MOST + 1, &[SECOND, SEVENTH], &[], false),
+    (9, &[SEVENTH, SECOND], &[], false),
+    (9, &[SECOND, SECOND], &[], false),
+    (9, &[AT_0], &[], false),
+    (9, &[TOO_LOW], &[], false),
+    (9, &[TOO_HIGH], &[], false),
+    (9, &[SECOND, SEVENTH], &[2, 3], false),
+    (9, &[SECOND, SEVENTH], &[2, 3, 2], false),
+    (9, &[SECOND, SEVENTH], &[2, 3, 4], false),
+];
+
 #[test]
 fn tells_which_parts_make_a_plan(rt: HostRuntime) -> Result<(), Fail> {
-    let claims = [
-        claim(2, Direction::Forward, -5, 0),
-        claim(7, Direction::Backward, 0, MOST),
-    ];
-    let low = claim(2, Direction::Forward, LEAST_BOUND - 1, 0);
-    let high = claim(2, Direction::Forward, 0, MOST + 1);
-    let rows: [(u64, &[Claim], &[u32], bool); 11] = [
-        (MOST, &claims, &[2, 3, 1], true),
-        (0, &[], &[], true),
-        (MOST + 1, &claims, &[], false),
-        (9, &[claims[1], claims[0]], &[], false),
-        (9, &[claims[0], claims[0]], &[], false),
-        (9, &[claim(0, Direction::Forward, 0, 0)], &[], false),
-        (9, &[low], &[], false),
-        (9, &[high], &[], false),
-        (9, &claims, &[2, 3], false),
-        (9, &claims, &[2, 3, 2], false),
-        (9, &claims, &[2, 3, 4], false),
-    ];
-    for (peak, claims, priority, want) in rows {
+    for (peak, claims, priority, want) in PARTS {
         let told = is_plan(rt.alloc(), &[3, 1, 2], peak, claims, priority)?;
         assert_eq!(rt; told, want, "{claims:?} {priority:?}");
     }
@@ -54,16 +74,13 @@ fn tells_which_parts_make_a_plan(rt: HostRuntime) -> Result<(), Fail> {
 fn a_plan_gives_its_parts(rt: HostRuntime) -> Result<(), Fail> {
     let alloc = rt.alloc();
     let order = Vec::from_slice(alloc, &[3, 1, 2])?;
-    let claims = Vec::from_slice(alloc, &[claim(2, Direction::Forward, -5, 0)])?;
+    let claims = Vec::from_slice(alloc, &[SECOND])?;
     let priority = Vec::from_slice(alloc, &[2, 3, 1])?;
     assert!(rt; is_plan(alloc, &order, 9, &claims, &priority)?);
     let plan = Plan::new(order, 9, claims, priority);
     assert_eq!(rt; plan.order(), [3, 1, 2].as_slice());
     assert_eq!(rt; plan.peak(), 9);
-    assert_eq!(rt;
-        plan.claims(),
-        [claim(2, Direction::Forward, -5, 0)].as_slice()
-    );
+    assert_eq!(rt; plan.claims(), [SECOND].as_slice());
     assert_eq!(rt; plan.priority(), [2, 3, 1].as_slice());
     Ok(())
 }

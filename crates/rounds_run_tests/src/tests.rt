@@ -169,13 +169,16 @@ fn fronts_by_hand(rt: HostRuntime) -> Result<(), Fail> {
     Ok(())
 }
 
+// Matrices, their orders, bounds, and the peaks that are above them.
+const TOO_LOW: [(&str, &str, u64, u64); 3] = [
+    (ARROW, ENDS_FIRST, 3, 4),
+    (DIAGONAL, IN_TURN, 0, 1),
+    (GRID, CORNERS_FIRST, 18, 19),
+];
+
 #[test]
 fn a_bound_below_the_peak_is_refused(rt: HostRuntime) -> Result<(), Fail> {
-    for (matrix, order, bound, peak) in [
-        (ARROW, ENDS_FIRST, 3, 4),
-        (DIAGONAL, IN_TURN, 0, 1),
-        (GRID, CORNERS_FIRST, 18, 19),
-    ] {
+    for (matrix, order, bound, peak) in TOO_LOW {
         match fronts(&rt, rt.alloc(), matrix, order, bound, 2, &NoGate)? {
             Ok(_) => assert!(rt; false),
             Err(refusal) => {

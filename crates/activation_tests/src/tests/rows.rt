@@ -79,12 +79,15 @@ const WIDE: &str = "3 20 20 0a1 0a3 0s1 0s3 1f1 1f3 1a2 1a4 1a5 1s2 1s4 2f2 2f4 
 
 const ENDLESS: &str = "3 20 30 0a1 0a3 0a2 0a4 0a5 0s1 0s3 1f1 1f3 1s2 1s4 2f2 2f4 2s5 3f5";
 
+// Bounds for the tree, and its runs.
+const BOUNDED: [(u64, &str); 3] = [(11, TIGHT), (22, WIDE), (u64::MAX, ENDLESS)];
+
 #[test]
 fn runs_of_a_tree(rt: HostRuntime) -> Result<(), Fail> {
     let alloc = rt.alloc();
     let tree = tree(alloc)?;
     let order = [1, 3, 2, 4, 5];
-    for (bound, wanted) in [(11, TIGHT), (22, WIDE), (u64::MAX, ENDLESS)] {
+    for (bound, wanted) in BOUNDED {
         check_run(&rt, alloc, along(&tree, &order, bound, 2), wanted)?;
     }
     Ok(())
@@ -190,13 +193,22 @@ fn orders_that_are_refused(rt: HostRuntime) -> Result<(), Fail> {
     Ok(())
 }
 
+// Refusals, and their words.
+const TOLD: [(CoreRefusal, &str); 3] = [
+    (
+        CoreRefusal::Order(OrderFault {
+            place: 3,
+            kind: OrderKind::TooEarly,
+        }),
+        "too-early at place 3",
+    ),
+    (CoreRefusal::BoundBelow { bound: 7, peak: 9 }, "bound 7 9"),
+    (CoreRefusal::NoMemory, "no memory"),
+];
+
 #[test]
 fn refusals_are_told(rt: HostRuntime) -> Result<(), Fail> {
-    for (refusal, words) in [
-        (no_traversal(3, OrderKind::TooEarly), "too-early at place 3"),
-        (below(7, 9), "bound 7 9"),
-        (CoreRefusal::NoMemory, "no memory"),
-    ] {
+    for (refusal, words) in TOLD {
         assert_eq!(rt; format!(in rt.alloc(); "{refusal}")?.as_str(), words);
     }
     Ok(())

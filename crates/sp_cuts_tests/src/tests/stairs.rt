@@ -131,12 +131,15 @@ fn too_many_steps_pass_the_limit(rt: HostRuntime) -> Result<(), Fail> {
     Ok(())
 }
 
+// Refusals, and their words.
+const TOLD: [(StairsRefusal, &str); 2] = [
+    (StairsRefusal::Limit, "limit steps"),
+    (StairsRefusal::NoMemory, "no memory"),
+];
+
 #[test]
 fn refusals_are_told(rt: HostRuntime) -> Result<(), Fail> {
-    for (refusal, words) in [
-        (StairsRefusal::Limit, "limit steps"),
-        (StairsRefusal::NoMemory, "no memory"),
-    ] {
+    for (refusal, words) in TOLD {
         assert_eq!(rt; format!(in rt.alloc(); "{refusal}")?.as_str(), words);
     }
     Ok(())

@@ -4,7 +4,7 @@ use Rattle.mp_system.specs.declared.system.Task.{Task}
 use Rattle.mp_system.specs.declared.system.Item.{Item}
 use Rattle.std.specs.Option.{ForSome}
 use Rattle.std.specs.List.{AllByRecursion}
-use Rattle.activation.proofs.SmallSystems.{IsSmallTask, IsSmallItem, small_item, small_system}
+use Rattle.activation_tests.proofs.SmallSystems.{IsSmallTask, IsSmallItem, small_item, small_system}
 use Rattle.activation_tests.proofs.tests.random.random_system.Goals as goal
 
 item : {x : Item} {a b : ℕ} → x.size < 10 → ForSome x.from (λ t. t ≡ a) → ForSome x.to (λ t. t ≡ b) → 1 ≤ a → a < b → b ≤ 5 → IsSmallItem 5 x

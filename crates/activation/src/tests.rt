@@ -2,8 +2,8 @@
 
 ghost use Rattle.std.specs.Prelude.{◌≡◌, ◌+◌, ◌<◌, length};
 
-use activation::clock::{Clock, Due};
-use activation::rank_set::RankSet;
+use crate::clock::{Clock, Due};
+use crate::rank_set::RankSet;
 use std::process::Abort;
 use std::rt::HostRuntime;
 use std::test::Fail;

@@ -1,7 +1,7 @@
 use Rattle.std.proofs.Common.{◌∷◌, arith}
 use Rattle.std.proofs.lemmas.List.Sorted.{length_permutation}
 use Rattle.activation.specs.declared.clock.Due.{Due}
-use Rattle.activation_tests.proofs.tests.parts.check_add.Goals as goal
+use Rattle.activation.proofs.tests.check_add.Goals as goal
 
 pub returns-clause-long : goal.returns-clause-long
 returns-clause-long g c =
