@@ -279,8 +279,12 @@ class Built(ProgramTest):
         run.communicate(timeout=10)
         self.assertNotEqual(run.returncode, 0)
         self.assertTrue(self.is_scratch_empty())
+        # one that has ended is still there until the system has taken note of it
+        deadline = time.monotonic() + 10
         with self.assertRaises(ProcessLookupError):
-            os.killpg(run.pid, 0)
+            while time.monotonic() < deadline:
+                os.killpg(run.pid, 0)
+                time.sleep(0.02)
 
 
 class Comparison(unittest.TestCase):
