@@ -1,4 +1,3 @@
--- No public clause names this.
 -- What a step over files says of their texts: a value, or why there is none.
 use Rattle.std.specs.Prelude.{◌≡◌, ◌≢◌, ℕ, ◌<◌, ◌≤◌, All, Contains, slice_index, List, [], ◌∷◌, ◌++◌, Option, Some, None, Ok, Err, Result}
 use Rattle.std.specs.Prelude.{MatchResult, codes, length}
