@@ -11,8 +11,8 @@ mod status;
 mod stop;
 
 pub use files::{
-    FileKind, GraphFile, MatrixFile, OrderFile, PermFile, PlanFile, Ranked, TreeFile,
-    WorkflowFile, judge,
+    FileKind, GraphFile, MatrixFile, OrderFile, PermFile, PlanFile, Ranked, TreeFile, WorkflowFile,
+    judge,
 };
 pub use inputs::{
     Order, OrderedPattern, OrderedProblem, Priority, judge_input, judge_matrix, judge_ordered,
