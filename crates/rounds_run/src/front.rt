@@ -9,7 +9,7 @@ ghost use Rattle.rounds_run.specs.Holding.{IsJob, IsHandedBack};
 
 use crate::NoMemory;
 use crate::gathering::{add_later, add_lists};
-use crate::lists::{Inbox, NumberList};
+use crate::number_lists::{Inbox, NumberList};
 use elim_tree::laws::{no_earlier_row, path_theorem, renumbered_pattern, structure_by_children};
 use patterns::Pattern;
 use permutations::Perm;

@@ -16,7 +16,7 @@ mod fronts;
 mod gathering;
 mod held;
 pub mod laws;
-mod lists;
+mod number_lists;
 mod planning;
 mod refusal;
 mod rounds;

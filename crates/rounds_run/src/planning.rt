@@ -9,7 +9,7 @@ ghost use Rattle.rounds_run.specs.Rounds.{AreRounds};
 ghost use Rattle.rounds_run.specs.Fronts.{IsFrontsRefusal};
 ghost use Rattle.rounds_run.specs.Holding.{AreOrderly};
 
-use crate::lists::NumberList;
+use crate::number_lists::NumberList;
 use crate::refusal::FrontsRefusal;
 use crate::rounds::rounds_of;
 use crate::row_tree::{row_order, row_system};

@@ -16,7 +16,7 @@ use crate::NoMemory;
 use crate::front::{Job, Made, make_front};
 use crate::fronts::Fronts;
 use crate::held::Held;
-use crate::lists::NumberList;
+use crate::number_lists::NumberList;
 use crate::planning::plan_rounds;
 use crate::refusal::FrontsRefusal;
 use assembly_tree::{Assembly, Super};
