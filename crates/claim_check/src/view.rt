@@ -48,7 +48,11 @@ pub struct Part {
 
 impl<'a> View<'a> {
     /// A term with these claims, which are as in a plan file: `are_claims` tells. Claims at positions past the last are kept. Linear.
-    pub fn new(alloc: Global, terms: &'a TermList, claims: &'a [Claim]) -> Result<View<'a>, NoMemory>
+    pub fn new(
+        alloc: Global,
+        terms: &'a TermList,
+        claims: &'a [Claim],
+    ) -> Result<View<'a>, NoMemory>
         requires { AreClaims claims.now }
         ensures { IfOk result (λ view. view ≡ record { positions = terms.now; claims = claims.now }) }
     {

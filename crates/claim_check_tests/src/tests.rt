@@ -5,7 +5,6 @@ use claim_check::{Objection, Shape, Verdict, View, are_claims, check, check_alon
 use mp_outside::{Gate, NoGate};
 use mp_system::{OrderFault, OrderKind};
 use plans::{Claim, Direction, Plan, is_plan};
-use workflow_files::read_workflow;
 use sp_terms::system_of;
 use std::alloc::Global;
 use std::process::Abort;
@@ -13,6 +12,7 @@ use std::rt::HostRuntime;
 use std::sync::atomic::{AtomicBool, AtomicU32, Ordering};
 use std::test::Fail;
 use std::thread::{Threads, yield_now};
+use workflow_files::read_workflow;
 
 // Two chains of two tasks below a root, all with extras of 9 or 0: 13 positions, and a least peak of 11.
 const FIVE: &[u8] = b"workflow 1\ntasks 5\ndata 0\ndata 1\ntask 9 1\ndata 5\ntask 0 1\n\

@@ -1,15 +1,15 @@
 //! Problems worked by hand: a tree and a workflow.
 
-use least_peak::Problem;
 use claim_check::Verdict;
+use least_peak::Problem;
 use mp_outside::NoGate;
 use plans::Plan;
-use workflow_files::read_workflow;
 use std::alloc::Global;
 use std::process::Abort;
 use std::test::Fail;
 use std::thread::Threads;
 use tree_files::read_tree;
+use workflow_files::read_workflow;
 
 // Two chains of two tasks below a root; the first tasks need 9, and leave 1.
 const FIVE: &[u8] = b"tree 1\nnodes 5\n2 1 9 1\n5 5 0 1\n4 1 9 1\n5 5 0 1\n0 0 0 1\nend\n";

@@ -3,14 +3,13 @@
 ghost use Rattle.std.specs.Prelude.{◌≡◌, ◌<◌};
 ghost use Rattle.sp_terms.specs.Builder.{IsPosition};
 
-use plan_claims::{NoMemory, claims_of};
 use claim_check::{Verdict, check};
 use mp_gen::{gen_tree, gen_workflow};
 use mp_outside::NoGate;
+use plan_claims::{NoMemory, claims_of};
 use plans::{Claim, Plan, is_plan};
 use sp_cuts::plan_terms;
 use sp_terms::{Position, TermBuilder, TermList, system_of};
-use workflow_files::read_workflow;
 use std::alloc::Global;
 use std::marker::Brand;
 use std::process::Abort;
@@ -19,6 +18,7 @@ use std::test::Fail;
 use std::thread::Threads;
 use step_count::Steps;
 use trees::{Node, terms_of_tree};
+use workflow_files::read_workflow;
 
 // The order of a plan, its peak, and claims that certify the peak.
 fn certified<L: Ledger>(

@@ -1,5 +1,5 @@
-use plan_files::{PlanKind, plan_json, print_plan, print_plan_2, read_plan};
 use mp_text::{Report, fault};
+use plan_files::{PlanKind, plan_json, print_plan, print_plan_2, read_plan};
 use plans::{Claim, Direction, Plan};
 use std::alloc::Global;
 use std::process::Abort;

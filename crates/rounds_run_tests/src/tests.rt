@@ -3,15 +3,14 @@
 ghost use Rattle.std.specs.Prelude.{◌≤◌};
 ghost use Rattle.limits.specs.Limits.{most_workers};
 
-use rounds_run::{Fronts, FrontsRefusal, run_fronts};
 use assembly_tree::laws::counts_of_fill;
 use assembly_tree::supernodes;
 use column_counts::counts;
 use elim_tree::laws::renumbered_pattern;
 use elim_tree::postordered_etree;
-use matrix_files::read_pattern;
+use matrix_files::{read_pattern, read_perm};
 use mp_outside::{Gate, NoGate};
-use matrix_files::read_perm;
+use rounds_run::{Fronts, FrontsRefusal, run_fronts};
 use std::alloc::Global;
 use std::process::Abort;
 use std::rt::HostRuntime;

@@ -8,10 +8,10 @@ ghost use Rattle.hill_valley.specs.Ropes.{Extends};
 ghost use Rattle.hill_valley.specs.Side.{profile, HaveRopes};
 ghost use Rattle.segment_merge.specs.Merging.{AllHaveRopes, net_sum_all, segment_count, longest};
 
-use segment_merge::{NoMemory, merge};
 use hill_valley::{Ropes, Side, laws as run_laws};
 use rand_core::utils::NextWord;
 use rand_pcg::Pcg32;
+use segment_merge::{NoMemory, merge};
 use std::alloc::Global;
 use std::marker::Brand;
 use std::sync::ledger::{Blank, Ledger};

@@ -6,12 +6,11 @@ ghost use Rattle.std.specs.Prelude.{◌≡◌, ◌≤◌, ◌<◌};
 ghost use Rattle.limits.specs.Limits.{most_tasks};
 ghost use Rattle.sp_terms.specs.Builder.{IsPosition};
 
-use sp_cuts::{NoMemory, Planned, plan_terms};
 use hill_valley::Side;
 use mp_gen::{gen_tree, gen_workflow};
 use mp_system::{System, replay};
+use sp_cuts::{NoMemory, Planned, plan_terms};
 use sp_terms::{Position, TermBuilder, TermList, system_of};
-use workflow_files::read_workflow;
 use std::alloc::Global;
 use std::marker::Brand;
 use std::process::Abort;
@@ -19,6 +18,7 @@ use std::sync::ledger::{Blank, Ledger};
 use std::test::Fail;
 use step_count::Steps;
 use trees::terms_of_tree;
+use workflow_files::read_workflow;
 
 // The plan, with a count of its own.
 fn plan<L: Ledger>(alloc: Global, blank: Blank, terms: &TermList) -> Result<Planned, NoMemory>
@@ -113,7 +113,12 @@ fn least_peak(alloc: Global, system: &System) -> Result<u64, NoMemory> {
 }
 
 // The plan's peak is that of its order, and no traversal has a lower one.
-fn check_order(rt: &impl Abort, alloc: Global, terms: &TermList, plan: &Planned) -> Result<(), Fail> {
+fn check_order(
+    rt: &impl Abort,
+    alloc: Global,
+    terms: &TermList,
+    plan: &Planned,
+) -> Result<(), Fail> {
     let system = system_of(alloc, terms)?;
     assert_eq!(rt; replay(alloc, &system, &plan.order)?, plan.peak);
     assert_eq!(rt; least_peak(alloc, &system)?, plan.peak);

@@ -2,8 +2,8 @@ ghost use Rattle.std.specs.Prelude.{◌≡◌};
 
 mod plain;
 
-use spill_plan::{NoMemory, SpillRefusal, spill};
 use mp_system::{Item, OrderFault, OrderKind, System, Task};
+use spill_plan::{NoMemory, SpillRefusal, spill};
 use std::alloc::Global;
 use std::process::Abort;
 use std::rt::HostRuntime;

@@ -2,10 +2,10 @@
 
 ghost use Rattle.std.specs.Prelude.{◌≡◌, ◌<◌};
 
-use step_count::Steps;
 use std::marker::Brand;
 use std::mem::{size_of, size_of_val};
 use std::sync::ledger::{Blank, Ledger};
+use step_count::Steps;
 
 // The bytes of a count of two steps.
 fn size_of_two<L: Ledger>(blank: Blank) -> usize

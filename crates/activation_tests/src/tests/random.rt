@@ -3,9 +3,9 @@
 ghost use Rattle.std.specs.Prelude.{◌≡◌, ◌<◌, ◌≤◌};
 ghost use Rattle.std.specs.Option.{ForSome};
 
-use activation::NoMemory;
 use crate::tests::plain::Given;
 use crate::tests::rows::compare;
+use activation::NoMemory;
 use mp_system::{Item, System, Task, replay};
 use rand_core::utils::NextWord;
 use rand_pcg::Pcg32;

@@ -1,8 +1,8 @@
 //! Sides, by hand and against plain ones.
 
-use hill_valley::NoMemory;
 use crate::tests::plain::{self, PlainSeg, PlainSide};
 use crate::tests::roped::{One, RopedSide};
+use hill_valley::NoMemory;
 use rand_core::utils::NextWord;
 use rand_pcg::Pcg32;
 use std::alloc::Global;

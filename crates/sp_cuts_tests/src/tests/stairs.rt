@@ -5,18 +5,18 @@ ghost use Rattle.std.specs.Prelude.{◌≡◌, ◌≤◌, ◌<◌, length};
 
 use super::{is_ready, memory, put, put_task, random_tree, small};
 use crate::tests::TWO_CHAINS;
-use sp_cuts::{NoMemory, Stairs, StairsRefusal, staircases};
 use hill_valley::Step;
 use mp_gen::gen_workflow;
 use mp_system::System;
+use sp_cuts::{NoMemory, Stairs, StairsRefusal, staircases};
 use sp_terms::{Position, TermBuilder, TermList, Values, system_of, values};
-use workflow_files::read_workflow;
 use std::alloc::Global;
 use std::marker::Brand;
 use std::process::Abort;
 use std::sync::ledger::{Blank, Ledger};
 use std::test::Fail;
 use step_count::Steps;
+use workflow_files::read_workflow;
 
 // The staircases, with a count of their own.
 fn counted<L: Ledger>(

@@ -3,8 +3,8 @@
 ghost use Rattle.std.specs.Prelude.{◌<◌, length};
 
 use crate::tests::{item, task};
-use spill_plan::{NoMemory, spill};
 use mp_system::{Item, System};
+use spill_plan::{NoMemory, spill};
 use std::alloc::Global;
 use std::rt::HostRuntime;
 use std::test::Fail;
