@@ -9,6 +9,7 @@ use Rattle.requests.specs.Request.{post, tree_input_of, reduce, replay, source_o
 use Rattle.requests.specs.Request.{simulate, spill, tree, matrix_of}
 use Rattle.requests.specs.Request.{upgrade, Upgrade, tree_upgrade, workflow_upgrade, plan_upgrade}
 use Rattle.std.specs.Str.{bytes_eq}
+use Rattle.command_line.specs.Words.{Given, value_of, Line, line_of}
 use Rattle.limits.specs.Limits.{most_tasks, most_mindeg, most_workers}
 use Rattle.requests.specs.declared.commands.demo.Demo.{Demo}
 use Rattle.requests.specs.Table.{commands}
