@@ -129,10 +129,10 @@ tree_request_of options = option_and_then (λ name. option_map tree (matrix_of n
 
 -- exactly one of a tree, a workflow and a plan, and a priority with a plan alone; by the names that are given for them
 abbrev pub upgrade_named : Option (List ℕ) → Option (List ℕ) → Option (List ℕ) → Option (List ℕ) → Option Upgrade
-upgrade_named (Some tree) None None None = Some (tree_upgrade tree)
-upgrade_named None (Some workflow) None None = Some (workflow_upgrade workflow)
-upgrade_named None None (Some plan) priority = Some (plan_upgrade plan priority)
-upgrade_named tree workflow plan priority = None
+upgrade_named (Some name) None None None = Some (tree_upgrade name)
+upgrade_named None (Some name) None None = Some (workflow_upgrade name)
+upgrade_named None None (Some name) priority = Some (plan_upgrade name priority)
+upgrade_named of_tree of_workflow of_plan priority = None
 
 -- `upgrade` and `--tree NAME`, `--workflow NAME` or `--plan NAME`, with `--priority NAME` after a plan if it is given
 abbrev pub upgrade_of : List Given → Option Request
