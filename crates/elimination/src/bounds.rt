@@ -11,8 +11,8 @@ use crate::NoMemory;
 use crate::search::Search;
 use crate::switch::Effort;
 use crate::twins::weigh;
-use patterns::Pattern;
 use min_tree::MinTree;
+use patterns::Pattern;
 use std::alloc::Global;
 
 // Lowers the bounds of these vertices by one.

@@ -10,8 +10,8 @@ ghost use Rattle.elimination.specs.Tables.{tables, AllHaveLength, IsUntouched};
 use crate::NoMemory;
 use crate::hoods::Hood;
 use crate::parts::empty_lists;
-use patterns::Pattern;
 use min_tree::MinTree;
+use patterns::Pattern;
 use std::alloc::Global;
 
 /// What is left of a pattern: eliminated vertices that hang together are kept as parts, and each part has a list of the vertices that are

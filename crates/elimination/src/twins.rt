@@ -15,8 +15,8 @@ use crate::NoMemory;
 use crate::hoods::unmark;
 use crate::links::last_of;
 use crate::search::Search;
-use patterns::Pattern;
 use min_tree::MinTree;
+use patterns::Pattern;
 use std::alloc::Global;
 use std::mem;
 

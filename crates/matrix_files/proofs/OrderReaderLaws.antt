@@ -10,7 +10,7 @@ use Rattle.mp_text.specs.Reading.{steps_of_all, Follows}
 use Rattle.mp_text.specs.ReadingLaws.{Follows-weaker, tested-follows, Follows-steps_of_all}
 use Rattle.matrix_files.specs.OrderFile.{value_of, order_token_tests, tokens_of_rows, order_format}
 use Rattle.matrix_files.specs.PermFile.{perm_token_tests, perm_count_tests, perm_format}
-use Rattle.permutations.specs.PermTables.{PermState}
+use Rattle.permutations.specs.Perm.{PermState}
 use Rattle.matrix_files.specs.OrderReader.{number_step, order_step, took_order, vertex_step, perm_step, perm_end, took_perm}
 
 -- ---- lines whose tokens are taken one after another

@@ -14,11 +14,11 @@ use Rattle.mp_text.specs.Reading.{IsRefusal}
 use Rattle.mp_text.specs.ReadingLaws.{first_failure-append}
 use Rattle.matrix_files.specs.OrderFile.{value_of, tokens_of_rows, numbers_stated}
 use Rattle.matrix_files.proofs.OrderReaderLaws.{tokens-push}
-use Rattle.permutations.specs.Perm.{IsPerm, IsVertex, times}
+use Rattle.permutations.specs.Perm.{IsPart, IsPerm, IsVertex, times}
 use Rattle.matrix_files.specs.PermFile.{perm_token_tests, perm_format, is_vertex, ReadsPerm, IsPermRefusal}
 use Rattle.matrix_files.specs.declared.perm_file.PermKind.{PermKind}
 use Rattle.matrix_files.specs.declared.perm_file.PermKind.TheVariants as kinds
-use Rattle.permutations.proofs.PermLemmas.{IsPart, part-none, part-push, length-part, perm_from_part}
+use Rattle.permutations.proofs.PermLemmas.{part-none, part-push, length-part, perm_from_part}
 
 -- ---- what passes is a part of a permutation
 

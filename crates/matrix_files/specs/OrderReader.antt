@@ -5,7 +5,7 @@ use Rattle.mp_text.specs.declared.refusals.Refusal.{Refusal}
 use Rattle.mp_text.specs.Text.{Row}
 use Rattle.mp_text.specs.Reading.{tested, steps_of_all}
 use Rattle.matrix_files.specs.OrderFile.{value_of, order_token_tests, numbers_stated}
-use Rattle.permutations.specs.PermTables.{PermState}
+use Rattle.permutations.specs.Perm.{PermState}
 use Rattle.matrix_files.specs.PermFile.{perm_token_tests, perm_count_tests}
 use Rattle.matrix_files.specs.declared.order_file.OrderFileKind.{OrderFileKind}
 use Rattle.matrix_files.specs.declared.perm_file.PermKind.{PermKind}

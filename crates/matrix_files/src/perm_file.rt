@@ -3,7 +3,7 @@ ghost use Rattle.mp_text.specs.Ahead.{row};
 ghost use Rattle.mp_text.specs.Reading.{Gives, Steps, tested};
 ghost use Rattle.matrix_files.specs.OrderKinds.{perm_word};
 ghost use Rattle.matrix_files.specs.OrderFile.{value_of};
-ghost use Rattle.permutations.specs.Perm.{IsVertex, times};
+ghost use Rattle.permutations.specs.Perm.{IsVertex, PermState, times};
 ghost use Rattle.matrix_files.specs.PermFile.{perm_token_tests, perm_format, ReadsPerm, IsPermRefusal};
 ghost use Rattle.matrix_files.specs.OrderReader.{vertex_step, perm_step, perm_end, took_perm};
 
@@ -45,35 +45,46 @@ impl Display for PermKind {
     }
 }
 
-impl PartialPerm {
+/// The numbers of a permutation file that were taken so far.
+#[derive(Drop)]
+struct PermReader {
+    taken: PartialPerm,
+}
+
+impl Model for PermReader {
+    ghost Value = { PermState };
+
+    ghost view = { λ s. s.taken };
+}
+
+impl PermReader {
     // The vertex that a token states, where it passes its tests.
     fn vertex(&self, line: u64, token: &[u8]) -> Result<u32, Refusal<PermKind>>
         ensures vertex { Gives (tested (perm_token_tests self.now.n line self.now.numbers token.now) (value_of token.now)) result }
-        ensures room { IfOk result (λ _. length self.now.numbers < self.now.n) }
         ensures range { IfOk result (λ v. IsVertex self.now.n v) }
         ensures fresh { IfOk result (λ v. times self.now.numbers v ≡ 0) }
     {
         let value = number(token).ok_or(fault(line, PermKind::Number))?;
-        if self.len() >= self.n as usize {
+        if self.taken.len() >= self.taken.whole_len() as usize {
             return Err(fault(line, PermKind::Count));
         }
-        if value < 1 || value > u64::from(self.n) {
+        if value < 1 || value > u64::from(self.taken.whole_len()) {
             return Err(fault(line, PermKind::Range));
         }
         let vertex = value as u32;
-        if self.has(vertex) {
+        if self.taken.has(vertex) {
             return Err(fault(line, PermKind::Repeated));
         }
         Ok(vertex)
     }
 
     // Takes one token more.
-    #[tactic(auto, using(permutations::proofs::TableLemmas::order_push), unfolding(crate::specs::OrderReader::vertex_step))]
+    #[tactic(auto, unfolding(crate::specs::OrderReader::vertex_step))]
     fn take(&mut self, line: u64, token: &[u8]) -> Result<(), Refusal<PermKind>>
         ensures { Steps (vertex_step line self.old token.now) result self.new }
     {
         let vertex = self.vertex(line, token)?;
-        self.push(vertex)?;
+        self.taken.push(vertex)?;
         Ok(())
     }
 
@@ -91,14 +102,14 @@ impl PartialPerm {
     fn take_end(&mut self, past: u64) -> Result<(), Refusal<PermKind>>
         ensures { Steps (perm_end self.old past) result self.new }
     {
-        if self.len() < self.n as usize {
+        if self.taken.len() < self.taken.whole_len() as usize {
             return Err(fault(past, PermKind::Count));
         }
         Ok(())
     }
 }
 
-impl Reader for PartialPerm {
+impl Reader for PermReader {
     type Kind = PermKind;
 
     ghost format = { λ s. perm_format s.n };
@@ -118,6 +129,7 @@ impl Reader for PartialPerm {
 pub fn read_perm(alloc: Global, bytes: &[u8], n: u32) -> Result<Perm, Refusal<PermKind>>
     ensures { MatchResult result (λ perm. ReadsPerm n bytes.now perm) (IsPermRefusal n bytes.now) }
 {
-    let order = read_with(bytes, Layout::Commented, PartialPerm::new(alloc, n)?)?;
-    Ok(order.finish())
+    let taken = PartialPerm::new(alloc, n)?;
+    let reader = read_with(bytes, Layout::Commented, PermReader { taken })?;
+    Ok(reader.taken.finish())
 }

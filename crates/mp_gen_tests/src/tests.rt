@@ -4,13 +4,13 @@ ghost use Rattle.std.specs.Prelude.{◌≤◌};
 ghost use Rattle.limits.specs.Limits.{most_tasks};
 
 use mp_gen::{gen_grid, gen_tree, gen_workflow};
-use patterns::Pattern;
 use mp_text::Report;
-use workflow_files::print_workflow;
+use patterns::Pattern;
 use std::alloc::Global;
 use std::process::Abort;
 use std::test::Fail;
 use tree_files::{print_tree, read_tree};
+use workflow_files::print_workflow;
 
 fn tree_text(alloc: Global, seed: u64, n: u32) -> Result<Report, Fail>
     requires { (1 ≤ n) × (n ≤ most_tasks) }

@@ -4,7 +4,6 @@ ghost use Rattle.std.specs.Prelude.{◌≡◌, ◌≤◌, ℕ, Bool, List};
 ghost use Rattle.ordering.specs.Fill.{IsAdjacency, graph_at, filled, parent_of, IsParent};
 ghost use Rattle.ordering.specs.MinimumDegree.{IsMinimumDegreeOrder, plain_order};
 
-
 /// To eliminate the columns below j leaves the pairs that are there once their later neighbours were joined: the fill has two definitions.
 pub fn filling_is_elimination()
     ensures { (joined : ℕ → ℕ → Bool) (j a b : ℕ) → j ≤ a → j ≤ b → filled joined j a b ≡ graph_at joined j a b }

@@ -5,10 +5,10 @@ ghost use Rattle.ordering.specs.MinimumDegree.{IsMinimumDegreeOrder, IsMindegRef
 ghost use Rattle.permutations.specs.Perm.{IsPerm};
 ghost use Rattle.ordering.specs.declared.minimum_degree.MindegRefusal.TheVariants.{NoMemory};
 
-use permutations::{NoMemory, PartialPerm, Perm};
 use elimination::by_least_degree;
 use limits::MOST_MINDEG;
 use patterns::Pattern;
+use permutations::{NoMemory, PartialPerm, Perm};
 use std::alloc::Global;
 
 /// Why no minimum degree order was made.

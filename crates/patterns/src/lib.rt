@@ -16,8 +16,6 @@ mod pairs;
 mod pattern;
 mod sorting;
 mod table;
-#[cfg(test)]
-mod tests;
 
 pub use columns::{ColumnsRefusal, pattern_of_columns};
 pub use pattern::Pattern;

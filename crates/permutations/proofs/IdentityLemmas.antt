@@ -5,10 +5,10 @@ use Rattle.std.proofs.lemmas.Bool.{cases_Bool, leb-true, leb-false, ne_eqb}
 use Rattle.std.proofs.lemmas.List.Sums.{sum_by_push}
 use Rattle.std.proofs.lemmas.List.FromFn.{length-range_with_len, get_or-range_with_len}
 use Rattle.std.proofs.Math.ListN.{get_or-eq_default}
-use Rattle.permutations.specs.Perm.{IsPerm, vertex_at, place_of, times}
+use Rattle.permutations.specs.Perm.{IsPart, IsPerm, vertex_at, place_of, times}
 use Rattle.permutations.specs.PermTables.{ArePermTables}
 use Rattle.permutations.proofs.PlaceLemmas.{place-none}
-use Rattle.permutations.proofs.PermLemmas.{bit, IsPart, part-none, part-push, perm_from_part, place_of_vertex}
+use Rattle.permutations.proofs.PermLemmas.{bit, part-none, part-push, perm_from_part, place_of_vertex}
 
 range_push : (a k : ℕ) → range_with_len a (suc k) ≡ range_with_len a k ++ (a + k) ∷ []
 range_push a zero = ap (λ (x : ℕ). x ∷ []) (omega arith)

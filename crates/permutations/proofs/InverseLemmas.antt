@@ -3,10 +3,10 @@ use Rattle.std.proofs.Common.{◌≡◌, ◌≢◌, ℕ, zero, suc, ◌<◌, ◌
 use Rattle.std.proofs.lemmas.Bool.{cases_eq, cases_lt}
 use Rattle.std.proofs.lemmas.List.Elements.{All-from_get_or}
 use Rattle.std.proofs.lemmas.List.{get_or_past}
-use Rattle.permutations.specs.Perm.{AreInverse, IsVertex, IsPerm, vertex_at, place_of, times}
+use Rattle.permutations.specs.Perm.{IsPart, AreInverse, IsVertex, IsPerm, vertex_at, place_of, times}
 use Rattle.permutations.specs.PermTables.{ArePermTables}
 use Rattle.permutations.proofs.PlaceLemmas.{place-vertex, place-le, times-here, times-beyond}
-use Rattle.permutations.proofs.PermLemmas.{IsPart, perm_from_part, place_of_vertex}
+use Rattle.permutations.proofs.PermLemmas.{perm_from_part, place_of_vertex}
 
 -- at no two places stands the same
 abbrev AreDifferent : List ℕ → Type 0

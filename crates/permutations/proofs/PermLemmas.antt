@@ -3,10 +3,9 @@ use Rattle.std.proofs.Common.{◌≡◌, ℕ, zero, suc, ◌+◌, ◌<◌, ◌�
 use Rattle.std.specs.List.{All}
 use Rattle.std.proofs.lemmas.Bool.{cases_eq, eq-eqb, ne_eqb}
 use Rattle.std.proofs.lemmas.List.Elements.{All-nil, All-head, All-tail, All-push}
-use Rattle.std.proofs.lemmas.List.{get_or-drop, length-drop}
+use Rattle.std.proofs.lemmas.List.{get_or-drop, length-drop, length_push}
 use Rattle.std.proofs.lemmas.List.Sums.{sum_by_push, sum_by-take-drop}
-use Rattle.elimination.specs.Elimination.{IsRemaining}
-use Rattle.permutations.specs.Perm.{IsVertex, IsPerm, vertex_at, place_of, times}
+use Rattle.permutations.specs.Perm.{IsVertex, IsPart, IsPerm, vertex_at, place_of, times}
 use Rattle.permutations.proofs.PlaceLemmas.{times-here, times-beyond, place-vertex, place-at, place-none, times-none, times-at}
 
 -- one, where a test holds
@@ -14,10 +13,6 @@ abbrev pub bit : Bool → ℕ
 bit b = cond b 1 0
 
 -- ---- some of the vertices, none twice
-
-pub record IsPart (n : ℕ) (numbers : List ℕ) : Type 0 where
-  pub vertices : All (IsVertex n) numbers
-  pub once : (v : ℕ) → times numbers v ≤ 1
 
 pub part-none : (n : ℕ) → IsPart n []
 part-none n = record { vertices = All-nil (IsVertex n); once = λ v. omega arith }
@@ -95,6 +90,11 @@ perm_from_part n numbers part len = record {
 pub length-part : (n : ℕ) (numbers : List ℕ) → IsPart n numbers → length numbers ≤ n
 length-part n numbers part = omega (arith, total-length n numbers part.vertices, total-le n numbers part.once)
 
+-- where a vertex stands at no place, there is a place for it
+pub room_in_part : (n : ℕ) (numbers : List ℕ) (v : ℕ) → IsPart n numbers → IsVertex n v → times numbers v ≡ 0 → length numbers < n
+room_in_part n numbers v part vertex fresh =
+    omega (arith, length_push numbers v, length-part n (numbers ++ v ∷ []) (part-push n numbers v part vertex fresh))
+
 -- ---- places and vertices undo each other
 
 nowhere : (n : ℕ) (order : List ℕ) → All (IsVertex n) order → times order 0 ≡ 0
@@ -115,15 +115,15 @@ place_of_vertex n order perm (suc i) le =
     place-at order i lt (perm.once (get_or order i 0) (perm.vertices i 0 lt))
 
 -- fewer than n of them leave some vertex out
-some_out : (n : ℕ) (xs : List ℕ) → total n xs < n → (w : ℕ) × IsRemaining n xs w
+some_out : (n : ℕ) (xs : List ℕ) → total n xs < n → (w : ℕ) × IsVertex n w × (times xs w ≡ 0)
 unfolding total
 some_out zero xs few = absurd (omega arith)
 some_out (suc n) xs few = elim (cases_eq (times xs (suc n)) 0) [
-  | inl none ↦ (suc n, ((omega arith, omega arith), none))
-  | inr some ↦ (let out = some_out n xs (omega arith) in let le = out.1.0.1 in (out.0, ((out.1.0.0, omega arith), out.1.1)))
+  | inl none ↦ (suc n, (omega arith, omega arith), none)
+  | inr some ↦ (let out = some_out n xs (omega arith) in let le = out.1.1 in (out.0, (out.1.0, omega arith), out.2))
 ]
 
-pub some_left : (n : ℕ) (numbers : List ℕ) → IsPart n numbers → length numbers < n → (w : ℕ) × IsRemaining n numbers w
+pub some_left : (n : ℕ) (numbers : List ℕ) → IsPart n numbers → length numbers < n → (w : ℕ) × IsVertex n w × (times numbers w ≡ 0)
 some_left n numbers part few = some_out n numbers (omega (arith, total-length n numbers part.vertices))
 
 -- a vertex of a permutation is not among those before it

@@ -24,6 +24,11 @@ place_after (Some i) = i + 1
 abbrev pub place_of : List ℕ → ℕ → ℕ
 place_of order v = place_after (position (λ x. x == v) order)
 
+-- the list has vertices of n, nothing else, and none of them twice
+pub record IsPart (n : ℕ) (numbers : List ℕ) : Type 0 where
+  pub vertices : All (IsVertex n) numbers
+  pub once : (v : ℕ) → times numbers v ≤ 1
+
 -- the list has n vertices, nothing else, and each of them once
 pub record IsPerm (n : ℕ) (order : List ℕ) : Type 0 where
   pub len : length order ≡ n
@@ -38,3 +43,8 @@ pub record AreInverse (vertices places : List ℕ) : Type 0 where
   pub vertex : (k : ℕ) → k < length vertices
       → (slice_index vertices k < length vertices) × (slice_index places (slice_index vertices k) ≡ k)
   pub place : (v : ℕ) → v < length vertices → (slice_index places v < length vertices) × (slice_index vertices (slice_index places v) ≡ v)
+
+-- the vertices that come first in an order of n, none of them twice
+pub record PermState : Type 0 where
+  pub n : ℕ
+  pub numbers : List ℕ

@@ -2,7 +2,7 @@
 -- The two tables in which the code keeps an order of elimination: vertices by place, and places by vertex. Both have an unused place 0,
 -- which holds 0.
 use Rattle.std.specs.Prelude.{◌≡◌, ℕ, ◌+◌, ◌<◌, ◌^◌, List, ◌∷◌, length, slice_index_or, drop}
-use Rattle.permutations.specs.Perm.{place_of, IsPerm}
+use Rattle.permutations.specs.Perm.{place_of, IsPart, IsPerm}
 
 -- the order that a table holds
 abbrev pub order_in : List ℕ → List ℕ
@@ -17,15 +17,12 @@ pub record AreTables (vertices places : List ℕ) : Type 0 where
 -- the tables hold the vertices so far, of n
 pub record ArePartTables (n : ℕ) (vertices places : List ℕ) : Type 0 where
   pub tables : AreTables vertices places
+  pub part : IsPart n (order_in vertices)
   pub len : length places ≡ n + 1
+  pub small : n < 2 ^ 32
 
 -- the tables hold a permutation
 pub record ArePermTables (vertices places : List ℕ) : Type 0 where
   pub tables : AreTables vertices places
   pub perm : IsPerm (length (order_in vertices)) (order_in vertices)
   pub small : length (order_in vertices) < 2 ^ 32
-
--- the vertices that come first in an order of n
-pub record PermState : Type 0 where
-  pub n : ℕ
-  pub numbers : List ℕ

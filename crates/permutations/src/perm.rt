@@ -1,7 +1,8 @@
-ghost use Rattle.std.specs.Prelude.{◌≡◌, ◌==◌, ℕ, ◌+◌, ◌<◌, ◌≤◌, ◌^◌, ◌++◌, ◌∷◌, [], not, List, length, drop, slice_index, IfOk, OnOk};
+ghost use Rattle.std.specs.Prelude.{◌≡◌, ◌==◌, ◌&&◌, ℕ, ◌+◌, ◌<◌, ◌≤◌, ◌^◌, ◌++◌, ◌∷◌, [], not, nat_le, IsTrue, List, length, drop};
+ghost use Rattle.std.specs.Prelude.{slice_index, IfOk, OnOk};
 ghost use Rattle.std.specs.List.{range_with_len};
-ghost use Rattle.permutations.specs.Perm.{AreInverse, IsPerm, IsVertex, vertex_at, place_of, times};
-ghost use Rattle.permutations.specs.PermTables.{order_in, ArePermTables, ArePartTables, PermState};
+ghost use Rattle.permutations.specs.Perm.{AreInverse, IsPerm, IsVertex, PermState, vertex_at, place_of, times};
+ghost use Rattle.permutations.specs.PermTables.{order_in, ArePermTables, ArePartTables};
 
 use crate::NoMemory;
 use std::alloc::Global;
@@ -85,10 +86,12 @@ pub fn identity(alloc: Global, n: u32) -> Result<Perm, NoMemory>
     Ok(Perm { vertices, places })
 }
 
-/// The vertices that come first in an order of elimination of `n`.
+/// The vertices that come first in an order of elimination of 1 to `n`, for a reader that takes one after another: each is judged at once,
+/// by a table of places. Contracts see `n` and the list of the vertices.
 #[derive(Drop)]
 pub struct PartialPerm {
     n: u32,
+    // by place, and by vertex with 0 for one that does not stand there; at 0 stands 0
     vertices: Vec<u32>,
     places: Vec<u32>,
 }
@@ -102,7 +105,7 @@ impl Model for PartialPerm {
 }
 
 impl PartialPerm {
-    /// None yet, of n vertices.
+    /// No vertex yet, of `n`. It takes the memory of all of them.
     pub fn new(alloc: Global, n: u32) -> Result<PartialPerm, NoMemory>
         ensures { IfOk result (λ reader. reader ≡ record { n = n; numbers = [] }) }
     {
@@ -116,13 +119,30 @@ impl PartialPerm {
         })
     }
 
-    /// Whether a vertex stands in the order so far.
+    /// How many vertices the whole order has.
+    pub fn whole_len(&self) -> u32
+        ensures { result ≡ self.now.n }
+    {
+        self.n
+    }
+
+    /// Whether a vertex, from 1 to `n`, stands in the order so far.
     #[tactic(auto, using(crate::proofs::PlaceLemmas::times_test))]
     pub fn has(&self, vertex: u32) -> bool
         requires { IsVertex self.now.n vertex }
         ensures { result ≡ not (times self.now.numbers vertex == 0) }
     {
         self.places[vertex as usize] != 0
+    }
+
+    /// Whether a number can come next: it is a vertex, from 1 to `n`, and does not stand in the order so far.
+    pub fn takes(&self, number: u64) -> bool
+        ensures value { result ≡ (nat_le 1 number && nat_le number self.now.n && (times self.now.numbers number == 0)) }
+        ensures vertex { IsTrue result → IsVertex self.now.n number }
+        ensures fresh { IsTrue result → times self.now.numbers number ≡ 0 }
+        ensures small { IsTrue result → number < 2 ^ 32 }
+    {
+        1 <= number && number <= u64::from(self.n) && !self.has(number as u32)
     }
 
     /// How many vertices the order has so far.
@@ -132,10 +152,9 @@ impl PartialPerm {
         self.vertices.len() - 1
     }
 
-    /// Puts a vertex at the end of the order.
+    /// Puts a vertex, from 1 to `n`, that does not stand in the order yet at its end. After want of memory the order is not to be relied on.
     #[tactic(auto, using(crate::proofs::TableLemmas::order_push))]
     pub fn push(&mut self, vertex: u32) -> Result<(), NoMemory>
-        requires room { length self.old.numbers < self.old.n }
         requires vertex { IsVertex self.old.n vertex }
         requires fresh { times self.old.numbers vertex ≡ 0 }
         ensures { OnOk result (self.new ≡ record self.old { numbers = self.old.numbers ++ vertex ∷ [] }) }
@@ -146,7 +165,7 @@ impl PartialPerm {
         Ok(())
     }
 
-    /// The order, where it has just the vertices up to as many.
+    /// The order, where its vertices are those from 1 to as many. It takes no memory.
     pub fn finish(self) -> Perm
         requires { IsPerm (length self.numbers) self.numbers }
         ensures { result ≡ self.numbers }
@@ -157,5 +176,14 @@ impl PartialPerm {
             ..
         } = self;
         Perm { vertices, places }
+    }
+
+    /// The vertices that the order has so far. Linear in them. It takes no memory.
+    pub fn into_vertices(self) -> Vec<u32>
+        ensures { result.items ≡ self.numbers }
+    {
+        let mut vertices = self.vertices;
+        vertices.remove(0);
+        vertices
     }
 }

@@ -1,59 +1,60 @@
-//! Compressed columns and orders worked by hand, and what they are refused with.
+//! Orders worked by hand, and what they are refused with.
 
-use patterns::{ColumnsRefusal, pattern_of_columns};
-use permutations::{PermRefusal, perm_of_numbers};
-use patterns::Pattern;
-use permutations::Perm;
-use std::alloc::Global;
+use permutations::{NoMemory, PartialPerm, Perm, PermRefusal, identity, perm_of_numbers};
 use std::process::Abort;
 use std::test::Fail;
 
-// The neighbours of vertices 1 to 4.
-fn check_pattern<R: Abort>(rt: &R, pattern: &Pattern, rows: &[&[u32]; 4]) {
-    assert_eq!(rt; pattern.rows(), 4);
-    for v in 1..5u32 {
-        assert_eq!(rt; pattern.neighbours(v), rows[v as usize - 1]);
+// The order has these vertices by place, and these places by vertex.
+fn check_perm(rt: &impl Abort, perm: &Perm, vertices: &[u32], places: &[u32], said: &str) {
+    assert_eq!(rt; perm.len() as usize, vertices.len(), "{said}");
+    assert_eq!(rt; places.len(), vertices.len(), "{said}");
+    assert_eq!(rt; (perm.at(0), perm.place(0)), (0, 0), "{said}");
+    for k in 1..=perm.len() {
+        assert_eq!(rt; perm.at(k), vertices[k as usize - 1], "{said}");
+        assert_eq!(rt; perm.place(k), places[k as usize - 1], "{said}");
     }
 }
 
-// Column 2 is joined to 1 and 3; 4 stands alone. Entries of the lower triangle, of both, from 0 and from 1, in no order and repeated.
 #[test]
-fn a_pattern_from_columns(rt: HostRuntime) -> Result<(), ColumnsRefusal> {
-    let rows: [&[u32]; 4] = [&[2], &[1, 3], &[2], &[]];
-    let alloc = rt.alloc();
-    let lower = pattern_of_columns(alloc, 0, &[0, 2, 4, 4, 4], &[0, 1, 2, 1])?;
-    check_pattern(&rt, &lower, &rows);
-    let both = pattern_of_columns(alloc, 1, &[1, 2, 5, 6, 7], &[2, 3, 1, 3, 2, 4])?;
-    check_pattern(&rt, &both, &rows);
+fn orders_of_tables(rt: HostRuntime) -> Result<(), Fail> {
+    let numbers = identity(rt.alloc(), 3)?;
+    check_perm(&rt, &numbers, &[1, 2, 3], &[1, 2, 3], "the identity");
+    let vertices = vec![in rt.alloc(); 0u32, 2, 3, 1, 4]?;
+    let places = vec![in rt.alloc(); 0u32, 3, 1, 2, 4]?;
+    let perm = Perm::from_tables(vertices, places);
+    check_perm(&rt, &perm, &[2, 3, 1, 4], &[3, 1, 2, 4], "of its tables");
     Ok(())
 }
 
-fn refused_columns<R: Abort>(
-    rt: &R,
-    alloc: Global,
-    base: u32,
-    starts: &[u32],
-    rows: &[u32],
-    refusal: ColumnsRefusal,
-) {
-    match pattern_of_columns(alloc, base, starts, rows) {
-        Ok(_) => assert!(rt; false),
-        Err(found) => assert_eq!(rt; found, refusal),
+// Puts a vertex at the end of the order, where it can come next.
+fn take(taken: &mut PartialPerm, number: u64) -> Result<bool, NoMemory> {
+    let fits = taken.takes(number);
+    if fits {
+        taken.push(number as u32)?;
     }
+    Ok(fits)
 }
 
 #[test]
-fn refused_arrays(rt: HostRuntime) {
-    let refused = |base, starts: &[u32], rows: &[u32], refusal| {
-        refused_columns(&rt, rt.alloc(), base, starts, rows, refusal);
-    };
-    refused(2, &[2, 3], &[2], ColumnsRefusal::Base);
-    refused(0, &[0], &[], ColumnsRefusal::NoColumn);
-    refused(1, &[0, 1], &[1], ColumnsRefusal::Start(1));
-    refused(0, &[0, 2, 1, 2], &[0, 1], ColumnsRefusal::Start(3));
-    refused(1, &[1, 2, 4], &[1, 2], ColumnsRefusal::Entries(3));
-    refused(0, &[0, 1, 2], &[1, 2], ColumnsRefusal::Row(2));
-    refused(1, &[1, 2, 3], &[0, 3], ColumnsRefusal::Row(1));
+fn one_vertex_after_another(rt: HostRuntime) -> Result<(), Fail> {
+    let mut taken = PartialPerm::new(rt.alloc(), 3)?;
+    for (number, fits) in [(2, true), (0, false), (4, false), (2, false), (3, true)] {
+        assert_eq!(rt; take(&mut taken, number)?, fits, "{number}");
+    }
+    assert_eq!(rt; (taken.whole_len(), taken.len()), (3, 2));
+    assert_eq!(rt;
+        (taken.has(1), taken.has(2), taken.has(3)),
+        (false, true, true)
+    );
+    assert_eq!(rt; taken.into_vertices().as_slice(), [2, 3].as_slice());
+    Ok(())
+}
+
+#[test]
+fn the_order_of_no_vertices(rt: HostRuntime) -> Result<(), Fail> {
+    let none = PartialPerm::new(rt.alloc(), 0)?.finish();
+    assert_eq!(rt; none.len(), 0);
+    Ok(())
 }
 
 #[test]

@@ -1,5 +1,5 @@
-use postorder_best::{Post, best_postorder};
 use mp_system::replay;
+use postorder_best::{Post, best_postorder};
 use std::alloc::Global;
 use std::test::Fail;
 use tree_files::read_tree;

@@ -1,6 +1,5 @@
 -- The steps of the analysis fit together.
-use Rattle.std.proofs.Common.{◌≡◌, ◌∙◌, ℕ, List, length, map, sym, ap, subst}
-use Rattle.permutations.specs.Perm.{vertex_at}
+use Rattle.std.proofs.Common.{◌≡◌, ◌∙◌, ℕ, List, length, sym, ap, subst}
 use Rattle.ordering.specs.Fill.{parents_of, counts_of}
 use Rattle.assembly_tree.specs.Assembly.{AssemblyTree}
 use Rattle.assembly_tree.specs.Fronts.{fronts_of}

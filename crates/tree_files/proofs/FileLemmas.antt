@@ -7,12 +7,13 @@ use Rattle.mp_text.specs.Text.{Row}
 use Rattle.mp_text.specs.Ahead.{rows_of_bytes, past_of_bytes}
 use Rattle.mp_text.specs.Grammar.{Format, IsWellFormed, Refuses, fault_at}
 use Rattle.trees.specs.Tree.{IsNode, LeadsToRoot, ShareFits, IsTree, ancestor, node_at, children_out}
+use Rattle.trees.specs.Judged.{AreNodesWithin}
 use Rattle.tree_files.specs.TreeFile.{tree_format, nodes_stated, ReadsTree, RefusesCycle, RefusesShare, RefusesTree, line_stating}
 use Rattle.lists.specs.Numbers.{IsFirstWithout}
 use Rattle.trees.specs.declared.node.Node.{Node}
 use Rattle.tree_files.specs.declared.kind.TreeKind.{TreeKind}
 use Rattle.tree_files.specs.declared.kind.TreeKind.TheVariants as kinds
-use Rattle.tree_files.proofs.FormLemmas.{AreWithin, well_formed_within}
+use Rattle.tree_files.proofs.FormLemmas.{well_formed_within}
 
 -- ---- the lowest node of which a fact does not hold
 
@@ -27,7 +28,7 @@ lowest-up_to fact either nodes (suc n) short =
     elim (lowest-up_to fact either nodes n (omega arith)) [
       | inr first ↦ inr first
       | inl before ↦ elim (either (suc n)) [
-        | inr fails ↦ inr (suc n, record { node = (omega arith, short); fails = fails; before = λ w some less. before w some (omega arith) })
+        | inr fails ↦ inr (suc n, record { is_place = (omega arith, short); fails = fails; before = λ w some less. before w some (omega arith) })
         | inl holds ↦ inl (λ v some small. elim (cases_eq v (suc n)) [
           | inl last ↦ subst fact (sym last) holds
           | inr other ↦ before v some (omega arith)
@@ -50,8 +51,8 @@ one_lowest fact nodes v w one two =
     elim (cases_eq v w) [
       | inl same ↦ same
       | inr other ↦ elim (cases_le v w) [
-        | inl le ↦ absurd (one.fails (two.before v one.node.0 (omega arith)))
-        | inr gt ↦ absurd (two.fails (one.before w two.node.0 gt))
+        | inl le ↦ absurd (one.fails (two.before v one.is_place.0 (omega arith)))
+        | inr gt ↦ absurd (two.fails (one.before w two.is_place.0 gt))
       ]
     ]
 
@@ -105,8 +106,8 @@ stated_shares bytes nodes reads = subst (λ (ns : List Node). (v : ℕ) → IsNo
 
 pub not_both : NotBoth → (bytes : List ℕ) (nodes : List Node) (refusal : Refusal TreeKind) → ReadsTree bytes nodes → RefusesTree bytes refusal → ⊥
 not_both apart bytes nodes refusal reads (inl refused) = apart tree_format (rows_of_bytes Commented bytes) (past_of_bytes bytes) refusal reads.form refused
-not_both apart bytes nodes refusal reads (inr (inl cycle)) = cycle.first.fails (stated_roots bytes nodes reads cycle.node cycle.first.node)
-not_both apart bytes nodes refusal reads (inr (inr share)) = share.first.fails (stated_shares bytes nodes reads share.node share.first.node)
+not_both apart bytes nodes refusal reads (inr (inl cycle)) = cycle.first.fails (stated_roots bytes nodes reads cycle.node cycle.first.is_place)
+not_both apart bytes nodes refusal reads (inr (inr share)) = share.first.fails (stated_shares bytes nodes reads share.node share.first.is_place)
 
 one_cycle : (bytes : List ℕ) (one two : Refusal TreeKind) → RefusesCycle bytes one → RefusesCycle bytes two → one ≡ two
 one_cycle bytes one two this that =
@@ -124,14 +125,14 @@ one_refusal apart only bytes one two (inl this) (inr (inl that)) = absurd (apart
 one_refusal apart only bytes one two (inl this) (inr (inr that)) = absurd (apart _ _ _ one that.form this)
 one_refusal apart only bytes one two (inr (inl this)) (inl that) = absurd (apart _ _ _ two this.form that)
 one_refusal apart only bytes one two (inr (inl this)) (inr (inl that)) = one_cycle bytes one two this that
-one_refusal apart only bytes one two (inr (inl this)) (inr (inr that)) = absurd (this.first.fails (that.roots this.node this.first.node))
+one_refusal apart only bytes one two (inr (inl this)) (inr (inr that)) = absurd (this.first.fails (that.roots this.node this.first.is_place))
 one_refusal apart only bytes one two (inr (inr this)) (inl that) = absurd (apart _ _ _ two this.form that)
-one_refusal apart only bytes one two (inr (inr this)) (inr (inl that)) = absurd (that.first.fails (this.roots that.node that.first.node))
+one_refusal apart only bytes one two (inr (inr this)) (inr (inl that)) = absurd (that.first.fails (this.roots that.node that.first.is_place))
 one_refusal apart only bytes one two (inr (inr this)) (inr (inr that)) = one_share bytes one two this that
 
 -- ---- what is read is a tree
 
 pub reads-is_tree : (bytes : List ℕ) (nodes : List Node) → ReadsTree bytes nodes → IsTree nodes
 reads-is_tree bytes nodes reads =
-    let within = subst AreWithin (sym reads.stated) (well_formed_within (rows_of_bytes Commented bytes) (past_of_bytes bytes) reads.form) in
+    let within = subst AreNodesWithin (sym reads.stated) (well_formed_within (rows_of_bytes Commented bytes) (past_of_bytes bytes) reads.form) in
     record { some = within.some; few = within.few; each = within.each; total = within.total; roots = reads.roots; shares = reads.shares }

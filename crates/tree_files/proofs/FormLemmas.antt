@@ -11,6 +11,7 @@ use Rattle.mp_text.specs.declared.words.Version.{Version}
 use Rattle.mp_text.specs.Text.{Row}
 use Rattle.mp_text.specs.Grammar.{first_failure, ArePassed, IsWellFormed}
 use Rattle.trees.specs.Tree.{IsNodeWithin, node_size}
+use Rattle.trees.specs.Judged.{AreNodesWithin}
 use Rattle.tree_files.specs.TreeFile.{tree_format, count_stated, node_tests, node_of, total_of, version_stated, nodes_stated, is_complete}
 use Rattle.trees.specs.declared.node.Node.{Node}
 
@@ -65,13 +66,6 @@ sum_by-map g f [] = refl
 sum_by-map g f (x ∷ xs) = omega (arith, sum_by-cons g (f x) (map f xs), sum_by-cons (λ x. g (f x)) x xs, sum_by-map g f xs)
 
 -- ---- the parts of a well-formed file
-
--- what the nodes of a file that is read keep to, before their parents and shares are judged
-pub record AreWithin (nodes : List Node) : Type 0 where
-  pub some : 1 ≤ length nodes
-  pub few : length nodes ≤ most_tasks
-  pub each : All (IsNodeWithin nodes) nodes
-  pub total : sum_by node_size nodes ≤ most_total
 
 -- a header, a count, as many node lines, and one more
 record AreParts (all : List Row) : Type 0 where
@@ -153,14 +147,14 @@ module _ (header counted last : Row) (rows : List Row) (whole : length rows ≡ 
       let all : take (length rows - 1 + 1) rows ≡ rows = take_all (length rows - 1 + 1) rows (omega arith) in
       omega (arith, on.sums, more, ap (sum_by size) all, sum_by-map node_size (node_of (version_stated header)) rows)
 
-  within : AreWithin nodes
+  within : AreNodesWithin nodes
   within = record { some = omega (arith, nodes_len, count_passed.0); few = omega (arith, nodes_len, count_passed.1); each = each_within; total = total_within }
 
-  pub stated_within : AreWithin (nodes_stated (header ∷ counted ∷ (rows ++ last ∷ [])))
+  pub stated_within : AreNodesWithin (nodes_stated (header ∷ counted ∷ (rows ++ last ∷ [])))
   stated_within = rw stated_is within
 
-pub well_formed_within : (rows : List Row) (past : ℕ) → IsWellFormed tree_format rows past → AreWithin (nodes_stated rows)
+pub well_formed_within : (rows : List Row) (past : ℕ) → IsWellFormed tree_format rows past → AreNodesWithin (nodes_stated rows)
 well_formed_within rows past form =
     let parts = parts_of rows (complete rows past form) in
-    subst (λ (rs : List Row). AreWithin (nodes_stated rs)) (sym parts.all_are)
+    subst (λ (rs : List Row). AreNodesWithin (nodes_stated rs)) (sym parts.all_are)
     (stated_within parts.header parts.counted parts.last parts.rows parts.whole (subst (ArePassed tree_format) parts.all_are form.lines))

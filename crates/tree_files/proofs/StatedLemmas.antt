@@ -1,18 +1,18 @@
 -- What a reader that took all lines holds.
-use Rattle.std.proofs.Common.{◌≡◌, ℕ, suc, ◌+◌, ◌-◌, ◌<◌, ◌≤◌, true, eqb, List, [], ◌∷◌, ◌++◌, length, get_or, take, map, sym, ap, subst, ◌∙◌, arith}
-use Rattle.std.proofs.lemmas.List.{length-map, get_or-map, get_or_append_left}
+use Rattle.std.proofs.Common.{◌≡◌, ℕ, ◌+◌, true, eqb, List, [], ◌∷◌, ◌++◌, length, take, map, sym, ap, subst, ◌∙◌, arith}
 use Rattle.std.proofs.Math.Seq.{take-append_seam}
 use Rattle.std.proofs.lemmas.Bool.{eqb-true}
 use Rattle.mp_text.specs.declared.layout.Layout.TheVariants.{Commented}
 use Rattle.mp_text.specs.Text.{Row}
 use Rattle.mp_text.specs.Ahead.{rows_of_bytes, past_of_bytes}
 use Rattle.mp_text.specs.Grammar.{IsWellFormed}
-use Rattle.tree_files.specs.TreeFile.{tree_format, count_stated, node_of, version_stated, nodes_stated, line_stating, is_complete}
+use Rattle.tree_files.specs.TreeFile.{tree_format, count_stated, node_of, version_stated, nodes_stated, is_complete}
 use Rattle.tree_files.specs.Reader.{ReaderState, TookNodes, staged_took, took}
 use Rattle.tree_files.specs.Stated.{AreStated}
+use Rattle.trees.specs.Judged.{AreNodesWithin}
 use Rattle.tree_files.specs.declared.stage.Stage.{Stage}
 use Rattle.tree_files.specs.declared.stage.Stage.TheVariants as stages
-use Rattle.tree_files.proofs.FormLemmas.{AreWithin, complete, well_formed_within}
+use Rattle.tree_files.proofs.FormLemmas.{complete, well_formed_within}
 
 module _ (header counted last : Row) (rows : List Row) (whole : length rows ≡ count_stated counted) where
   all : List Row
@@ -27,14 +27,11 @@ module _ (header counted last : Row) (rows : List Row) (whole : length rows ≡ 
   whole_stated bytes s rows_are form taken =
       let within = well_formed_within (rows_of_bytes Commented bytes) (past_of_bytes bytes) form in
       let nodes_are : s.nodes ≡ nodes_stated (rows_of_bytes Commented bytes) = taken.nodes ∙ sym (ap nodes_stated rows_are ∙ stated_is) in
-      let kept : AreWithin s.nodes = subst AreWithin (sym nodes_are) within in
+      let kept : AreNodesWithin s.nodes = subst AreNodesWithin (sym nodes_are) within in
       record {
         form = form;
         nodes_are = nodes_are;
-        some = kept.some;
-        few = kept.few;
-        each = kept.each;
-        total = kept.total;
+        within = kept;
       }
 
 staged_stated : (bytes : List ℕ) (stage : Stage) (s : ReaderState) → IsWellFormed tree_format (rows_of_bytes Commented bytes) (past_of_bytes bytes) → staged_took stage s (rows_of_bytes Commented bytes) → AreStated bytes s.nodes

@@ -1,6 +1,6 @@
 -- Tree files of version 1, and of version 2, whose nodes have a share: what a file reads as, and what it is refused with. They are this
 -- project's own format.
-use Rattle.std.specs.Prelude.{◌≡◌, ◌==◌, ℕ, ◌+◌, ◌<◌, ◌≤◌, Bool, false, ◌&&◌, not, nat_lt, nat_le, is_some, unwrap_or, Option, Some, None}
+use Rattle.std.specs.Prelude.{◌≡◌, ◌==◌, ℕ, ◌+◌, Bool, false, ◌&&◌, not, nat_lt, nat_le, is_some, unwrap_or, Option, Some, None}
 use Rattle.std.specs.Prelude.{List, [], ◌∷◌, length, map, take, codes, if◌then◌else◌, slice_index_or, ◌⊎◌}
 use Rattle.std.specs.List.{sum_by}
 use Rattle.std.specs.Option.{option_and_then}

@@ -10,9 +10,9 @@ ghost use Rattle.tree_files.specs.TreeFile.{node_of, last_tests};
 
 use crate::fields::{NodeFields, fields_on};
 use crate::kind::TreeKind;
-use trees::Node;
 use limits::{LimitName, MOST_SIZE, MOST_TASKS, MOST_TIME, MOST_TOTAL};
 use mp_text::{Line, Refusal, Version, after_word, fault, is_word, number, version_of};
+use trees::Node;
 
 /// Line 1: the version.
 pub fn header_on(line: Line<'_>) -> Result<Version, Refusal<TreeKind>>

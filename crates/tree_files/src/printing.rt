@@ -5,10 +5,9 @@ ghost use Rattle.mp_text.specs.Report.{is_line_start, line_text, text_of_lines};
 ghost use Rattle.tree_files.specs.TreeText.{node_line, text_in, has_share, version_for, text_of, text2_of};
 
 use crate::NoMemory;
-use trees::Node;
-use trees::Tree;
 use mp_text::laws::printed_lines;
 use mp_text::{Report, Token, Version};
+use trees::{Node, Tree};
 
 fn print_node(version: Version, node: &Node, report: &mut Report) -> Result<(), NoMemory>
     requires { IsTrue (is_line_start report.old) }

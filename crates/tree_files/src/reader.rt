@@ -1,13 +1,13 @@
 ghost use Rattle.std.specs.Prelude.{◌≡◌};
 ghost use Rattle.mp_text.specs.Ahead.{row};
 
-use crate::lines::{count_on, header_on, last_on, node_on};
 use crate::kind::TreeKind;
-use trees::Node;
+use crate::lines::{count_on, header_on, last_on, node_on};
 use crate::stage::Stage;
 use mp_text::{Line, Reader, Refusal, Version, fault};
 use std::alloc::Global;
 use std::marker::Model;
+use trees::Node;
 
 /// What the lines of a tree file stated so far.
 #[derive(Drop)]

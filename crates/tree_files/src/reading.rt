@@ -1,8 +1,7 @@
-ghost use Rattle.std.specs.Prelude.{◌≡◌, ℕ, IfOk, IfErr, OnOk, MatchResult};
+ghost use Rattle.std.specs.Prelude.{◌≡◌, IfOk, IfErr, OnOk, MatchResult};
 ghost use Rattle.mp_text.specs.declared.layout.Layout.TheVariants.{Commented};
 ghost use Rattle.mp_text.specs.Ahead.{rows_of_bytes};
-ghost use Rattle.trees.specs.declared.node.Node.{Node};
-ghost use Rattle.trees.specs.Tree.{IsNode, LeadsToRoot, ShareFits};
+ghost use Rattle.trees.specs.Tree.{IsTree};
 ghost use Rattle.tree_files.specs.TreeFile.{ReadsTree, IsTreeRefusal, line_stating};
 ghost use Rattle.tree_files.specs.Stated.{AreStated};
 
@@ -10,7 +9,7 @@ use crate::kind::TreeKind;
 use crate::reader::TreeReader;
 use mp_text::{Layout, Lines, Refusal, fault, read_with};
 use std::alloc::Global;
-use trees::{Node, Tree, first_cycle, first_unfit_share, is_plain};
+use trees::{Node, Tree, TreeFault, first_fault};
 
 fn read_nodes(alloc: Global, bytes: &[u8]) -> Result<Vec<Node>, Refusal<TreeKind>>
     ensures stated { IfOk result (λ nodes. AreStated bytes.now nodes.items) }
@@ -36,23 +35,17 @@ fn line_of(bytes: &[u8], node: u32) -> u64
     }
 }
 
-// Judges the nodes that the lines state: the lowest whose parents lead to no root, and then the lowest whose share does not fit.
+// Judges the nodes that the lines state; the fault names the line that states the node.
 fn judge(alloc: Global, bytes: &[u8], nodes: &[Node]) -> Result<(), Refusal<TreeKind>>
     requires { AreStated bytes.now nodes.now }
-    ensures roots { OnOk result ((v : ℕ) → IsNode nodes.now v → LeadsToRoot nodes.now v) }
-    ensures shares { OnOk result ((v : ℕ) → IsNode nodes.now v → ShareFits nodes.now v) }
+    ensures tree { OnOk result (IsTree nodes.now) }
     ensures refused { IfErr result (IsTreeRefusal bytes.now) }
 {
-    if is_plain(nodes) {
-        return Ok(());
+    match first_fault(alloc, nodes)? {
+        Some(TreeFault::Cycle(node)) => Err(fault(line_of(bytes, node), TreeKind::Cycle)),
+        Some(TreeFault::Share(node)) => Err(fault(line_of(bytes, node), TreeKind::Share)),
+        None => Ok(()),
     }
-    if let Some(node) = first_cycle(alloc, nodes)? {
-        return Err(fault(line_of(bytes, node), TreeKind::Cycle));
-    }
-    if let Some(node) = first_unfit_share(alloc, nodes)? {
-        return Err(fault(line_of(bytes, node), TreeKind::Share));
-    }
-    Ok(())
 }
 
 /// The tree that a file of version 1 or 2 states, or why it is refused: the first test that fails in the first line that fails;

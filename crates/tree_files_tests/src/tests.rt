@@ -4,10 +4,10 @@ mod files;
 mod nodes;
 mod terms;
 
-use trees::Tree;
-use tree_files::read_tree;
 use std::alloc::Global;
 use std::test::Fail;
+use tree_files::read_tree;
+use trees::Tree;
 
 // Two like branches.
 const FIVE: &str = "tree 1\nnodes 5\n2 1 9 1\n5 5 0 1\n4 1 9 1\n5 5 0 1\n0 0 0 1\nend\n";

@@ -142,7 +142,7 @@ module _ (nodes : List Node) (old new : List ℕ) (i from stop : ℕ) (l : Looke
   cycle_here ne back =
       let turn = way.marked stop (omega arith) way.within back in
       record {
-        node = (omega arith, omega arith);
+        is_place = (omega arith, omega arith);
         fails = no_root nodes from way.path.0 turn.0 stop way.path.2 turn.2 ne (length nodes);
         before = λ w low lt. leads_to_root nodes _ w (l.leads w low (omega arith) (l.seen w low (omega arith)));
       }

@@ -1,4 +1,4 @@
--- Nodes that pass all tests are a tree.
+-- Nodes that pass all tests are within the limits; where their parents lead to roots and their shares fit, they are a tree.
 use Rattle.std.proofs.Common.{◌≡◌, ℕ, ◌+◌, ◌-◌, ◌<◌, ◌≤◌, List, length, get_or, subst, arith}
 use Rattle.std.proofs.lemmas.List.{get_or_default}
 use Rattle.std.proofs.lemmas.List.Elements.{All-from_get_or}
@@ -6,7 +6,7 @@ use Rattle.limits.specs.Limits.{most_size, most_time}
 use Rattle.trees.specs.declared.node.Node.{Node}
 use Rattle.trees.specs.declared.judged.NodeTest.TheVariants as tests
 use Rattle.trees.specs.Tree.{IsNode, IsNodeWithin, IsTree, ShareFits}
-use Rattle.trees.specs.Judged.{AllLead, AllPass, HasTotal, PassAll}
+use Rattle.trees.specs.Judged.{AllLead, AllPass, AreNodesWithin, HasTotal, PassAll}
 
 abbrev pub none : Node
 none = record { parent = 0; out = 0; extra = 0; share = 0; time = 0 }
@@ -32,9 +32,8 @@ times_fit : (nodes : List Node) → AllPass nodes tests.Time → AllPass nodes t
 times_fit nodes some short i d inside =
     (at_place nodes (λ n. 1 ≤ n.time) i d inside some, at_place nodes (λ n. n.time ≤ most_time) i d inside short)
 
-pub are_tree : (nodes : List Node) → PassAll nodes → HasTotal nodes → AllLead nodes
-    → ((v : ℕ) → IsNode nodes v → ShareFits nodes v) → IsTree nodes
-are_tree nodes pass total roots shares = record {
+pub are_within : (nodes : List Node) → PassAll nodes → HasTotal nodes → AreNodesWithin nodes
+are_within nodes pass total = record {
   some = pass.counted.0;
   few = pass.counted.1;
   each = All-from_get_or (IsNodeWithin nodes) nodes none (λ i inside. let s = sizes_fit nodes (pass.each tests.Size) i none inside in record {
@@ -44,6 +43,15 @@ are_tree nodes pass total roots shares = record {
     time = times_fit nodes (pass.each tests.Time) (pass.each tests.LongTime) i none inside;
   });
   total = total;
+}
+
+pub are_tree : (nodes : List Node) → AreNodesWithin nodes → AllLead nodes
+    → ((v : ℕ) → IsNode nodes v → ShareFits nodes v) → IsTree nodes
+are_tree nodes within roots shares = record {
+  some = within.some;
+  few = within.few;
+  each = within.each;
+  total = within.total;
   roots = roots;
   shares = shares;
 }

@@ -1,5 +1,5 @@
 -- Nodes whose parents have greater numbers lead to roots, and what takes no share has none too many.
-use Rattle.std.proofs.Common.{◌≡◌, ◌≢◌, ℕ, zero, suc, ◌+◌, ◌-◌, ◌<◌, ◌≤◌, ◌⊎◌, inl, inr, List, length, refl, sym, subst, ◌∙◌, arith, All}
+use Rattle.std.proofs.Common.{◌≡◌, ℕ, zero, suc, ◌+◌, ◌-◌, ◌≤◌, ◌⊎◌, inl, inr, List, length, refl, subst, ◌∙◌, arith, All}
 use Rattle.trees.specs.declared.node.Node.{Node}
 use Rattle.trees.specs.Tree.{IsNode, IsNodeWithin, node_at, parent_of, ancestor, LeadsToRoot, ShareFits}
 use Rattle.trees.specs.Plain.{IsPlainAt, IsPlain}

@@ -1,10 +1,12 @@
 -- Nodes that a caller gives: the tests that make them a tree, in their order, and what they are refused with.
-use Rattle.std.specs.Prelude.{◌≡◌, ℕ, ◌<◌, ◌≤◌, List, length}
+use Rattle.std.specs.Prelude.{◌≡◌, ℕ, ◌<◌, ◌≤◌, All, List, length}
 use Rattle.std.specs.List.{sum_by}
 use Rattle.limits.specs.Limits.{most_tasks, most_size, most_time, most_total}
-use Rattle.trees.specs.Tree.{IsNode, LeadsToRoot, ShareFits, node_at, node_size}
+use Rattle.trees.specs.Tree.{IsNode, IsNodeWithin, LeadsToRoot, ShareFits, node_at, node_size}
 use Rattle.lists.specs.Numbers.{IsFirstWithout}
 use Rattle.trees.specs.declared.node.Node.{Node}
+use Rattle.trees.specs.declared.faults.TreeFault.{TreeFault}
+use Rattle.trees.specs.declared.faults.TreeFault.TheVariants as faults
 use Rattle.trees.specs.declared.judged.NodeTest.{NodeTest}
 use Rattle.trees.specs.declared.judged.NodeTest.TheVariants as tests
 use Rattle.trees.specs.declared.judged.NodesRefusal.{NodesRefusal}
@@ -42,6 +44,18 @@ HasTotal nodes = sum_by node_size nodes ≤ most_total
 
 abbrev pub AllLead : List Node → Type 0
 AllLead nodes = (v : ℕ) → IsNode nodes v → LeadsToRoot nodes v
+
+-- nodes that are within the limits, each and together: what is left to judge is where their parents lead, and their shares
+pub record AreNodesWithin (nodes : List Node) : Type 0 where
+  pub some : 1 ≤ length nodes
+  pub few : length nodes ≤ most_tasks
+  pub each : All (IsNodeWithin nodes) nodes
+  pub total : HasTotal nodes
+
+-- the lowest node whose parents lead to no root; or all lead to roots, and it is the lowest whose share does not fit
+abbrev pub IsTreeFault : List Node → TreeFault → Type 0
+IsTreeFault nodes (faults.Cycle v) = IsFirstWithout (length nodes) (LeadsToRoot nodes) v
+IsTreeFault nodes (faults.Share v) = AllLead nodes × IsFirstWithout (length nodes) (ShareFits nodes) v
 
 -- the first test that fails, with the lowest node that fails it; want of memory tells nothing
 abbrev pub IsNodesRefusal : List Node → NodesRefusal → Type 0

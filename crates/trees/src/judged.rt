@@ -9,9 +9,8 @@ ghost use Rattle.trees.specs.Tree.{IsTree, node_at, node_size};
 ghost use Rattle.trees.specs.Judged.{AllPass, AreCounted, IsNodesRefusal, PassAll, PassBefore, Passes};
 
 use crate::NoMemory;
+use crate::faults::{TreeFault, first_fault};
 use crate::node::Node;
-use crate::roots::first_cycle;
-use crate::shares::first_unfit_share;
 use crate::tree::Tree;
 use limits::{MOST_SIZE, MOST_TASKS, MOST_TIME, MOST_TOTAL};
 use std::alloc::Global;
@@ -122,13 +121,11 @@ fn judge(alloc: Global, nodes: &[Node]) -> Result<(), NodesRefusal>
     if total_size(nodes) > MOST_TOTAL {
         return Err(NodesRefusal::Total);
     }
-    if let Some(node) = first_cycle(alloc, nodes)? {
-        return Err(NodesRefusal::Cycle(node));
+    match first_fault(alloc, nodes)? {
+        Some(TreeFault::Cycle(node)) => Err(NodesRefusal::Cycle(node)),
+        Some(TreeFault::Share(node)) => Err(NodesRefusal::Share(node)),
+        None => Ok(()),
     }
-    if let Some(node) = first_unfit_share(alloc, nodes)? {
-        return Err(NodesRefusal::Share(node));
-    }
-    Ok(())
 }
 
 /// The tree of these nodes, numbered from 1, or why they are none: the first test that fails, with the lowest node that fails it.

@@ -4,6 +4,7 @@
 #![tactic(auto)]
 
 mod children;
+mod faults;
 mod judged;
 pub mod laws;
 mod names;
@@ -14,16 +15,12 @@ mod roots;
 mod shares;
 mod system;
 mod term;
-#[cfg(test)]
-mod tests;
 mod tree;
 
+pub use faults::{TreeFault, first_fault};
 pub use judged::{NodeTest, NodesRefusal, tree_of_nodes};
 pub use names::Names;
 pub use node::Node;
-pub use plain::is_plain;
-pub use roots::first_cycle;
-pub use shares::first_unfit_share;
 use std::alloc::AllocError;
 pub use system::system_of_tree;
 pub use term::{Named, terms_of_tree};

@@ -1,6 +1,6 @@
 /// A node of a tree: a front and its contribution block.
 ///
-/// Sizes are in the unit that the file's author chose, at most 2^40 each. The layout is that of the same struct in C.
+/// Sizes are in a unit that whoever makes the tree chooses, at most 2^40 each. The layout is that of the same struct in C.
 #[repr(C)]
 #[derive(Clone, Copy, Debug, PartialEq, Eq)]
 pub struct Node {

@@ -1,11 +1,11 @@
 use super::{FIVE, SHARED, read};
-use trees::{Node, Tree, system_of_tree};
-use tree_files::{print_tree, print_tree_2, read_tree};
 use mp_system::{Item, System, Task};
 use mp_text::Report;
 use std::alloc::Global;
 use std::process::Abort;
 use std::test::Fail;
+use tree_files::{print_tree, print_tree_2, read_tree};
+use trees::{Node, Tree, system_of_tree};
 
 const FIVE_2: &str =
     "tree 2\nnodes 5\n2 1 9 0 1\n5 5 0 0 1\n4 1 9 0 1\n5 5 0 0 1\n0 0 0 0 1\nend\n";

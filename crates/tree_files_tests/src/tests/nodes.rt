@@ -1,8 +1,8 @@
 //! Nodes that a caller gives, and what they are refused with.
 
-use trees::{Node, NodeTest, NodesRefusal, tree_of_nodes};
 use std::alloc::Global;
 use std::process::Abort;
+use trees::{Node, NodeTest, NodesRefusal, tree_of_nodes};
 
 const MOST: u64 = 1_099_511_627_776;
 

@@ -1,11 +1,11 @@
 use super::{FIVE, SHARED, read};
-use trees::{Named, Names, Tree, system_of_tree, terms_of_tree};
 use mp_system::replay;
 use sp_terms::{TermList, system_of};
-use workflow_files::read_workflow;
 use std::alloc::Global;
 use std::process::Abort;
 use std::test::Fail;
+use trees::{Named, Names, Tree, system_of_tree, terms_of_tree};
+use workflow_files::read_workflow;
 
 const ROOTS: &str = "tree 1\nnodes 2\n0 3 0 1\n0 4 1 2\nend\n";
 

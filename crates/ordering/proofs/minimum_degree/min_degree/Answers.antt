@@ -10,7 +10,7 @@ perm_of-requires c =
     let rows = c.args.pattern.now in
     let e = c.in_ok-list.ensures in
     let order = listed_order (is_joined rows) (length rows) c.in_ok-list.list.items e.len e.vertices e.once e.least in
-    subst (λ n. IsPerm n c.deref.result.now) (sym c.order-2.ensures.value) (subst (IsPerm (length rows)) (sym c.deref.ensures.value) order.perm)
+    subst (λ n. IsPerm n c.deref.result.now) (sym c.rows-2.ensures.value) (subst (IsPerm (length rows)) (sym c.deref.ensures.value) order.perm)
 
 pub returns : goal.returns
 returns c =

@@ -1,6 +1,5 @@
 use Rattle.std.proofs.Common.{◌≡◌, ap, sym, subst, get_or, arith}
-use Rattle.permutations.specs.Perm.{times}
-use Rattle.permutations.specs.PermTables.{PermState}
+use Rattle.permutations.specs.Perm.{PermState, times}
 use Rattle.permutations.proofs.PermLemmas.{fresh_at}
 use Rattle.ordering.proofs.minimum_degree.perm_of.Goals as goal
 

@@ -2,7 +2,7 @@ use Rattle.mp_text.specs.ReadingLaws.{Steps-judge}
 use Rattle.matrix_files.specs.PermFile.{perm_format}
 use Rattle.matrix_files.specs.OrderReader.{perm_end, took_perm}
 use Rattle.matrix_files.proofs.OrderReaderLaws.{perm_end_follows}
-use Rattle.matrix_files.proofs.perm_file.PartialPermReader.end.Goals as goal
+use Rattle.matrix_files.proofs.perm_file.PermReaderReader.end.Goals as goal
 
 pub returns : goal.returns
 returns c rows taken passed =

@@ -2,7 +2,7 @@ use Rattle.std.proofs.lemmas.Result.{err_from_is_err_and}
 use Rattle.mp_text.specs.ReadingLaws.{Fails-tested}
 use Rattle.matrix_files.specs.PermFile.{perm_token_tests}
 use Rattle.matrix_files.specs.OrderReader.{vertex_step}
-use Rattle.permutations.proofs.perm.PartialPerm.take.Goals as goal
+use Rattle.matrix_files.proofs.perm_file.PermReader.take.Goals as goal
 
 pub returns-in_err-vertex : goal.returns-in_err-vertex
 unfolding vertex_step

@@ -4,7 +4,7 @@ use Rattle.mp_text.specs.ReadingLaws.{Steps-judge}
 use Rattle.matrix_files.specs.PermFile.{perm_format}
 use Rattle.matrix_files.specs.OrderReader.{perm_step, took_perm}
 use Rattle.matrix_files.proofs.OrderReaderLaws.{perm_follows}
-use Rattle.matrix_files.proofs.perm_file.PartialPermReader.line.Goals as goal
+use Rattle.matrix_files.proofs.perm_file.PermReaderReader.line.Goals as goal
 
 pub returns : goal.returns
 returns c before taken passed =
