@@ -13,9 +13,9 @@ use Rattle.mp_text.specs.Grammar.{Format, IsWellFormed, Refuses, fault_at}
 use Rattle.graph_files.specs.declared.kind.GraphKind.{GraphKind}
 use Rattle.graph_files.specs.declared.kind.GraphKind.TheVariants as kinds
 use Rattle.graphs.specs.Graph.{TaskGraph, IsAmong, CanBeOrdered, ShareFits, IsGraph, completed_arcs, size_into, size_out_of, task_at}
-use Rattle.graph_files.specs.GraphFile.{graph_format, stated_by, HasFewArcs, IsOrdered, ReadsGraph, RefusesCycle, RefusesShare, RefusesGraph, line_stating}
+use Rattle.graph_files.specs.GraphFile.{graph_format, stated_by, ReadsGraph, RefusesCycle, RefusesShare, RefusesGraph, line_stating}
 use Rattle.lists.specs.Numbers.{IsFirstWithout}
-use Rattle.graph_files.specs.Stated.{IsWithin}
+use Rattle.graphs.specs.Judged.{HasFewArcs, IsOrdered, IsPlain}
 use Rattle.graph_files.proofs.FormLemmas.{well_formed_within}
 use Rattle.graphs.proofs.OrderLemmas.{ordered_or_not}
 
@@ -29,9 +29,9 @@ lowest : (fact : ℕ → Type 0) (n : ℕ) → IsEither fact n → ((v : ℕ) �
 lowest fact zero either = inl (λ v among. absurd (omega (arith, among.0, among.1)))
 lowest fact (suc n) either =
     elim (lowest fact n (λ v among. either v (among.0, omega (arith, among.1)))) [
-      | inr first ↦ inr (first.0, record { task = (first.1.task.0, omega (arith, first.1.task.1)); fails = first.1.fails; before = first.1.before })
+      | inr first ↦ inr (first.0, record { is_place = (first.1.is_place.0, omega (arith, first.1.is_place.1)); fails = first.1.fails; before = first.1.before })
       | inl before ↦ elim (either (suc n) (omega arith, omega arith)) [
-        | inr fails ↦ inr (suc n, record { task = (omega arith, omega arith); fails = fails; before = λ w some less. before w (some, omega arith) })
+        | inr fails ↦ inr (suc n, record { is_place = (omega arith, omega arith); fails = fails; before = λ w some less. before w (some, omega arith) })
         | inl holds ↦ inl (λ v among. elim (cases_eq v (suc n)) [
           | inl last ↦ subst fact (sym last) holds
           | inr other ↦ before v (among.0, omega (arith, among.1, other))
@@ -42,8 +42,8 @@ lowest fact (suc n) either =
 one_lowest : (fact : ℕ → Type 0) (n v w : ℕ) → IsFirstWithout n fact v → IsFirstWithout n fact w → v ≡ w
 one_lowest fact n v w one two = elim (cases_order v w) [
   | inl same ↦ same
-  | inr (inl lt) ↦ absurd (one.fails (two.before v one.task.0 lt))
-  | inr (inr gt) ↦ absurd (two.fails (one.before w two.task.0 gt))
+  | inr (inl lt) ↦ absurd (one.fails (two.before v one.is_place.0 lt))
+  | inr (inr gt) ↦ absurd (two.fails (one.before w two.is_place.0 gt))
 ]
 
 few_or_not : (graph : TaskGraph) → HasFewArcs graph ⊎ (HasFewArcs graph → ⊥)
@@ -108,8 +108,8 @@ module _ (bytes : List ℕ) (graph : TaskGraph) (reads : ReadsGraph bytes graph)
 pub not_both : NotBoth → (bytes : List ℕ) (graph : TaskGraph) (refusal : Refusal GraphKind) → ReadsGraph bytes graph → RefusesGraph bytes refusal → ⊥
 not_both apart bytes graph refusal reads (inl refused) = apart graph_format (rows_of_bytes Commented bytes) (past_of_bytes bytes) refusal reads.form refused
 not_both apart bytes graph refusal reads (inr (inl arcs)) = arcs.many (few_stated bytes graph reads)
-not_both apart bytes graph refusal reads (inr (inr (inl cycle))) = cycle.first.fails (ordered_stated bytes graph reads cycle.task cycle.first.task)
-not_both apart bytes graph refusal reads (inr (inr (inr share))) = share.first.fails (shares_stated bytes graph reads share.task share.first.task)
+not_both apart bytes graph refusal reads (inr (inr (inl cycle))) = cycle.first.fails (ordered_stated bytes graph reads cycle.task cycle.first.is_place)
+not_both apart bytes graph refusal reads (inr (inr (inr share))) = share.first.fails (shares_stated bytes graph reads share.task share.first.is_place)
 
 one_cycle : (bytes : List ℕ) (one two : Refusal GraphKind) → RefusesCycle bytes one → RefusesCycle bytes two → one ≡ two
 one_cycle bytes one two this that =
@@ -133,13 +133,13 @@ one_refusal apart only bytes one two (inr (inl this)) (inr (inr (inr that))) = a
 one_refusal apart only bytes one two (inr (inr (inl this))) (inl that) = absurd (apart _ _ _ two this.form that)
 one_refusal apart only bytes one two (inr (inr (inl this))) (inr (inl that)) = absurd (that.many this.few)
 one_refusal apart only bytes one two (inr (inr (inl this))) (inr (inr (inl that))) = one_cycle bytes one two this that
-one_refusal apart only bytes one two (inr (inr (inl this))) (inr (inr (inr that))) = absurd (this.first.fails (that.ordered this.task this.first.task))
+one_refusal apart only bytes one two (inr (inr (inl this))) (inr (inr (inr that))) = absurd (this.first.fails (that.ordered this.task this.first.is_place))
 one_refusal apart only bytes one two (inr (inr (inr this))) (inl that) = absurd (apart _ _ _ two this.form that)
 one_refusal apart only bytes one two (inr (inr (inr this))) (inr (inl that)) = absurd (that.many this.few)
-one_refusal apart only bytes one two (inr (inr (inr this))) (inr (inr (inl that))) = absurd (that.first.fails (this.ordered that.task that.first.task))
+one_refusal apart only bytes one two (inr (inr (inr this))) (inr (inr (inl that))) = absurd (that.first.fails (this.ordered that.task that.first.is_place))
 one_refusal apart only bytes one two (inr (inr (inr this))) (inr (inr (inr that))) = one_share bytes one two this that
 
 pub reads-is_graph : (bytes : List ℕ) (graph : TaskGraph) → ReadsGraph bytes graph → IsGraph graph
 reads-is_graph bytes graph reads =
-    let within = subst IsWithin (sym reads.stated) (well_formed_within (rows_of_bytes Commented bytes) (past_of_bytes bytes) reads.form) in
+    let within = subst IsPlain (sym reads.stated) (well_formed_within (rows_of_bytes Commented bytes) (past_of_bytes bytes) reads.form) in
     record { few_tasks = within.few_tasks; few_arcs = reads.few; tasks = within.tasks; arcs = within.arcs; total = within.total; ordered = reads.ordered; shares = reads.shares }

@@ -14,7 +14,7 @@ use Rattle.mp_system.specs.System.{IsTaskWithin, extra_size}
 use Rattle.graphs.specs.declared.arc.Arc.{Arc}
 use Rattle.graphs.specs.Graph.{TaskGraph, IsArcWithin, arc_size}
 use Rattle.graph_files.specs.GraphFile.{graph_format, tasks_stated, arcs_stated, task_tests, task_of, extras_of, arc_tests, arc_of, sizes_of, is_whole, is_complete, arc_part_tests, graph_stated}
-use Rattle.graph_files.specs.Stated.{IsWithin}
+use Rattle.graphs.specs.Judged.{IsPlain}
 use Rattle.graph_files.proofs.ReaderLaws.{past_tasks}
 
 -- ---- tests that all hold
@@ -258,7 +258,7 @@ module _ (header counted arcs_counted last : Row) (rows arcs : List Row) (whole 
       go [] none = omega (arith, extras_within)
       go (x ∷ xs) none = absurd (omega arith)
 
-  pub within : IsWithin (graph_stated (header ∷ counted ∷ (rows ++ arcs_counted ∷ (arcs ++ last ∷ []))))
+  pub within : IsPlain (graph_stated (header ∷ counted ∷ (rows ++ arcs_counted ∷ (arcs ++ last ∷ []))))
   unfolding graph
   within = rw stated_is (record {
     few_tasks = omega (arith, length-map rows task_of, whole, tasks_few);
@@ -268,8 +268,8 @@ module _ (header counted arcs_counted last : Row) (rows arcs : List Row) (whole 
     total = omega (arith, sum_by-map extra_size task_of rows, sum_by-map arc_size arc_of arcs, sums_within);
   })
 
-pub well_formed_within : (rows : List Row) (past : ℕ) → IsWellFormed graph_format rows past → IsWithin (graph_stated rows)
+pub well_formed_within : (rows : List Row) (past : ℕ) → IsWellFormed graph_format rows past → IsPlain (graph_stated rows)
 well_formed_within rows past form =
     let p = parts_of rows (complete_form rows past form) in
-    subst (λ (rs : List Row). IsWithin (graph_stated rs)) (sym p.all_are)
+    subst (λ (rs : List Row). IsPlain (graph_stated rs)) (sym p.all_are)
     (within p.header p.counted p.arcs_counted p.last p.rows p.arcs p.whole p.complete (subst (ArePassed graph_format) p.all_are form.lines))

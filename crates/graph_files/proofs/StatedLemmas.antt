@@ -8,7 +8,8 @@ use Rattle.mp_text.specs.Ahead.{rows_of_bytes, past_of_bytes}
 use Rattle.graphs.specs.Graph.{TaskGraph}
 use Rattle.graph_files.specs.GraphFile.{HasForm, tasks_stated, arcs_stated, task_of, arc_of, graph_stated, line_stating, is_whole, is_complete}
 use Rattle.graph_files.specs.Reader.{ReaderState, TookArcs, staged_took, took}
-use Rattle.graph_files.specs.Stated.{IsStated, IsWithin}
+use Rattle.graph_files.specs.Stated.{IsStated}
+use Rattle.graphs.specs.Judged.{IsPlain}
 use Rattle.graph_files.specs.declared.stage.Stage.{Stage}
 use Rattle.graph_files.specs.declared.stage.Stage.TheVariants as stages
 use Rattle.graph_files.proofs.FormLemmas.{complete_form, well_formed_within}
@@ -48,7 +49,7 @@ module _ (header counted arcs_counted last : Row) (rows arcs : List Row) (whole 
         lines_are = λ v task. ap (λ (ls : List ℕ). get_or ls (v - 1) 0) taken.tasks.lines ∙ line_is v task.0 (omega (arith, task.1, len))
             ∙ ap (λ (rs : List Row). line_stating rs v) (sym rows_are);
         lines_len = ap length taken.tasks.lines ∙ length-map rows (λ (r : Row). r.number) ∙ sym len;
-        within = subst IsWithin (sym graph_is) (well_formed_within (rows_of_bytes Commented bytes) (past_of_bytes bytes) form);
+        plain = subst IsPlain (sym graph_is) (well_formed_within (rows_of_bytes Commented bytes) (past_of_bytes bytes) form);
       }
 
 staged_stated : (bytes : List ℕ) (stage : Stage) (s : ReaderState) → HasForm bytes → staged_took stage s (rows_of_bytes Commented bytes)

@@ -1,5 +1,5 @@
 -- Graph files: what a file reads as, and what it is refused with. They are this project's own format.
-use Rattle.std.specs.Prelude.{◌≡◌, ◌==◌, ℕ, ◌+◌, ◌<◌, ◌≤◌, Bool, false, ◌&&◌, ◌||◌, not, nat_lt, nat_le, is_some, unwrap_or, Option, Some}
+use Rattle.std.specs.Prelude.{◌≡◌, ◌==◌, ℕ, ◌+◌, Bool, false, ◌&&◌, ◌||◌, not, nat_lt, nat_le, is_some, unwrap_or, Option, Some}
 use Rattle.std.specs.Prelude.{None, List, [], ◌∷◌, length, map, take, drop, codes, if◌then◌else◌, slice_index_or, ◌⊎◌}
 use Rattle.std.specs.List.{sum_by}
 use Rattle.std.specs.Option.{option_and_then}
@@ -21,7 +21,8 @@ use Rattle.graph_files.specs.declared.fields.ArcFields.{ArcFields}
 use Rattle.graph_files.specs.declared.kind.GraphKind.{GraphKind}
 use Rattle.graph_files.specs.declared.kind.GraphKind.TheVariants as kinds
 use Rattle.lists.specs.Numbers.{IsFirstWithout}
-use Rattle.graphs.specs.Graph.{TaskGraph, IsAmong, CanBeOrdered, ShareFits, completed_arcs, arc_size}
+use Rattle.graphs.specs.Graph.{TaskGraph, IsAmong, CanBeOrdered, ShareFits, arc_size}
+use Rattle.graphs.specs.Judged.{HasFewArcs, IsOrdered}
 
 -- ---- line 1: `graph 1`
 
@@ -189,13 +190,6 @@ HasForm bytes = IsWellFormed graph_format (rows_of_bytes Commented bytes) (past_
 -- the graph that the lines state
 abbrev pub stated_by : List ℕ → TaskGraph
 stated_by bytes = graph_stated (rows_of_bytes Commented bytes)
-
--- the completed graph has few enough arcs
-abbrev pub HasFewArcs : TaskGraph → Type 0
-HasFewArcs graph = length (completed_arcs (length graph.tasks) graph.arcs) ≤ most_arcs
-
-abbrev pub IsOrdered : TaskGraph → Type 0
-IsOrdered graph = (v : ℕ) → IsAmong (length graph.tasks) v → CanBeOrdered graph.arcs v
 
 -- every line passes, the arcs are few enough, all tasks can be ordered, all shares fit, and the graph is that stated
 pub record ReadsGraph (bytes : List ℕ) (graph : TaskGraph) : Type 0 where

@@ -10,9 +10,9 @@ ghost use Rattle.mp_text.specs.Reading.{Gives, tested};
 ghost use Rattle.graph_files.specs.GraphFile.{header_tests, task_count_tests, tasks_stated, arc_count_tests, arcs_stated, task_tests};
 ghost use Rattle.graph_files.specs.GraphFile.{task_of, arc_tests, arc_of, last_tests};
 
-use graphs::Arc;
 use crate::fields::{arc_on_line, task_on_line};
 use crate::kind::GraphKind;
+use graphs::Arc;
 use limits::{LimitName, MOST_ARCS, MOST_SIZE, MOST_TASKS, MOST_TIME, MOST_TOTAL};
 use mp_system::Task;
 use mp_text::{Line, Refusal, after_word, fault, is_word, number, tokens};

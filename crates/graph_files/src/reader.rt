@@ -1,10 +1,10 @@
 ghost use Rattle.std.specs.Prelude.{◌≡◌};
 ghost use Rattle.mp_text.specs.Ahead.{row};
 
-use graphs::Arc;
 use crate::kind::GraphKind;
 use crate::lines::{arc_count_on, arc_on, header_on, last_on, task_count_on, task_on};
 use crate::stage::Stage;
+use graphs::Arc;
 use mp_system::Task;
 use mp_text::{Line, Reader, Refusal, fault};
 use std::alloc::Global;

@@ -3,8 +3,8 @@ ghost use Rattle.graph_files.specs.GraphFile.{ReadsGraph, IsGraphRefusal};
 
 use crate::kind::GraphKind;
 use crate::stated::{Stated, fault_of, read_lines};
-use graphs::{Graph, completed_arcs, first_unfit_share, first_unordered};
-use limits::{LimitName, MOST_ARCS};
+use graphs::{Graph, GraphFault, graph_of};
+use limits::LimitName;
 use mp_text::Refusal;
 use std::alloc::Global;
 
@@ -14,16 +14,11 @@ pub fn read_graph(alloc: Global, bytes: &[u8]) -> Result<Graph, Refusal<GraphKin
     ensures { MatchResult result (λ graph. ReadsGraph bytes.now graph) (IsGraphRefusal bytes.now) }
 {
     let Stated { tasks, lines, arcs } = read_lines(alloc, bytes)?;
-    let count = tasks.len() as u32;
-    let all = completed_arcs(alloc, count, &arcs)?;
-    if all.len() as u64 > MOST_ARCS {
-        return Err(Refusal::Limit(LimitName::Arcs));
+    match graph_of(alloc, tasks, &arcs) {
+        Ok(graph) => Ok(graph),
+        Err(GraphFault::Arcs) => Err(Refusal::Limit(LimitName::Arcs)),
+        Err(GraphFault::Cycle(task)) => Err(fault_of(&lines, task, GraphKind::Cycle)),
+        Err(GraphFault::Share(task)) => Err(fault_of(&lines, task, GraphKind::Share)),
+        Err(GraphFault::NoMemory) => Err(Refusal::NoMemory),
     }
-    if let Some(task) = first_unordered(alloc, count, &arcs)? {
-        return Err(fault_of(&lines, task, GraphKind::Cycle));
-    }
-    if let Some(task) = first_unfit_share(alloc, &tasks, &arcs)? {
-        return Err(fault_of(&lines, task, GraphKind::Share));
-    }
-    Ok(Graph::new(tasks, all, arcs.len()))
 }

@@ -3,9 +3,9 @@ ghost use Rattle.mp_text.specs.Grammar.{fault_at};
 ghost use Rattle.graph_files.specs.GraphFile.{IsGraphRefusal};
 ghost use Rattle.graph_files.specs.Stated.{IsStated};
 
-use graphs::Arc;
 use crate::kind::GraphKind;
 use crate::reader::GraphReader;
+use graphs::Arc;
 use mp_system::Task;
 use mp_text::{Layout, Refusal, fault, read_with};
 use std::alloc::Global;

@@ -1,7 +1,7 @@
 //! Graph files, and what their graphs are as systems.
 
-use graphs::{Arc, Graph, system_of_graph};
 use graph_files::read_graph;
+use graphs::{Arc, Graph, system_of_graph};
 use mp_system::{Item, System, Task};
 use std::alloc::Global;
 use std::process::Abort;

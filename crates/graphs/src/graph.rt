@@ -27,8 +27,8 @@ impl Model for Graph {
 }
 
 impl Graph {
-    /// A graph, of its tasks and the arcs of its completed graph, of which so many are its own.
-    pub fn new(tasks: Vec<Task>, all: Vec<Arc>, own: usize) -> Graph
+    // A graph, of its tasks and the arcs of its completed graph, of which so many are its own.
+    pub(crate) fn new(tasks: Vec<Task>, all: Vec<Arc>, own: usize) -> Graph
         requires within { own ≤ length all.items }
         requires graph { IsGraph (record { tasks = tasks.items; arcs = take own all.items }) }
         requires completed { all.items ≡ completed_arcs (length tasks.items) (take own all.items) }
@@ -52,7 +52,7 @@ impl Graph {
         &self.tasks
     }
 
-    /// The arcs, in the order of the file.
+    /// The arcs, in the order in which they were given.
     pub fn arcs(&self) -> &[Arc]
         ensures value { result.now ≡ self.now.arcs }
         ensures graph { IsGraph self.now }

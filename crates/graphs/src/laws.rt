@@ -7,7 +7,6 @@ ghost use Rattle.mp_system.specs.Traversal.{IsTraversal, IsLeast};
 ghost use Rattle.graphs.specs.Graph.{TaskGraph, IsGraph, IsAmong, IsArcWithin, Rises, is_into, is_out_of, completed, system_of};
 ghost use Rattle.graphs.specs.Graph.{completed_system};
 
-
 /// The completed system is within the limits of systems.
 pub fn system_law()
     ensures { (graph : TaskGraph) → IsGraph graph → IsSystem (completed_system graph) }

@@ -5,7 +5,7 @@ use Rattle.limits.specs.Limits.{most_bytes}
 use Rattle.mp_system.specs.Memory.{peak_of}
 use Rattle.mp_system.specs.Renaming.{name_in}
 use Rattle.mp_system.specs.Traversal.{IsTraversal, IsLeast}
-use Rattle.sp_reduce.specs.NamedText.{named_text}
+use Rattle.workflow_files.specs.NamedText.{named_text}
 use Rattle.sp_reduce.specs.Reduced.{HasSystem}
 use Rattle.sp_terms.specs.declared.position.Position.{Position}
 use Rattle.sp_terms.specs.Postfix.{Denotes}

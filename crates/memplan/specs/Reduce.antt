@@ -10,7 +10,7 @@ use Rattle.sp_terms.specs.SystemOfTerm.{system_of_term}
 use Rattle.sp_terms.specs.Term.{Term}
 use Rattle.sp_terms.specs.Values.{IsTerms, term_of}
 use Rattle.graphs.specs.Graph.{TaskGraph, completed, completed_system, system_of}
-use Rattle.sp_reduce.specs.NamedText.{named_text}
+use Rattle.workflow_files.specs.NamedText.{named_text}
 use Rattle.sp_reduce.specs.Reduced.{HasSystem}
 use Rattle.sp_reduce.specs.Reductions.{ends_of, IsRestOf}
 use Rattle.sp_reduce.specs.Refusal.{HasNoTerm}

@@ -33,6 +33,7 @@ use sp_cuts::laws as stair_laws;
 use sp_reduce::laws as reduction_laws;
 use sp_terms::laws as term_laws;
 use symbolic::laws as front_laws;
+use workflow_files::laws as workflow_laws;
 use graphs::laws as graph_laws;
 use trees::laws as tree_laws;
 
@@ -191,7 +192,8 @@ pub fn what_answers_say()
     stair_laws::one_staircase();
     graph_laws::read_law();
     reduction_laws::named_term_law();
-    reduction_laws::named_file_law();
+    reduction_laws::names_law();
+    workflow_laws::named_workflow();
     one_demo();
     one_upgrade();
     one_fronts();

@@ -1,7 +1,8 @@
 //! Tasks and items worked by hand, and what they are refused with.
 
-use mp_system::{GivenItem, GivenTask, ItemTest, SystemRefusal, TaskTest, system_of_arrays};
-use mp_system::replay;
+use mp_system::{
+    GivenItem, GivenTask, ItemTest, SystemRefusal, TaskTest, replay, system_of_arrays,
+};
 use std::alloc::Global;
 use std::process::Abort;
 use std::test::Fail;

@@ -1,7 +1,9 @@
 ghost use Rattle.std.specs.Prelude.{◌≡◌, IfOk};
 ghost use Rattle.mp_system.specs.Samples as samples;
 
-use mp_system::{Item, NoMemory, OrderFault, OrderKind, Replay, ReplayRefusal, System, Task, replay};
+use mp_system::{
+    Item, NoMemory, OrderFault, OrderKind, Replay, ReplayRefusal, System, Task, replay,
+};
 use std::alloc::Global;
 use std::rt::HostRuntime;
 use std::test::Fail;

@@ -3,8 +3,11 @@
 ghost use Rattle.std.specs.Prelude.{◌≡◌, ◌+◌, length, nat_lt, [], ◌∷◌};
 ghost use Rattle.mp_text.specs.Grammar.{fault, fault_at, test};
 
-use mp_text::{Fault, Layout, Line, Lines, NoMemory, Reader, Refusal, Report, Token, Version, after_word, fault, is_word, number, read_with, signed, tokens, version_of};
 use limits::LimitName;
+use mp_text::{
+    Fault, Layout, Line, Lines, NoMemory, Reader, Refusal, Report, Token, Version, after_word,
+    fault, is_word, number, read_with, signed, tokens, version_of,
+};
 use std::alloc::Global;
 use std::test::Fail;
 

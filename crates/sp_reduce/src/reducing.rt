@@ -15,11 +15,11 @@ use crate::links::Links;
 use crate::postfix::{Written, write_term};
 use crate::reduced::{ReduceRefusal, Reduced};
 use crate::rounds::{all_tasks, reduce_links};
+use graphs::laws::{completed_law, system_law};
+use graphs::{Arc, Graph};
 use sp_terms::TermList;
 use sp_terms::laws::terms_law;
 use std::alloc::Global;
-use graphs::laws::{completed_law, system_law};
-use graphs::{Arc, Graph};
 
 // What is left of the arcs of a graph: links, and the terms that they carry.
 #[derive(Drop)]

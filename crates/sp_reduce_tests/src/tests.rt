@@ -1,14 +1,14 @@
 //! Graphs as terms, and the rests of those that have none.
 
-use sp_reduce::{NoMemory, ReduceRefusal, Reduced, print_reduced, reduce};
+use graph_files::read_graph;
+use graphs::{Graph, system_of_graph};
 use mp_system::{Item, System, Task};
 use mp_text::Report;
-use workflow_files::{print_workflow, read_workflow};
+use sp_reduce::{NoMemory, ReduceRefusal, Reduced, reduce};
 use sp_terms::system_of;
 use std::alloc::Global;
 use std::test::Fail;
-use graphs::{Graph, system_of_graph};
-use graph_files::read_graph;
+use workflow_files::{print_named, print_workflow, read_workflow};
 
 // Two tasks between a first and a last one.
 const FOUR: &str =
@@ -112,7 +112,7 @@ fn reduced_four(alloc: Global) -> Result<Reduced, Fail> {
 
 fn printed(alloc: Global, reduced: &Reduced) -> Result<Report, Fail> {
     let mut report = Report::new(alloc);
-    print_reduced(reduced, &mut report)?;
+    print_named(&reduced.terms, &reduced.names, &mut report)?;
     Ok(report)
 }
 

@@ -4,9 +4,9 @@ mod files;
 mod terms;
 
 use sp_terms::TermList;
-use workflow_files::read_workflow;
 use std::alloc::Global;
 use std::test::Fail;
+use workflow_files::read_workflow;
 
 // Two like branches of two tasks each.
 const BRANCHES: &str =

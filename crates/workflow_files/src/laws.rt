@@ -1,5 +1,5 @@
 //! Laws of workflow files: what holds of each, without a call.
-ghost use Rattle.std.specs.Prelude.{◌≡◌, ◌⊎◌, ℕ, ◌+◌, ◌*◌, ◌<◌, ◌≤◌, ◌++◌, IsTrue, List, length};
+ghost use Rattle.std.specs.Prelude.{◌≡◌, ◌⊎◌, ℕ, ◌+◌, ◌*◌, ◌<◌, ◌≤◌, ◌++◌, All, IsTrue, List, length};
 ghost use Rattle.std.specs.List.{list_all};
 ghost use Rattle.limits.specs.Limits.{most_bytes, most_tasks};
 ghost use Rattle.mp_text.specs.Comments.{is_comment_line};
@@ -10,6 +10,7 @@ ghost use Rattle.sp_terms.specs.declared.position.Position.{Position};
 ghost use Rattle.sp_terms.specs.Values.{IsTerms};
 ghost use Rattle.workflow_files.specs.WorkflowFile.{ReadsWorkflow, RefusesWorkflow};
 ghost use Rattle.workflow_files.specs.WorkflowText.{text_of, text2_of};
+ghost use Rattle.workflow_files.specs.NamedText.{named_text};
 
 use crate::kind::WorkflowKind;
 use mp_text::laws as text_laws;
@@ -60,4 +61,16 @@ pub fn commented_workflow()
     text_laws::printed_file();
     text_laws::printed_lines();
     text_laws::printed_comments();
+}
+
+/// The workflow file with names of tasks is read as the workflow, and is within the limit of bytes: where the names are at most as many as
+/// there can be tasks, and each is at most as great as the number of a task can be.
+pub fn named_workflow()
+    ensures reads { (positions : List Position) (names : List ℕ) → IsTerms positions →
+        length names ≤ most_tasks → All (λ v. v ≤ most_tasks) names → ReadsWorkflow (named_text positions names) positions }
+    ensures length { (positions : List Position) (names : List ℕ) → IsTerms positions →
+        length names ≤ most_tasks → All (λ v. v ≤ most_tasks) names → length (named_text positions names) ≤ most_bytes }
+{
+    commented_workflow();
+    text_laws::printed_number();
 }

@@ -19,7 +19,7 @@ use Rattle.least_peak.specs.Problem.{system_of, IsTermOf}
 use Rattle.least_peak.specs.declared.problem.Origin.TheVariants as origins
 use Rattle.graphs.specs.declared.arc.Arc.{Arc}
 use Rattle.graphs.specs.Graph.{TaskGraph, completed_arcs, completed_system}
-use Rattle.sp_reduce.specs.NamedText.{named_text}
+use Rattle.workflow_files.specs.NamedText.{named_text}
 use Rattle.sp_reduce.specs.Reduced.{HasSystem, HasParts}
 use Rattle.sp_reduce.specs.Reductions.{IsParallel, IsSeries, ReducesTo, in_order, by_parallel, by_series, count_into, count_out_of}
 

@@ -17,9 +17,10 @@ use mp_outside::Files;
 use mp_text::Report;
 use mp_text::Token::{Number, Word};
 use mp_text::laws::printed_lines;
-use sp_reduce::{ReduceRefusal, Reduced, print_reduced, reduce};
+use sp_reduce::{ReduceRefusal, Reduced, reduce};
 use std::alloc::{AllocError, Global};
 use graphs::Graph;
+use workflow_files::print_named;
 
 /// `reduce` and the name of a graph file.
 pub fn reduce_of<'a>(line: &Line<'a>) -> Option<Request<'a>>
@@ -37,7 +38,7 @@ fn term_page(alloc: Global, reduced: &Reduced) -> Result<Page, AllocError>
     ensures { IfOk result (λ page. answer_of page ≡ reduced_answer reduced.now.terms reduced.now.names.items) }
 {
     let mut report = Report::new(alloc);
-    print_reduced(reduced, &mut report)?;
+    print_named(&reduced.terms, &reduced.names, &mut report)?;
     let kind = PageKind::Done;
     Ok(Page { kind, report })
 }

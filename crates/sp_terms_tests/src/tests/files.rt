@@ -1,11 +1,11 @@
 use super::{BRANCHES, read};
-use sp_terms::{TermList, system_of};
-use workflow_files::{print_workflow, print_workflow_2, read_workflow};
 use mp_system::replay;
 use mp_text::Report;
+use sp_terms::{TermList, system_of};
 use std::alloc::Global;
 use std::process::Abort;
 use std::test::Fail;
+use workflow_files::{print_workflow, print_workflow_2, read_workflow};
 
 const BRANCHES_2: &str =
     "workflow 2\ntasks 4\ndata 4\ndata 1\ntask 0 0 1\ndata 3\ntask 6 0 1\ndata 4\ndata 1\ntask 0 0 1\ndata 3\ntask 6 0 1\npar 2\nend\n";

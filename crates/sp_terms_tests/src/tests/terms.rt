@@ -1,9 +1,11 @@
 ghost use Rattle.sp_terms.specs.Builder.{IsPosition};
 
 use super::{BRANCHES, read};
-use sp_terms::{Position, PushRefusal, TermBuilder, TermList, Values, hill, system_of, values, values_at};
 use limits::{LimitName, MOST_SIZE, MOST_TIME};
 use mp_system::{Item, System, Task};
+use sp_terms::{
+    Position, PushRefusal, TermBuilder, TermList, Values, hill, system_of, values, values_at,
+};
 use std::alloc::Global;
 use std::process::Abort;
 use std::test::Fail;

@@ -1,4 +1,5 @@
 use Rattle.std.proofs.Common.{◌≡◌, ℕ, List, ap, subst}
+use Rattle.sp_terms.specs.Values.{term_of}
 use Rattle.memplan.specs.Commands.{IsReport}
 use Rattle.memplan.specs.Files.{Answer}
 use Rattle.memplan.specs.Promises.{done_answer}
@@ -50,8 +51,10 @@ returns c (reduce name) texts answer possible is = (
     traversal = c.named_term_law.ensures.traversal;
     peak = c.named_term_law.ensures.peak;
     least = c.named_term_law.ensures.least;
-    reads = c.named_file_law.ensures.reads;
-    short = c.named_file_law.ensures.length;
+    reads = λ graph positions names is terms has. c.named_workflow.ensures.reads positions names terms
+        (c.names_law.ensures.few graph names (term_of positions) is has) (c.names_law.ensures.within graph names (term_of positions) is has);
+    short = λ graph positions names is terms has. c.named_workflow.ensures.length positions names terms
+        (c.names_law.ensures.few graph names (term_of positions) is has) (c.names_law.ensures.within graph names (term_of positions) is has);
   }) texts answer (report_when_done (reduce name) texts answer is done) done,
   λ of_rest. irreducible texts answer (report_of_rest (reduce name) texts answer is of_rest) of_rest,
 )

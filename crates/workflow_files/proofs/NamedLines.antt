@@ -12,16 +12,11 @@ use Rattle.std.proofs.lemmas.List.Elements.{All-nil, All-cons, All-head, All-tai
 use Rattle.std.proofs.lemmas.List.FromFn.{length-enumerate_from, get_or-enumerate_from}
 use Rattle.std.proofs.lemmas.List.Sums.{sum_by-le}
 use Rattle.limits.specs.Limits.{most_bytes, most_tasks}
-use Rattle.mp_system.specs.System.{IsSystem, task_at}
 use Rattle.mp_text.specs.Comments.{is_comment_line}
 use Rattle.mp_text.specs.Report.{is_token, line_text, text_of_lines}
-use Rattle.sp_terms.specs.SystemOfTerm.{system_of_term}
-use Rattle.sp_terms.specs.Values.{term_of}
 use Rattle.workflow_files.specs.WorkflowText.{text_of}
 use Rattle.sp_terms.specs.declared.position.Position.{Position}
-use Rattle.graphs.specs.Graph.{TaskGraph, IsGraph, completed_system}
-use Rattle.sp_reduce.specs.NamedText.{name_line, name_lines, named_text}
-use Rattle.sp_reduce.specs.Reduced.{HasSystem}
+use Rattle.workflow_files.specs.NamedText.{name_line, name_lines, named_text}
 
 -- ---- as they are printed
 
@@ -54,6 +49,10 @@ printed more names i h start before after was is =
 
 abbrev pub IsSmall : ℕ → Type 0
 IsSmall v = v < 2 ^ 64
+
+-- numbers of tasks are small
+pub names-small : (names : List ℕ) → All (λ (v : ℕ). v ≤ most_tasks) names → All IsSmall names
+names-small names within = λ i d lt. let h : get_or names i d ≤ most_tasks = within i d lt in omega (arith, h)
 
 -- each begins a comment
 pub are-comments : ((n : ℕ) → n < 2 ^ 64 → IsTrue (is_token (decimal n))) → (k : ℕ) (names : List ℕ) → k + length names < 2 ^ 64 → All IsSmall names
@@ -109,13 +108,3 @@ named-length positions names few small room =
       few,
       room,
     )
-
--- ---- the names of a term
-
-pub names-few : (graph : TaskGraph) (positions : List Position) (names : List ℕ) → IsSystem (system_of_term (term_of positions))
-    → HasSystem names (term_of positions) (completed_system graph) → length names ≤ most_tasks
-names-few graph positions names system h = omega (arith, system.few_tasks, ap length h.tasks, length-map names (task_at (completed_system graph)))
-
-pub names-small : (graph : TaskGraph) (positions : List Position) (names : List ℕ) → IsGraph graph
-    → HasSystem names (term_of positions) (completed_system graph) → All IsSmall names
-names-small graph positions names is h = λ i d lt. let w = h.within i d lt in omega (arith, w.1, is.few_tasks)

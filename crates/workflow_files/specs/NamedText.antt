@@ -1,4 +1,5 @@
--- The workflow file of a graph's term: the file of the term, and after its last line a comment with the name of each task.
+-- The workflow file of a term whose tasks have names: the file of the term, and after its last line a comment with the name of each task.
+-- A task of a graph's term has its number in the graph for a name.
 use Rattle.std.specs.Prelude.{ℕ, List, [], ◌∷◌, ◌++◌, map, codes}
 use Rattle.std.specs.Fmt.{decimal}
 use Rattle.std.specs.List.{enumerate_from}
@@ -6,7 +7,7 @@ use Rattle.mp_text.specs.Report.{text_of_lines}
 use Rattle.sp_terms.specs.declared.position.Position.{Position}
 use Rattle.workflow_files.specs.WorkflowText.{text_of}
 
--- `# K NAME`: task K of the term is the task NAME of the graph
+-- `# K NAME`: task K of the term has the name NAME
 abbrev pub name_line : ℕ × ℕ → List (List ℕ)
 name_line p = codes "#" ∷ decimal p.0 ∷ decimal p.1 ∷ []
 

@@ -1,8 +1,8 @@
 use Rattle.std.proofs.Common.{◌≡◌, ◌∙◌, ◌+◌, ◌++◌, List, ℕ, ap, length, arith}
 use Rattle.mp_text.specs.Report.{line_text, text_of_lines}
-use Rattle.sp_reduce.specs.NamedText.{name_line}
-use Rattle.sp_reduce.proofs.NamedLines.{lines_before, lines_of_all, printed}
-use Rattle.sp_reduce.proofs.printing.print_names.Goals as goal
+use Rattle.workflow_files.specs.NamedText.{name_line}
+use Rattle.workflow_files.proofs.NamedLines.{lines_before, lines_of_all, printed}
+use Rattle.workflow_files.proofs.named.print_names.Goals as goal
 
 pub loop-place-preserved : goal.loop-place-preserved
 loop-place-preserved c = record {

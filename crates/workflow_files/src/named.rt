@@ -1,14 +1,14 @@
-//! The workflow file of a graph's term, with the names of its tasks as comments.
+//! The workflow file of a term whose tasks have names, which stand as comments after its last line.
 
 ghost use Rattle.std.specs.Prelude.{◌≡◌, ◌≤◌, ◌++◌, length, take, IsTrue, OnOk, OnErr};
 ghost use Rattle.mp_text.specs.Report.{is_line_start, text_of_lines};
-ghost use Rattle.sp_reduce.specs.NamedText.{name_lines, named_text};
+ghost use Rattle.workflow_files.specs.NamedText.{name_lines, named_text};
 
 use crate::NoMemory;
-use crate::reduced::Reduced;
+use crate::printing::print_workflow;
 use mp_text::laws::printed_lines;
 use mp_text::{Report, Token};
-use workflow_files::print_workflow;
+use sp_terms::TermList;
 
 // `# K NAME` for each task.
 fn print_names(names: &[u32], report: &mut Report) -> Result<(), NoMemory>
@@ -28,28 +28,28 @@ fn print_names(names: &[u32], report: &mut Report) -> Result<(), NoMemory>
 }
 
 // Appends the lines, or some bytes.
-fn print_parts(reduced: &Reduced, report: &mut Report) -> Result<(), NoMemory>
+fn print_parts(terms: &TermList, names: &[u32], report: &mut Report) -> Result<(), NoMemory>
     requires { IsTrue (is_line_start report.old) }
-    ensures ok { OnOk result (report.new ≡ report.old ++ named_text reduced.now.terms reduced.now.names.items) }
+    ensures ok { OnOk result (report.new ≡ report.old ++ named_text terms.now names.now) }
     ensures err { OnErr result (take (length report.old) report.new ≡ report.old) }
 {
     printed_lines();
-    print_workflow(&reduced.terms, report)?;
-    print_names(&reduced.names, report)?;
+    print_workflow(terms, report)?;
+    print_names(names, report)?;
     Ok(())
 }
 
-/// Appends the lines of the term's workflow file, and a comment `# K NAME` for each task K of the term, which is the task NAME of the
-/// graph. Linear in the positions.
+/// Appends the lines of the term's workflow file, of version 1 where every share is 0, else of version 2, and a comment `# K NAME` for
+/// each task K of the term, which has the K-th name. Linear in the positions.
 ///
 /// Where memory runs out, the report stays as it was.
-pub fn print_reduced(reduced: &Reduced, report: &mut Report) -> Result<(), NoMemory>
+pub fn print_named(terms: &TermList, names: &[u32], report: &mut Report) -> Result<(), NoMemory>
     requires { IsTrue (is_line_start report.old) }
-    ensures ok { OnOk result (report.new ≡ report.old ++ named_text reduced.now.terms reduced.now.names.items) }
+    ensures ok { OnOk result (report.new ≡ report.old ++ named_text terms.now names.now) }
     ensures err { OnErr result (report.new ≡ report.old) }
 {
     let start = report.len();
-    let printed = print_parts(reduced, report);
+    let printed = print_parts(terms, names, report);
     if printed.is_err() {
         report.cut(start);
     }

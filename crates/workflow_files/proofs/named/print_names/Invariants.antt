@@ -1,8 +1,8 @@
 use Rattle.std.proofs.Common.{◌≡◌, ◌++◌}
 use Rattle.std.specs.Bool.{IsTrue}
 use Rattle.mp_text.specs.Report.{is_line_start, text_of_lines}
-use Rattle.sp_reduce.proofs.NamedLines.{lines_before}
-use Rattle.sp_reduce.proofs.printing.print_names.Given as goal
+use Rattle.workflow_files.proofs.NamedLines.{lines_before}
+use Rattle.workflow_files.proofs.named.print_names.Given as goal
 
 abbrev pub invariant-loop-place : goal.invariant-loop-place
 invariant-loop-place l = record {
