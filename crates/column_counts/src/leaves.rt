@@ -4,7 +4,7 @@ ghost use Rattle.std.specs.Prelude.{◌≡◌, ℕ, Bool, ◌+◌, ◌-◌, ◌^
 ghost use Rattle.std.specs.List.{range_with_len};
 ghost use Rattle.limits.specs.Limits.{most_order};
 ghost use Rattle.patterns.specs.Pattern.{is_joined};
-ghost use Rattle.ordering.specs.Fill.{renumbered, count_of, parents_of};
+ghost use Rattle.ordering.specs.Fill.{renumbered, parents_of};
 ghost use Rattle.permutations.specs.Perm.{place_of};
 ghost use Rattle.column_counts.specs.Leaves.{IsFirsts, AreSpans, with_entry, AreEmpty, AreReady, HoldLeaves, CanTakeColumn};
 ghost use Rattle.column_counts.specs.Leaves.{AreLeavesBefore, AreAtMost, growth, AreBalanced, AreSums, HasCount};

@@ -1,4 +1,4 @@
-ghost use Rattle.std.specs.Prelude.{◌≡◌, ◌<◌, length, MatchResult, IfOk};
+ghost use Rattle.std.specs.Prelude.{◌≡◌, MatchResult, IfOk};
 ghost use Rattle.mp_text.specs.Ahead.{row};
 ghost use Rattle.mp_text.specs.Reading.{Gives, Steps, tested};
 ghost use Rattle.matrix_files.specs.OrderKinds.{perm_word};
@@ -7,8 +7,8 @@ ghost use Rattle.permutations.specs.Perm.{IsVertex, PermState, times};
 ghost use Rattle.matrix_files.specs.PermFile.{perm_token_tests, perm_format, ReadsPerm, IsPermRefusal};
 ghost use Rattle.matrix_files.specs.OrderReader.{vertex_step, perm_step, perm_end, took_perm};
 
-use permutations::{PartialPerm, Perm};
 use mp_text::{Kind, Layout, Line, Reader, Refusal, fault, number, read_with, tokens};
+use permutations::{PartialPerm, Perm};
 use std::alloc::Global;
 use std::fmt::{self, Display, Formatter, Write};
 use std::marker::Model;

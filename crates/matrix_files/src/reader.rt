@@ -8,9 +8,9 @@ ghost use Rattle.matrix_files.specs.Stated.{AreStated};
 
 use crate::kind::MatrixKind;
 use crate::lines::{Size, banner_on, entry_on, size_on};
-use patterns::Pattern;
 use crate::stage::Stage;
 use mp_text::{Layout, Line, Reader, Refusal, fault, read_with};
+use patterns::Pattern;
 use std::alloc::Global;
 use std::marker::Model;
 

@@ -18,7 +18,7 @@ use Rattle.activation.specs.Schedule.{HoldsEach}
 use Rattle.mp_system.specs.System.{TaskSystem}
 use Rattle.mp_system.specs.Traversal.{IsTraversal}
 use Rattle.permutations.specs.Perm.{IsPerm}
-use Rattle.plans.specs.Plan.{RanksAll, IsPriority}
+use Rattle.plans.specs.Plan.{IsPriority}
 
 -- ---- what holds each task once
 
@@ -28,15 +28,12 @@ of_traversal system order traversal = record { once = traversal.once; within = t
 pub of_perm : (system : TaskSystem) (priority : List ℕ) → IsPerm (length system.tasks) priority → HoldsEach system priority
 of_perm system priority perm = record { once = perm.once; within = perm.vertices }
 
-of_ranks : (system : TaskSystem) (priority : List ℕ) → RanksAll (length system.tasks) priority → HoldsEach system priority
-of_ranks system priority ranks = record { once = ranks.once; within = ranks.tasks }
-
 -- the priority that comes with a traversal of as many tasks
 pub of_own : (system : TaskSystem) (order priority : List ℕ) → IsTraversal system order → length order ≡ length system.tasks → IsPriority (length order) priority
     → HoldsEach system (priority_or order priority)
 of_own system order [] traversal long is = of_traversal system order traversal
 of_own system order (v ∷ vs) traversal long (inl is) = absurd (cc is)
-of_own system order (v ∷ vs) traversal long (inr ranks) = of_ranks system (v ∷ vs) (subst (λ (n : ℕ). RanksAll n (v ∷ vs)) long ranks)
+of_own system order (v ∷ vs) traversal long (inr perm) = of_perm system (v ∷ vs) (subst (λ (n : ℕ). IsPerm n (v ∷ vs)) long perm)
 
 -- ---- the priority
 

@@ -8,8 +8,8 @@ ghost use Rattle.lists.specs.Numbers.{Each, IsNumberFrom};
 
 use crate::NoMemory;
 use crate::column_pairs::pairs_of;
-use limits::{MOST_ENTRIES, MOST_ORDER};
 use crate::pattern::Pattern;
+use limits::{MOST_ENTRIES, MOST_ORDER};
 use std::alloc::Global;
 
 /// Why compressed columns are none of a matrix.

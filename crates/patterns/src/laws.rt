@@ -5,7 +5,6 @@ ghost use Rattle.limits.specs.Limits.{most_order};
 ghost use Rattle.patterns.specs.Pattern.{IsPairWithin, IsPatternOf};
 ghost use Rattle.patterns.specs.Plain.{plain_rows};
 
-
 /// Pairs of vertices have one pattern: that which lists, for each vertex, all that some pair names with it.
 pub fn one_pattern()
     ensures some { (order : ℕ) (pairs : List (ℕ × ℕ)) → 1 ≤ order → order ≤ most_order → All (IsPairWithin order) pairs →

@@ -1,7 +1,7 @@
 //! Patterns of symmetric matrices, from pairs and from a caller's compressed columns.
 //!
-//! The definitions stand in specs/: `Pattern`; `Columns`, the pattern that compressed columns give, and what they are refused with; the laws
-//! in [`laws`].
+//! The definitions stand in specs/: `Pattern`; `Columns`, the pattern that compressed columns give, and what they are refused with. The
+//! laws stand in [`laws`].
 //!
 //! ```
 //! let pattern = pattern_of_columns(alloc, 0, &[0, 1, 3, 3], &[1, 0, 2])?;

@@ -1,4 +1,5 @@
-//! Permutations: orders of elimination, each vertex once, with the place of each; and what a caller's numbers are refused with.
+//! Permutations: orders of elimination, each vertex once, with the place of each, and what comes first in one, as in a priority of tasks that
+//! is read; and what a caller's numbers are refused with.
 //!
 //! ```
 //! let perm = perm_of_numbers(alloc, 0, &[2, 0, 1], 3)?;

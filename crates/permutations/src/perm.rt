@@ -86,8 +86,8 @@ pub fn identity(alloc: Global, n: u32) -> Result<Perm, NoMemory>
     Ok(Perm { vertices, places })
 }
 
-/// The vertices that come first in an order of elimination of 1 to `n`, for a reader that takes one after another: each is judged at once,
-/// by a table of places. Contracts see `n` and the list of the vertices.
+/// The vertices that come first in a permutation of 1 to `n`, for a reader that takes one after another: each is judged at once, by a table
+/// of places. Contracts see `n` and the list of the vertices. Where a priority ranks tasks, they are its vertices.
 #[derive(Drop)]
 pub struct PartialPerm {
     n: u32,
@@ -152,7 +152,8 @@ impl PartialPerm {
         self.vertices.len() - 1
     }
 
-    /// Puts a vertex, from 1 to `n`, that does not stand in the order yet at its end. After want of memory the order is not to be relied on.
+    /// Puts a vertex, from 1 to `n`, at the end of the order, in which it does not stand yet. After want of memory nothing is promised of
+    /// the order.
     #[tactic(auto, using(crate::proofs::TableLemmas::order_push))]
     pub fn push(&mut self, vertex: u32) -> Result<(), NoMemory>
         requires vertex { IsVertex self.old.n vertex }

@@ -13,7 +13,8 @@ use Rattle.mp_text.specs.declared.words.Version.{Version}
 use Rattle.mp_text.specs.declared.words.Version.TheVariants.{One, Two}
 use Rattle.mp_text.specs.Ahead.{rows_of_bytes}
 use Rattle.mp_text.specs.Grammar.{test, first_failure, ArePassed, token_at}
-use Rattle.plans.specs.Plan.{PlanValue, most_number, IsPlan, IsClaimWithin, RiseFrom, IsTaskNumber, RanksAll, IsPriority, times}
+use Rattle.permutations.specs.Perm.{IsPart, IsPerm, IsVertex, times}
+use Rattle.plans.specs.Plan.{PlanValue, most_number, IsPlan, IsClaimWithin, RiseFrom, IsPriority}
 use Rattle.plan_files.specs.PlanFile.{Stated, stated, plan_format, staged_tests, is_ended, is_number_up_to, is_bound, bound_of, value_of, task_on, stated_on, claim_on, last_position, claim_tests, order_tests, peak_tests, priority_tests, priority_section_tests, tests_after_order, last_tests, ReadsPlan}
 use Rattle.plan_files.specs.Reader.{staged_next, with_task, with_rank, with_claim, peak_next, ranks_next, after_order_next}
 use Rattle.plan_files.proofs.ReaderLaws.{stated_push}
@@ -21,7 +22,7 @@ use Rattle.plans.specs.declared.claim.Claim.{Claim}
 use Rattle.plan_files.specs.declared.stage.Stage.{Stage}
 use Rattle.plan_files.specs.declared.stage.Stage.TheVariants as stages
 use Rattle.plans.proofs.Rising.{last_from, rise_push, rise_at, last_is}
-use Rattle.plans.proofs.RankLemmas.{IsPart, part-none, part-push, ranks_from_part}
+use Rattle.permutations.proofs.PermLemmas.{part-none, part-push, perm_from_part}
 
 -- ---- tests that hold
 
@@ -41,7 +42,7 @@ hold a b c r s t none =
 order-test : (row : Row) → first_failure (order_tests row) ≡ None → task_on row ≤ most_number
 order-test row passed = up_to most_number (token_at 0 row) (passes _ _ _ (passes _ _ _ passed).1).0
 
-priority-test : (tasks : ℕ) (before : List ℕ) (row : Row) → first_failure (priority_tests tasks before row) ≡ None → IsTaskNumber tasks (task_on row) × (times before (task_on row) ≡ 0)
+priority-test : (tasks : ℕ) (before : List ℕ) (row : Row) → first_failure (priority_tests tasks before row) ≡ None → IsVertex tasks (task_on row) × (times before (task_on row) ≡ 0)
 priority-test tasks before row passed =
     let v = task_on row in
     let all = and_parts (leb 1 v && leb v tasks) (eqb (times before v) 0) (hold _ _ _ _ _ _ passed).1 in
@@ -134,7 +135,7 @@ whole : (s : Stated) → IsInPriority s → s.count ≤ length s.priority → Is
 whole s at full =
     elim at.count [
       | inl none ↦ inl (empty s.priority (let within = at.within in omega arith))
-      | inr all ↦ inr (subst (λ (n : ℕ). RanksAll n s.priority) at.tasks (ranks_from_part s.tasks s.priority at.part (let within = at.within in omega arith)))
+      | inr all ↦ inr (subst (λ (n : ℕ). IsPerm n s.priority) at.tasks (perm_from_part s.tasks s.priority at.part (let within = at.within in omega arith)))
     ] where
       empty : (xs : List ℕ) → length xs ≤ 0 → xs ≡ []
       empty [] le = refl

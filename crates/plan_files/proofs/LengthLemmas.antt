@@ -13,7 +13,8 @@ use Rattle.limits.specs.Limits.{most_bytes, most_tasks, most_positions, most_tot
 use Rattle.mp_text.specs.declared.words.Version.{Version}
 use Rattle.mp_text.specs.declared.words.Version.TheVariants.{One, Two}
 use Rattle.mp_text.specs.Report.{line_text, text_of_lines}
-use Rattle.plans.specs.Plan.{PlanValue, most_number, IsPlan, IsClaimWithin, IsTaskNumber, IsPriority}
+use Rattle.permutations.specs.Perm.{IsVertex}
+use Rattle.plans.specs.Plan.{PlanValue, most_number, IsPlan, IsClaimWithin, IsPriority}
 use Rattle.plan_files.specs.Printed.{header_line, section_line, task_line, claim_line, dir_word, end_line, task_lines, claim_lines, priority_lines, last_lines, text_in}
 use Rattle.plans.specs.declared.claim.Claim.{Claim}
 use Rattle.plans.specs.declared.claim.Direction.{Direction}
@@ -135,7 +136,7 @@ priority-within Two n priority few (inl none) =
     tasks-within (codes "priority") priority (omega arith) (omega (arith, ap length none)) (All-same IsSmall priority [] none (All-nil IsSmall))
 priority-within Two n priority few (inr ranks) =
     let len = ranks.len in
-    let small = All-weaker (IsTaskNumber n) IsSmall (λ v task. let le = task.1 in omega arith) priority ranks.tasks in
+    let small = All-weaker (IsVertex n) IsSmall (λ v task. let le = task.1 in omega arith) priority ranks.vertices in
     tasks-within (codes "priority") priority (omega arith) (omega arith) small
 
 -- ---- all lines

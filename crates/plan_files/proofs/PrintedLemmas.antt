@@ -1,5 +1,5 @@
 -- A printed plan is read as it was.
-use Rattle.std.proofs.Common.{◌≡◌, ℕ, ◌+◌, ◌^◌, ◌<◌, ◌≤◌, inl, inr, true, false, not, ◌||◌, eqb, ltb, List, [], ◌∷◌, ◌++◌, length, map, refl, sym, ap, subst, ◌∙◌, arith, ℤ, unsigned_abs, Some, None, append_assoc, append-nil, length-append}
+use Rattle.std.proofs.Common.{◌≡◌, ℕ, ◌+◌, ◌^◌, ◌<◌, ◌≤◌, inl, inr, true, false, not, cond, ◌||◌, eqb, ltb, List, [], ◌∷◌, ◌++◌, length, map, refl, sym, ap, subst, ◌∙◌, arith, ℤ, unsigned_abs, Some, None, append_assoc, append-nil, length-append}
 use Rattle.std.specs.Bool.{IsTrue}
 use Rattle.std.specs.Fmt.{decimal, signed_decimal}
 use Rattle.std.specs.Prelude.{FitsSigned, codes}
@@ -9,6 +9,7 @@ use Rattle.std.proofs.lemmas.Bool.{and_from, or_right, le-leb, lt-ltb, le-ltb, e
 use Rattle.std.proofs.lemmas.Int.{fits_signed_from_abs}
 use Rattle.std.proofs.lemmas.List.Elements.{All-head, All-tail}
 use Rattle.std.proofs.lemmas.List.Folds.{list_all-append}
+use Rattle.std.proofs.lemmas.List.Sums.{sum_by-append}
 use Rattle.limits.specs.Limits.{most_tasks, most_positions, most_total}
 use Rattle.mp_text.specs.declared.layout.Layout.{Layout}
 use Rattle.mp_text.specs.declared.layout.Layout.TheVariants.{Commented}
@@ -19,7 +20,9 @@ use Rattle.mp_text.specs.Words.{after_word, version_of}
 use Rattle.mp_text.specs.Ahead.{rows_of_bytes, past_of_bytes}
 use Rattle.mp_text.specs.Grammar.{first_failure, ArePassed}
 use Rattle.mp_text.specs.Report.{is_counted, numbered_from, text_of_lines, is_token}
-use Rattle.plans.specs.Plan.{PlanValue, most_number, IsPlan, IsClaimWithin, RiseFrom, IsTaskNumber, IsPriority, times}
+use Rattle.permutations.specs.Perm.{IsVertex, times}
+use Rattle.permutations.proofs.PlaceLemmas.{times-here}
+use Rattle.plans.specs.Plan.{PlanValue, most_number, IsPlan, IsClaimWithin, RiseFrom, IsPriority}
 use Rattle.plan_files.specs.PlanFile.{Stated, stated, nothing, plan_format, tests_after, plan_stated, end_tests_after, peak_tests, dir_named, last_position, ReadsPlan}
 use Rattle.plan_files.specs.Printed.{header_line, section_line, task_line, claim_line, dir_word, end_line, task_lines, claim_lines, priority_lines, last_lines, lines_in, text_in, version_for, text_of, text2_of}
 use Rattle.plan_files.specs.Reader.{next, peak_next}
@@ -29,7 +32,6 @@ use Rattle.plans.specs.declared.claim.Direction.{Direction}
 use Rattle.plans.specs.declared.claim.Direction.TheVariants.{Forward, Backward}
 use Rattle.plan_files.specs.declared.stage.Stage.TheVariants as stages
 use Rattle.plan_files.proofs.FormLemmas.{last-rises}
-use Rattle.plans.proofs.RankLemmas.{times-before}
 
 -- what the laws of printed numbers and files say
 pub record AreLaws : Type 0 where
@@ -91,6 +93,10 @@ at_place : (P : ℕ → Type 0) (before : List ℕ) (x : ℕ) (xs : List ℕ) �
 at_place P [] x xs all = All-head P x xs all
 at_place P (b ∷ before) x xs all = at_place P before x xs (All-tail P b (before ++ x ∷ xs) all)
 
+-- a task that stands once in a list, at a place, does not stand before it
+times-before : (before : List ℕ) (x : ℕ) (xs : List ℕ) → times (before ++ x ∷ xs) x ≡ 1 → times before x ≡ 0
+times-before before x xs once = omega (arith, sum_by-append (λ y. cond (eqb y x) 1 0) before (x ∷ xs), times-here x x xs refl, once)
+
 ranks-lead : AreLaws → (s : Stated) (all before xs : List ℕ) (rest : List (List (List ℕ))) (t : Stated)
     → s.count ≤ most_tasks → IsPriority s.count all → all ≡ before ++ xs
     → LeadsOn (at_ranks s (length all) all) rest t → LeadsOn (at_ranks s (length all) before) (map task_line xs ++ rest) t
@@ -98,7 +104,7 @@ unfolding Leads
 ranks-lead laws s all before [] rest t few ranked e more n = subst (λ (ys : List ℕ). Leads (at_ranks s (length all) ys) (numbered_from n rest) t) (e ∙ append-nil before) (more n)
 ranks-lead laws s all before (x ∷ xs) rest t few (inl none) e more n = absurd (omega (arith, ap length none, ap length e, length-append before (x ∷ xs)))
 ranks-lead laws s all before (x ∷ xs) rest t few (inr ranks) e more n =
-    let task = at_place (IsTaskNumber s.count) before x xs (subst (All (IsTaskNumber s.count)) e ranks.tasks) in
+    let task = at_place (IsVertex s.count) before x xs (subst (All (IsVertex s.count)) e ranks.vertices) in
     let fresh : times before x ≡ 0 = times-before before x xs (ap (λ (ys : List ℕ). times ys x) (sym e) ∙ ranks.once x task) in
     let open_yet : ltb (length before) (length all) ≡ true = lt-ltb _ _ (omega (arith, ap length e, length-append before (x ∷ xs))) in
     let above = task.1 in
@@ -251,7 +257,7 @@ module _ (laws : AreLaws) where
   priority-counted Two n priority few (inr ranks) =
       let len = ranks.len in
       and_from _ _ (section-counted (codes "priority") (length priority) refl refl (omega arith))
-      (tasks-counted priority (λ i d lt. let task = ranks.tasks i d lt in let le = task.1 in omega arith))
+      (tasks-counted priority (λ i d lt. let task = ranks.vertices i d lt in let le = task.1 in omega arith))
 
   lines-counted : (v : Version) (plan : PlanValue) → IsPlan plan → list_all (is_counted Commented) (lines_in v plan) ≡ true
   lines-counted v plan is =

@@ -17,7 +17,8 @@ use Rattle.mp_text.specs.Words.{after_word, version_of}
 use Rattle.mp_text.specs.Ahead.{rows_of_bytes, past_of_bytes}
 use Rattle.mp_text.specs.Grammar.{Test, test, Format, IsWellFormed, Refuses, fault, fault_at, token_at}
 use Rattle.mp_text.specs.Reading.{IsRefusal}
-use Rattle.plans.specs.Plan.{PlanValue, most_number, times}
+use Rattle.permutations.specs.Perm.{times}
+use Rattle.plans.specs.Plan.{PlanValue, most_number}
 use Rattle.plans.specs.declared.claim.Claim.{Claim}
 use Rattle.plans.specs.declared.claim.Direction.{Direction}
 use Rattle.plans.specs.declared.claim.Direction.TheVariants.{Forward, Backward}
@@ -117,7 +118,8 @@ claim_on row = record {
 
 -- the position of the last claim, 0 where there is none
 abbrev pub last_position : List Claim → ℕ
-last_position claims = (slice_index_or claims (length claims - 1) (record { position = 0; dir = Forward; bound = pos 0; rest = 0 })).position
+last_position claims =
+    (slice_index_or claims (length claims - 1) (record { position = 0; dir = Forward; bound = pos 0; rest = 0 })).position
 
 -- the tokens of a claim line
 abbrev pub claim_form : Row → List (Test PlanKind)

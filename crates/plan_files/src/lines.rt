@@ -5,7 +5,7 @@ ghost use Rattle.limits.specs.Limits.{most_tasks, most_positions, most_total};
 ghost use Rattle.mp_text.specs.Text.{number_of, signed_of};
 ghost use Rattle.mp_text.specs.Ahead.{row};
 ghost use Rattle.mp_text.specs.Reading.{Gives, tested};
-ghost use Rattle.plans.specs.Plan.{IsTaskNumber};
+ghost use Rattle.permutations.specs.Perm.{IsVertex, times};
 ghost use Rattle.plan_files.specs.PlanFile.{is_number_up_to, dir_named, is_bound, header_tests, version_stated, section_form, stated_on};
 ghost use Rattle.plan_files.specs.PlanFile.{order_section_tests, priority_section_tests, peak_tests, claims_section_tests, task_on};
 ghost use Rattle.plan_files.specs.PlanFile.{order_tests, priority_tests, last_position, claim_on, claim_form, claim_tests, last_tests};
@@ -15,7 +15,8 @@ use limits::{LimitName, MOST_POSITIONS, MOST_TASKS, MOST_TOTAL};
 use mp_text::{
     Line, Refusal, Version, after_word, fault, is_word, number, signed, tokens, version_of,
 };
-use plans::{Claim, Direction, Ranking};
+use permutations::PartialPerm;
+use plans::{Claim, Direction};
 
 // The greatest number of a task or a position.
 const MOST_NUMBER: u64 = 4_294_967_295;
@@ -126,17 +127,18 @@ pub fn order_on(line: Line<'_>) -> Result<u32, Refusal<PlanKind>>
     Ok(task as u32)
 }
 
-/// A priority line, after those that the ranking holds: the task.
-pub fn priority_on(ranking: &Ranking, line: Line<'_>) -> Result<u32, Refusal<PlanKind>>
+/// A priority line, after those whose tasks are ranked: the task.
+pub fn priority_on(ranked: &PartialPerm, line: Line<'_>) -> Result<u32, Refusal<PlanKind>>
     ensures judged { let r = row line.entry.number line.entry.text.now in
-        Gives (tested (priority_tests ranking.now.tasks ranking.now.ranked r) (task_on r)) result }
-    ensures task { IfOk result (IsTaskNumber ranking.now.tasks) }
+        Gives (tested (priority_tests ranked.now.n ranked.now.numbers r) (task_on r)) result }
+    ensures task { IfOk result (IsVertex ranked.now.n) }
+    ensures fresh { IfOk result (λ task. times ranked.now.numbers task ≡ 0) }
 {
     let token = tokens(line.text)
         .one()
         .ok_or(fault(line.number, PlanKind::Priority))?;
     let task = number(token).ok_or(fault(line.number, PlanKind::Number))?;
-    if !ranking.takes(task) {
+    if !ranked.takes(task) {
         return Err(fault(line.number, PlanKind::Priority));
     }
     Ok(task as u32)

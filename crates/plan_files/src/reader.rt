@@ -1,4 +1,4 @@
-ghost use Rattle.std.specs.Prelude.{◌≡◌, ◌≤◌, MatchResult};
+ghost use Rattle.std.specs.Prelude.{◌≡◌, ◌≤◌, IfOk, MatchResult};
 ghost use Rattle.limits.specs.Limits.{most_positions};
 ghost use Rattle.mp_text.specs.Ahead.{row};
 ghost use Rattle.mp_text.specs.Reading.{Steps, tested};
@@ -12,18 +12,21 @@ use crate::lines::{
 };
 use crate::stage::Stage;
 use mp_text::{Layout, Line, Reader, Refusal, Version, fault, read_with};
-use plans::{Claim, Plan, Ranking};
+use permutations::PartialPerm;
+use plans::{Claim, NoMemory, Plan};
 use std::alloc::Global;
 use std::marker::Model;
 
 /// What the lines of a plan file stated so far.
 #[derive(Drop)]
 pub struct PlanReader {
+    alloc: Global,
     stage: Stage,
     version: Version,
     count: u64,
     pub order: Vec<u32>,
-    pub ranking: Ranking,
+    // the tasks of the priority so far, of as many as the order has
+    pub ranked: PartialPerm,
     pub peak: u64,
     pub claims: Vec<Claim>,
 }
@@ -35,9 +38,9 @@ impl Model for PlanReader {
       stage = s.stage;
       version = s.version;
       count = s.count;
-      tasks = s.ranking.tasks;
+      tasks = s.ranked.n;
       order = s.order.items;
-      priority = s.ranking.ranked;
+      priority = s.ranked.numbers;
       peak = s.peak;
       claims = s.claims.items;
     } };
@@ -47,18 +50,19 @@ impl Model for PlanReader {
 
 impl PlanReader {
     /// A reader of which nothing was read.
-    pub fn new(alloc: Global) -> PlanReader
-        ensures { result ≡ nothing }
+    pub fn new(alloc: Global) -> Result<PlanReader, NoMemory>
+        ensures { IfOk result (λ reader. reader ≡ nothing) }
     {
-        PlanReader {
+        Ok(PlanReader {
+            alloc,
             stage: Stage::Header,
             version: Version::One,
             count: 0,
             order: Vec::new(alloc),
-            ranking: Ranking::new(alloc),
+            ranked: PartialPerm::new(alloc, 0)?,
             peak: 0,
             claims: Vec::new(alloc),
-        }
+        })
     }
 
     // Takes `peak P`.
@@ -77,7 +81,7 @@ impl PlanReader {
             Steps (tested (priority_section_tests self.old.count r) (ranks_next self.old r)) result self.new }
     {
         let count = priority_section_on(self.count, line)?;
-        self.ranking.begin(self.count as u32)?;
+        self.ranked = PartialPerm::new(self.alloc, self.count as u32)?;
         self.count = count;
         self.stage = Stage::Priority;
         Ok(())
@@ -104,9 +108,9 @@ impl PlanReader {
         requires { self.old.stage ≡ Stage.Priority }
         ensures { Steps (staged_step Stage.Priority self.old (row line.entry.number line.entry.text.now)) result self.new }
     {
-        if (self.ranking.len() as u64) < self.count {
-            let task = priority_on(&self.ranking, line)?;
-            self.ranking.push(task)?;
+        if (self.ranked.len() as u64) < self.count {
+            let task = priority_on(&self.ranked, line)?;
+            self.ranked.push(task)?;
             return Ok(());
         }
         self.peak_line(line)
@@ -188,13 +192,13 @@ impl Reader for PlanReader {
 pub fn read_plan(alloc: Global, bytes: &[u8]) -> Result<Plan, Refusal<PlanKind>>
     ensures { MatchResult result (λ plan. ReadsPlan bytes.now plan) (IsPlanRefusal bytes.now) }
 {
-    let reader = read_with(bytes, Layout::Commented, PlanReader::new(alloc))?;
+    let reader = read_with(bytes, Layout::Commented, PlanReader::new(alloc)?)?;
     let PlanReader {
         order,
-        ranking,
+        ranked,
         peak,
         claims,
         ..
     } = reader;
-    Ok(Plan::new(order, peak, claims, ranking.into_ranked()))
+    Ok(Plan::new(order, peak, claims, ranked.into_vertices()))
 }

@@ -8,10 +8,10 @@ use Rattle.plan_files.proofs.reader.read_plan.Goals as goal
 
 pub read_with-requires : goal.read_with-requires
 unfolding stated
-read_with-requires c = c.new.ensures
+read_with-requires c = c.in_ok-new.ensures
 
 pub new-requires-2 : goal.new-requires-2
 new-requires-2 c =
     let read = c.in_ok-reader.ensures.read in
     let is = reads-is_plan c.args.bytes.now (plan_stated (stated (rows_of_bytes Commented c.args.bytes.now))) (record { form = read.0; stated = refl }) in
-    rw c.into_ranked.ensures (subst IsPlan (sym (ap plan_stated (c.reader.view_is ∙ read.1))) is)
+    rw c.into_vertices.ensures (subst IsPlan (sym (ap plan_stated (c.reader.view_is ∙ read.1))) is)
