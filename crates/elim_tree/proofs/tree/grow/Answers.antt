@@ -1,4 +1,4 @@
-use Rattle.std.proofs.Common.{◌≡◌, ◌<◌, ◌≤◌, ℕ, List, true, length, arith, sym, ◌∙◌, subst, ap, add-one, slice_index}
+use Rattle.std.proofs.Common.{◌≡◌, ◌<◌, ◌≤◌, ℕ, true, length, arith, sym, ◌∙◌, subst, ap, add-one, slice_index}
 use Rattle.std.specs.List.Sorted.{IsStrictlyIncreasing}
 use Rattle.patterns.specs.Pattern.{is_joined, neighbours_of}
 use Rattle.permutations.specs.Perm.{vertex_at, place_of}
