@@ -11,7 +11,7 @@ use crate::commands::report;
 use crate::laws::what_answers_say;
 use judging::{Page, PageKind, Status, Stop};
 use mp_outside::{Files, Gate, Sink, write_all};
-use requests::{Request, request_of};
+use requests::request_of;
 use std::alloc::Global;
 use std::thread::Threads;
 
