@@ -43,7 +43,7 @@ returns-in_err-judge_priority-clause-judged g c =
     (stop_after told now c.in_ok-plan.ensures.same before then after c.in_ok-plan.ensures.later (plan_at name ∷ []) (plan_accepted told name plan is_plan)
     more (few_priority plan_priority_file given) (IsRefusedRanking (length plan.order))
     (λ one two answer are are_more refused. plan_ranks_refused told name plan is_plan given one two answer are are_more refused) e
-    (subst (λ (order : List ℕ). IsStop now then after more (IsRefusedRanking (length order)) e) c.rows.ensures.value
+    (subst (λ (order : List ℕ). IsStop now then after more (IsRefusedRanking (length order)) e) c.order.ensures.value
     (c.in_err-judge_priority.ensures.judged plan_priority_file)))
 
 pub with_priority-requires : goal.with_priority-requires
@@ -51,7 +51,7 @@ with_priority-requires g c =
     let plan = c.in_ok-plan.plan in
     ranked (length plan.order) c.in-Given.numbers.items
     (subst (IsRanking (length plan.order)) c.in-Given.is
-    (subst (λ (order : List ℕ). IsRanking (length order) c.in_ok-judge_priority.field-0) c.rows.ensures.value c.in_ok-judge_priority.ensures.each))
+    (subst (λ (order : List ℕ). IsRanking (length order) c.in_ok-judge_priority.field-0) c.order.ensures.value c.in_ok-judge_priority.ensures.each))
 
 pub returns-in-Own-clause-judged : goal.returns-in-Own-clause-judged
 returns-in-Own-clause-judged g c =
@@ -62,7 +62,7 @@ returns-in-Own-clause-judged g c =
     let plan = c.in_ok-plan.plan in
     upgraded_plan told c.args.name.now plan c.in_ok-plan.ensures.judged given Own
     (λ texts are. subst (IsPriorityOf given (length plan.order) texts) c.in-Own.is
-    (subst (λ (order : List ℕ). IsPriorityOf given (length order) texts c.in_ok-judge_priority.field-0) c.rows.ensures.value
+    (subst (λ (order : List ℕ). IsPriorityOf given (length order) texts c.in_ok-judge_priority.field-0) c.order.ensures.value
     (c.in_ok-judge_priority.ensures.judged plan_priority_file texts (told_same told now c.in_ok-plan.ensures.same more texts are))))
 
 pub returns-in-Given-clause-judged : goal.returns-in-Given-clause-judged
@@ -76,5 +76,5 @@ returns-in-Given-clause-judged g c =
     λ texts are. subst (λ (p : PlanValue). IsUpgradedFrom (plan_upgrade name given) texts (plan_value p)) (sym c.with_priority.ensures)
     (upgraded_plan told name plan c.in_ok-plan.ensures.judged given (Given c.in-Given.numbers)
     (λ ts told_more. subst (IsPriorityOf given (length plan.order) ts) c.in-Given.is
-    (subst (λ (order : List ℕ). IsPriorityOf given (length order) ts c.in_ok-judge_priority.field-0) c.rows.ensures.value
+    (subst (λ (order : List ℕ). IsPriorityOf given (length order) ts c.in_ok-judge_priority.field-0) c.order.ensures.value
     (c.in_ok-judge_priority.ensures.judged plan_priority_file ts (told_same told now c.in_ok-plan.ensures.same more ts told_more)))) texts are)
