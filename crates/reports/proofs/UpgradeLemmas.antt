@@ -39,7 +39,7 @@ pub record Kinds : Type 0 where
   pub perm : (n : ℕ) (bytes a : List ℕ) → ReadsPerm n bytes a → IsPerm n a
 
 pub ranked : (n : ℕ) (priority : List ℕ) → IsPerm n priority → IsPriority n priority
-ranked n priority perm = inr (record { len = perm.len; tasks = perm.vertices; once = perm.once })
+ranked n priority perm = inr perm
 
 -- a plan stays one with a priority that ranks each of its tasks
 ranked_plan : (plan : PlanValue) (priority : List ℕ) → IsPlan plan → IsPerm (length plan.order) priority → IsPlan (with_priority plan priority)
