@@ -5,9 +5,9 @@ usage: bench/first_build.py FOLDER [WORD ..]
 
 Runs the words (./memplan plan --tree examples/five.tree, if there are none) in FOLDER, a clean clone
 on a machine that has nothing proved yet, and looks every two seconds at the processes that prove a
-crate of it. Prints a line for each crate, with the seconds that its proof took, in the order of
-crates.txt, as tools/first_build.txt has them; and to standard error what all of them took, and the
-time by the clock. What proves tests or tries edits, as `rt ci` does too, is left out.
+crate of it. Prints a line for each crate but those of tests, with the seconds that its proof took,
+in the order of crates.txt, as tools/first_build.txt has them; and to standard error what all of them
+took, and the time by the clock. What proves tests or tries edits, as `rt ci` does too, is left out.
 """
 import os
 import re
@@ -22,7 +22,8 @@ TICKS = os.sysconf("SC_CLK_TCK")
 
 def crates_of(folder: Path) -> list[str]:
     lines = (folder / "crates.txt").read_text(encoding="ascii").splitlines()
-    return [re.split(r"[ :]", line)[0] for line in lines if line and not line.startswith("#")]
+    names = [re.split(r"[ :]", line)[0] for line in lines if line and not line.startswith("#")]
+    return [name for name in names if not name.endswith("_tests")]
 
 
 def is_proof(words: list[str], place: str, folder: Path) -> bool:

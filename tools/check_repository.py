@@ -12,7 +12,9 @@ usage: check_repository.py [PROGRAM]
 - docs/PROVED.md names what is proved: each function and each clause of its tables stands in a public
   contract of the crate; its table of a function has every clause of it, its table of a definition
   every line of it with the words that the line cites, and its table of crates every crate of
-  crates.txt.
+  crates.txt but those of tests.
+- docs/ARCHITECTURE.md lists the crates of each section of crates.txt, but those of tests, in their
+  order, under a heading with the section's name.
 - docs/DEFINITIONS.md: each quoted block (```antt) stands in a file of specs/ as it is; the tables of
   files have exactly what the contract of the top call reaches, and the examples that they name are
   computed in specs/.
@@ -31,13 +33,15 @@ from pathlib import Path
 from typing import NamedTuple, Optional
 
 sys.dont_write_bytecode = True
-from reached_specs import TOP_CALL, reached_by  # noqa: E402: so that nothing is written beside it
+from make_crates import Listed  # noqa: E402: so that nothing is written beside it
+from reached_specs import TOP_CALL, reached_by  # noqa: E402
 
 ROOT = Path(__file__).resolve().parent.parent
 SECONDS = 60
 
 PROVED = "docs/PROVED.md"
 DEFINITIONS = "docs/DEFINITIONS.md"
+ARCHITECTURE = "docs/ARCHITECTURE.md"
 
 COMPLAINTS = {2: "usage", 6: "read fault", 7: "write fault", 8: "no memory"}
 # What a name as code must end with to be taken for a file.
@@ -346,15 +350,24 @@ def check_all_named(what: str, wanted: set[str], table: Table) -> Iterator[Findi
         yield Finding(f"{PROVED}: {what} {word}", None if word in named else "no row names it")
 
 
+def storeys() -> dict[str, list[str]]:
+    """The crates of each section of crates.txt, without those of tests."""
+    listed = Listed((ROOT / "crates.txt").read_text(encoding="utf-8"))
+    found: dict[str, list[str]] = {}
+    for name, crate in listed.crates.items():
+        if not name.endswith("_tests"):
+            found.setdefault(listed.sections[crate.section], []).append(name)
+    return found
+
+
 def check_crates(table: Table) -> Iterator[Finding]:
     for number, cells in table.rows:
         contracts = Contracts(SPAN.findall(cells[0]))
         for word, is_there in check_cell(contracts, cells[-1]):
             place = f"{PROVED}:{number}: {cells[0]}: {word}"
             yield Finding(place, None if is_there else "no public contract has it")
-    lines = (ROOT / "crates.txt").read_text(encoding="utf-8").split("\n")
-    listed = {line.split(":")[0].split()[0] for line in lines if re.match(r"\w+[ \w]*:", line)}
-    yield from check_all_named("crate", listed, table)
+    wanted = {name for crates in storeys().values() for name in crates}
+    yield from check_all_named("crate", wanted, table)
 
 
 def check_function(table: Table) -> Iterator[Finding]:
@@ -375,9 +388,9 @@ def cited_by(text: str, definition: str) -> set[tuple[str, str]]:
 
 def check_definition(table: Table) -> Iterator[Finding]:
     """The line before the table names a crate, its file and the definition."""
-    crate, file, definition = SPAN.findall(table.before)[:3]
-    text = (ROOT / "crates" / crate / file).read_text(encoding="utf-8")
-    cited = cited_by(text, definition)
+    crate, name, definition = SPAN.findall(table.before)[:3]
+    file = ROOT / "crates" / crate / name
+    cited = cited_by(file.read_text(encoding="utf-8") if file.is_file() else "", definition)
     rows = [(SPAN.findall(cells[0]), SPAN.findall(cells[-1])) for _, cells in table.rows]
     named = {(case, word) for cases, words in rows for case in cases for word in words}
     for case, word in sorted(cited | named):
@@ -404,6 +417,25 @@ def check_proved() -> Iterator[Finding]:
         yield from check_function(table)
     for table in definitions:
         yield from check_definition(table)
+
+
+# The storeys
+
+
+def check_storeys() -> Iterator[Finding]:
+    """The page names the crates of each section, the first word of each point of its list, in the order of crates.txt."""
+    file = ROOT / ARCHITECTURE
+    page = file.read_text(encoding="utf-8").split("\n") if file.is_file() else []
+    named: dict[str, list[str]] = {}
+    heading = ""
+    for _, line in prose(page):
+        heading = line[4:] if line.startswith("### ") else "" if line.startswith("#") else heading
+        if found := re.match(r"- `(\w+)`", line):
+            named.setdefault(heading, []).append(found[1])
+    for section, crates in storeys().items():
+        said = named.get(section, [])
+        fault = None if said == crates else f"it lists {' '.join(said) or 'nothing'} and not {' '.join(crates)}"
+        yield Finding(f"{ARCHITECTURE}: {section}", fault)
 
 
 # What is defined
@@ -468,6 +500,7 @@ def findings(program: Path) -> Iterator[Finding]:
         yield from check_names(name, page, places)
         yield from check_runs(name, page, program)
     yield from check_proved()
+    yield from check_storeys()
     yield from check_definitions()
 
 

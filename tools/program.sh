@@ -15,10 +15,11 @@ tell() {
 }
 
 # Whether no source changed since a file was written, nor what else is named. The times of a change of status are compared, which no copying
-# of files sets back. The folder of a crate does not count, since out/ comes and goes in it.
+# of files sets back. The folder of a crate does not count, since out/ comes and goes in it; nor do crates of tests, which no program has.
 is_newest() {
-    [ -e "$1" ] && [ -z "$(find "$here/crates.txt" "$here/tools/toolchain.txt" "$here/crates" "${@:2}" \( -name out -o -name must-fail \) -prune \
-        -o -cnewer "$1" ! \( -path "$here/crates/*" ! -path "$here/crates/*/*" \) -print -quit 2>&1)" ]
+    local -a crate=(-path "$here/crates/*" ! -path "$here/crates/*/*")
+    [ -e "$1" ] && [ -z "$(find "$here/crates.txt" "$here/tools/toolchain.txt" "$here/crates" "${@:2}" \
+        \( -name out -o -name must-fail -o "${crate[@]}" -name '*_tests' \) -prune -o -cnewer "$1" ! \( "${crate[@]}" \) -print -quit 2>&1)" ]
 }
 
 # Where it is noted that the sources are those of prebuilt/: in out/, or where nothing can be written here, in the caller's own cache.

@@ -3,7 +3,7 @@
 
 usage: reached_specs.py [SOURCE FUNCTION]
 
-SOURCE is a file of a crate, crates/memplan/src/run.rt if nothing else is said, and FUNCTION a function
+SOURCE is a file of a crate, crates/reports/src/run.rt if nothing else is said, and FUNCTION a function
 of it, run_words. From the names in its clauses on, each name is followed by the imports of the file in
 which it stands, to the definition that it names, and so on. Printed are the files of specs/ that are
 reached, each with the definitions that are, crate by crate. Names of std and of the kit's crates, and
@@ -15,7 +15,7 @@ from pathlib import Path
 from typing import NamedTuple, Optional
 
 ROOT = Path(__file__).resolve().parent.parent
-TOP_CALL = (ROOT / "crates/memplan/src/run.rt", "run_words")
+TOP_CALL = (ROOT / "crates/reports/src/run.rt", "run_words")
 
 WORD = re.compile(r"(?:\w+\.)?\w+")
 IMPORT = re.compile(r"use Rattle\.([\w.]+?)(?:\.\{([^}]*)\}| as (\w+))?;?$")

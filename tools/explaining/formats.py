@@ -2,7 +2,7 @@
 
 from typing import Callable, Dict, List
 
-from explaining.files import KINDS, Case, File, foreign, form_of, is_number, many, wrong_token
+from explaining.files import Case, File, foreign, form_of, is_number, many, wrong_token
 
 SECOND_LINES = {"tree": "nodes N", "workflow": "tasks N"}
 
@@ -265,9 +265,9 @@ MEANINGS: Dict[str, object] = {
     "plan priority": "The priority is empty, or has each task once.",
     "plan claim": "A claim is `POSITION F|R BOUND REST`, by rising positions: is the number behind `claims` right?",
 }
-for kind in KINDS:
-    MEANINGS.setdefault(f"{kind} header", header)
-    MEANINGS.setdefault(f"{kind} no-end", NO_END)
+for kind in ("tree", "workflow", "graph", "plan"):
+    MEANINGS[f"{kind} header"] = header
+    MEANINGS[f"{kind} no-end"] = NO_END
 for kind in ("perm", "priority"):
     for word in ("number", "count", "range", "repeated"):
         MEANINGS[f"{kind} {word}"] = (odd_one, permutation_cause)

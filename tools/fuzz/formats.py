@@ -3,13 +3,15 @@ import re
 from collections.abc import Callable
 from typing import NamedTuple, Optional
 
-MOST_SIZE = MOST_TIME = 2**40
+# The limits, which tools/check_facts.py compares with those of the program.
+MOST_SIZE = MOST_TIME = MOST_ZEROS = 2**40
 MOST_TOTAL = 2**60
-MOST_TASKS = MOST_ROWS = 1_000_000
+MOST_TASKS = MOST_ORDER = 1_000_000
 MOST_ENTRIES = 10_000_000
 MOST_POSITIONS = 4_000_001
 MOST_ARCS = 2_000_001
 MOST_MINDEG = 50_000
+MOST_WORKERS = 4_096
 
 
 class Refused(Exception):
@@ -238,7 +240,7 @@ def read_matrix(text: bytes) -> int:
     sizes = values_of(page.tokens) or []
     page.test(len(sizes) == 3 and 0 not in sizes[:2], "size-line")
     page.test(sizes[0] == sizes[1], "not-square")
-    page.limit(sizes[0] <= MOST_ROWS, "order")
+    page.limit(sizes[0] <= MOST_ORDER, "order")
     page.limit(sizes[2] <= MOST_ENTRIES, "entries")
     seen = 0
     for page.number, page.tokens in page.rest:
@@ -332,8 +334,8 @@ def read_claim(page: Page, before: int) -> int:
     page.go_on()
     page.test(len(page.tokens) == 4 and page.tokens[1] in (b"F", b"R"), "claim")
     position, rest = page.number_at(0), page.number_at(3)
-    page.test(re.fullmatch(rb"-?[0-9]+", page.tokens[2]) is not None and abs(int(page.tokens[2])) <= 2**60, "number")
-    page.test(position < 2**32 and rest <= 2**60, "number")
+    page.test(re.fullmatch(rb"-?[0-9]+", page.tokens[2]) is not None and abs(int(page.tokens[2])) <= MOST_TOTAL, "number")
+    page.test(position < 2**32 and rest <= MOST_TOTAL, "number")
     page.test(position > before, "claim")
     return position
 
@@ -462,13 +464,13 @@ CHOICES = {
 }
 
 RANGES = {
-    "amalgamate": (0, 2**40),
+    "amalgamate": (0, MOST_ZEROS),
     "bound": (0, 2**64 - 1),
-    "workers": (1, 4096),
+    "workers": (1, MOST_WORKERS),
     "seed": (0, 2**64 - 1),
-    "tasks": (1, 1_000_000),
-    "rows": (1, 50_000),
-    "cols": (1, 50_000),
+    "tasks": (1, MOST_TASKS),
+    "rows": (1, MOST_MINDEG),
+    "cols": (1, MOST_MINDEG),
 }
 
 
@@ -519,4 +521,4 @@ def is_demo(options: dict[str, str]) -> bool:
     wanted = {"rows", "cols"} if options.get("kind") == "grid" else {"seed", "tasks"}
     if set(options) - {"kind"} != wanted or not all(is_value(name, value) for name, value in options.items()):
         return False
-    return "rows" not in wanted or int(options["rows"]) * int(options["cols"]) <= 50_000
+    return "rows" not in wanted or int(options["rows"]) * int(options["cols"]) <= MOST_MINDEG

@@ -21,6 +21,7 @@ SYSTEM = "/usr/bin:/bin"  # where no toolchain lies
 NO_PROGRAM = 20
 POSTORDER = "peak 15\norder 5\n1\n2\n3\n4\n5\nend\n"
 SOURCE = "crates/limits/src/lib.rt"
+TEST = "crates/limits_tests/src/tests.rt"
 
 # What stands in for rt: it says what the real one says, and its build takes so long, or fails so, as the folder's files tell.
 STAND_IN = """#!/bin/bash
@@ -42,12 +43,13 @@ class Repository:
         for name in SCRIPTS:
             (self.top / name).parent.mkdir(parents=True, exist_ok=True)
             shutil.copy(ROOT / name, self.top / name)
-        for crate in ("limits", "memplan"):
+        for crate in ("limits", "memplan", "limits_tests"):
             for part in ("src", "specs", "proofs"):
                 (self.top / "crates" / crate / part).mkdir(parents=True)
         (self.top / SOURCE).write_text("//! A source.\n")
         (self.top / "crates/memplan/src/main.rt").write_text("//! Another one.\n")
-        (self.top / "crates.txt").write_text("limits:\nmemplan: limits\n")
+        (self.top / TEST).write_text("//! A test.\n")
+        (self.top / "crates.txt").write_text("limits:\nmemplan: limits\nlimits_tests: limits\n")
         self.scratch.mkdir()
         self.put_prebuilt()
         self.put_toolchain()
@@ -148,6 +150,28 @@ class Prebuilt(ProgramTest):
         self.source.with_name("more.rt").write_text("")
         self.check_refuses(self.repository.run(), "the sources are not those of prebuilt/")
 
+    def test_it_is_run_where_a_test_is_another(self) -> None:
+        self.check_runs(self.repository.run())
+        test = self.repository.top / TEST
+        test.write_text("//! A test!\n")
+        self.check_runs(self.repository.run())
+        test.with_name("more.rt").write_text("")
+        self.check_runs(self.repository.run())
+        shutil.rmtree(test.parents[1])
+        self.check_runs(self.repository.run())
+
+    def test_only_a_crate_is_one_of_tests(self) -> None:
+        self.check_runs(self.repository.run())
+        below = self.source.parent / "own_tests/more.rt"
+        below.parent.mkdir()
+        below.write_text("")
+        self.check_refuses(self.repository.run(), "the sources are not those of prebuilt/")
+
+    def test_it_is_not_run_where_another_crate_is_listed(self) -> None:
+        self.check_runs(self.repository.run())
+        (self.repository.top / "crates.txt").write_text("limits:\nmemplan: limits\n")
+        self.check_refuses(self.repository.run(), "the sources are not those of prebuilt/")
+
     def test_it_is_not_run_where_a_byte_of_it_is_another(self) -> None:
         self.check_runs(self.repository.run())
         ready = self.repository.top / "prebuilt/Linux-x86_64/memplan"
@@ -207,6 +231,12 @@ class Built(ProgramTest):
         self.assertEqual(self.repository.builds(), 2)
         self.assertTrue(self.is_scratch_empty())
 
+    def test_it_is_not_built_again_where_a_test_is_another(self) -> None:
+        self.check_runs(self.repository.run(with_toolchain=True), "this takes 20 to 60 minutes")
+        (self.repository.top / TEST).write_text("//! A test!\n")
+        self.check_runs(self.repository.run(with_toolchain=True), "the sources are not those of prebuilt/")
+        self.assertEqual(self.repository.builds(), 1)
+
     def test_it_is_built_where_that_is_asked_for(self) -> None:
         self.source.write_text("//! A source.\n")
         self.check_runs(self.repository.run(with_toolchain=True, MEMPLAN_PROVE="1"), "this takes 20 to 60 minutes")
@@ -249,8 +279,12 @@ class Built(ProgramTest):
         run.communicate(timeout=10)
         self.assertNotEqual(run.returncode, 0)
         self.assertTrue(self.is_scratch_empty())
+        # one that has ended is still there until the system has taken note of it
+        deadline = time.monotonic() + 10
         with self.assertRaises(ProcessLookupError):
-            os.killpg(run.pid, 0)
+            while time.monotonic() < deadline:
+                os.killpg(run.pid, 0)
+                time.sleep(0.02)
 
 
 class Comparison(unittest.TestCase):
@@ -270,6 +304,19 @@ class Comparison(unittest.TestCase):
         (self.folder / "built").write_bytes(built)
         (self.folder / "ready").write_bytes(ready)
         return self.script.difference(self.folder / "built", self.folder / "ready")
+
+    def test_what_was_written_after_the_program(self) -> None:
+        program = self.folder / "program"
+        files = [self.folder / name for name in ("crates.txt", "crates/low/src/lib.rt", "crates/low/specs/Low.antt", "crates/low_tests/src/tests.rt", "crates/low/out/kept.rt")]
+        for file in [program, *files]:
+            file.parent.mkdir(parents=True, exist_ok=True)
+            file.write_text("")
+            os.utime(file, (1000, 1000))
+        for file, is_source in zip(files, (True, True, True, False, False)):
+            self.assertIsNone(self.script.newer_source(program, self.folder))
+            os.utime(file, (2000, 2000))
+            self.assertEqual(self.script.newer_source(program, self.folder), file if is_source else None)
+            os.utime(file, (1000, 1000))
 
     def test_differences(self) -> None:
         self.assertEqual(self.found(b"abcd", b"abcd"), "")

@@ -10,7 +10,7 @@ use Rattle.mp_system.specs.System.{TaskSystem, is_named, is_input}
 use Rattle.mp_system.specs.Memory.{is_done_or, is_produced, is_ready}
 use Rattle.mp_system.specs.Step.{AddsTask}
 use Rattle.activation.specs.Tables.{is_awaited, is_edge, awaited}
-use Rattle.activation.proofs.Totals.{sum_same}
+use Rattle.lists.proofs.Lists.{sum-same as sum_same}
 
 done_same : (d e : ℕ → Bool) → ((u : ℕ) → d u ≡ e u) → (from : Option ℕ) → is_done_or true d from ≡ is_done_or true e from
 done_same d e same None = refl

@@ -15,7 +15,8 @@ use Rattle.activation.specs.declared.events.EventKind.TheVariants.{Activate, Sta
 use Rattle.activation.specs.Machine.{Setting, IsSetting, State, phase_in, with_phase, is_running_phase, is_done_phase, is_done, activated_tasks, MayActivate, MayStart, MayFinish, MayHappen, state_after}
 use Rattle.activation.specs.Safe.{IsSafe}
 use Rattle.activation.specs.Changes.{IsChange, BooksNeed, UsesNeed, FreesNeed}
-use Rattle.activation.proofs.Totals.{sum_changed_once, sum_same, counted_in}
+use Rattle.activation.proofs.Totals.{sum_changed_once, counted_in}
+use Rattle.lists.proofs.Lists.{sum-same as sum_same}
 use Rattle.activation.proofs.Phases.{with_phase_same, with_phase_other, busy}
 use Rattle.activation.proofs.Premises.{StateSame, StateStep}
 use Rattle.activation.proofs.Orders.{each, task_in_order, counted_in_order, counted_once, in_front}

@@ -23,4 +23,3 @@ pub mod Clocks
 pub mod Advancing
 pub mod Looping
 pub mod Priorities
-pub mod SmallSystems

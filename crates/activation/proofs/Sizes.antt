@@ -12,12 +12,7 @@ use Rattle.mp_system.specs.declared.system.Task.{Task}
 use Rattle.mp_system.specs.System.{TaskSystem, IsSystem, IsTask, IsItemWithin, IsTaskWithin, HasShare, is_named, task_at, is_input, is_output, inputs_of, outputs_of, size_if, size_where, item_size}
 use Rattle.activation.specs.Schedule.{task_entry}
 use Rattle.activation.proofs.Numbers.{number_at}
-
-pub size_if-le : (test : Item → Bool) (item : Item) → size_if test item ≤ item_size item
-size_if-le test item = elim (test item) as (λ b. cond b item.size 0 ≤ item.size) [ true ↦ omega arith | false ↦ omega arith ]
-
-pub size_where-le : (test : Item → Bool) (items : List Item) → size_where test items ≤ sum_by item_size items
-size_where-le test items = sum_by-le-sum_by (size_if test) item_size items (size_if-le test)
+use Rattle.mp_system.proofs.Sums.{size_if-le, size_where-le}
 
 -- the sizes so far and that of an item that passes
 pub size_fits : (test : Item → Bool) (items : List Item) (i : ℕ) (d : Item) → i < length items → test (get_or items i d) ≡ true →

@@ -6,6 +6,7 @@ use Rattle.std.proofs.lemmas.List.{get_or_read}
 use Rattle.std.proofs.lemmas.List.Folds.{list_any-append, list_any_at, Any-from_list_any}
 use Rattle.std.proofs.lemmas.List.Sums.{sum_by-cons}
 use Rattle.std.proofs.lemmas.Bool.{cases_eq, eq-eqb, ne_eqb, eqb-true, or_left, or_right, or_cases}
+use Rattle.lists.proofs.Lists.{sum-same}
 
 -- a count at the front of a list
 pub count_yes : (x t : ℕ) (xs : List ℕ) → x ≡ t → count_by (λ y. y == t) (x ∷ xs) ≡ 1 + count_by (λ y. y == t) xs
@@ -32,12 +33,6 @@ sum_changed f g t same (x ∷ xs) =
     (cases_eq x t)
 
 -- equal terms
-pub sum_same : {X : Type 0} (f g : X → ℕ) → ((x : X) → f x ≡ g x) → (xs : List X) → sum_by f xs ≡ sum_by g xs
-sum_same f g same [] = refl
-sum_same f g same (x ∷ xs) =
-    let ef = sum_by-cons f x xs in
-    let eg = sum_by-cons g x xs in
-    rw (ef, eg, same x, sum_same f g same xs)
 
 -- an element is in a list where it is counted there
 pub in_counted : (xs : List ℕ) (t : ℕ) → 0 < count_by (λ x. x == t) xs → list_any (λ x. x == t) xs ≡ true

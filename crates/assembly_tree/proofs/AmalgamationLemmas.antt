@@ -7,12 +7,13 @@ use Rattle.std.proofs.lemmas.List.Elements.{All-filter}
 use Rattle.std.proofs.lemmas.Simd.{map-map}
 use Rattle.std.proofs.lemmas.Bool.{cases_eq, cases_order, eq-eqb, ne_eqb}
 use Rattle.limits.specs.Limits.{most_order}
-use Rattle.ordering.specs.Perm.{IsVertex}
+use Rattle.permutations.specs.Perm.{IsVertex}
 use Rattle.assembly_tree.specs.declared.assembly.Super.{Super}
 use Rattle.assembly_tree.specs.Assembly.{AssemblyTree, IsSuper, IsSuperWithin, IsAssembly, no_super, super_at, super_of, columns_in, front_of, reparented}
 use Rattle.assembly_tree.specs.Amalgamation.{is_left, new_number, numbered, amalgamated}
 use Rattle.assembly_tree.specs.MergeTables.{AreNames, IsMerging, AreStanding, named, left_of, gathered}
-use Rattle.assembly_tree.proofs.ListLemmas.{sum_by-map, filter-map, map_agree, sum_by_agree}
+use Rattle.assembly_tree.proofs.ListLemmas.{filter-map, map_agree, sum_by_agree}
+use Rattle.lists.proofs.Lists.{sum_by-map}
 use Rattle.assembly_tree.proofs.AssemblyLemmas.{front_fits}
 use Rattle.assembly_tree.proofs.JoinLemmas.{stands_in}
 use Rattle.assembly_tree.proofs.LeftLemmas.{left-at, left-pick, number-left, number-le, number-within, number-reparented, sum-left}

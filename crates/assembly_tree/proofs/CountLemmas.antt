@@ -4,12 +4,13 @@ use Rattle.std.specs.List.{count_by, range_with_len}
 use Rattle.std.proofs.lemmas.List.Sums.{get_or-le-sum_by}
 use Rattle.std.proofs.lemmas.List.FromFn.{length-range_with_len, length-map-range_with_len, get_or-range_with_len, get_or-map-range_with_len}
 use Rattle.std.proofs.lemmas.Bool.{cases_eq, cases_Bool, eq-eqb}
-use Rattle.ordering.specs.Perm.{IsVertex}
+use Rattle.permutations.specs.Perm.{IsVertex}
 use Rattle.ordering.specs.Fill.{IsAdjacency, IsParent, structure_of, parent_of, count_of, parents_of, counts_of}
 use Rattle.elim_tree.specs.Trees.{parent_at}
 use Rattle.elim_tree.specs.Paths.{IsWithin, IsInherited}
 use Rattle.assembly_tree.specs.Supernodes.{count_at, AreColumnCounts}
 use Rattle.assembly_tree.proofs.ListLemmas.{count_next}
+use Rattle.elim_tree.proofs.Columns.{parent_in_list}
 
 abbrev bit : Bool → ℕ
 bit b = cond b 1 0
@@ -55,11 +56,7 @@ count_some p n v is passes =
 
 -- ---- the tables of the fill
 
-parent-listed : (joined : ℕ → ℕ → Bool) (n j : ℕ) → IsVertex n j → parent_at (parents_of joined n) j ≡ parent_of joined n j
-parent-listed joined n zero is = absurd (omega (arith, is.0))
-parent-listed joined n (suc i) is = get_or-map-range_with_len (parent_of joined n) 1 n i (suc i) 0 (omega (arith, is.1)) (omega arith)
-
-count-listed : (joined : ℕ → ℕ → Bool) (n j : ℕ) → IsVertex n j → count_at (counts_of joined n) j ≡ count_of joined n j
+pub count-listed : (joined : ℕ → ℕ → Bool) (n j : ℕ) → IsVertex n j → count_at (counts_of joined n) j ≡ count_of joined n j
 count-listed joined n j is = get_or-map-range_with_len (count_of joined n) 1 n (j - 1) j 0 (omega (arith, is.0, is.1)) (omega (arith, is.0))
 
 abbrev pub ParentsAreFirst : Type 0
@@ -107,7 +104,7 @@ module _ (firsts : ParentsAreFirst) (by_children : StructuresByChildren) (later 
         each = λ j is. (
             let vertex : IsVertex n j = (is.0, omega (arith, is.1, len_p)) in
             let count = count-listed joined n j vertex in
-            let parent = parent-listed joined n j vertex in
+            let parent = parent_in_list joined n j vertex in
             record {
               some = omega (arith, count, at_least j vertex);
               root = λ nil. count ∙ of_root j vertex (sym parent ∙ nil);

@@ -1,5 +1,5 @@
 -- The fronts of an assembly tree are a tree within the limits.
-use Rattle.std.proofs.Common.{◌≡◌, ℕ, zero, suc, ◌+◌, ◌-◌, ◌<◌, ◌≤◌, Bool, true, false, cond, eqb, max, List, [], ◌∷◌, length, get_or, map, filter, fold, refl, sym, ap, ◌∙◌, subst, inl, inr, arith, All}
+use Rattle.std.proofs.Common.{◌*◌, ◌≡◌, ℕ, zero, suc, ◌+◌, ◌-◌, ◌<◌, ◌≤◌, Bool, true, false, cond, eqb, max, List, [], ◌∷◌, length, get_or, map, filter, fold, refl, sym, ap, ◌∙◌, subst, inl, inr, arith, All}
 use Rattle.std.specs.List.{sum_by, range_with_len}
 use Rattle.std.proofs.lemmas.List.{get_or_default, same_lists}
 use Rattle.std.proofs.lemmas.List.Elements.{All-filter, All-map, filter_passes}
@@ -8,14 +8,16 @@ use Rattle.std.proofs.lemmas.List.FromFn.{length-map-range_with_len, get_or-map-
 use Rattle.std.proofs.lemmas.Nat.{mul-le}
 use Rattle.std.proofs.Math.Nat.{max-le}
 use Rattle.std.proofs.lemmas.Bool.{cases_eq, eqb-true}
-use Rattle.tree_input.specs.declared.node.Node.{Node}
-use Rattle.tree_input.specs.Tree.{IsNode, IsTree, IsNodeWithin, node_at, node_size, ancestor, out_below, children_out}
+use Rattle.limits.specs.Limits.{most_order}
+use Rattle.trees.specs.declared.node.Node.{Node}
+use Rattle.trees.specs.Tree.{IsNode, IsTree, IsNodeWithin, node_at, node_size, ancestor, out_below, children_out}
 use Rattle.assembly_tree.specs.declared.assembly.Super.{Super}
 use Rattle.assembly_tree.specs.declared.front.Shape.{Shape}
 use Rattle.assembly_tree.specs.declared.front.Shape.TheVariants.{Triangle, Square}
 use Rattle.assembly_tree.specs.Assembly.{AssemblyTree, IsSuper, IsAssembly, no_super, super_at, front_of}
-use Rattle.assembly_tree.specs.Fronts.{kept_entries, block_of, share_of, front_node, front_at, fronts_of}
-use Rattle.assembly_tree.proofs.ListLemmas.{sum_by-map, sum_by-filter}
+use Rattle.assembly_tree.specs.Fronts.{kept_entries, block_of, share_of, front_node, front_at, nodes_of_fronts}
+use Rattle.assembly_tree.proofs.ListLemmas.{sum_by-filter}
+use Rattle.lists.proofs.Lists.{sum_by-map}
 use Rattle.assembly_tree.proofs.RunLemmas.{supers-le, last-all}
 use Rattle.assembly_tree.proofs.SupernodeLemmas.{supers-range}
 
@@ -25,9 +27,9 @@ pub size-le : (shape : Shape) (r t : ℕ) → r ≤ t → kept_entries shape r �
 size-le Triangle r t le = omega (arith, mul-le r (r + 1) t (t + 1) le (omega arith))
 size-le Square r t le = mul-le r r t t le le
 
-pub size-small : (shape : Shape) (r : ℕ) → r ≤ 1000000 → kept_entries shape r ≤ 1000000000000
-size-small Triangle r le = omega (arith, mul-le r (r + 1) 1000000 1000001 le (omega arith))
-size-small Square r le = mul-le r r 1000000 1000000 le le
+pub size-small : (shape : Shape) (r : ℕ) → r ≤ most_order → kept_entries shape r ≤ (most_order * most_order)
+size-small Triangle r le = omega (arith, mul-le r (r + 1) most_order (most_order + 1) le (omega arith))
+size-small Square r le = mul-le r r most_order most_order le le
 
 -- ---- lists by number
 
@@ -61,12 +63,12 @@ share-bound shape p m xs each =
 
 -- ---- ways up
 
-ancestor-none : (nodes : List Node) (k : ℕ) → ancestor nodes k 0 ≡ 0
+pub ancestor-none : (nodes : List Node) (k : ℕ) → ancestor nodes k 0 ≡ 0
 unfolding ancestor
 ancestor-none nodes zero = refl
 ancestor-none nodes (suc k) = ancestor-none nodes k
 
-rising_leads : (nodes : List Node) → ((v : ℕ) → IsNode nodes v → 0 < (node_at nodes v).parent → (v < (node_at nodes v).parent) × ((node_at nodes v).parent ≤ length nodes)) → (k v : ℕ) → IsNode nodes v → length nodes < v + k → ancestor nodes k v ≡ 0
+pub rising_leads : (nodes : List Node) → ((v : ℕ) → IsNode nodes v → 0 < (node_at nodes v).parent → (v < (node_at nodes v).parent) × ((node_at nodes v).parent ≤ length nodes)) → (k v : ℕ) → IsNode nodes v → length nodes < v + k → ancestor nodes k v ≡ 0
 unfolding ancestor
 rising_leads nodes rising zero v is far = absurd (omega (arith, is.1, far))
 rising_leads nodes rising (suc k) zero is far = absurd (omega (arith, is.0))
@@ -82,16 +84,16 @@ rising_leads nodes rising (suc k) (suc i) is far =
 -- ---- the tree
 
 module _ (shape : Shape) (inplace : Bool) (assembly : AssemblyTree) (is : IsAssembly assembly) where
-  len : length (fronts_of shape inplace assembly.supers) ≡ length assembly.supers
+  len : length (nodes_of_fronts shape inplace assembly.supers) ≡ length assembly.supers
   len = length-map-range_with_len (front_at shape inplace assembly.supers) 1 (length assembly.supers)
 
-  at : (i : ℕ) (d : Node) → i < length assembly.supers → get_or (fronts_of shape inplace assembly.supers) i d ≡ front_at shape inplace assembly.supers (1 + i)
+  at : (i : ℕ) (d : Node) → i < length assembly.supers → get_or (nodes_of_fronts shape inplace assembly.supers) i d ≡ front_at shape inplace assembly.supers (1 + i)
   at i d lt = get_or-map-range_with_len (front_at shape inplace assembly.supers) 1 (length assembly.supers) i (1 + i) d lt refl
 
-  at_node : (v : ℕ) → IsSuper assembly.supers v → node_at (fronts_of shape inplace assembly.supers) v ≡ front_at shape inplace assembly.supers v
+  at_node : (v : ℕ) → IsSuper assembly.supers v → node_at (nodes_of_fronts shape inplace assembly.supers) v ≡ front_at shape inplace assembly.supers v
   at_node v h = (let back : 1 + (v - 1) ≡ v = omega (arith, h.0) in at (v - 1) _ (omega (arith, h.0, h.1)) ∙ ap (front_at shape inplace assembly.supers) back)
 
-  few : length assembly.supers ≤ 1000000
+  few : length assembly.supers ≤ most_order
   few = omega (arith, supers-le assembly.supers (length assembly.supers) (λ k h. (is.each k h).some) (omega arith), last-all assembly.supers, is.total, is.few)
 
   some : 1 ≤ length assembly.supers
@@ -100,24 +102,24 @@ module _ (shape : Shape) (inplace : Bool) (assembly : AssemblyTree) (is : IsAsse
   inside : (s : ℕ) → IsSuper assembly.supers s → (super_at assembly.supers s).parent ≤ length assembly.supers
   inside s h = elim (cases_eq (super_at assembly.supers s).parent 0) [ inl root ↦ omega (arith, root) | inr child ↦ ((is.each s h).parent (omega (arith, child))).1 ]
 
-  small : (s : ℕ) → IsSuper assembly.supers s → kept_entries shape (front_of (super_at assembly.supers s)) ≤ 1000000000000
+  small : (s : ℕ) → IsSuper assembly.supers s → kept_entries shape (front_of (super_at assembly.supers s)) ≤ (most_order * most_order)
   small s h = size-small shape (front_of (super_at assembly.supers s)) (omega (arith, is.fits s h, is.few))
 
   below : (s : ℕ) → block_of shape (super_at assembly.supers s) ≤ kept_entries shape (front_of (super_at assembly.supers s))
   below s = size-le shape (super_at assembly.supers s).rest (front_of (super_at assembly.supers s)) (omega arith)
 
-  sizes : (s : ℕ) → IsSuper assembly.supers s → node_size (front_at shape inplace assembly.supers s) ≤ 1000000000000
+  sizes : (s : ℕ) → IsSuper assembly.supers s → node_size (front_at shape inplace assembly.supers s) ≤ (most_order * most_order)
   sizes s h = omega (arith, small s h, below s)
 
   number : (i : ℕ) → i < length assembly.supers → IsSuper assembly.supers (1 + i)
   number i lt = (omega arith, omega (arith, lt))
 
-  outs : (s : ℕ) → children_out (fronts_of shape inplace assembly.supers) s ≡ sum_by (λ x. cond (eqb x.parent s) (block_of shape x) 0) assembly.supers
+  outs : (s : ℕ) → children_out (nodes_of_fronts shape inplace assembly.supers) s ≡ sum_by (λ x. cond (eqb x.parent s) (block_of shape x) 0) assembly.supers
   outs s =
       let g = λ (x : Super). cond (eqb x.parent s) (block_of shape x) 0 in
       sum_by-map (out_below s) (front_at shape inplace assembly.supers) (range_with_len 1 (length assembly.supers)) ∙ sym (sum_by-map g (super_at assembly.supers) (range_with_len 1 (length assembly.supers))) ∙ ap (sum_by g) (supers-range assembly.supers)
 
-  share : (s : ℕ) → IsSuper assembly.supers s → (cond inplace (share_of shape assembly.supers s) 0 ≤ children_out (fronts_of shape inplace assembly.supers) s) × (cond inplace (share_of shape assembly.supers s) 0 ≤ kept_entries shape (front_of (super_at assembly.supers s)))
+  share : (s : ℕ) → IsSuper assembly.supers s → (cond inplace (share_of shape assembly.supers s) 0 ≤ children_out (nodes_of_fronts shape inplace assembly.supers) s) × (cond inplace (share_of shape assembly.supers s) 0 ≤ kept_entries shape (front_of (super_at assembly.supers s)))
   share s h =
       let sum = share-sum shape (λ x. eqb x.parent s) assembly.supers in
       let bound = share-bound shape (λ x. eqb x.parent s) (kept_entries shape (front_of (super_at assembly.supers s))) assembly.supers (λ k d lt passes.
@@ -130,12 +132,12 @@ module _ (shape : Shape) (inplace : Bool) (assembly : AssemblyTree) (is : IsAsse
       let child = ap (λ (x : Super). x.rest) here in
       size-le shape (get_or assembly.supers k d).rest (front_of (super_at assembly.supers s)) (omega (arith, rest, parent, child))) in
       let whole = outs s in
-      elim inplace as (λ b. (cond b (share_of shape assembly.supers s) 0 ≤ children_out (fronts_of shape inplace assembly.supers) s) × (cond b (share_of shape assembly.supers s) 0 ≤ kept_entries shape (front_of (super_at assembly.supers s)))) [
+      elim inplace as (λ b. (cond b (share_of shape assembly.supers s) 0 ≤ children_out (nodes_of_fronts shape inplace assembly.supers) s) × (cond b (share_of shape assembly.supers s) 0 ≤ kept_entries shape (front_of (super_at assembly.supers s)))) [
         | true ↦ (omega (arith, sum, whole), bound)
         | false ↦ (omega arith, omega arith)
       ]
 
-  pub fronts_tree : IsTree (fronts_of shape inplace assembly.supers)
+  pub fronts_tree : IsTree (nodes_of_fronts shape inplace assembly.supers)
   fronts_tree = record {
     some = omega (arith, len, some);
     few = omega (arith, len, few);
@@ -143,7 +145,7 @@ module _ (shape : Shape) (inplace : Bool) (assembly : AssemblyTree) (is : IsAsse
         let in_range : k < length assembly.supers = omega (arith, lt, len) in
         let h = number k in_range in
         let s = 1 + k in
-        subst (IsNodeWithin (fronts_of shape inplace assembly.supers)) (sym (at k d in_range)) (record {
+        subst (IsNodeWithin (nodes_of_fronts shape inplace assembly.supers)) (sym (at k d in_range)) (record {
           parent = omega (arith, inside s h, len);
           out = omega (arith, small s h, below s);
           extra = omega (arith, small s h);
@@ -151,16 +153,16 @@ module _ (shape : Shape) (inplace : Bool) (assembly : AssemblyTree) (is : IsAsse
         })
         );
     total = (
-        let each : All (λ (x : Node). node_size x ≤ 1000000000000) (fronts_of shape inplace assembly.supers) = λ k d lt. (let in_range : k < length assembly.supers = omega (arith, lt, len) in omega (arith, ap node_size (at k d in_range), sizes (1 + k) (number k in_range))) in
-        omega (arith, sum_by-le node_size 1000000000000 (fronts_of shape inplace assembly.supers) each, len, few)
+        let each : All (λ (x : Node). node_size x ≤ (most_order * most_order)) (nodes_of_fronts shape inplace assembly.supers) = λ k d lt. (let in_range : k < length assembly.supers = omega (arith, lt, len) in omega (arith, ap node_size (at k d in_range), sizes (1 + k) (number k in_range))) in
+        omega (arith, sum_by-le node_size (most_order * most_order) (nodes_of_fronts shape inplace assembly.supers) each, len, few)
         );
     roots = λ v h. (
         let in_range : IsSuper assembly.supers v = (h.0, omega (arith, h.1, len)) in
-        rising_leads (fronts_of shape inplace assembly.supers) (λ w node some.
+        rising_leads (nodes_of_fronts shape inplace assembly.supers) (λ w node some.
         let super_w : IsSuper assembly.supers w = (node.0, omega (arith, node.1, len)) in
         let up = ap (λ (x : Node). x.parent) (at_node w super_w) in
         let above = (is.each w super_w).parent (omega (arith, up, some)) in
-        (omega (arith, up, above.0), omega (arith, up, above.1, len))) (length (fronts_of shape inplace assembly.supers)) v h (omega (arith, h.0))
+        (omega (arith, up, above.0), omega (arith, up, above.1, len))) (length (nodes_of_fronts shape inplace assembly.supers)) v h (omega (arith, h.0))
         );
     shares = λ v h. (
         let in_range : IsSuper assembly.supers v = (h.0, omega (arith, h.1, len)) in
@@ -176,17 +178,17 @@ parents_inside assembly is k d lt =
     let here : (super_at assembly.supers (1 + k)).parent ≡ (get_or assembly.supers k d).parent = ap (λ (i : ℕ). (get_or assembly.supers i no_super).parent) back ∙ ap (λ (x : Super). x.parent) (get_or_default assembly.supers k no_super d lt) in
     omega (arith, here, inside Triangle false assembly is (1 + k) (omega arith, omega (arith, lt)))
 
-pub fronts_inside : (assembly : AssemblyTree) → IsAssembly assembly → All (λ (x : Super). front_of x ≤ 1000000) assembly.supers
+pub fronts_inside : (assembly : AssemblyTree) → IsAssembly assembly → All (λ (x : Super). front_of x ≤ most_order) assembly.supers
 fronts_inside assembly is k d lt =
     let back : 1 + k - 1 ≡ k = omega arith in
     let here : front_of (super_at assembly.supers (1 + k)) ≡ front_of (get_or assembly.supers k d) = ap (λ (i : ℕ). front_of (get_or assembly.supers i no_super)) back ∙ ap front_of (get_or_default assembly.supers k no_super d lt) in
     omega (arith, here, is.fits (1 + k) (omega arith, omega (arith, lt)), is.few)
 
-pub supers_few : (assembly : AssemblyTree) → IsAssembly assembly → length assembly.supers ≤ 1000000
+pub supers_few : (assembly : AssemblyTree) → IsAssembly assembly → length assembly.supers ≤ most_order
 supers_few assembly is = few Triangle false assembly is
 
 -- the fronts with the shares of a table
 pub fronts_with : (shape : Shape) (inplace : Bool) (supers : List Super) (shares : List ℕ) → ((s : ℕ) → s ≤ length supers → get_or shares s 0 ≡ cond inplace (share_of shape supers s) 0)
-    → map (λ (s : ℕ). front_node shape (get_or shares s 0) (super_at supers s)) (range_with_len 1 (length supers)) ≡ fronts_of shape inplace supers
+    → map (λ (s : ℕ). front_node shape (get_or shares s 0) (super_at supers s)) (range_with_len 1 (length supers)) ≡ nodes_of_fronts shape inplace supers
 fronts_with shape inplace supers shares are =
     map-range_same (λ (s : ℕ). front_node shape (get_or shares s 0) (super_at supers s)) (front_at shape inplace supers) (length supers) (λ s low high. ap (λ (share : ℕ). front_node shape share (super_at supers s)) (are s high))

@@ -11,6 +11,7 @@ use Rattle.assembly_tree.specs.Assembly.{IsSuper, HaveColumns, no_super, super_a
 use Rattle.assembly_tree.specs.Amalgamation.{zeros_of, merged_number, merged_supers, merged, visited}
 use Rattle.assembly_tree.specs.MergeTables.{AreNames, named, stays}
 use Rattle.assembly_tree.proofs.SupernodeLemmas.{at-reparented}
+use Rattle.lists.proofs.Bools.{cond_zero}
 
 pub merged_number-same : (s p x : ℕ) → x ≡ s → merged_number s p x ≡ p
 merged_number-same s p x e = ap (λ (b : Bool). cond b p x) (eq-eqb x s e)
@@ -24,16 +25,12 @@ cond_add : (b : Bool) (m n k : ℕ) → k ≡ m + n → cond b k 0 ≡ cond b m 
 cond_add true m n k e = e
 cond_add false m n k e = refl
 
-cond_none : (b : Bool) (n : ℕ) → n ≡ 0 → cond b n 0 ≡ 0
-cond_none true n e = e
-cond_none false n e = refl
-
 -- a column counts for p where it counted for s
 one_moved : (s p t x : ℕ) → s ≢ p → cond (eqb (merged_number s p x) t) 1 0 + cond (eqb t s) (cond (eqb x s) 1 0) 0 ≡ cond (eqb x t) 1 0 + cond (eqb t p) (cond (eqb x s) 1 0) 0
 one_moved s p t x apart = grind (arith, nat_tests)
 
 all_moved : (s p t : ℕ) → s ≢ p → (nodes : List ℕ) → count_by (λ x. eqb x t) (map (merged_number s p) nodes) + cond (eqb t s) (count_by (λ x. eqb x s) nodes) 0 ≡ count_by (λ x. eqb x t) nodes + cond (eqb t p) (count_by (λ x. eqb x s) nodes) 0
-all_moved s p t apart [] = omega (arith, cond_none (eqb t s) 0 refl, cond_none (eqb t p) 0 refl)
+all_moved s p t apart [] = omega (arith, cond_zero (eqb t s) 0 refl, cond_zero (eqb t p) 0 refl)
 all_moved s p t apart (x ∷ nodes) =
     let here = one_moved s p t x apart in
     let rest = all_moved s p t apart nodes in

@@ -7,9 +7,7 @@ use Rattle.std.proofs.lemmas.List.FromFn.{length-range_with_len, get_or-range_wi
 use Rattle.std.proofs.lemmas.List.Sums.{sum-map, fold_push, sum_by_push, sum_by-cons}
 use Rattle.std.proofs.lemmas.Bool.{cases_Bool}
 use Rattle.std.proofs.lemmas.Simd.{map-map}
-
-pub sum_by-map : {X Y : Type 0} (f : Y → ℕ) (g : X → Y) (xs : List X) → sum_by f (map g xs) ≡ sum_by (λ x. f (g x)) xs
-sum_by-map f g xs = sym (sum-map f (map g xs)) ∙ ap (sum_by (λ x. x)) (map-map f g xs) ∙ sum-map (λ x. f (g x)) xs
+use Rattle.lists.proofs.Lists.{sum_by-map}
 
 pub sum_by-take-map : {X Y : Type 0} (f : Y → ℕ) (g : X → Y) (n : ℕ) (xs : List X) → sum_by f (take n (map g xs)) ≡ sum_by (λ x. f (g x)) (take n xs)
 sum_by-take-map f g n xs = ap (sum_by f) (take-map g n xs) ∙ sum_by-map f g (take n xs)

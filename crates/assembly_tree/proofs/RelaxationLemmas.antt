@@ -9,7 +9,8 @@ use Rattle.assembly_tree.specs.Assembly.{AssemblyTree, IsSuper, IsAssembly, supe
 use Rattle.assembly_tree.specs.Amalgamation.{zeros_of, merged_supers, is_left, new_number, amalgamated}
 use Rattle.assembly_tree.specs.Relaxation.{enlarged, number_among, IsRelaxed}
 use Rattle.assembly_tree.specs.MergeTables.{IsMerging, AreStanding, stays, gathered_at, gathered}
-use Rattle.assembly_tree.proofs.ListLemmas.{sum_by-map, filter-map, map_agree, fold_next, sum_of_picked_more, pick_agree, count_agree}
+use Rattle.assembly_tree.proofs.ListLemmas.{filter-map, map_agree, fold_next, sum_of_picked_more, pick_agree, count_agree}
+use Rattle.lists.proofs.Lists.{sum_by-map}
 use Rattle.assembly_tree.proofs.SupernodeLemmas.{same_super, supers-range}
 use Rattle.assembly_tree.proofs.JoinLemmas.{stands_in, stays-root, stays-dear, stays-cheap, merged_each, merged_supers-child, merged_supers-parent, merged_supers-other}
 use Rattle.assembly_tree.proofs.LeftLemmas.{left-some, left-none}

@@ -5,7 +5,7 @@ use Rattle.std.proofs.lemmas.List.{length-map, get_or-map, get_or_default, same_
 use Rattle.std.proofs.lemmas.List.FromFn.{length-map-range_with_len, get_or-map-range_with_len}
 use Rattle.std.proofs.lemmas.List.Sums.{sum_by_more}
 use Rattle.std.proofs.lemmas.Bool.{cases_eq, cases_lt, eq-eqb, ne_eqb}
-use Rattle.ordering.specs.Perm.{IsVertex}
+use Rattle.permutations.specs.Perm.{IsVertex}
 use Rattle.elim_tree.specs.Trees.{parent_at, IsForest}
 use Rattle.assembly_tree.specs.declared.assembly.Super.{Super}
 use Rattle.assembly_tree.specs.Assembly.{AssemblyTree, IsSuper, IsSuperWithin, IsAssembly, no_super, super_at, super_of, columns_in, front_of, reparented}

@@ -3,7 +3,7 @@
 -- symmetric linear equations, 1983; Liu, The multifrontal method for sparse matrix solution, 1992.
 use Rattle.std.specs.Prelude.{◌==◌, ℕ, ◌+◌, ◌-◌, ◌*◌, ◌/◌, Bool, if◌then◌else◌, max, List, length, map, filter, fold}
 use Rattle.std.specs.List.{range_with_len}
-use Rattle.tree_input.specs.declared.node.Node.{Node}
+use Rattle.trees.specs.declared.node.Node.{Node}
 use Rattle.assembly_tree.specs.declared.assembly.Super.{Super}
 use Rattle.assembly_tree.specs.declared.front.Shape.{Shape}
 use Rattle.assembly_tree.specs.declared.front.Shape.TheVariants.{Triangle, Square}
@@ -41,5 +41,5 @@ abbrev pub front_at : Shape → Bool → List Super → ℕ → Node
 front_at shape inplace supers s = front_node shape (if inplace then share_of shape supers s else 0) (super_at supers s)
 
 -- the fronts by number
-abbrev pub fronts_of : Shape → Bool → List Super → List Node
-fronts_of shape inplace supers = map (front_at shape inplace supers) (range_with_len 1 (length supers))
+abbrev pub nodes_of_fronts : Shape → Bool → List Super → List Node
+nodes_of_fronts shape inplace supers = map (front_at shape inplace supers) (range_with_len 1 (length supers))

@@ -3,7 +3,7 @@
 -- sparse matrix computations, 1993.
 use Rattle.std.specs.Prelude.{◌≡◌, ℕ, ◌+◌, ◌-◌, ◌<◌, ◌≤◌, List, length, slice_index_or, take}
 use Rattle.std.specs.List.{sum_by}
-use Rattle.ordering.specs.Perm.{IsVertex}
+use Rattle.permutations.specs.Perm.{IsVertex}
 use Rattle.elim_tree.specs.Trees.{parent_at}
 use Rattle.assembly_tree.specs.declared.assembly.Super.{Super}
 use Rattle.assembly_tree.specs.Assembly.{AssemblyTree, IsSuper, super_at, super_of, columns_in, front_of}

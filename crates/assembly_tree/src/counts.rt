@@ -1,7 +1,7 @@
 //! A test of what `supernodes` asks of counts.
 
 ghost use Rattle.std.specs.Prelude.{◌≡◌, ◌↔◌, length, IsTrue};
-ghost use Rattle.ordering.specs.Perm.{IsVertex};
+ghost use Rattle.permutations.specs.Perm.{IsVertex};
 ghost use Rattle.assembly_tree.specs.Supernodes.{AreColumnCounts, IsColumnCount};
 
 use elim_tree::Parents;

@@ -4,12 +4,12 @@ ghost use Rattle.std.specs.Prelude.{◌≡◌, ◌≤◌, ◌+◌, ◌*◌, ℕ,
 ghost use Rattle.std.specs.List.{range_with_len};
 ghost use Rattle.limits.specs.Limits.{most_order};
 ghost use Rattle.assembly_tree.specs.Assembly.{super_at, front_of};
-ghost use Rattle.assembly_tree.specs.Fronts.{kept_entries, share_of, front_node, fronts_of};
+ghost use Rattle.assembly_tree.specs.Fronts.{kept_entries, share_of, front_node, nodes_of_fronts};
 
 use crate::NoMemory;
 use crate::assembly::{Assembly, Super};
 use std::alloc::Global;
-use tree_input::{Node, Tree};
+use trees::{Node, Tree};
 
 /// Which entries of a front and of a contribution block are kept.
 #[derive(Clone, Copy, Debug, PartialEq, Eq)]
@@ -112,7 +112,7 @@ pub fn fronts(
     shape: Shape,
     inplace: bool,
 ) -> Result<Tree, NoMemory>
-    ensures { IfOk result (λ tree. tree ≡ fronts_of shape inplace assembly.now.supers) }
+    ensures { IfOk result (λ tree. tree ≡ nodes_of_fronts shape inplace assembly.now.supers) }
 {
     let supers = assembly.supers();
     let shares = shares_of(alloc, supers, shape, inplace)?;

@@ -2,7 +2,7 @@
 
 ghost use Rattle.std.specs.Prelude.{◌≡◌, ℕ, Bool, List};
 ghost use Rattle.ordering.specs.Fill.{IsAdjacency, parents_of, counts_of};
-ghost use Rattle.tree_input.specs.Tree.{IsTree};
+ghost use Rattle.trees.specs.Tree.{IsTree};
 ghost use Rattle.elim_tree.specs.Paths.{IsWithin};
 ghost use Rattle.elim_tree.specs.Trees.{IsForest};
 ghost use Rattle.assembly_tree.specs.declared.front.Shape.{Shape};
@@ -10,7 +10,7 @@ ghost use Rattle.assembly_tree.specs.Assembly.{AssemblyTree, IsAssembly};
 ghost use Rattle.assembly_tree.specs.Supernodes.{AreColumnCounts, AreSupernodes};
 ghost use Rattle.assembly_tree.specs.Amalgamation.{amalgamated};
 ghost use Rattle.assembly_tree.specs.Relaxation.{IsRelaxed};
-ghost use Rattle.assembly_tree.specs.Fronts.{fronts_of};
+ghost use Rattle.assembly_tree.specs.Fronts.{nodes_of_fronts};
 
 use elim_tree::laws as tree_laws;
 use ordering::laws as fill_laws;
@@ -51,5 +51,5 @@ pub fn amalgamation_is_relaxed()
 /// The fronts of an assembly tree are a tree within the limits, with shares that fit.
 pub fn fronts_are_tree()
     ensures { (shape : Shape) (inplace : Bool) (assembly : AssemblyTree) → IsAssembly assembly →
-        IsTree (fronts_of shape inplace assembly.supers) }
+        IsTree (nodes_of_fronts shape inplace assembly.supers) }
 {}

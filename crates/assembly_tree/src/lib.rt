@@ -10,8 +10,6 @@ mod front;
 pub mod laws;
 mod merges;
 mod runs;
-#[cfg(test)]
-mod tests;
 
 pub use assembly::{Assembly, Super};
 pub use counts::{are_counts, is_count};

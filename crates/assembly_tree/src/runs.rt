@@ -1,7 +1,7 @@
 //! The fundamental supernodes of an elimination tree.
 
 ghost use Rattle.std.specs.Prelude.{◌≡◌, ◌≤◌, ◌<◌, ◌+◌, ◌↔◌, length, map, All, IfOk, IsTrue};
-ghost use Rattle.ordering.specs.Perm.{IsVertex};
+ghost use Rattle.permutations.specs.Perm.{IsVertex};
 ghost use Rattle.elim_tree.specs.Trees.{IsForest};
 ghost use Rattle.assembly_tree.specs.Assembly.{super_of, reparented};
 ghost use Rattle.assembly_tree.specs.Supernodes.{count_at, AreColumnCounts, AreSupernodes, Continues};

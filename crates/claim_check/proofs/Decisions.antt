@@ -11,6 +11,7 @@ use Rattle.claim_rules.specs.Claims.{Claim}
 use Rattle.claim_rules.specs.Placed.{MeetsAt}
 use Rattle.claim_rules.specs.Rules.{Has, MeetsSeries, first_is_stuck, first_is_closed, hill_is_above, last_is_stuck, passed_first, passed_last, value_in, values_in, HasRoom, HaveRoom, SomeClaim, MeetsPar, MeetsRule}
 use Rattle.claim_check.specs.Judged.{PassesAt}
+use Rattle.lists.proofs.Options.{none_some, some_same}
 
 -- the one or the other
 abbrev pub Decided : Type 0 → Type 0
@@ -39,9 +40,6 @@ same_direction forward backward = inr (λ e. cc)
 same_direction backward forward = inr (λ e. cc)
 same_direction backward backward = inl refl
 
-some_same : {A : Type 0} {x y : A} → Some x ≡ Some y → x ≡ y
-some_same e = cc
-
 either : {P Q : Type 0} → Decided P → Decided Q → Decided (P ⊎ Q)
 either (inl p) q = inl (inl p)
 either (inr fails) (inl q) = inl (inr q)
@@ -51,9 +49,6 @@ either (inr fails) (inr fails') = inr (λ h. ⊎_elim fails fails' h)
 same : {P Q : Type 0} → (P → Q) → (Q → P) → Decided P → Decided Q
 same to from (inl p) = inl (to p)
 same to from (inr fails) = inr (λ q. fails (from q))
-
-none_some : {A : Type 0} {x : A} → None ≡ Some x → ⊥
-none_some e = cc
 
 has : (d : Direction) (bound : ℤ) (rest : ℕ) (claim : Option Claim) → Decided (Has d bound rest claim)
 has d bound rest None = inr (λ h. none_some h.1)

@@ -22,6 +22,7 @@ use Rattle.claim_check.specs.declared.verdict.Verdict.{Verdict}
 use Rattle.claim_check.specs.declared.verdict.Verdict.TheVariants.{Yes, No}
 use Rattle.claim_check.proofs.Decisions.{Decided, passes, search_below}
 use Rattle.claim_check.proofs.Outside.{passes_without}
+use Rattle.lists.proofs.Options.{some_none}
 
 -- no claim stands above this position
 abbrev top : List Claim → ℕ
@@ -90,9 +91,6 @@ accepted_or_objected law system ps plan = by_order (first_fault system plan.orde
     by_order : (o : Option (ℕ × OrderKind)) → first_fault system plan.order ≡ o → IsAccepted system ps plan ⊎ SomeObjection system ps plan
     by_order None e = by_peak ((law system plan.order).0 e) (cases_eq (peak_of system plan.order) plan.peak)
     by_order (Some (place, kind)) e = inr (objections.Order (record { place = place; kind = kind }), e)
-
-some_none : {A : Type 0} {x : A} → Some x ≡ None → ⊥
-some_none e = cc
 
 -- an order with a fault is no traversal
 no_traversal : FaultLaw → (system : TaskSystem) (order : List ℕ) (fault : ℕ × OrderKind) → first_fault system order ≡ Some fault → IsTraversal system order → ⊥

@@ -10,9 +10,7 @@ use Rattle.claim_check.specs.Claimed.{Claimed}
 use Rattle.claim_check.specs.Judged.{PassesAt}
 use Rattle.claim_check.specs.Lowest.{IsLowestFrom}
 use Rattle.claim_check.proofs.Table.{some_claim, bool_cases, none_before}
-
-pub some_none : {A : Type 0} {x : A} → Some x ≡ None → ⊥
-some_none e = cc
+use Rattle.lists.proofs.Options.{some_none}
 
 within : (k n : ℕ) → 1 ≤ k → k ≤ n → (nat_le 1 k && nat_le k n) ≡ true
 within k n low high = grind arith

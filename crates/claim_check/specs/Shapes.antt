@@ -12,11 +12,11 @@ word_of shapes.Series = codes "series"
 word_of shapes.Par = codes "par"
 word_of shapes.Outside = codes "outside"
 
-abbrev pub shape_of : Position → Shape
-shape_of (at.Hold size) = shapes.Hold
-shape_of (at.Task extra share time) = shapes.Series
-shape_of (at.Par k) = shapes.Par
+abbrev pub position_shape : Position → Shape
+position_shape (at.Hold size) = shapes.Hold
+position_shape (at.Task extra share time) = shapes.Series
+position_shape (at.Par k) = shapes.Par
 
 -- the positions of a term are counted from 1
 abbrev pub shape_at : List Position → ℕ → Shape
-shape_at ps k = if nat_le 1 k && nat_le k (length ps) then shape_of (slice_index_or ps (k - 1) (at.Hold 0)) else shapes.Outside
+shape_at ps k = if nat_le 1 k && nat_le k (length ps) then position_shape (slice_index_or ps (k - 1) (at.Hold 0)) else shapes.Outside

@@ -13,7 +13,7 @@ use crate::verdict::Verdict;
 use crate::view::View;
 use mp_system::{ReplayRefusal, System, replay};
 use plans::Plan;
-use sp_terms::Terms;
+use sp_terms::TermList;
 use std::alloc::{AllocError, Global};
 
 // The lowest position whose claim fails: of those at the term's positions, and then of those past the last.
@@ -32,7 +32,7 @@ fn lowest_alone(view: &View<'_>) -> Option<u32>
 pub fn check_alone(
     alloc: Global,
     system: &System,
-    terms: &Terms,
+    terms: &TermList,
     plan: &Plan,
 ) -> Result<Verdict, NoMemory>
     ensures verdict { IfOk result (λ verdict. IsVerdict system.now terms.now plan.now verdict) }

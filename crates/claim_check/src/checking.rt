@@ -11,7 +11,7 @@ use crate::view::View;
 use mp_outside::Gate;
 use mp_system::{ReplayRefusal, System, replay};
 use plans::{Claim, Plan};
-use sp_terms::Terms;
+use sp_terms::TermList;
 use std::alloc::{AllocError, Global};
 use std::thread::Threads;
 
@@ -23,7 +23,7 @@ pub fn check<R: Threads + Sync, G: Gate>(
     rt: &R,
     alloc: Global,
     system: &System,
-    terms: &Terms,
+    terms: &TermList,
     plan: &Plan,
     workers: u32,
     gate: &G,

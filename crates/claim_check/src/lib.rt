@@ -12,8 +12,6 @@ mod objection;
 mod par;
 mod rules;
 mod shape;
-#[cfg(test)]
-mod tests;
 mod verdict;
 mod view;
 

@@ -1,5 +1,5 @@
 ghost use Rattle.std.specs.Prelude.{◌≡◌};
-ghost use Rattle.claim_check.specs.Shapes.{shape_of, word_of};
+ghost use Rattle.claim_check.specs.Shapes.{position_shape, word_of};
 
 use sp_terms::Position;
 use std::fmt::{self, Display, Formatter, Write};
@@ -39,7 +39,7 @@ impl Display for Shape {
 
 /// What stands at a position, as an objection names it.
 pub(crate) fn shape_of(position: Position) -> Shape
-    ensures { result ≡ shape_of position }
+    ensures { result ≡ position_shape position }
 {
     match position {
         Position::Hold(_) => Shape::Hold,

@@ -16,14 +16,14 @@ use crate::NoMemory;
 use crate::shape::{Shape, shape_of};
 use limits::MOST_POSITIONS;
 use plans::Claim;
-use sp_terms::{Position, Terms, Values, laws, values};
+use sp_terms::{Position, TermList, Values, laws, values};
 use std::alloc::Global;
 use std::marker::Model;
 
 /// A term with the claims on it: what is at hand when a claim is judged.
 #[derive(Drop)]
 pub struct View<'a> {
-    terms: &'a Terms,
+    terms: &'a TermList,
     claims: &'a [Claim],
     // The values of the term that ends at each position.
     values: Vec<Values>,
@@ -48,7 +48,11 @@ pub struct Part {
 
 impl<'a> View<'a> {
     /// A term with these claims, which are as in a plan file: `are_claims` tells. Claims at positions past the last are kept. Linear.
-    pub fn new(alloc: Global, terms: &'a Terms, claims: &'a [Claim]) -> Result<View<'a>, NoMemory>
+    pub fn new(
+        alloc: Global,
+        terms: &'a TermList,
+        claims: &'a [Claim],
+    ) -> Result<View<'a>, NoMemory>
         requires { AreClaims claims.now }
         ensures { IfOk result (λ view. view ≡ record { positions = terms.now; claims = claims.now }) }
     {

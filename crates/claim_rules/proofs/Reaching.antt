@@ -7,6 +7,7 @@ use Rattle.sp_term_laws.specs.Moves.{State, other, memory_of, first_state, Step,
 use Rattle.claim_rules.specs.Claims.{Claim}
 use Rattle.claim_rules.specs.Rules.{Has}
 use Rattle.claim_rules.proofs.Limits.{limit_of}
+use Rattle.sp_term_laws.proofs.Walks.{below as reached-below}
 
 -- what is used of the states of terms
 pub record StateLaws : Type 0 where
@@ -42,9 +43,6 @@ has_holds t o d bound rest h (c, is, direction, at, le) =
     subst (λ (e : Direction). Holds t e (limit_of bound) rest) direction (subst (λ (b : ℤ). Holds t c.direction (limit_of b) rest) at own)
 
 -- a state that is reached is below the limit
-pub reached-below : {d : Direction} {t : Term} {limit : ℕ} {s : State t} → Reached d t limit s → memory_of t s < limit
-reached-below (begin h) = h
-reached-below (next w step r m) = m
 
 module _ (laws : StateLaws) where
   back_step : (d : Direction) (t : Term) (s : State t) (r : ℕ) (s' : State t) → Step (other d) t s r s' → Step d t s' r s

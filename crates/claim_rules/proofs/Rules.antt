@@ -6,7 +6,8 @@ use Rattle.claim_rules.specs.Claims.{Claim}
 use Rattle.claim_rules.specs.Derivations.{Derives, by_rule, DeriveEach, none_left, unclaimed, claimed}
 use Rattle.claim_rules.specs.Rules.{MeetsRule, MeetsData}
 use Rattle.claim_rules.proofs.Limits.{limit_of, beyond-above}
-use Rattle.claim_rules.proofs.Reaching.{StateLaws, Holds, HoldEach, reached-below}
+use Rattle.claim_rules.proofs.Reaching.{StateLaws, Holds, HoldEach}
+use Rattle.sp_term_laws.proofs.Walks.{below as reached-below}
 use Rattle.claim_rules.proofs.Series.{series_holds}
 use Rattle.claim_rules.proofs.Par.{par_holds}
 

@@ -108,11 +108,11 @@ module _ (states : StateLaws) (ways : WayLaws) (t : Term) (allowed : IsAllowed t
 
 -- the parts of a term that is allowed are so
 
-parts-allowed : (ts : Parts) → AreAllowed ts → AllAllowed (list_of_parts ts)
+pub parts-allowed : (ts : Parts) → AreAllowed ts → AllAllowed (list_of_parts ts)
 parts-allowed no_parts a = tt
 parts-allowed (part t ts) a = (a.0, parts-allowed ts a.1)
 
-allowed-parts : (t : Term) → IsAllowed t → AllAllowed (parts_of t)
+pub allowed-parts : (t : Term) → IsAllowed t → AllAllowed (parts_of t)
 allowed-parts (hold size) a = tt
 allowed-parts (series a v b) (x, y, one, two) = (one, (two, tt))
 allowed-parts (par ts) a = parts-allowed ts a.1

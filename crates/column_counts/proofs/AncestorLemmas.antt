@@ -3,7 +3,7 @@ use Rattle.std.proofs.Common.{sym, ◌∙◌, subst, ap, ◌≡◌, ◌≢◌, i
 use Rattle.std.proofs.lemmas.Bool.{cases_eq, cases_lt}
 use Rattle.std.proofs.lemmas.List.{set_past}
 use Rattle.column_counts.specs.Leaves.{AreSpans, AreAncestors}
-use Rattle.column_counts.proofs.MarkLemmas.{at_here, at_other}
+use Rattle.lists.proofs.Lists.{at_other, at_here}
 
 -- a step made twice as long
 pub doubled : (first : ℕ → ℕ) (n j z : ℕ) (ancestor ancestor' : ℕ → ℕ) → AreSpans first → AreAncestors first n j ancestor → 0 < ancestor z → ancestor z < j

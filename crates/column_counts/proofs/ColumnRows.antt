@@ -2,13 +2,14 @@
 use Rattle.std.proofs.Common.{subst, ◌+◌, ◌-◌, ◌≡◌, inl, inr, refl, ℕ, zero, suc, ◌<◌, ◌≤◌, Bool, false, List, length, arith, slice_index}
 use Rattle.std.specs.List.Sorted.{IsStrictlyIncreasing}
 use Rattle.std.proofs.lemmas.Bool.{cases_eq}
-use Rattle.matrix_market.specs.Pattern.{neighbours_of, is_joined, IsPattern}
-use Rattle.ordering.specs.Perm.{vertex_at}
+use Rattle.patterns.specs.Pattern.{neighbours_of, is_joined, IsPattern}
+use Rattle.permutations.specs.Perm.{vertex_at}
 use Rattle.ordering.specs.Fill.{renumbered}
 use Rattle.elim_tree.specs.Forests.{column_in}
 use Rattle.column_counts.specs.declared.leaves.Leaves.{Leaves}
 use Rattle.column_counts.specs.Leaves.{any_in, IsFirsts, AreEmpty, AreLeavesBefore, CanTakeColumn}
-use Rattle.column_counts.proofs.FactorRows.{IsFactor, AreRows, is_in, joined_in_list, stands_in_list}
+use Rattle.column_counts.proofs.FactorRows.{IsFactor, AreRows, joined_in_list, stands_in_list}
+use Rattle.elim_tree.proofs.Growth.{is_in}
 use Rattle.column_counts.proofs.SumLemmas.{any_in_none, sum_in_none, passing_none}
 use Rattle.column_counts.proofs.SpanRows.{below_row}
 

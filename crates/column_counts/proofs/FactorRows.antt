@@ -8,24 +8,23 @@ use Rattle.std.proofs.lemmas.List.Folds.{list_any_at, Any-from_list_any}
 use Rattle.std.proofs.lemmas.List.FromFn.{get_or-map-range_with_len, length-map-range_with_len, length-range_with_len, map-range_with_len_more}
 use Rattle.std.proofs.lemmas.List.Sums.{sum_by_push, count_by-le-length}
 use Rattle.limits.specs.Limits.{most_order}
-use Rattle.matrix_market.specs.Pattern.{neighbours_of, has, is_joined, IsPattern}
-use Rattle.ordering.specs.Perm.{IsVertex, vertex_at, place_of}
+use Rattle.patterns.specs.Pattern.{neighbours_of, has, is_joined, IsPattern}
+use Rattle.permutations.specs.Perm.{IsVertex, vertex_at, place_of}
 use Rattle.ordering.specs.Fill.{graph_at, structure_of, parent_of, parents_of, count_of, counts_of, renumbered, IsAdjacency, IsParent}
 use Rattle.elim_tree.specs.Paths.{IsWithin, IsInRowSubtree}
 use Rattle.elim_tree.specs.Trees.{parent_at, IsForest, IsAbove, self, step}
 use Rattle.elim_tree.specs.Forests.{column_in}
 use Rattle.column_counts.proofs.SumLemmas.{range_more}
 use Rattle.column_counts.specs.Marks.{Row, IsFactorRow, IsMarked, CanMarkRow, IsMarkedRow, bit}
+use Rattle.elim_tree.proofs.PermCounts.{range_count}
+use Rattle.elim_tree.proofs.Growth.{place_in, is_in}
+use Rattle.elim_tree.proofs.RowSubtrees.{above_on}
 
 -- ---- counts over ranges
 
-count_more : (test : ℕ → Bool) (m : ℕ) → count_by test (range_with_len 1 (suc m)) ≡ count_by test (range_with_len 1 m) + bit (test (suc m))
-count_more test m =
-    ap (count_by test) (range_more 1 m ∙ ap (λ (x : ℕ). range_with_len 1 m ++ x ∷ []) (omega arith)) ∙ sum_by_push (λ x. bit (test x)) (range_with_len 1 m) (suc m)
-
 count_to : (test : ℕ → Bool) (i : ℕ) → 0 < i → count_by test (range_with_len 1 i) ≡ count_by test (range_with_len 1 (i - 1)) + bit (test i)
 count_to test zero some = absurd (omega arith)
-count_to test (suc m) some = let e : suc m - 1 ≡ m = omega arith in rw e (count_more test m)
+count_to test (suc m) some = let e : suc m - 1 ≡ m = omega arith in rw e (range_count test m)
 
 pub map_to : (f : ℕ → ℕ) (x : ℕ) → 0 < x → map f (range_with_len 1 (x + 1 - 1)) ≡ map f (range_with_len 1 (x - 1)) ++ f x ∷ []
 map_to f x some =
@@ -41,19 +40,7 @@ row_of joined i = record {
 
 -- ---- what is in a list
 
-pub place_in : (xs : List ℕ) (b : ℕ) → has xs b ≡ true → (j : ℕ) × (j < length xs) × (get_or xs j 0 ≡ b)
-place_in xs b h =
-    let p = Any-from_list_any (λ x. x == b) xs h in
-    (p.0, p.2, sym (get_or_read xs p.0 p.1 p.2 (sym p.3) 0) ∙ eqb-true p.1 b p.4)
-
-pub is_in : (xs : List ℕ) (b j : ℕ) → j < length xs → get_or xs j 0 ≡ b → has xs b ≡ true
-is_in xs b j lt e = list_any_at (λ x. x == b) xs j 0 lt (eq-eqb _ b e)
-
 -- ---- ways up
-
-pub above_on : {parents : List ℕ} {a b : ℕ} → IsAbove parents a b → 0 < parent_at parents b → IsAbove parents a (parent_at parents b)
-above_on self some = step some self
-above_on (step s way) some = step s (above_on way some)
 
 pub above_le : {parents : List ℕ} {a b : ℕ} → IsForest parents → IsAbove parents a b → a ≤ b
 above_le forest self = omega arith

@@ -4,22 +4,15 @@ use Rattle.std.proofs.Math.Seq.{take-append_seam}
 use Rattle.std.proofs.lemmas.Grind.{get_or_default_zero}
 use Rattle.std.proofs.lemmas.Bool.{cases_eq, eq-eqb, ne_eqb}
 use Rattle.column_counts.specs.Marks.{Row, IsFactorRow, IsMarked, CanGoOn, bit}
+use Rattle.lists.proofs.Lists.{written, at_here, at_other}
 
 -- ---- one entry of a table is written
-
-pub at_other : (xs : List ℕ) (i v x : ℕ) → x ≢ i → slice_index (set xs i v) x ≡ slice_index xs x
-at_other xs i v x ne = rw get_or-set_other
-
-pub at_here : (xs : List ℕ) (i v : ℕ) → i < length xs → slice_index (set xs i v) i ≡ v
-at_here xs i v lt = rw get_or-set_same
 
 -- what was read at a place that is there
 pub read_at : (xs : List ℕ) (i x : ℕ) → i < length xs → x ≡ get_or xs i x → x ≡ slice_index xs i
 read_at xs i x lt e = e ∙ get_or_default_zero xs i x lt
 
 -- what was written through the slice is the whole table
-pub written : (new rest : List ℕ) (len : ℕ) → len ≡ length new → take len (new ++ rest) ≡ new
-written new rest len e = ap (λ n. take n (new ++ rest)) e ∙ take-append_seam new rest
 
 -- ---- one step up
 

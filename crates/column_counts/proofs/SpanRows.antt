@@ -7,8 +7,9 @@ use Rattle.elim_tree.specs.Trees.{parent_at, IsForest, IsAbove, self, step}
 use Rattle.elim_tree.specs.Postorders.{IsNumberedInPostorder}
 use Rattle.column_counts.specs.Marks.{IsFactorRow}
 use Rattle.column_counts.specs.Leaves.{IsFirsts, AreSpans, AreAncestors, IsInRow}
-use Rattle.column_counts.proofs.MarkLemmas.{at_here, at_other}
-use Rattle.column_counts.proofs.FactorRows.{IsFactor, long_parents, above_on, above_le, way_of, of_way, factor_row}
+use Rattle.lists.proofs.Lists.{at_other, at_here}
+use Rattle.column_counts.proofs.FactorRows.{IsFactor, long_parents, above_le, way_of, of_way, factor_row}
+use Rattle.elim_tree.proofs.RowSubtrees.{above_on}
 
 -- ---- first descendants
 

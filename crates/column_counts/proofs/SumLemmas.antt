@@ -8,7 +8,7 @@ use Rattle.std.proofs.lemmas.List.FromFn.{get_or-range_with_len, length-range_wi
 use Rattle.std.proofs.lemmas.List.Sums.{sum_by_push}
 use Rattle.column_counts.specs.Marks.{bit}
 use Rattle.column_counts.specs.Leaves.{any_in, sum_in, passing}
-use Rattle.column_counts.proofs.MarkLemmas.{at_here, at_other}
+use Rattle.lists.proofs.Lists.{at_other, at_here}
 
 pub range_more : (a m : ℕ) → range_with_len a (suc m) ≡ range_with_len a m ++ (a + m) ∷ []
 range_more a zero = ap (λ (x : ℕ). x ∷ []) (omega arith)

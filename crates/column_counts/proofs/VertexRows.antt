@@ -2,7 +2,7 @@
 use Rattle.std.proofs.Common.{sym, ◌∙◌, ap, ◌≡◌, ◌≢◌, inl, inr, ℕ, zero, suc, ◌<◌, ◌≤◌, List, length, arith}
 use Rattle.std.proofs.lemmas.Bool.{cases_lt}
 use Rattle.std.proofs.lemmas.List.{get_or_past}
-use Rattle.ordering.specs.Perm.{vertex_at, place_of}
+use Rattle.permutations.specs.Perm.{vertex_at, place_of}
 
 -- past the end of an order there is no vertex
 past_end : (order : List ℕ) (x : ℕ) → length order < x → vertex_at order x ≡ 0

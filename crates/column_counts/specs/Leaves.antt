@@ -8,7 +8,7 @@ use Rattle.std.specs.Prelude.{count_by, sum_by}
 use Rattle.std.specs.List.{list_any, range_with_len}
 use Rattle.ordering.specs.Fill.{count_of}
 use Rattle.limits.specs.Limits.{most_order}
-use Rattle.ordering.specs.Perm.{vertex_at}
+use Rattle.permutations.specs.Perm.{vertex_at}
 use Rattle.elim_tree.specs.Forests.{column_in}
 use Rattle.elim_tree.specs.Trees.{parent_at, IsAbove}
 use Rattle.column_counts.specs.declared.leaves.Leaves.{Leaves}

@@ -1,7 +1,7 @@
 //! The counts of all columns.
 
 ghost use Rattle.std.specs.Prelude.{◌≡◌, length, IfOk};
-ghost use Rattle.matrix_market.specs.Pattern.{is_joined};
+ghost use Rattle.patterns.specs.Pattern.{is_joined};
 ghost use Rattle.ordering.specs.Fill.{renumbered, parents_of, counts_of};
 ghost use Rattle.elim_tree.specs.Postorders.{IsNumberedInPostorder};
 
@@ -9,8 +9,8 @@ use crate::NoMemory;
 use crate::leaves::Leaves;
 use crate::spans::first_descendants;
 use elim_tree::Parents;
-use matrix_market::Pattern;
-use ordering::Perm;
+use patterns::Pattern;
+use permutations::Perm;
 use std::alloc::Global;
 
 /// The counts of all columns, each from 1 to n: the sizes of their structures, of a pattern whose vertices are eliminated in this order,

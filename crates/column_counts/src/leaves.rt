@@ -3,9 +3,9 @@
 ghost use Rattle.std.specs.Prelude.{◌≡◌, ℕ, Bool, ◌+◌, ◌-◌, ◌^◌, ◌<◌, ◌≤◌, length, map, IfOk, slice_index};
 ghost use Rattle.std.specs.List.{range_with_len};
 ghost use Rattle.limits.specs.Limits.{most_order};
-ghost use Rattle.matrix_market.specs.Pattern.{is_joined};
-ghost use Rattle.ordering.specs.Fill.{renumbered, count_of, parents_of};
-ghost use Rattle.ordering.specs.Perm.{place_of};
+ghost use Rattle.patterns.specs.Pattern.{is_joined};
+ghost use Rattle.ordering.specs.Fill.{renumbered, parents_of};
+ghost use Rattle.permutations.specs.Perm.{place_of};
 ghost use Rattle.column_counts.specs.Leaves.{IsFirsts, AreSpans, with_entry, AreEmpty, AreReady, HoldLeaves, CanTakeColumn};
 ghost use Rattle.column_counts.specs.Leaves.{AreLeavesBefore, AreAtMost, growth, AreBalanced, AreSums, HasCount};
 
@@ -13,9 +13,10 @@ use crate::NoMemory;
 use crate::ancestors::Ancestors;
 use elim_tree::Parents;
 use elim_tree::laws::{no_earlier_row, renumbered_pattern, row_subtrees};
-use matrix_market::Pattern;
-use ordering::Perm;
-use ordering::laws::{parent_is_first, places_are_inverse};
+use ordering::laws::parent_is_first;
+use patterns::Pattern;
+use permutations::Perm;
+use permutations::laws::places_are_inverse;
 use std::alloc::Global;
 
 // The leaves of the row subtrees, as columns are taken into their rows one after another.
@@ -131,7 +132,7 @@ impl Leaves {
         places_are_inverse();
         perm.keeps();
         parents.keeps();
-        for j in 1..pattern.order() + 1 {
+        for j in 1..pattern.rows() + 1 {
             let row = pattern.neighbours(perm.at(j));
             self.take_column(firsts, row, perm, j);
         }

@@ -8,8 +8,6 @@ mod counting;
 mod leaves;
 mod marking;
 mod spans;
-#[cfg(test)]
-mod tests;
 
 pub use counting::counts;
 pub use marking::counts_by_marking;

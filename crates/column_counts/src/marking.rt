@@ -1,7 +1,7 @@
 //! Counts by marking the rows of the factor: in row i stand i itself and the columns on the ways up from its earlier neighbours to i.
 
 ghost use Rattle.std.specs.Prelude.{◌≡◌, ℕ, ◌+◌, ◌<◌, ◌≤◌, length, slice_index, IfOk};
-ghost use Rattle.matrix_market.specs.Pattern.{is_joined};
+ghost use Rattle.patterns.specs.Pattern.{is_joined};
 ghost use Rattle.ordering.specs.Fill.{renumbered, count_of, parents_of, counts_of};
 ghost use Rattle.elim_tree.specs.Postorders.{IsNumberedInPostorder};
 ghost use Rattle.column_counts.specs.Marks.{Row, CanMarkUp, IsMarkedUp, CanMarkRow, IsMarkedRow};
@@ -9,9 +9,10 @@ ghost use Rattle.column_counts.specs.Marks.{Row, CanMarkUp, IsMarkedUp, CanMarkR
 use crate::NoMemory;
 use elim_tree::Parents;
 use elim_tree::laws::{no_earlier_row, renumbered_pattern, row_subtrees};
-use matrix_market::Pattern;
-use ordering::Perm;
-use ordering::laws::{parent_is_first, places_are_inverse};
+use ordering::laws::parent_is_first;
+use patterns::Pattern;
+use permutations::Perm;
+use permutations::laws::places_are_inverse;
 use std::alloc::Global;
 
 // Marks with i and counts the columns on the way up from `start`, as far as none is marked.
@@ -78,7 +79,7 @@ fn mark_rows(
     places_are_inverse();
     perm.keeps();
     parents.keeps();
-    for i in 1..pattern.order() + 1 {
+    for i in 1..pattern.rows() + 1 {
         let row = pattern.neighbours(perm.at(i));
         mark_row(counts, marks, parents, row, perm, i);
     }

@@ -6,8 +6,6 @@ pub mod laws;
 mod line;
 mod parser;
 mod shape;
-#[cfg(test)]
-mod tests;
 
 pub use line::{Line, read_words};
 pub use shape::Shape;

@@ -5,7 +5,7 @@ use Rattle.mp_system.specs.Memory.{peak_from, peak_of}
 use Rattle.mp_system.specs.Renaming.{name_in}
 use Rattle.mp_system.specs.Traversal.{IsTraversal}
 use Rattle.side_laws.specs.Segments.{net_sum}
-use Rattle.hill_valley.specs.Side.{Run, run_profile, tasks_of, limit_of}
+use Rattle.hill_valley.specs.Side.{Run, run_profile, tasks_of, limit_from}
 use Rattle.sp_terms.specs.SystemOfTerm.{system_of_term}
 use Rattle.sp_terms.specs.Term.{Term, Direction, forward, backward, first_memory, IsAllowed}
 use Rattle.sp_term_laws.specs.Along.{memory_after}
@@ -263,8 +263,8 @@ module _ (laws : LawsBelow) (t : Term) (allowed : IsAllowed t) (names : List ℕ
   sides_sound : (k : Claim) → Wants c k → IsSound t k
   sides_sound k w = record {
     no_traversal = λ order traversal. above-beyond (peak_of (system_of_term t) order) k.bound (omega (arith, w.below, under_peak k.direction, stands.least.least order traversal));
-    rest = λ done after traversal within. low_rest k.direction (limit_of k.bound) k.rest w.low done after traversal (within-below (peak_up_to k.direction (system_of_term t) done after) k.bound within);
-    start = omega (arith, w.low, (laws.sides.between (limit_of k.bound) (start_of k.direction c) (run_profile (side_of k.direction c))).1, first_is k.direction);
+    rest = λ done after traversal within. low_rest k.direction (limit_from k.bound) k.rest w.low done after traversal (within-below (peak_up_to k.direction (system_of_term t) done after) k.bound within);
+    start = omega (arith, w.low, (laws.sides.between (limit_from k.bound) (start_of k.direction c) (run_profile (side_of k.direction c))).1, first_is k.direction);
   }
 
   pub stands_cut : (n : Names t) × (names_of t n ≡ names) × IsCutOf t n c

@@ -5,7 +5,7 @@ use Rattle.std.proofs.lemmas.Bool.Decides.{nat_tests}
 use Rattle.mp_system.specs.declared.system.Task.{Task}
 use Rattle.side_laws.specs.Appending.{cross_hill}
 use Rattle.side_laws.specs.Segments.{Segment, net_sum, lowest, top}
-use Rattle.hill_valley.specs.Side.{limit_of, run_profile}
+use Rattle.hill_valley.specs.Side.{limit_from, run_profile}
 use Rattle.sp_terms.specs.Term.{Term, Direction, forward, backward, hill_of, first_memory}
 use Rattle.sp_term_laws.specs.Moves.{other}
 use Rattle.claim_rules.specs.Claims.{Claim}
@@ -13,7 +13,8 @@ use Rattle.claim_rules.specs.Rules.{MeetsSeries, first_is_stuck, first_is_closed
 use Rattle.segment_merge.specs.Laws.{SideLaws}
 use Rattle.cut_laws.specs.Cuts.{Cut, cut_first, cut_second, over_task, front_peak, back_peak}
 use Rattle.cut_laws.proofs.Wanted.{Wants, WantsIf, near_claim, far_claim, Fits, first_claim, second_claim}
-use Rattle.cut_laws.proofs.Levels.{lt_or_le, lowest_end}
+use Rattle.cut_laws.proofs.Levels.{lowest_end}
+use Rattle.lists.proofs.Orders.{lt_or_le}
 use Rattle.cut_laws.proofs.Limits.{above-beyond}
 
 -- the parts show what is asked of them, and the rule of a series is met
@@ -70,27 +71,27 @@ module _ (laws : SideLaws) (limit start mid hill next low : ℕ) (near between f
 
 -- the choice, and what it needs in each case
 
-near_yes : (k : Claim) (near between : ℕ) → limit_of k.bound ≤ near → near_claim k near between ≡ Some k
+near_yes : (k : Claim) (near between : ℕ) → limit_from k.bound ≤ near → near_claim k near between ≡ Some k
 near_yes k near between h = grind (arith, nat_tests)
 
-near_other : (k : Claim) (near between : ℕ) → near < limit_of k.bound → limit_of k.bound ≤ between → near_claim k near between ≡ Some (record { direction = other k.direction; bound = k.bound; rest = 0 })
+near_other : (k : Claim) (near between : ℕ) → near < limit_from k.bound → limit_from k.bound ≤ between → near_claim k near between ≡ Some (record { direction = other k.direction; bound = k.bound; rest = 0 })
 near_other k near between h h' = grind (arith, nat_tests)
 
-near_none : (k : Claim) (near between : ℕ) → near < limit_of k.bound → between < limit_of k.bound → near_claim k near between ≡ None
+near_none : (k : Claim) (near between : ℕ) → near < limit_from k.bound → between < limit_from k.bound → near_claim k near between ≡ None
 near_none k near between h h' = grind (arith, nat_tests)
 
-far_none : (k : Claim) (near between hill : ℕ) → limit_of k.bound ≤ max near (max between hill) → far_claim k near between hill ≡ None
+far_none : (k : Claim) (near between hill : ℕ) → limit_from k.bound ≤ max near (max between hill) → far_claim k near between hill ≡ None
 far_none k near between hill h = grind (arith, nat_tests)
 
-far_yes : (k : Claim) (near between hill : ℕ) → max near (max between hill) < limit_of k.bound → far_claim k near between hill ≡ Some k
+far_yes : (k : Claim) (near between hill : ℕ) → max near (max between hill) < limit_from k.bound → far_claim k near between hill ≡ Some k
 far_yes k near between hill h = grind (arith, nat_tests)
 
 module _ (k : Claim) (start mid hill next low : ℕ) (near between far : List Segment) (P : Option Claim → Option Claim → Type 0)
-    (p1 : limit_of k.bound ≤ top start near → k.rest ≤ lowest (limit_of k.bound) start near → P (Some k) None)
-    (p2 : limit_of k.bound ≤ top mid between → k.rest ≤ low → P (Some (record { direction = other k.direction; bound = k.bound; rest = 0 })) None)
-    (p3 : limit_of k.bound ≤ hill → k.rest ≤ low → P None None)
-    (p4 : limit_of k.bound ≤ top next far → k.rest ≤ lowest (limit_of k.bound) next far → k.rest ≤ low → P None (Some k)) where
-  chosen : (z : ℕ) → Obstacle (limit_of k.bound) z start mid hill next low near between far → k.rest ≤ z
+    (p1 : limit_from k.bound ≤ top start near → k.rest ≤ lowest (limit_from k.bound) start near → P (Some k) None)
+    (p2 : limit_from k.bound ≤ top mid between → k.rest ≤ low → P (Some (record { direction = other k.direction; bound = k.bound; rest = 0 })) None)
+    (p3 : limit_from k.bound ≤ hill → k.rest ≤ low → P None None)
+    (p4 : limit_from k.bound ≤ top next far → k.rest ≤ lowest (limit_from k.bound) next far → k.rest ≤ low → P None (Some k)) where
+  chosen : (z : ℕ) → Obstacle (limit_from k.bound) z start mid hill next low near between far → k.rest ≤ z
       → P (near_claim k (top start near) (top mid between)) (far_claim k (top start near) (top mid between) hill)
   chosen z (near_stops h r) le = rw (near_yes k (top start near) (top mid between) h, far_none k (top start near) (top mid between) hill (omega arith)) (p1 h (omega arith))
   chosen z (between_stops g h r) le = rw (near_other k (top start near) (top mid between) g h, far_none k (top start near) (top mid between) hill (omega arith)) (p2 h (omega arith))
@@ -98,7 +99,7 @@ module _ (k : Claim) (start mid hill next low : ℕ) (near between far : List Se
   chosen z (far_stops g g2 g3 h r s) le = rw (near_none k (top start near) (top mid between) g g2, far_yes k (top start near) (top mid between) hill (omega arith)) (p4 h (omega arith) (omega arith))
 
 module _ (laws : SideLaws) (a : Term) (v : Task) (b : Term) (ca cb : Cut) (share : v.share ≤ first_memory backward a) (fa : Fits a ca) (fb : Fits b cb) where
-  forwards : (bound : ℤ) (rest z : ℕ) → Obstacle (limit_of bound) z ca.initial ca.fin (hill_of a v b) cb.initial ca.least (run_profile ca.front) (run_profile ca.back) (run_profile cb.front) → rest ≤ z
+  forwards : (bound : ℤ) (rest z : ℕ) → Obstacle (limit_from bound) z ca.initial ca.fin (hill_of a v b) cb.initial ca.least (run_profile ca.front) (run_profile ca.back) (run_profile cb.front) → rest ≤ z
       → let k : Claim = record { direction = forward; bound = bound; rest = rest } in SeriesChoice a v b ca cb k (first_claim k ca cb (hill_of a v b)) (second_claim k ca cb (hill_of a v b))
   forwards bound rest z o le =
       let k : Claim = record { direction = forward; bound = bound; rest = rest } in
@@ -109,7 +110,7 @@ module _ (laws : SideLaws) (a : Term) (v : Task) (b : Term) (ca cb : Cut) (share
       (λ h r s. record { first = tt; second = record { below = h; low = r }; meets = last_is_stuck (k, refl, refl, refl, omega arith) (omega (arith, fa.low)) })
       z o le
 
-  backwards : (bound : ℤ) (rest z : ℕ) → Obstacle (limit_of bound) z cb.fin cb.initial (hill_of a v b) ca.fin cb.least (run_profile cb.back) (run_profile cb.front) (run_profile ca.back) → rest ≤ z
+  backwards : (bound : ℤ) (rest z : ℕ) → Obstacle (limit_from bound) z cb.fin cb.initial (hill_of a v b) ca.fin cb.least (run_profile cb.back) (run_profile cb.front) (run_profile ca.back) → rest ≤ z
       → let k : Claim = record { direction = backward; bound = bound; rest = rest } in SeriesChoice a v b ca cb k (first_claim k ca cb (hill_of a v b)) (second_claim k ca cb (hill_of a v b))
   backwards bound rest z o le =
       let k : Claim = record { direction = backward; bound = bound; rest = rest } in
@@ -126,9 +127,9 @@ module _ (laws : SideLaws) (a : Term) (v : Task) (b : Term) (ca cb : Cut) (share
     where
       by_direction : (d : Direction) (bound : ℤ) (rest : ℕ) → let k : Claim = record { direction = d; bound = bound; rest = rest } in
           Wants (cut_first ca task (hill_of a v b) cb) k → SeriesChoice a v b ca cb k (first_claim k ca cb (hill_of a v b)) (second_claim k ca cb (hill_of a v b))
-      by_direction forward bound rest w = forwards bound rest (lowest (limit_of bound) ca.initial (run_profile ca.front)) (near_stops w.below (omega arith)) w.low
+      by_direction forward bound rest w = forwards bound rest (lowest (limit_from bound) ca.initial (run_profile ca.front)) (near_stops w.below (omega arith)) w.low
       by_direction backward bound rest w =
-          let limit : ℕ = limit_of bound in
+          let limit : ℕ = limit_from bound in
           let whole : List Segment = cross_hill cb.least (max (top cb.initial (run_profile cb.front)) (hill_of a v b)) ca.fin (run_profile ca.back) (run_profile cb.back) in
           let e = laws.profile_crossing cb.least (max (front_peak cb) (hill_of a v b)) ca.fin (over_task cb.front task) ca.back cb.back in
           let below : limit ≤ top cb.fin whole = subst (λ (l : List Segment). limit ≤ top cb.fin l) e w.below in
@@ -142,9 +143,9 @@ module _ (laws : SideLaws) (a : Term) (v : Task) (b : Term) (ca cb : Cut) (share
     where
       by_direction : (d : Direction) (bound : ℤ) (rest : ℕ) → let k : Claim = record { direction = d; bound = bound; rest = rest } in
           Wants (cut_second ca task (hill_of a v b) cb) k → SeriesChoice a v b ca cb k (first_claim k ca cb (hill_of a v b)) (second_claim k ca cb (hill_of a v b))
-      by_direction backward bound rest w = backwards bound rest (lowest (limit_of bound) cb.fin (run_profile cb.back)) (near_stops w.below (omega arith)) w.low
+      by_direction backward bound rest w = backwards bound rest (lowest (limit_from bound) cb.fin (run_profile cb.back)) (near_stops w.below (omega arith)) w.low
       by_direction forward bound rest w =
-          let limit : ℕ = limit_of bound in
+          let limit : ℕ = limit_from bound in
           let whole : List Segment = cross_hill ca.least (max (top ca.fin (run_profile ca.back)) (hill_of a v b)) cb.initial (run_profile cb.front) (run_profile ca.front) in
           let e = laws.profile_crossing ca.least (max (back_peak ca) (hill_of a v b)) cb.initial (over_task ca.back task) cb.front ca.front in
           let below : limit ≤ top ca.initial whole = subst (λ (l : List Segment). limit ≤ top ca.initial l) e w.below in

@@ -26,6 +26,7 @@ use Rattle.cut_laws.proofs.Down.{down_net, first_here, second_here, first_over, 
 use Rattle.cut_laws.proofs.Limits.{above-beyond}
 use Rattle.cut_laws.proofs.Merging.{EachLeadsDown, rising_merged, par_down}
 use Rattle.cut_laws.proofs.ParChoice.{AllRise, choice_par, some_levels}
+use Rattle.lists.proofs.Orders.{le_or_lt}
 
 -- ---- a data item
 
@@ -64,9 +65,6 @@ crossed_net laws end hill level ts far near h k = ap (λ l. net_sum l + level) (
 
 pub crossed_rises : SideLaws → (end hill level : ℕ) (ts : List ℕ) (far near : List Run) → IsRising (run_profile near) → IsRising (run_profile (cross_hill_runs end hill level ts far near))
 crossed_rises laws end hill level ts far near r = subst IsRising (sym (laws.profile_crossing end hill level ts far near)) (laws.crossing_rises end hill level (run_profile far) (run_profile near) r)
-
-pub le_or_lt : (m n : ℕ) → (m ≤ n) ⊎ (n < m)
-le_or_lt m n = grind arith
 
 pub is_first : (a : Cut) (task hill : ℕ) (b : Cut) → a.least ≤ b.least → series_cut a task hill b ≡ cut_first a task hill b
 is_first a task hill b h = let e : nat_le a.least b.least ≡ true = grind (arith, nat_tests) in rw e refl

@@ -12,8 +12,9 @@ use Rattle.cut_laws.specs.Cuts.{over_task}
 use Rattle.cut_laws.proofs.Leading.{LeadsDown}
 use Rattle.cut_laws.specs.Names.{Names}
 use Rattle.cut_laws.proofs.NamedWays.{NamedWay, still}
-use Rattle.cut_laws.proofs.Levels.{lt_or_le}
+use Rattle.lists.proofs.Orders.{lt_or_le}
 use Rattle.cut_laws.proofs.Ways.{way_is, way_begin, way_joined, one_step, way_back, in_first, in_second}
+use Rattle.hill_valley.proofs.Last.{lower, behind}
 
 pub down_net : (d : Direction) (t : Term) (n : Names t) (s : State t) (gs : List Run) (s' : State t) → LeadsDown d t n s gs s' → memory_of t s' + net_sum (run_profile gs) ≡ memory_of t s
 down_net d t n s [] s' e = omega (arith, ap (memory_of t) e)
@@ -37,12 +38,6 @@ down_in_second d a w b na x nb s (g ∷ gs) s' (m, u, e, h) = (inr m, in_second 
 
 -- ---- a run at the end
 
-behind : (r s : Run) → s.up < r.up → append_run r (s ∷ []) ≡ s ∷ r ∷ []
-behind r s h = grind (arith, nat_tests)
-
-joined : (r s : Run) → r.up ≤ s.up → append_run r (s ∷ []) ≡ join_runs false r s ∷ []
-joined r s h = grind (arith, nat_tests)
-
 pub down_append : (d : Direction) (t : Term) (n : Names t) (s : State t) (gs : List Run) (r : Run) (s' s'' : State t)
     → LeadsDown d t n s gs s' → NamedWay d t n s' r.tasks (memory_of t s' + r.up) s'' → memory_of t s'' + r.net ≡ memory_of t s' → LeadsDown d t n s (append_run r gs) s''
 down_append d t n s [] r s' s'' e w k =
@@ -50,7 +45,7 @@ down_append d t n s [] r s' s'' e w k =
 down_append d t n s (a ∷ []) r s' s'' (m, u, f, e) w k = elim (lt_or_le a.up r.up) [
   | inl h ↦ subst (λ x. LeadsDown d t n s x s'') (sym (behind r a h))
       (m, u, f, (s'', subst (λ x. NamedWay d t n x r.tasks (memory_of t x + r.up) s'') (sym e) w, k ∙ ap (memory_of t) (sym e), refl))
-  | inr h ↦ subst (λ x. LeadsDown d t n s x s'') (sym (joined r a h))
+  | inr h ↦ subst (λ x. LeadsDown d t n s x s'') (sym (lower r a h))
       (let q = ap (memory_of t) e in
       (s'', way_is refl (omega (arith, q, f)) (way_joined (subst (NamedWay d t n s a.tasks (memory_of t s + a.up)) e u) w), omega (arith, q, f, k), refl))
 ]

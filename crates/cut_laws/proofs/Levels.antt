@@ -3,9 +3,7 @@ use Rattle.std.proofs.Common.{◌≡◌, ℕ, ◌-◌, ◌<◌, ◌≤◌, ◌�
 use Rattle.std.proofs.lemmas.Bool.Decides.{nat_tests}
 use Rattle.side_laws.specs.Segments.{Segment, net_sum, lowest, top, Passes}
 use Rattle.segment_merge.specs.Laws.{SideLaws}
-
-pub lt_or_le : (m n : ℕ) → (m < n) ⊎ (n ≤ m)
-lt_or_le m n = grind arith
+use Rattle.lists.proofs.Orders.{lt_or_le}
 
 -- at its start a side that the limit does not allow is stuck
 pub lowest_stuck : (limit level : ℕ) (ss : List Segment) → limit ≤ level → lowest limit level ss ≡ level

@@ -11,6 +11,8 @@ use Rattle.cut_laws.proofs.Leading.{LeadsDown}
 use Rattle.cut_laws.specs.Names.{Names, NamesOfParts}
 use Rattle.cut_laws.proofs.NamedWays.{NamedWay, NamedWays}
 use Rattle.cut_laws.proofs.Ways.{ways_is, ways_joined, in_par, in_head, in_tail}
+use Rattle.lists.proofs.Orders.{compare}
+use Rattle.segment_merge.proofs.Interleaving.{cons_front, put_cons, after_insert}
 
 -- ---- where the first runs of two sides go
 
@@ -27,35 +29,18 @@ further s m ms h = grind (arith, nat_tests)
 at_place : (s e : Run) (es : List Run) → s.up ≡ e.up → insert_run true s (e ∷ es) ≡ record { up = e.up; net = e.net + s.net; tasks = s.tasks ++ e.tasks } ∷ es
 at_place s e es h = grind (arith, nat_tests)
 
-order : (m n : ℕ) → (m < n) ⊎ ((m ≡ n) ⊎ (n < m))
-order m n = grind arith
-
--- a run that is lower than all of a side stays in front
-put_cons : (ss : List Run) (e : Run) (es : List Run) → StartsAbove e.up (run_profile ss) → IsRising (run_profile ss) → insert_runs ss (e ∷ es) ≡ e ∷ insert_runs ss es
-put_cons [] e es a r = refl
-put_cons (s ∷ ss) e es a r = ap (insert_run true s) (put_cons ss e es (past e s ss a r) r.1) ∙ further s e (insert_runs ss es) a
-
-after_step : (u : ℕ) (s e : Run) (es : List Run) → u < s.up → u < e.up → StartsAbove u (run_profile (insert_run true s (e ∷ es)))
-after_step u s e es h k = grind (arith, nat_tests)
-
-after_insert : (u : ℕ) (s : Run) (es : List Run) → u < s.up → StartsAbove u (run_profile es) → StartsAbove u (run_profile (insert_run true s es))
-after_insert u s [] h k = h
-after_insert u s (e ∷ es) h k = after_step u s e es h k
+-- a run that is lower than all of a side stays in cons_front
 
 after_put : (s : Run) (ss es : List Run) → StartsAbove s.up (run_profile ss) → IsRising (run_profile ss) → StartsAbove s.up (run_profile es) → StartsAbove s.up (run_profile (insert_runs ss es))
 after_put s [] es a r k = k
 after_put s (g ∷ ss) es a r k = after_insert s.up g (insert_runs ss es) a (after_put s ss es (past s g ss a r) r.1 k)
 
-front : (s : Run) (es : List Run) → StartsAbove s.up (run_profile es) → insert_run true s es ≡ s ∷ es
-front s [] a = refl
-front s (e ∷ es) a = in_front s e es a
-
 put_cases : (a : Run) (gs : List Run) (b : Run) (r : List Run) (P : List Run → Type 0) → IsRising (run_profile (a ∷ gs)) → IsRising (run_profile (b ∷ r))
     → (a.up < b.up → P (a ∷ insert_runs gs (b ∷ r))) → (b.up < a.up → P (b ∷ insert_runs (a ∷ gs) r))
     → (a.up ≡ b.up → P (record { up = b.up; net = b.net + a.net; tasks = a.tasks ++ b.tasks } ∷ insert_runs gs r))
     → P (insert_runs (a ∷ gs) (b ∷ r))
-put_cases a gs b r P ra rb x y z = elim (order a.up b.up) [
-  | inl h ↦ subst P (sym (front a (insert_runs gs (b ∷ r)) (after_put a gs (b ∷ r) ra.0 ra.1 h))) (x h)
+put_cases a gs b r P ra rb x y z = elim (compare a.up b.up) [
+  | inl h ↦ subst P (sym (cons_front a (insert_runs gs (b ∷ r)) (after_put a gs (b ∷ r) ra.0 ra.1 h))) (x h)
   | inr h ↦ elim h [
     | inl h ↦ subst P (sym (ap (insert_run true a) (put_cons gs b r (subst (λ (u : ℕ). StartsAbove u (run_profile gs)) h ra.0) ra.1) ∙ at_place a b (insert_runs gs r) h)) (z h)
     | inr h ↦ subst P (sym (ap (insert_run true a) (put_cons gs b r (past b a gs h ra) ra.1) ∙ further a b (insert_runs gs r) h)) (y h)
@@ -63,7 +48,7 @@ put_cases a gs b r P ra rb x y z = elim (order a.up b.up) [
 ]
 
 put_nil_cases : (a : Run) (gs : List Run) (P : List Run → Type 0) → IsRising (run_profile (a ∷ gs)) → P (a ∷ insert_runs gs []) → P (insert_runs (a ∷ gs) [])
-put_nil_cases a gs P ra x = subst P (sym (front a (insert_runs gs []) (after_put a gs [] ra.0 ra.1 tt))) x
+put_nil_cases a gs P ra x = subst P (sym (cons_front a (insert_runs gs []) (after_put a gs [] ra.0 ra.1 tt))) x
 
 -- ---- through the states of all parts
 

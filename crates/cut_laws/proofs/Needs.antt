@@ -12,9 +12,10 @@ use Rattle.sp_terms.specs.Term.{Term, hold, series, par, Parts, no_parts, part, 
 use Rattle.sp_term_laws.specs.Moves.{State, States, memory_of, memory_of_parts}
 use Rattle.sp_term_laws.specs.Ways.{Run, Runs}
 use Rattle.cut_laws.specs.Below.{TermLaws}
-
-abbrev made : List Item → ℕ → ℕ
-made items v = size_where (is_output v) items
+use Rattle.lists.proofs.Bools.{eqb_same}
+use Rattle.std.proofs.lemmas.Bool.{ne_eqb}
+use Rattle.sp_term_laws.proofs.Next.{need-first, need-last, need-right, need-left}
+use Rattle.sp_terms.proofs.SystemLemmas.{made-append, made}
 
 abbrev no_task : Task
 no_task = record { extra = 0; share = 0; time = 0 }
@@ -26,21 +27,12 @@ need_with task outputs = task.extra + outputs - task.share
 abbrev pub need_in : List Task → List Item → ℕ → ℕ → ℕ
 need_in tasks items k v = need_with (slice_index_or tasks k no_task) (made items v)
 
-ne-eqb : (v u : ℕ) → (v ≡ u → ⊥) → (v == u) ≡ false
-ne-eqb v u ne = grind arith
-
-eqb_same : (v : ℕ) → (v == v) ≡ true
-eqb_same v = eq-eqb v v refl
-
 -- the number is none of the `count` from `base` on
 abbrev Apart : ℕ → ℕ → ℕ → Type 0
 Apart base count v = base ≤ v → base + count ≤ v
 
 made_one : (v size : ℕ) (from to : Option ℕ) (b : Bool) → is_named from v ≡ b → made (record { size = size; from = from; to = to } ∷ []) v ≡ cond b size 0
 made_one v size from to b h = sum_by-cons (size_if (is_output v)) (record { size = size; from = from; to = to }) [] ∙ rw h (omega arith)
-
-made-append : (xs ys : List Item) (v : ℕ) → made (xs ++ ys) v ≡ made xs v + made ys v
-made-append xs ys v = sum_by-append (size_if (is_output v)) xs ys
 
 -- by a task that is none of these
 mutual
@@ -51,7 +43,7 @@ mutual
       ∙ omega (
         arith,
         made-outside base from (Some (own_number base a b)) a v (λ l. omega arith) f,
-        made-outside (base + task_count a) (Some (own_number base a b)) to b v (λ l. omega arith) (ne-eqb (own_number base a b) v (λ e. omega arith)),
+        made-outside (base + task_count a) (Some (own_number base a b)) to b v (λ l. omega arith) (ne_eqb (own_number base a b) v (λ e. omega arith)),
       )
   made-outside base from to (par ts) v o f = made-outside_parts base from to ts v o f
 
@@ -70,7 +62,7 @@ mutual
       ∙ omega (
         arith,
         made-first base from (Some (own_number base a b)) a v (λ l. omega arith) f,
-        made-outside (base + task_count a) (Some (own_number base a b)) to b v (λ l. omega arith) (ne-eqb (own_number base a b) v (λ e. omega arith)),
+        made-outside (base + task_count a) (Some (own_number base a b)) to b v (λ l. omega arith) (ne_eqb (own_number base a b) v (λ e. omega arith)),
       )
   made-first base from to (par ts) v o f = made-first_parts base from to ts v o f
 
@@ -90,24 +82,6 @@ mutual
   length-tasks_parts no_parts = refl
   length-tasks_parts (part t ts) = length-append (tasks_of_term t) (tasks_of_parts ts) ∙ omega (arith, length-tasks t, length-tasks_parts ts)
 
-need-left : (xs ys : List Task) (is js : List Item) (k v : ℕ) → k < length xs → made js v ≡ 0 → need_in (xs ++ ys) (is ++ js) k v ≡ need_in xs is k v
-need-left xs ys is js k v h e =
-    let p : made (is ++ js) v ≡ made is v = omega (arith, made-append is js v) in
-    let q = get_or_append_left xs ys no_task k h in
-    cc
-
-need-right : (xs ys : List Task) (is js : List Item) (k i v : ℕ) → k ≡ length xs + i → made is v ≡ 0 → need_in (xs ++ ys) (is ++ js) k v ≡ need_in ys js i v
-need-right xs ys is js k i v h e =
-    let p : made (is ++ js) v ≡ made js v = omega (arith, made-append is js v) in
-    let q = get_or-append-add xs ys i no_task in
-    cc
-
-need-first : (xs : List Task) (w : Task) (is : List Item) (k v : ℕ) → k < length xs → need_in (xs ++ w ∷ []) is k v ≡ need_in xs is k v
-need-first xs w is k v h = let q = get_or_append_left xs (w ∷ []) no_task k h in cc
-
-need-last : (xs : List Task) (w : Task) (is : List Item) (v : ℕ) → need_in (xs ++ w ∷ []) is (length xs) v ≡ need_with w (made is v)
-need-last xs w is v = let q = get_or-append_seam xs w [] no_task in cc
-
 -- a task that runs is one of the term, and takes its need
 pub record Needs (base count v r memory need : ℕ) : Type 0 where
   pub low : base ≤ v
@@ -125,7 +99,7 @@ module _ (laws : TermLaws) where
         let low = x.low in
         let high = x.high in
         let n = length-tasks a in
-        let out : made (items_of_term (base + task_count a) (Some own) to b) v ≡ 0 = made-outside (base + task_count a) (Some own) to b v (λ l. omega arith) (ne-eqb own v (λ e. omega arith)) in
+        let out : made (items_of_term (base + task_count a) (Some own) to b) v ≡ 0 = made-outside (base + task_count a) (Some own) to b v (λ l. omega arith) (ne_eqb own v (λ e. omega arith)) in
         let same = need-left (tasks_of_term a) (tasks_of_term b ++ w ∷ []) (items_of_term base from (Some own) a) (items_of_term (base + task_count a) (Some own) to b) (v - base) v (omega arith) out in
         record { low = low; high = omega arith; is = omega (arith, x.is, same) }
     run_needs base from to (series a w b) (inl s) v r (inr s') h o =
@@ -143,7 +117,7 @@ module _ (laws : TermLaws) where
     run_needs base from to (series a w b) (inr s) v r (inl s') h o = absurd h
     run_needs base from to (series a w b) (inr s) v r (inr s') h o =
         let own : ℕ = own_number base a b in
-        let inside : base + task_count a ≤ v → v < base + task_count a + task_count b → is_named (Some own) v ≡ false = λ l m. ne-eqb own v (λ e. omega arith) in
+        let inside : base + task_count a ≤ v → v < base + task_count a + task_count b → is_named (Some own) v ≡ false = λ l m. ne_eqb own v (λ e. omega arith) in
         let x = run_needs (base + task_count a) (Some own) to b s v r s' h inside in
         let low = x.low in
         let high = x.high in

@@ -19,7 +19,8 @@ use Rattle.cut_laws.proofs.Leading.{LeadsDown, IsCutOf}
 use Rattle.cut_laws.specs.Names.{Names, names_of}
 use Rattle.cut_laws.specs.Standing.{HasLevel, HasHigh, StandsFor}
 use Rattle.cut_laws.proofs.Wanted.{claim_below}
-use Rattle.cut_laws.proofs.Levels.{lt_or_le, lowest_end, top_from_passes}
+use Rattle.cut_laws.proofs.Levels.{lowest_end, top_from_passes}
+use Rattle.lists.proofs.Orders.{lt_or_le}
 use Rattle.cut_laws.proofs.Limits.{below-within, beyond-above, limit-below}
 use Rattle.cut_laws.proofs.Numbered.{NumbersLeadDown, numbered_down, down_names, down_net, down_split, down_way}
 use Rattle.cut_laws.proofs.Numbers.{by_numbers, count_names}

@@ -12,9 +12,11 @@ use Rattle.sp_terms.specs.Term.{Direction}
 use Rattle.segment_merge.specs.Laws.{SideLaws}
 use Rattle.cut_laws.specs.Cuts.{Cut, side_of, start_of, top_of, front_peak, back_peak, over_task, cut_first, cut_second, series_cut, par_cut, fronts, backs, starts, sides}
 use Rattle.cut_laws.specs.Tops.{MeetsAtLeast, BothRise, LiesInFirst, LiesInSecond, SomeReaches, tops}
-use Rattle.cut_laws.proofs.Composed.{le_or_lt, is_first, is_second, crossed_net, crossed_rises, inserted_net}
+use Rattle.cut_laws.proofs.Composed.{is_first, is_second, crossed_net, crossed_rises, inserted_net}
+use Rattle.lists.proofs.Orders.{le_or_lt}
 use Rattle.cut_laws.proofs.Merging.{rising_merged}
-use Rattle.cut_laws.proofs.Levels.{lt_or_le, passes_from_top, top_from_passes}
+use Rattle.cut_laws.proofs.Levels.{passes_from_top, top_from_passes}
+use Rattle.lists.proofs.Orders.{lt_or_le}
 use Rattle.cut_laws.proofs.ParChoice.{side_par, start_par}
 
 module _ (laws : SideLaws) where

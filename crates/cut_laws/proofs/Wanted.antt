@@ -3,7 +3,7 @@
 use Rattle.std.specs.Prelude.{◌≡◌, ℕ, ℤ, pos, ◌-ℤ◌, ◌+◌, ◌-◌, ◌≤◌, max, if◌then◌else◌, nat_le, List, [], ◌∷◌, Option, Some, None}
 use Rattle.side_laws.specs.Levels.{AreLevels}
 use Rattle.side_laws.specs.Segments.{net_sum}
-use Rattle.hill_valley.specs.Side.{limit_of, run_profile}
+use Rattle.hill_valley.specs.Side.{limit_from, run_profile}
 use Rattle.sp_terms.specs.Term.{Term, Parts, no_parts, part, Direction, forward, backward, first_memory, least_of}
 use Rattle.sp_term_laws.specs.Moves.{other}
 use Rattle.claim_rules.specs.Claims.{Claim}
@@ -16,8 +16,8 @@ claim_below d limit rest = record { direction = d; bound = pos limit -ℤ pos 1;
 
 -- the side of the claim's direction shows it: its bound is below the side's peak, and its rest is at most the lowest level within it
 pub record Wants (c : Cut) (k : Claim) : Type 0 where
-  pub below : limit_of k.bound ≤ top_of k.direction c
-  pub low : k.rest ≤ lowest_of k.direction (limit_of k.bound) c
+  pub below : limit_from k.bound ≤ top_of k.direction c
+  pub low : k.rest ≤ lowest_of k.direction (limit_from k.bound) c
 
 abbrev pub WantsIf : Cut → Option Claim → Type 0
 WantsIf c None = Unit {0}
@@ -43,13 +43,13 @@ pub record Fits (t : Term) (c : Cut) : Type 0 where
 -- the claim on the part that is passed first, where these are the peaks of its side in the claim's direction and of the other side
 abbrev pub near_claim : Claim → ℕ → ℕ → Option Claim
 near_claim k near between =
-    if nat_le (limit_of k.bound) near then Some k
-    else (if nat_le (limit_of k.bound) between then Some (record { direction = other k.direction; bound = k.bound; rest = 0 })
+    if nat_le (limit_from k.bound) near then Some k
+    else (if nat_le (limit_from k.bound) between then Some (record { direction = other k.direction; bound = k.bound; rest = 0 })
     else None)
 
 -- the claim on the part that is passed last
 abbrev pub far_claim : Claim → ℕ → ℕ → ℕ → Option Claim
-far_claim k near between hill = if nat_le (limit_of k.bound) (max near (max between hill)) then None else Some k
+far_claim k near between hill = if nat_le (limit_from k.bound) (max near (max between hill)) then None else Some k
 
 -- the claims on the two parts of a series: on the first thing that does not pass within the bound
 abbrev pub first_claim : Claim → Cut → Cut → ℕ → Option Claim
@@ -64,12 +64,12 @@ second_claim k a b hill =
 
 -- the levels of the parts at which all sides together are stuck within the bound
 abbrev pub AreStuckWithin : Direction → ℤ → List Cut → List ℕ → Type 0
-AreStuckWithin d bound cs levels = AreLevels (limit_of bound) 0 (starts d cs) (sides d cs) levels
+AreStuckWithin d bound cs levels = AreLevels (limit_from bound) 0 (starts d cs) (sides d cs) levels
 
 -- the claim on a part that is stuck at a level: within a bound of its own that its side does not pass, or none
 abbrev pub part_claim : Direction → ℤ → Cut → ℕ → Option Claim
 part_claim d bound c level =
-    if nat_le (limit_of bound) (top_of d c) then Some (record { direction = d; bound = bound; rest = level }) else None
+    if nat_le (limit_from bound) (top_of d c) then Some (record { direction = d; bound = bound; rest = level }) else None
 
 -- the claims on the parts at these levels, which sum to `total`: the bound of each is the whole's less the levels of the others
 abbrev pub par_claims : Direction → ℤ → ℕ → List Cut → List ℕ → List (Option Claim)

@@ -3,7 +3,8 @@ use Rattle.std.proofs.Common.{sym, subst, ◌+◌, ◌≡◌, ◌≢◌, ◌⊎�
 use Rattle.std.proofs.lemmas.Bool.{cases_eq, cases_Bool, cases_order, both_ways}
 use Rattle.ordering.specs.Fill.{graph_at, IsAdjacency}
 use Rattle.elim_tree.specs.Reaches.{Reaches, IsFirstReached}
-use Rattle.elim_tree.proofs.Fills.{later, different, clique, from_pattern, origin}
+use Rattle.elim_tree.proofs.Fills.{different, clique, from_pattern, origin}
+use Rattle.ordering.proofs.FillLemmas.{later}
 
 -- the least number below n that passes a test, or none does
 pub least_below : (p : ℕ → Bool) (n : ℕ) → ((m : ℕ) × (m < n) × (p m ≡ true) × ((k : ℕ) → k < m → p k ≡ false)) ⊎ ((k : ℕ) → k < n → p k ≡ false)

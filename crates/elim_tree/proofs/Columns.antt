@@ -5,7 +5,7 @@ use Rattle.std.proofs.lemmas.List.{get_or_past}
 use Rattle.std.proofs.lemmas.List.FromFn.{length-map-range_with_len, get_or-map-range_with_len}
 use Rattle.std.proofs.lemmas.Grind.{get_or_after_one, get_or_default_zero}
 use Rattle.limits.specs.Limits.{most_order}
-use Rattle.ordering.specs.Perm.{IsVertex}
+use Rattle.permutations.specs.Perm.{IsVertex}
 use Rattle.ordering.specs.Fill.{structure_of, parent_of, parents_of, IsAdjacency, IsParent}
 use Rattle.elim_tree.specs.ParentTables.{parents_in, IsParentTable}
 use Rattle.elim_tree.specs.Paths.{IsWithin}

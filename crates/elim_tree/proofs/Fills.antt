@@ -3,48 +3,12 @@ use Rattle.std.proofs.Common.{sym, ◌-◌, add-zero, add-suc, ◌+◌, ◌≡�
 use Rattle.std.proofs.lemmas.Bool.{and_parts, or_cases, and_from, or_left, or_right, eqb-false, ne_eqb, not-true, not_from_false}
 use Rattle.ordering.specs.Fill.{eliminate, graph_at, IsAdjacency}
 use Rattle.elim_tree.specs.Reaches.{Reaches}
+use Rattle.ordering.proofs.FillLemmas.{to_suc_new, to_suc_old, at_suc, later}
+use Rattle.elimination.proofs.Eliminations.{keep_new, keep_old, kept, Kept}
 
 -- ---- one elimination
-ne_from_not : (a b : ℕ) → not (a == b) ≡ true → a ≡ b → ⊥
-ne_from_not a b h = eqb-false a b (not-true (a == b) h)
-
-not_from_ne : (a b : ℕ) → (a ≡ b → ⊥) → not (a == b) ≡ true
-not_from_ne a b h = not_from_false (a == b) (ne_eqb a b h)
-
--- what an edge of the graph after an elimination comes from
-pub record Kept (joined : ℕ → ℕ → Bool) (v a b : ℕ) : Type 0 where
-  pub left : a ≢ v
-  pub right : b ≢ v
-  pub from : (joined a b ≡ true) ⊎ ((a ≢ b) × (joined v a ≡ true) × (joined v b ≡ true))
-
-pub kept : (joined : ℕ → ℕ → Bool) (v a b : ℕ) → eliminate joined v a b ≡ true → Kept joined v a b
-unfolding eliminate
-kept joined v a b h =
-    let p = and_parts (not (a == v)) _ h in
-    let q = and_parts (not (b == v)) _ p.1 in
-    record {
-      left = ne_from_not a v p.0;
-      right = ne_from_not b v q.0;
-      from = elim (or_cases (joined a b) _ q.1) [
-        | inl e ↦ inl e
-        | inr f ↦ inr (let r = and_parts (not (a == b)) _ f in let s = and_parts (joined v a) (joined v b) r.1 in (ne_from_not a b r.0, s.0, s.1))
-      ];
-    }
-
-pub keep_old : (joined : ℕ → ℕ → Bool) (v a b : ℕ) → a ≢ v → b ≢ v → joined a b ≡ true → eliminate joined v a b ≡ true
-unfolding eliminate
-keep_old joined v a b ha hb h =
-    and_from _ _ (not_from_ne a v ha) (and_from _ _ (not_from_ne b v hb) (or_left _ _ h))
-
-pub keep_new : (joined : ℕ → ℕ → Bool) (v a b : ℕ) → a ≢ v → b ≢ v → a ≢ b → joined v a ≡ true → joined v b ≡ true → eliminate joined v a b ≡ true
-unfolding eliminate
-keep_new joined v a b ha hb hab hva hvb =
-    and_from _ _ (not_from_ne a v ha) (and_from _ _ (not_from_ne b v hb) (or_right _ _ (and_from _ _ (not_from_ne a b hab) (and_from _ _ hva hvb))))
 
 -- ---- the graph at each moment
-pub at_suc : (joined : ℕ → ℕ → Bool) (j a b : ℕ) → graph_at joined (suc j) a b ≡ true → Kept (graph_at joined j) j a b
-unfolding graph_at
-at_suc joined j a b h = kept (graph_at joined j) j a b h
 
 pub at_zero : (joined : ℕ → ℕ → Bool) (a b : ℕ) → graph_at joined zero a b ≡ true → joined a b ≡ true
 unfolding graph_at
@@ -54,25 +18,7 @@ pub to_zero : (joined : ℕ → ℕ → Bool) (a b : ℕ) → joined a b ≡ tru
 unfolding graph_at
 to_zero joined a b h = h
 
-pub to_suc_old : (joined : ℕ → ℕ → Bool) (j a b : ℕ) → a ≢ j → b ≢ j → graph_at joined j a b ≡ true → graph_at joined (suc j) a b ≡ true
-unfolding graph_at
-to_suc_old joined j a b ha hb h = keep_old (graph_at joined j) j a b ha hb h
-
-pub to_suc_new : (joined : ℕ → ℕ → Bool) (j a b : ℕ) → a ≢ j → b ≢ j → a ≢ b → graph_at joined j j a ≡ true → graph_at joined j j b ≡ true → graph_at joined (suc j) a b ≡ true
-unfolding graph_at
-to_suc_new joined j a b ha hb hab hja hjb = keep_new (graph_at joined j) j a b ha hb hab hja hjb
-
 -- edges join vertices that are not eliminated yet
-pub later : (joined : ℕ → ℕ → Bool) (k a b : ℕ) → graph_at joined k a b ≡ true → (k ≤ a) × (k ≤ b)
-later joined zero a b h = (omega arith, omega arith)
-later joined (suc j) a b h =
-    let q = at_suc joined j a b h in
-    let na = q.left in
-    let nb = q.right in
-    elim q.from [
-      | inl e ↦ let le = later joined j a b e in (omega arith, omega arith)
-      | inr f ↦ let la = later joined j j a f.1 in let lb = later joined j j b f.2 in (omega arith, omega arith)
-    ]
 
 -- an edge between two vertices stays while neither is eliminated
 pub stays : (joined : ℕ → ℕ → Bool) (k m a b : ℕ) → graph_at joined k a b ≡ true → k + m ≤ a → k + m ≤ b → graph_at joined (k + m) a b ≡ true

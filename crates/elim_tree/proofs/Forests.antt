@@ -5,12 +5,7 @@ use Rattle.elim_tree.specs.Reaches.{Reaches, IsFirstReached}
 use Rattle.elim_tree.specs.Forests.{IsGrown, IsOnWay, Covers}
 use Rattle.elim_tree.proofs.Fills.{clique}
 use Rattle.elim_tree.proofs.Children.{reaches_later, reaches_by_children}
-
-pub at_other : (xs : List ℕ) (i v x : ℕ) → x ≢ i → slice_index (set xs i v) x ≡ slice_index xs x
-at_other xs i v x ne = rw get_or-set_other
-
-pub at_here : (xs : List ℕ) (i v : ℕ) → i < length xs → slice_index (set xs i v) i ≡ v
-at_here xs i v lt = rw get_or-set_same
+use Rattle.lists.proofs.Lists.{at_here, at_other}
 
 -- the new roots: the tree of c goes under k
 pub put_under : (ℕ → ℕ) → ℕ → ℕ → ℕ → ℕ

@@ -6,8 +6,8 @@ use Rattle.std.proofs.lemmas.Grind.{get_or_after_one}
 use Rattle.std.proofs.lemmas.List.Folds.{list_any_at}
 use Rattle.std.proofs.lemmas.List.FromFn.{get_or-map-range_with_len, length-map-range_with_len}
 use Rattle.limits.specs.Limits.{most_order}
-use Rattle.matrix_market.specs.Pattern.{neighbours_of, has, is_joined, IsPattern}
-use Rattle.ordering.specs.Perm.{IsVertex, vertex_at, place_of}
+use Rattle.patterns.specs.Pattern.{neighbours_of, has, is_joined, IsPattern}
+use Rattle.permutations.specs.Perm.{IsVertex, vertex_at, place_of}
 use Rattle.ordering.specs.Fill.{renumbered, parent_of, parents_of, IsAdjacency}
 use Rattle.elim_tree.specs.Forests.{IsGrown, CanTake, IsTaken, column_in}
 use Rattle.elim_tree.specs.ParentTables.{parents_in, IsParentTable}

@@ -2,7 +2,7 @@
 use Rattle.std.proofs.Common.{sym, ◌∙◌, subst, ap, ◌≡◌, inl, inr, ℕ, zero, suc, ◌<◌, ◌≤◌, List, length, get_or, arith, refl}
 use Rattle.std.proofs.lemmas.Bool.{cases_eq}
 use Rattle.std.proofs.lemmas.List.FromFn.{fill_by_all}
-use Rattle.ordering.specs.Perm.{IsVertex, IsPerm, vertex_at, place_of}
+use Rattle.permutations.specs.Perm.{IsVertex, IsPerm, vertex_at, place_of}
 use Rattle.elim_tree.specs.Trees.{IsForest}
 use Rattle.elim_tree.specs.Postorders.{IsPostorder}
 use Rattle.elim_tree.proofs.Growth.{vertex_within}

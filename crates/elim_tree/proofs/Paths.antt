@@ -4,7 +4,10 @@ use Rattle.std.proofs.lemmas.Bool.{cases_eq}
 use Rattle.ordering.specs.Fill.{graph_at, IsAdjacency}
 use Rattle.elim_tree.specs.Paths.{Path, edge, via}
 use Rattle.elim_tree.specs.Reaches.{Reaches}
-use Rattle.elim_tree.proofs.Fills.{at_suc, at_zero, to_zero, to_suc_old, to_suc_new}
+use Rattle.elim_tree.proofs.Fills.{at_zero, to_zero}
+use Rattle.ordering.proofs.FillLemmas.{at_suc}
+use Rattle.ordering.proofs.FillLemmas.{to_suc_old}
+use Rattle.ordering.proofs.FillLemmas.{to_suc_new}
 
 pub weaken : {joined : ℕ → ℕ → Bool} {k a b : ℕ} → Path joined k a b → Path joined (suc k) a b
 weaken (edge h) = edge h

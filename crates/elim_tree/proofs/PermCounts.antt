@@ -5,7 +5,7 @@ use Rattle.std.proofs.lemmas.Bool.{cases_eq, cases_lt, lt-ltb, le-ltb, eq-eqb, n
 use Rattle.std.proofs.lemmas.List.Sums.{sum_by-cons}
 use Rattle.std.proofs.lemmas.List.Folds.{fold-map}
 use Rattle.std.proofs.lemmas.List.FromFn.{sum_by-map-range_with_len_more}
-use Rattle.ordering.specs.Perm.{IsPerm, times}
+use Rattle.permutations.specs.Perm.{IsPerm, times}
 
 abbrev pub bit : Bool → ℕ
 bit b = cond b 1 0

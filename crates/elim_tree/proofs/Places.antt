@@ -2,7 +2,8 @@
 use Rattle.std.proofs.Common.{sym, ◌∙◌, subst, ap, ◌+◌, ◌-◌, ◌≡◌, ◌≢◌, inl, inr, ℕ, zero, suc, ◌<◌, ◌≤◌, List, ◌++◌, length, take, arith, refl, cond, ◌==◌, slice_index}
 use Rattle.std.proofs.lemmas.Bool.{cases_eq, cases_lt, cond-true, cond-false, eq-eqb, ne_eqb}
 use Rattle.std.proofs.Math.Seq.{take-append_seam}
-use Rattle.ordering.specs.Perm.{IsVertex, IsPerm, place_of}
+use Rattle.limits.specs.Limits.{most_order}
+use Rattle.permutations.specs.Perm.{IsVertex, IsPerm, place_of}
 use Rattle.elim_tree.specs.ParentTables.{parents_in, IsParentTable}
 use Rattle.elim_tree.specs.Trees.{parent_at, IsForest, IsAbove, self, step}
 use Rattle.elim_tree.specs.Postorders.{Precedes, below, beside, IsPostorder}
@@ -11,6 +12,7 @@ use Rattle.elim_tree.proofs.Columns.{in_table, length_of_table, parent_within}
 use Rattle.elim_tree.proofs.SpanLemmas.{IsPlaced, IsPlacedFrom, placed_all}
 use Rattle.elim_tree.proofs.CountLemmas.{IsRising, children_yes, children_to, children_all}
 use Rattle.elim_tree.proofs.Postorderings.{place_one}
+use Rattle.lists.proofs.Lists.{written}
 
 -- the child in whose span k falls
 locate : (parent many : ℕ → ℕ) (p m k : ℕ) → 0 < k → k ≤ in_children parent many p m
@@ -183,7 +185,7 @@ module _ (table : List ℕ) (is : IsParentTable table) where
       let len = length_of_table table is in
       subst (IsRising (length table)) (sym table_is) (λ x some. let f = is.forest.rising x some in (f.0, omega arith))
 
-  pub table_short : length table ≤ 1000001
+  pub table_short : length table ≤ (most_order + 1)
   table_short = let len = length_of_table table is in let few = is.forest.few in omega arith
 
   pub table_within : (x : ℕ) → slice_index table x < length table
@@ -207,8 +209,6 @@ module _ (table : List ℕ) (is : IsParentTable table) where
     table_before = places_before (parents_in table) is.forest (length table) (length_of_table table is) many before start place here_counted here_placed
 
 -- what was written through a slice is the whole table
-pub written : (new rest : List ℕ) (len : ℕ) → len ≡ length new → take len (new ++ rest) ≡ new
-written new rest len e = ap (λ n. take n (new ++ rest)) e ∙ take-append_seam new rest
 
 pub is_postorder : (parents order places : List ℕ) → IsPerm (length order) order → length order ≡ length parents → ((v : ℕ) → place_of order v ≡ slice_index places v)
     → ((a b : ℕ) → IsVertex (length parents) a → IsVertex (length parents) b → Precedes parents a b → slice_index places a < slice_index places b) → IsPostorder parents order

@@ -2,8 +2,8 @@
 use Rattle.std.proofs.Common.{◌≡◌, ◌∙◌, ℕ, Bool, List, length, map, sym, ap, subst}
 use Rattle.std.proofs.lemmas.List.{length-map}
 use Rattle.std.proofs.lemmas.List.FromFn.{length-map-range_with_len}
-use Rattle.matrix_market.specs.Pattern.{is_joined, IsPattern}
-use Rattle.ordering.specs.Perm.{vertex_at}
+use Rattle.patterns.specs.Pattern.{is_joined, IsPattern}
+use Rattle.permutations.specs.Perm.{vertex_at}
 use Rattle.ordering.specs.Fill.{renumbered, parent_of, parents_of, IsAdjacency}
 use Rattle.elim_tree.specs.Paths.{IsWithin}
 use Rattle.elim_tree.specs.Postorders.{IsPostorder, IsPostordered}

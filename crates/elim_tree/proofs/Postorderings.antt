@@ -1,7 +1,7 @@
 -- Postorders: of two columns one comes before the other, so that there is one postorder only, and subtrees stand together in it.
 use Rattle.std.proofs.Common.{sym, ◌∙◌, subst, ◌+◌, ◌≡◌, ◌≢◌, ◌⊎◌, inl, inr, ℕ, zero, suc, ◌<◌, ◌≤◌, List, length, arith, refl}
 use Rattle.std.proofs.lemmas.Bool.{cases_eq, cases_order}
-use Rattle.ordering.specs.Perm.{IsVertex}
+use Rattle.permutations.specs.Perm.{IsVertex}
 use Rattle.elim_tree.specs.Trees.{parent_at, IsForest, IsAbove, self, step}
 use Rattle.elim_tree.specs.Postorders.{Precedes, below, beside}
 

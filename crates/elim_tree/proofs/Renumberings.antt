@@ -4,7 +4,7 @@ use Rattle.std.specs.List.{range_with_len}
 use Rattle.std.proofs.lemmas.Bool.{cases_eq, cases_lt}
 use Rattle.std.proofs.lemmas.List.{get_or-map, get_or_past, length-map}
 use Rattle.std.proofs.lemmas.List.FromFn.{map-range_with_len_more, get_or-map-range_with_len, length-map-range_with_len}
-use Rattle.ordering.specs.Perm.{AreInverse, IsVertex, IsPerm, vertex_at, place_of}
+use Rattle.permutations.specs.Perm.{AreInverse, IsVertex, IsPerm, vertex_at, place_of}
 use Rattle.ordering.specs.Fill.{renumbered}
 use Rattle.elim_tree.specs.ParentTables.{parents_in, IsParentTable}
 use Rattle.elim_tree.specs.Postorders.{below, IsPostorder, IsNumberedInPostorder}

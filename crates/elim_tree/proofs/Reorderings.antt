@@ -5,7 +5,7 @@ use Rattle.std.specs.List.{fold, range_with_len}
 use Rattle.std.proofs.lemmas.List.{get_or-map, length-map, ext_get_or}
 use Rattle.std.proofs.lemmas.List.Folds.{fold-map}
 use Rattle.std.proofs.lemmas.List.FromFn.{get_or-map-range_with_len, length-map-range_with_len}
-use Rattle.ordering.specs.Perm.{IsVertex, IsPerm, vertex_at, place_of}
+use Rattle.permutations.specs.Perm.{IsVertex, IsPerm, vertex_at, place_of}
 use Rattle.ordering.specs.Fill.{structure_of, parent_of, count_of, parents_of, counts_of, renumbered, IsAdjacency}
 use Rattle.elim_tree.specs.Paths.{Path, edge, via, IsWithin}
 use Rattle.elim_tree.specs.Postorders.{below, IsPostorder}

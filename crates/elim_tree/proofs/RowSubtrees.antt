@@ -2,12 +2,13 @@
 use Rattle.std.proofs.Common.{sym, ◌∙◌, subst, ◌≡◌, ◌↔◌, inl, inr, ℕ, zero, suc, ◌<◌, ◌≤◌, Bool, IsTrue, List, arith, refl}
 use Rattle.std.proofs.lemmas.Bool.{cases_eq}
 use Rattle.std.proofs.lemmas.List.FromFn.{length-map-range_with_len}
-use Rattle.ordering.specs.Perm.{IsVertex}
+use Rattle.permutations.specs.Perm.{IsVertex}
 use Rattle.ordering.specs.Fill.{structure_of, parent_of, parents_of, IsAdjacency, IsParent}
 use Rattle.elim_tree.specs.Paths.{Path, IsWithin, IsInherited, IsInRowSubtree}
 use Rattle.elim_tree.specs.Reaches.{Reaches, IsFirstReached}
 use Rattle.elim_tree.specs.Trees.{parent_at, IsAbove, self, step}
-use Rattle.elim_tree.proofs.Fills.{later, from_pattern}
+use Rattle.elim_tree.proofs.Fills.{from_pattern}
+use Rattle.ordering.proofs.FillLemmas.{later}
 use Rattle.elim_tree.proofs.Paths.{reaches_by_path}
 use Rattle.elim_tree.proofs.Children.{reaches_later, reaches_by_children, first_reaches}
 use Rattle.elim_tree.proofs.Columns.{in_structure, own_row, reached_or_own, column_within, parent_is, parent_in_list, vertex_with_parent}

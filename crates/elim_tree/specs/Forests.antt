@@ -2,7 +2,7 @@
 -- The forest of the columns so far, as it grows: what holds of the two tables in which it is kept.
 use Rattle.std.specs.Prelude.{◌≡◌, ◌⊎◌, ℕ, ◌<◌, ◌≤◌, Bool, List, length, slice_index}
 use Rattle.ordering.specs.Fill.{IsAdjacency}
-use Rattle.ordering.specs.Perm.{place_of}
+use Rattle.permutations.specs.Perm.{place_of}
 use Rattle.elim_tree.specs.Reaches.{Reaches, IsFirstReached}
 
 -- a pattern, and the root of each column in the forest so far

@@ -1,6 +1,6 @@
 -- What the structure of a column holds: by paths, by its children, and by rows. Rose, Tarjan and Lueker 1976; Liu 1990.
 use Rattle.std.specs.Prelude.{◌≡◌, ◌≢◌, ◌⊎◌, ℕ, ◌<◌, Bool, IsTrue}
-use Rattle.ordering.specs.Perm.{IsVertex}
+use Rattle.permutations.specs.Perm.{IsVertex}
 use Rattle.ordering.specs.Fill.{structure_of, parent_of, parents_of}
 use Rattle.elim_tree.specs.Trees.{IsAbove}
 

@@ -1,6 +1,6 @@
 -- Postorders of an elimination tree: the columns of each subtree stand together, its root last.
 use Rattle.std.specs.Prelude.{◌≡◌, ◌≢◌, ℕ, ◌<◌, ◌≤◌, Bool, List, length, map}
-use Rattle.ordering.specs.Perm.{IsPerm, IsVertex, vertex_at, place_of}
+use Rattle.permutations.specs.Perm.{IsPerm, IsVertex, vertex_at, place_of}
 use Rattle.ordering.specs.Fill.{renumbered, parents_of}
 use Rattle.elim_tree.specs.Trees.{parent_at, IsAbove}
 

@@ -2,14 +2,15 @@
 
 ghost use Rattle.std.specs.Prelude.{◌≡◌, ◌↔◌, ◌<◌, ◌≤◌, ℕ, Bool, IsTrue, List, length, map};
 ghost use Rattle.limits.specs.Limits.{most_order};
-ghost use Rattle.matrix_market.specs.Pattern.{is_joined, IsPattern};
-ghost use Rattle.ordering.specs.Perm.{IsVertex, place_of};
+ghost use Rattle.patterns.specs.Pattern.{is_joined, IsPattern};
+ghost use Rattle.permutations.specs.Perm.{IsVertex, place_of};
 ghost use Rattle.ordering.specs.Fill.{structure_of, count_of, parents_of, counts_of, renumbered, IsAdjacency};
 ghost use Rattle.elim_tree.specs.Paths.{Path, IsWithin, IsInherited, IsInRowSubtree};
 ghost use Rattle.elim_tree.specs.Postorders.{IsPostorder};
 ghost use Rattle.elim_tree.specs.Trees.{parent_at, IsForest, IsAbove};
 
 use ordering::laws as fill_laws;
+use permutations::laws as permutation_laws;
 
 /// A later row is in the structure of a column exactly where a path through earlier vertices leads to it. Rose, Tarjan and Lueker 1976.
 pub fn path_theorem()
@@ -62,7 +63,7 @@ pub fn tree_is_forest()
 pub fn one_postorder()
     ensures { (parents one two : List ℕ) → IsForest parents → IsPostorder parents one → IsPostorder parents two → one ≡ two }
 {
-    fill_laws::places_are_inverse();
+    permutation_laws::places_are_inverse();
 }
 
 /// In postorder the columns of a subtree stand together: whoever stands between a column and one above it is below that one too.
@@ -85,5 +86,5 @@ pub fn reordering()
         IsPostorder (parents_of joined n) post → counts_of (renumbered joined post) n ≡ map (count_of joined n) post }
 {
     fill_laws::parent_is_first();
-    fill_laws::places_are_inverse();
+    permutation_laws::places_are_inverse();
 }

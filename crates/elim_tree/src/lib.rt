@@ -7,8 +7,6 @@ pub mod laws;
 mod parents;
 mod postordering;
 mod renumbering;
-#[cfg(test)]
-mod tests;
 mod tree;
 
 pub use parents::Parents;

@@ -1,12 +1,12 @@
 ghost use Rattle.std.specs.Prelude.{◌≡◌, ℕ, ◌+◌, ◌<◌, ◌≤◌, ◌^◌, length, slice_index, IfOk};
-ghost use Rattle.ordering.specs.Perm.{AreInverse, IsVertex};
+ghost use Rattle.permutations.specs.Perm.{AreInverse, IsVertex};
 ghost use Rattle.elim_tree.specs.ParentTables.{parents_in, IsParentTable};
 ghost use Rattle.elim_tree.specs.Postorders.{Precedes, IsPostorder};
 ghost use Rattle.elim_tree.specs.Spans.{AreSpanSizes, ArePlaces};
 
 use crate::NoMemory;
 use crate::parents::Parents;
-use ordering::Perm;
+use permutations::Perm;
 use std::alloc::Global;
 
 // Counts for each column the columns below it, and those in the subtrees of its earlier siblings.

@@ -1,9 +1,9 @@
 ghost use Rattle.std.specs.Prelude.{◌≡◌, ℕ, ◌+◌, ◌≤◌, Bool, length, map, IfOk};
 ghost use Rattle.std.specs.List.{range_with_len};
 ghost use Rattle.limits.specs.Limits.{most_order};
-ghost use Rattle.matrix_market.specs.Pattern.{is_joined};
+ghost use Rattle.patterns.specs.Pattern.{is_joined};
 ghost use Rattle.ordering.specs.Fill.{IsAdjacency, parents_of, renumbered};
-ghost use Rattle.ordering.specs.Perm.{vertex_at, place_of};
+ghost use Rattle.permutations.specs.Perm.{vertex_at, place_of};
 ghost use Rattle.elim_tree.specs.Paths.{IsWithin};
 ghost use Rattle.elim_tree.specs.Postorders.{IsPostorder, IsPostordered, IsNumberedInPostorder};
 ghost use Rattle.elim_tree.specs.Trees.{parent_at};
@@ -13,9 +13,9 @@ use crate::laws::reordering;
 use crate::parents::Parents;
 use crate::postordering::postorder;
 use crate::tree::etree;
-use matrix_market::Pattern;
-use ordering::Perm;
-use ordering::laws::places_are_inverse;
+use patterns::Pattern;
+use permutations::Perm;
+use permutations::laws::places_are_inverse;
 use std::alloc::Global;
 
 /// An order of elimination, and the elimination tree of its columns.

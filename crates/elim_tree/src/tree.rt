@@ -3,17 +3,18 @@
 ghost use Rattle.std.specs.Prelude.{◌≡◌, ℕ, ◌+◌, ◌<◌, ◌≤◌, true, List, length, slice_index, IfOk};
 ghost use Rattle.std.specs.List.Sorted.{IsStrictlyIncreasing};
 ghost use Rattle.limits.specs.Limits.{most_order};
-ghost use Rattle.matrix_market.specs.Pattern.{is_joined};
+ghost use Rattle.patterns.specs.Pattern.{is_joined};
 ghost use Rattle.ordering.specs.Fill.{renumbered, parents_of};
-ghost use Rattle.ordering.specs.Perm.{place_of};
+ghost use Rattle.permutations.specs.Perm.{place_of};
 ghost use Rattle.elim_tree.specs.Forests.{Rooted, CanLink, IsLinked, CanTake, IsTaken, IsInTurn};
 ghost use Rattle.elim_tree.specs.Reaches.{IsFirstReached};
 
 use crate::NoMemory;
 use crate::parents::Parents;
-use matrix_market::Pattern;
-use ordering::Perm;
-use ordering::laws::{parent_is_first, places_are_inverse};
+use ordering::laws::parent_is_first;
+use patterns::Pattern;
+use permutations::Perm;
+use permutations::laws::places_are_inverse;
 use std::alloc::Global;
 
 // Goes from `start` to the root of its tree, and puts that root under k. Whoever is passed gets k for its ancestor, so that later ways
@@ -97,7 +98,7 @@ fn grow(parents: &mut [u32], ancestors: &mut [u32], pattern: &Pattern, perm: &Pe
     perm.keeps();
     pattern.keeps();
     let in_turn = is_in_turn(perm);
-    for k in 1..pattern.order() + 1 {
+    for k in 1..pattern.rows() + 1 {
         let row = pattern.neighbours(perm.at(k));
         if in_turn {
             take_head(parents, ancestors, row, k);
@@ -114,7 +115,7 @@ pub fn etree(alloc: Global, pattern: &Pattern, perm: &Perm) -> Result<Parents, N
     ensures { IfOk result (λ parents. parents ≡ parents_of (renumbered (is_joined pattern.now) perm.now) (length perm.now)) }
 {
     parent_is_first();
-    let places = pattern.order() as usize + 1;
+    let places = pattern.rows() as usize + 1;
     let mut table = vec![in alloc; 0u32; places]?;
     let mut ancestors = vec![in alloc; 0u32; places]?;
     grow(&mut table, &mut ancestors, pattern, perm);

@@ -2,7 +2,7 @@
 use Rattle.std.proofs.Common.{◌≡◌, ◌≢◌, ℕ, ◌<◌, inl, inr, ◌⊎◌, Bool, false, cond, ◌||◌, List, [], length, refl, sym, ap, ◌∙◌, arith, subst, IsTrue, eqb}
 use Rattle.std.proofs.lemmas.Bool.{cases_eq, cases_Bool, both_ways, eq-eqb, ne_eqb, or_left, or_right}
 use Rattle.elimination.specs.Elimination.{eliminate, IsVertex}
-use Rattle.matrix_market.specs.Pattern.{has}
+use Rattle.patterns.specs.Pattern.{has}
 use Rattle.elimination.specs.Quotients.{Quotient, IsQuotient, IsParted, AreLinks, LeadsTo, at}
 use Rattle.elimination.specs.Hoods.{IsHood}
 use Rattle.elimination.proofs.Eliminations.{pattern_eliminate}

@@ -3,6 +3,7 @@ use Rattle.std.proofs.Common.{◌≡◌, ◌≢◌, ℕ, ◌<◌, ◌≤◌, inl
 use Rattle.std.proofs.lemmas.Bool.{cases_eq, cases_lt}
 use Rattle.std.proofs.lemmas.List.{get_or-set_other}
 use Rattle.std.proofs.lemmas.Grind.{get_or-set_at}
+use Rattle.limits.specs.Limits.{most_order}
 use Rattle.elimination.specs.Elimination.{IsAdjacency, IsVertex, degree_of, IsAhead}
 use Rattle.min_tree.specs.Least.{IsFirstLeast}
 use Rattle.elimination.specs.Quotients.{Quotient, at}
@@ -23,7 +24,7 @@ module _ (q : Quotient) (turn : ℕ → ℕ) (groups : ℕ → List ℕ) (sizes 
   rep_vertex x v = elim (cases_eq (q.rep x) x) [ inl e ↦ subst (IsVertex q.order) (sym e) v | inr ne ↦ (gr.vertex x ne).1 ]
 
   -- the first least stands at a vertex that is left and stands for its group, if any is left
-  pub least_left : q.order ≤ 1000000 → (w : ℕ) → IsVertex q.order w → turn w ≡ 0 → (i : ℕ) → IsFirstLeast keys i
+  pub least_left : q.order ≤ most_order → (w : ℕ) → IsVertex q.order w → turn w ≡ 0 → (i : ℕ) → IsFirstLeast keys i
       → IsVertex q.order i × (turn i ≡ 0) × (q.rep i ≡ i)
   least_left few w vertex left i f =
       let len = b.len in
@@ -33,7 +34,7 @@ module _ (q : Quotient) (turn : ℕ → ℕ) (groups : ℕ → List ℕ) (sizes 
       let least = f.least (q.rep w) (omega arith) in
       let low = b.low (q.rep w) vr (gr.left w left) (gr.stands w) in
       let most = degree_le q.left q.order (q.rep w) in
-      let small : at keys i ≤ 1000000 = omega arith in
+      let small : at keys i ≤ most_order = omega arith in
       let kept : (((i ≡ 0) ⊎ (0 < turn i)) ⊎ (q.rep i ≢ i)) → ⊥ = λ o. absurd (let off = b.off i (omega arith) o in omega arith) in
       let pos : 1 ≤ i = elim (cases_eq i 0) [ inl e ↦ absurd (kept (inl (inl e))) | inr ne ↦ omega arith ] in (
         (pos, omega arith),

@@ -4,7 +4,8 @@ use Rattle.std.specs.Prelude.{min, max}
 use Rattle.std.specs.List.{sum_by}
 use Rattle.std.proofs.lemmas.Bool.{cases_lt}
 use Rattle.std.proofs.lemmas.List.Sums.{sum_by-set}
-use Rattle.matrix_market.specs.Pattern.{has, neighbours_of}
+use Rattle.limits.specs.Limits.{most_order}
+use Rattle.patterns.specs.Pattern.{has, neighbours_of}
 use Rattle.min_tree.specs.Least.{IsFirstLeast, greatest}
 use Rattle.elimination.specs.Elimination.{IsVertex, degree_of}
 use Rattle.elimination.specs.Quotients.{Quotient, AreLinks, LeadsTo, at}
@@ -18,7 +19,7 @@ use Rattle.elimination.proofs.Gatherings.{neighbour_within}
 use Rattle.elimination.proofs.FoundTwins.{found_twins}
 use Rattle.elimination.proofs.BoundSteps.{least_left, first_of_all, counted_bound}
 
-module _ (q : Quotient) (t : Tables) (stand : StandFor q t) (few : q.order ≤ 1000000) (w : ℕ) (vw : IsVertex q.order w) (lw : t.turn w ≡ 0)
+module _ (q : Quotient) (t : Tables) (stand : StandFor q t) (few : q.order ≤ most_order) (w : ℕ) (vw : IsVertex q.order w) (lw : t.turn w ≡ 0)
     (v : ℕ) (f : IsFirstLeast t.bounds v) where
   pub the_first : IsVertex q.order v × (t.turn v ≡ 0) × (q.rep v ≡ v)
   the_first = least_left q t.turn t.groups t.sizes t.bounds stand.grouped stand.bounds few w vw lw v f
@@ -121,7 +122,7 @@ module _ (q : Quotient) (t : Tables) (v : ℕ) (r : IsReleased q t v) (degree : 
   }
 
   -- .. and the lesser of v and its twin can come to stand for the other
-  pub can_join : (other : ℕ) → q.order ≤ 1000000 → IsTwin q v other
+  pub can_join : (other : ℕ) → q.order ≤ most_order → IsTwin q v other
       → CanPair q (record t { bounds = set t.bounds v degree }) (min v other) (max v other)
   can_join other few w =
       let gone = (r.stand.quotient.parted.alive v other w.near).1 in

@@ -6,11 +6,14 @@ use Rattle.std.proofs.lemmas.List.Sums.{sum_by_push}
 use Rattle.std.proofs.lemmas.List.Elements.{All-head, All-tail, All-from_get_or}
 use Rattle.std.proofs.lemmas.List.Kept.{AllPairs-from_increasing}
 use Rattle.elimination.specs.Elimination.{eliminate, IsAdjacency, IsVertex, times, degree_of}
-use Rattle.elimination.proofs.VertexLists.{times-cons, times-here, has_at}
-use Rattle.matrix_market.specs.Pattern.{has, neighbours_of, is_joined, IsPattern}
+use Rattle.elimination.proofs.VertexLists.{times-cons, times-here}
+use Rattle.patterns.proofs.NumberLists.{has_at}
+use Rattle.patterns.specs.Pattern.{has, neighbours_of, is_joined, IsPattern}
 use Rattle.elimination.specs.Twins.{is_near}
 use Rattle.elimination.proofs.Eliminations.{keep_old}
-use Rattle.elimination.proofs.ListFacts.{has_one, has_own, has_left, has_right, has_cases, times_some, rising_once, same_bool}
+use Rattle.elimination.proofs.ListFacts.{has_one, has_own, has_left, has_right, has_cases, times_some, rising_once}
+use Rattle.lists.proofs.Bools.{same_bool}
+use Rattle.lists.proofs.Lists.{range_last}
 
 abbrev pub bit : Bool → ℕ
 bit b = cond b 1 0
@@ -27,12 +30,6 @@ counted_zero p = refl
 pub counted_last : (p : ℕ → Bool) (n : ℕ) → counted p (suc n) ≡ counted p n + bit (p (suc n))
 unfolding counted
 counted_last p n = refl
-
-range_last : (a n : ℕ) → range_with_len a (suc n) ≡ range_with_len a n ++ (a + n) ∷ []
-range_last a zero = let e : a ≡ a + 0 = omega arith in ap (λ z. z ∷ []) e
-range_last a (suc n) =
-    let e : a + 1 + n ≡ a + suc n = omega arith in
-    ap (λ xs. a ∷ xs) (range_last (a + 1) n ∙ ap (λ z. range_with_len (a + 1) n ++ z ∷ []) e)
 
 pub counted_is : (p : ℕ → Bool) (n : ℕ) → counted p n ≡ count_by p (range_with_len 1 n)
 unfolding counted

@@ -1,7 +1,7 @@
 -- A dense search as it is filled, and once it is full.
 use Rattle.std.proofs.Common.{inl, inr, ℕ, sym, ap, ◌∙◌, IsTrue}
 use Rattle.std.proofs.lemmas.Bool.{both_ways, false_from_ne_true}
-use Rattle.matrix_market.specs.Pattern.{has}
+use Rattle.patterns.specs.Pattern.{has}
 use Rattle.elimination.specs.Elimination.{IsAdjacency}
 use Rattle.elimination.specs.Dense.{Stage, IsStanding, IsFilling, IsDense, bit_in}
 use Rattle.elimination.specs.declared.dense.DenseSearch.{DenseSearch}

@@ -2,11 +2,11 @@
 use Rattle.std.proofs.Common.{◌≡◌, ◌≢◌, ◌⊎◌, inl, inr, ℕ, ◌-◌, ◌&&◌, eqb, List, length, sym, ap, ◌∙◌, arith, subst, IsTrue}
 use Rattle.std.specs.List.{count_by, range_with_len}
 use Rattle.std.proofs.lemmas.Bool.{cases_eq, or_cases, and_parts, and_from, eqb-true}
-use Rattle.matrix_market.specs.Pattern.{has}
+use Rattle.patterns.specs.Pattern.{has}
 use Rattle.elimination.specs.Elimination.{degree_of, times}
 use Rattle.elimination.specs.Twins.{is_near}
 use Rattle.elimination.specs.Dense.{Stage, IsStanding, IsInOpen, bit_in, AreBitRows, IsLookedAt, width_of}
-use Rattle.elimination.proofs.ListFacts.{same_bool}
+use Rattle.lists.proofs.Bools.{same_bool}
 use Rattle.elimination.proofs.Degrees.{counted_is, near_count}
 
 -- who is near a vertex that is left is left too

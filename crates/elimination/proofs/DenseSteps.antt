@@ -4,7 +4,8 @@ use Rattle.std.specs.List.{filter, sum_by}
 use Rattle.std.proofs.lemmas.Bool.{cases_eq, cases_lt, cases_Bool, or_cases, or_left, or_right, or_parts, and_from, and_parts, both_ways, false_from_ne_true, not_from_false, eqb-true, eq-eqb}
 use Rattle.std.proofs.lemmas.List.{get_or-set_other, get_or-set_same}
 use Rattle.std.proofs.lemmas.List.Sums.{sum_by-set}
-use Rattle.matrix_market.specs.Pattern.{has}
+use Rattle.limits.specs.Limits.{most_order}
+use Rattle.patterns.specs.Pattern.{has}
 use Rattle.min_tree.specs.Least.{IsFirstLeast, greatest}
 use Rattle.elimination.specs.Elimination.{IsVertex, IsAhead, degree_of, times, eliminate}
 use Rattle.elimination.specs.Twins.{is_near}
@@ -36,7 +37,7 @@ standing_cases stage x = elim (cases_lt 0 x) [
 
 module _ (stage : Stage) (bounds : List ℕ) (b : AreLowBounds stage bounds) where
   -- the first least bound is that of a vertex that is left, if any is left
-  pub least_stands : stage.order ≤ 1000000 → (w : ℕ) → IsStanding stage w → (i : ℕ) → IsFirstLeast bounds i → IsStanding stage i
+  pub least_stands : stage.order ≤ most_order → (w : ℕ) → IsStanding stage w → (i : ℕ) → IsFirstLeast bounds i → IsStanding stage i
   least_stands few w lw i f = elim (standing_cases stage i) [
     | inl s ↦ s
     | inr out ↦ absurd (
@@ -89,7 +90,7 @@ module _ (stage : Stage) (bounds : List ℕ) (b : AreLowBounds stage bounds) whe
       }
 
 -- to raise a bound makes the sum of what is missing fall
-pub raising_falls : (keys : List ℕ) (v k : ℕ) → v < length keys → get_or keys v 0 < k → k ≤ 1000000
+pub raising_falls : (keys : List ℕ) (v k : ℕ) → v < length keys → get_or keys v 0 < k → k ≤ most_order
     → sum_by (λ x. greatest - x) (set keys v k) < sum_by (λ x. greatest - x) keys
 raising_falls keys v k lv less few =
     let f : ℕ → ℕ = λ x. greatest - x in

@@ -2,12 +2,7 @@
 use Rattle.std.proofs.Common.{◌≡◌, ◌≢◌, ℕ, Bool, true, not, ◌==◌, ◌⊎◌, inl, inr, refl, sym, List, [], ◌∷◌, ◌++◌, false}
 use Rattle.std.proofs.lemmas.Bool.{and_parts, or_cases, and_from, or_left, or_right, eqb-false, ne_eqb, not-true, not_from_false, cases_Bool, both_ways}
 use Rattle.elimination.specs.Elimination.{eliminate, IsAdjacency, eliminated}
-
-ne_from_not : (a b : ℕ) → not (a == b) ≡ true → a ≡ b → ⊥
-ne_from_not a b h = eqb-false a b (not-true (a == b) h)
-
-not_from_ne : (a b : ℕ) → (a ≡ b → ⊥) → not (a == b) ≡ true
-not_from_ne a b h = not_from_false (a == b) (ne_eqb a b h)
+use Rattle.lists.proofs.Bools.{not_from_ne, ne_from_not}
 
 -- what a pair of the pattern after an elimination comes from
 pub record Kept (joined : ℕ → ℕ → Bool) (v a b : ℕ) : Type 0 where

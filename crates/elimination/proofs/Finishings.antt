@@ -1,7 +1,7 @@
 -- The rest of an elimination, where all that are left are joined to each other.
 use Rattle.std.proofs.Common.{◌≡◌, ◌≢◌, ℕ, ◌+◌, ◌≤◌, inl, inr, false, List, [], ◌∷◌, ◌++◌, length, sym, ◌∙◌, arith, subst, IsTrue}
 use Rattle.std.proofs.lemmas.Bool.{cases_eq, cases_lt, cases_Bool}
-use Rattle.matrix_market.specs.Pattern.{has, is_joined}
+use Rattle.patterns.specs.Pattern.{has, is_joined}
 use Rattle.min_tree.specs.Least.{IsFirstLeast}
 use Rattle.elimination.specs.Elimination.{IsVertex, times, eliminate, eliminated, degree_of, IsRemaining, IsAdjacency}
 use Rattle.elimination.specs.Quotients.{at}
@@ -9,7 +9,8 @@ use Rattle.elimination.specs.Tables.{Tables}
 use Rattle.elimination.specs.Twins.{is_near}
 use Rattle.elimination.specs.Progress.{IsUnderWay, IsFinishing}
 use Rattle.elimination.proofs.Eliminations.{eliminated_push, pattern_eliminate, kept, keep_old}
-use Rattle.elimination.proofs.ListFacts.{times_unless, times_some, same_bool}
+use Rattle.elimination.proofs.ListFacts.{times_unless, times_some}
+use Rattle.lists.proofs.Bools.{same_bool}
 use Rattle.elimination.proofs.VertexLists.{times_push_same, times_push_other, length-part}
 use Rattle.elimination.proofs.Degrees.{degree_twins, joined_to_all, left_out}
 use Rattle.elimination.proofs.Groups.{near_own, near_left, near_cases}

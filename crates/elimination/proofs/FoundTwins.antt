@@ -1,8 +1,8 @@
 -- A vertex whose neighbours are all near another, and are not fewer, is its twin.
 use Rattle.std.proofs.Common.{◌≡◌, ℕ, ◌<◌, ◌≤◌, inl, inr, Bool, List, sym, ◌∙◌, subst, IsTrue}
 use Rattle.std.proofs.lemmas.Bool.{cases_eq}
-use Rattle.matrix_market.specs.Pattern.{has}
-use Rattle.elimination.proofs.VertexLists.{place_of}
+use Rattle.patterns.specs.Pattern.{has}
+use Rattle.patterns.proofs.NumberLists.{place_of}
 use Rattle.elimination.specs.Elimination.{degree_of}
 use Rattle.elimination.specs.Quotients.{Quotient}
 use Rattle.elimination.specs.Hoods.{IsGathered, mark_at}

@@ -3,8 +3,9 @@ use Rattle.std.proofs.Common.{◌≡◌, ◌≢◌, ℕ, ◌<◌, inl, inr, ◌�
 use Rattle.std.proofs.lemmas.Bool.{cases_eq, cases_Bool, both_ways}
 use Rattle.std.proofs.lemmas.List.Elements.{All-nil}
 use Rattle.elimination.specs.Elimination.{IsVertex}
-use Rattle.matrix_market.specs.Pattern.{has}
-use Rattle.elimination.proofs.VertexLists.{place_of, has_at}
+use Rattle.patterns.specs.Pattern.{has}
+use Rattle.patterns.proofs.NumberLists.{place_of}
+use Rattle.patterns.proofs.NumberLists.{has_at}
 use Rattle.elimination.specs.Quotients.{Quotient, IsQuotient}
 use Rattle.elimination.specs.Hoods.{IsScanned, IsRowOf, IsHood, AreHidden, IsGathered, mark_at}
 use Rattle.elimination.proofs.ListFacts.{mark_other, mark_here}

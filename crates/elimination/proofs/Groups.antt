@@ -5,12 +5,14 @@ use Rattle.std.proofs.lemmas.Bool.{cases_eq, cases_Bool, both_ways, eq-eqb, eqb-
 use Rattle.std.proofs.lemmas.List.Sums.{sum_by-cons}
 use Rattle.std.proofs.lemmas.List.Elements.{All-from_get_or}
 use Rattle.elimination.specs.Elimination.{IsAdjacency, IsVertex, times, degree_of}
-use Rattle.elimination.proofs.VertexLists.{times-here, times-beyond, times_append, has_at}
-use Rattle.matrix_market.specs.Pattern.{has}
+use Rattle.elimination.proofs.VertexLists.{times-here, times-beyond, times_append}
+use Rattle.patterns.proofs.NumberLists.{has_at}
+use Rattle.patterns.specs.Pattern.{has}
 use Rattle.elimination.specs.Quotients.{Quotient, at}
 use Rattle.elimination.specs.Hoods.{IsHood}
 use Rattle.elimination.specs.Twins.{is_near, IsGrouped}
-use Rattle.elimination.proofs.ListFacts.{has_one, has_own, has_left, has_right, has_cases, times_unless, times_some, same_bool}
+use Rattle.elimination.proofs.ListFacts.{has_one, has_own, has_left, has_right, has_cases, times_unless, times_some}
+use Rattle.lists.proofs.Bools.{same_bool}
 use Rattle.elimination.proofs.Degrees.{degree_near_listed}
 
 -- ---- nearness

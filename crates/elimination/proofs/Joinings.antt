@@ -4,7 +4,7 @@ use Rattle.std.specs.List.{All}
 use Rattle.std.proofs.lemmas.List.Elements.{All-from_get_or}
 use Rattle.std.proofs.lemmas.Bool.{cases_eq, cases_Bool, both_ways, eq-eqb, ne_eqb}
 use Rattle.elimination.specs.Elimination.{IsVertex, times, degree_of}
-use Rattle.matrix_market.specs.Pattern.{has}
+use Rattle.patterns.specs.Pattern.{has}
 use Rattle.min_tree.specs.Least.{greatest}
 use Rattle.elimination.specs.Quotients.{Quotient, IsQuotient, at}
 use Rattle.elimination.specs.Hoods.{AreHidden, mark_at}
@@ -14,7 +14,8 @@ use Rattle.elimination.specs.Turns.{AreBounds, CanPair, StandForOthers}
 use Rattle.elimination.proofs.BoundSteps.{at_other, at_here}
 use Rattle.elimination.proofs.Groups.{in_block, block_once}
 use Rattle.elimination.proofs.ListFacts.{has_own, has_left, has_right, has_cases, times_unless}
-use Rattle.elimination.proofs.VertexLists.{times_append, has_at, length-part}
+use Rattle.elimination.proofs.VertexLists.{times_append, length-part}
+use Rattle.patterns.proofs.NumberLists.{has_at}
 
 joined_rep : (ℕ → ℕ) → ℕ → ℕ → ℕ → ℕ
 joined_rep rep least other x = cond (eqb (rep x) other) least (rep x)

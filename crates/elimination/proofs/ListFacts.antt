@@ -6,8 +6,12 @@ use Rattle.std.proofs.lemmas.List.Folds.{list_any-append}
 use Rattle.std.proofs.lemmas.List.{get_or-set_other}
 use Rattle.std.proofs.lemmas.Grind.{get_or-set_at}
 use Rattle.elimination.specs.Elimination.{times}
-use Rattle.elimination.proofs.VertexLists.{times-here, times-beyond, has_push, has_at, place_of}
-use Rattle.matrix_market.specs.Pattern.{has}
+use Rattle.elimination.proofs.VertexLists.{times-here, times-beyond}
+use Rattle.patterns.proofs.NumberLists.{place_of}
+use Rattle.patterns.proofs.NumberLists.{has_push}
+use Rattle.patterns.proofs.NumberLists.{has_at}
+use Rattle.patterns.specs.Pattern.{has}
+use Rattle.lists.proofs.Bools.{same_bool}
 
 pub has_one : (b x : ℕ) → has (b ∷ []) x ≡ true → b ≡ x
 has_one b x h = eqb-true b x (sym (has_push [] b x) ∙ h)
@@ -79,8 +83,3 @@ mark_here seen b m lt = get_or-set_at seen b b m false refl lt
 -- what is not in a list stands at no place of it
 pub absent : (xs : List ℕ) (x : ℕ) → has xs x ≡ false → (n : ℕ) → n ≤ length xs → (j : ℕ) → j < n → get_or xs j 0 ≢ x
 absent xs x none' n le j lt e = both_ways _ none' (subst (λ z. has xs z ≡ true) e (has_at xs j (omega arith)))
-
-pub same_bool : (a b : Bool) → (a ≡ true → b ≡ true) → (b ≡ true → a ≡ true) → a ≡ b
-same_bool true b to from = sym (to refl)
-same_bool false true to from = from refl
-same_bool false false to from = refl

@@ -1,8 +1,8 @@
 -- An elimination from its start on, turn by turn.
 use Rattle.std.proofs.Common.{◌≡◌, ◌≢◌, ℕ, ◌+◌, ◌<◌, ◌≤◌, inl, inr, false, List, [], ◌∷◌, ◌++◌, length, refl, sym, ap, ◌∙◌, arith, subst, IsTrue, length-append}
 use Rattle.std.proofs.lemmas.Bool.{both_ways, cases_eq}
-use Rattle.matrix_market.specs.Pattern.{has, is_joined}
-use Rattle.matrix_market.specs.Pattern as pattern
+use Rattle.patterns.specs.Pattern.{has, is_joined}
+use Rattle.patterns.specs.Pattern as pattern
 use Rattle.elimination.specs.Elimination.{times, IsAdjacency, eliminated}
 use Rattle.elimination.specs.Quotients.{IsQuotient, at}
 use Rattle.elimination.specs.Tables.{Tables, IsUntouched}

@@ -7,7 +7,7 @@ use Rattle.std.proofs.lemmas.List.{length-map, get_or_append_left, get_or_push, 
 use Rattle.std.proofs.Math.Seq.{take-append-add}
 use Rattle.std.proofs.lemmas.List.Elements.{All-head, All-tail, All-append, All-map, All-take}
 use Rattle.elimination.specs.Elimination.{IsVertex, IsRemaining, IsAhead, GoByLeastDegree, times, eliminate, eliminated, degree_of}
-use Rattle.matrix_market.specs.Pattern.{has}
+use Rattle.patterns.specs.Pattern.{has}
 use Rattle.elimination.specs.Quotients.{at}
 use Rattle.elimination.specs.Twins.{is_near}
 use Rattle.elimination.specs.Switch.{most_of, renumbered, AreNumbered, AreNumbers}

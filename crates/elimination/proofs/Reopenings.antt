@@ -2,8 +2,9 @@
 use Rattle.std.proofs.Common.{◌≡◌, ◌≢◌, ℕ, ◌-◌, ◌<◌, ◌≤◌, inl, inr, ◌⊎◌, Bool, false, cond, List, [], ◌∷◌, length, refl, sym, ap, ◌∙◌, arith, subst, IsTrue, eqb, set, length-set}
 use Rattle.std.proofs.lemmas.Bool.{cases_eq, cases_Bool, both_ways, eq-eqb, ne_eqb}
 use Rattle.elimination.specs.Elimination.{IsAdjacency, eliminate, IsVertex, times}
-use Rattle.matrix_market.specs.Pattern.{has}
-use Rattle.elimination.proofs.VertexLists.{place_of, has_at}
+use Rattle.patterns.specs.Pattern.{has}
+use Rattle.patterns.proofs.NumberLists.{place_of}
+use Rattle.patterns.proofs.NumberLists.{has_at}
 use Rattle.min_tree.specs.Least.{greatest}
 use Rattle.elimination.specs.Quotients.{Quotient, IsQuotient, AreLinks, LeadsTo, at}
 use Rattle.elimination.specs.Hoods.{AreHidden, IsHood}
@@ -14,7 +15,7 @@ use Rattle.elimination.proofs.Degrees.{degree_near, degree_far, degree_twins}
 use Rattle.elimination.proofs.Groups.{near_own, near_left, near_cases, left_of_hidden}
 use Rattle.elimination.proofs.Absorbings.{after}
 use Rattle.elimination.proofs.BoundSteps.{at_other, at_here}
-use Rattle.elimination.proofs.ListFacts.{same_bool}
+use Rattle.lists.proofs.Bools.{same_bool}
 
 -- ---- twins stay twins
 

@@ -2,7 +2,7 @@
 use Rattle.std.proofs.Common.{◌≡◌, ◌≢◌, ℕ, ◌+◌, ◌<◌, inl, inr, Bool, true, List, [], ◌∷◌, ◌++◌, length, sym, ap, ◌∙◌, arith, subst, IsTrue, set}
 use Rattle.std.proofs.lemmas.Bool.{cases_eq}
 use Rattle.elimination.specs.Elimination.{IsAdjacency}
-use Rattle.matrix_market.specs.Pattern.{has}
+use Rattle.patterns.specs.Pattern.{has}
 use Rattle.elimination.specs.Quotients.{Quotient, IsParted, at}
 use Rattle.elimination.specs.Hoods.{IsTracked, IsVisited, AreLeft, IsScanned, CanEnter, mark_at}
 use Rattle.elimination.proofs.ListFacts.{has_one, has_own, has_left, has_right, has_cases, mark_other, mark_here}

@@ -2,7 +2,7 @@
 use Rattle.std.proofs.Common.{◌≡◌, ◌≢◌, ◌⊎◌, inl, inr, ℕ, ◌≤◌, Bool, eqb, List, [], ◌++◌, map, length, refl, sym, ap, ◌∙◌, arith, subst, IsTrue}
 use Rattle.std.proofs.lemmas.Bool.{cases_eq, cases_lt, or_left, eq-eqb}
 use Rattle.std.proofs.lemmas.List.{get_or_past}
-use Rattle.matrix_market.specs.Pattern.{has}
+use Rattle.patterns.specs.Pattern.{has}
 use Rattle.elimination.specs.Elimination.{IsVertex, IsAdjacency, eliminated, degree_of}
 use Rattle.elimination.specs.Quotients.{Quotient, at}
 use Rattle.elimination.specs.Tables.{Tables}
@@ -14,7 +14,7 @@ use Rattle.elimination.specs.Switch.{most_of, stage_at, renumbered, AreNumbers, 
 use Rattle.elimination.specs.declared.switch.Rest.{Rest}
 use Rattle.elimination.proofs.Orders.{begun_none}
 use Rattle.elimination.proofs.Renumberings.{order_after, vertex_at, number_at, same_vertex, near_numbered, degree_numbered}
-use Rattle.elimination.proofs.ListFacts.{same_bool}
+use Rattle.lists.proofs.Bools.{same_bool}
 use Rattle.elimination.proofs.Degrees.{degree_twins}
 use Rattle.elimination.proofs.DenseFilling.{filled}
 use Rattle.elimination.proofs.Groups.{near_own, near_left, near_cases}

@@ -1,8 +1,9 @@
 -- A vertex comes into the rims of its parts.
 use Rattle.std.proofs.Common.{◌≡◌, ◌≢◌, ℕ, ◌+◌, ◌<◌, inl, inr, ◌⊎◌, Bool, List, [], ◌∷◌, ◌++◌, length, sym, ap, ◌∙◌, arith, subst, IsTrue}
 use Rattle.std.proofs.lemmas.Bool.{cases_eq}
-use Rattle.matrix_market.specs.Pattern.{has}
-use Rattle.elimination.proofs.VertexLists.{has_at, place_of}
+use Rattle.patterns.specs.Pattern.{has}
+use Rattle.patterns.proofs.NumberLists.{place_of}
+use Rattle.patterns.proofs.NumberLists.{has_at}
 use Rattle.elimination.specs.Quotients.{at}
 use Rattle.elimination.specs.Twins.{IsTouched, AreTouched}
 use Rattle.elimination.proofs.ListFacts.{has_one, has_own, has_left, has_right, has_cases}

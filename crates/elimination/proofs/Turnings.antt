@@ -1,13 +1,13 @@
 -- One turn, told by what each part of it writes.
 use Rattle.std.proofs.Common.{◌≡◌, ◌≢◌, ℕ, ◌-◌, ◌<◌, ◌≤◌, inl, inr, Bool, false, List, length, refl, sym, ◌∙◌, arith, subst, IsTrue, set, get_or}
 use Rattle.std.proofs.lemmas.Bool.{cases_eq}
-use Rattle.matrix_market.specs.Pattern.{has}
+use Rattle.patterns.specs.Pattern.{has}
 use Rattle.min_tree.specs.Least.{greatest}
 use Rattle.elimination.specs.Elimination.{IsVertex, eliminate}
 use Rattle.elimination.specs.Quotients.{Quotient, IsQuotient, AreLinks, at}
 use Rattle.elimination.specs.Tables.{Tables}
 use Rattle.elimination.specs.Turns.{StandFor, IsReleased, IsChosen, IsAbsorbed, AreBack, IsSearch, IsEliminated, quotient_of}
-use Rattle.elimination.proofs.VertexLists.{has_at}
+use Rattle.patterns.proofs.NumberLists.{has_at}
 use Rattle.elimination.proofs.Absorbings.{IsWritten, after, quotient_after}
 use Rattle.elimination.proofs.Reopenings.{reopened, groups_after, hidden_after, bounds_after, quotient_open}
 

@@ -6,28 +6,13 @@ use Rattle.std.proofs.lemmas.Bool.{cases_eq, eq-eqb, ne_eqb}
 use Rattle.std.proofs.lemmas.List.Elements.{All-head, All-tail, All-push}
 use Rattle.std.proofs.lemmas.List.Folds.{list_any-append, list_any_at, list_any_more}
 use Rattle.std.proofs.lemmas.List.Sums.{sum_by-cons}
-use Rattle.matrix_market.specs.Pattern.{has, neighbours_of, IsPattern}
+use Rattle.patterns.specs.Pattern.{has, neighbours_of, IsPattern}
 use Rattle.elimination.specs.Elimination.{IsVertex, times}
+use Rattle.patterns.proofs.NumberLists.{has_at, has_more, has_push, place_of}
 
 -- ---- what is in a list
 
-pub has_push : (xs : List ℕ) (x y : ℕ) → has (xs ++ x ∷ []) y ≡ (has xs y || eqb x y)
-has_push xs x y = list_any-append (λ z. eqb z y) xs (x ∷ []) ∙ ap (λ (b : Bool). has xs y || b) (or-false (eqb x y))
-
-pub has_more : (xs : List ℕ) (i y : ℕ) → i < length xs → has (take (i + 1) xs) y ≡ (has (take i xs) y || eqb (get_or xs i 0) y)
-has_more xs i y lt = list_any_more (λ z. eqb z y) xs i 0 lt
-
-pub has_at : (xs : List ℕ) (i : ℕ) → i < length xs → has xs (get_or xs i 0) ≡ true
-has_at xs i lt = list_any_at (λ z. eqb z (get_or xs i 0)) xs i 0 lt (eq-eqb (get_or xs i 0) (get_or xs i 0) refl)
-
 -- the place of what is in a list
-pub place_of : (xs : List ℕ) (y : ℕ) → has xs y ≡ true → (i : ℕ) × (i < length xs) × (get_or xs i 0 ≡ y)
-place_of [] y in_it = absurd cc
-place_of (x ∷ xs) y in_it =
-    elim (cases_eq x y) [
-      | inl e ↦ (zero, omega arith, e)
-      | inr o ↦ (let rest = place_of xs y (let other = ne_eqb x y o in rw other at in_it) in (suc rest.0, omega (arith, rest.1), rest.2))
-    ]
 
 -- the vertices in a row of a pattern
 pub row_within : (rows : List (List ℕ)) (v : ℕ) (row : List ℕ) → IsPattern rows → row ≡ neighbours_of rows v

@@ -4,7 +4,7 @@ use Rattle.std.specs.Int.{from_bool}
 use Rattle.std.proofs.lemmas.Bool.{cases_eq, cases_Bool, both_ways}
 use Rattle.std.proofs.lemmas.List.{take-set, set-get_or, take_more_set}
 use Rattle.elimination.proofs.VertexLists.{part-push}
-use Rattle.matrix_market.specs.Pattern.{has}
+use Rattle.patterns.specs.Pattern.{has}
 use Rattle.elimination.specs.Hoods.{IsTracked, IsVisited, AreLeft, mark_at}
 use Rattle.elimination.proofs.ListFacts.{has_one, has_own, has_left, has_right, has_cases, times_unless, mark_other, mark_here}
 

@@ -3,7 +3,8 @@
 use Rattle.std.specs.Prelude.{◌≡◌, ◌≢◌, ◌==◌, ◌⊎◌, ℕ, ◌+◌, ◌/◌, ◌%◌, ◌<◌, ◌≤◌, Bool, false, not, IsTrue, List, [], ◌∷◌, ◌++◌, length}
 use Rattle.std.specs.Prelude.{slice_index}
 use Rattle.std.specs.Int.{bit_at}
-use Rattle.matrix_market.specs.Pattern.{has}
+use Rattle.limits.specs.Limits.{most_order}
+use Rattle.patterns.specs.Pattern.{has}
 use Rattle.min_tree.specs.Least.{greatest}
 use Rattle.elimination.specs.Elimination.{IsVertex, IsRemaining, IsAhead, IsAdjacency, times, eliminate, eliminated, degree_of}
 use Rattle.elimination.specs.Quotients.{inner_at}
@@ -66,7 +67,7 @@ pub record AreLowBounds (stage : Stage) (bounds : List ℕ) : Type 0 where
 -- the search stands for what is left
 pub record IsDense (stage : Stage) (search : DenseSearch) : Type 0 where
   pub order_is : search.order ≡ stage.order
-  pub few : stage.order ≤ 1000000
+  pub few : stage.order ≤ most_order
   pub rows_len : length search.rows.items ≡ stage.order + 1
   pub rows : AreBitRows stage (inner_at search.rows.items) search.pivots.items search.alive.items
   pub bounds : AreLowBounds stage search.bounds
@@ -114,7 +115,7 @@ pub record IsFullRow (stage : Stage) (v : ℕ) (row : List ℕ) : Type 0 where
 -- the search is being filled: it stands for what is left, as far as vertices were put into it
 pub record IsFilling (stage : Stage) (search : DenseSearch) : Type 0 where
   pub order_is : search.order ≡ stage.order
-  pub few : stage.order ≤ 1000000
+  pub few : stage.order ≤ most_order
   pub rows_len : length search.rows.items ≡ stage.order + 1
   pub none_open : search.pivots.items ≡ []
   pub alive_width : length search.alive.items ≡ width_of stage.order

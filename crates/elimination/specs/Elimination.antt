@@ -4,13 +4,7 @@
 -- A pattern is a test of two vertices: whether they are joined. The vertices of n are 1 to n.
 use Rattle.std.specs.Prelude.{◌≡◌, ◌==◌, ◌⊎◌, ℕ, ◌<◌, ◌≤◌, Bool, not, ◌&&◌, ◌||◌, IsTrue, List, [], ◌∷◌, length, take, slice_index}
 use Rattle.std.specs.List.{range_with_len, count_by}
-
-abbrev pub IsVertex : ℕ → ℕ → Type 0
-IsVertex n v = (1 ≤ v) × (v ≤ n)
-
--- how often a vertex stands in a list
-abbrev pub times : List ℕ → ℕ → ℕ
-times order v = count_by (λ x. x == v) order
+pub use Rattle.permutations.specs.Perm.{IsVertex, times}
 
 -- pairs are unordered, and of different vertices; 0, which is no vertex, is in none of them
 pub record IsAdjacency (joined : ℕ → ℕ → Bool) : Type 0 where

@@ -2,7 +2,7 @@
 use Rattle.std.specs.Prelude.{◌≡◌, ◌≢◌, ◌⊎◌, ℕ, ◌+◌, ◌<◌, ◌≤◌, Bool, false, IsTrue, List, length, slice_index_or}
 use Rattle.std.specs.List.{All}
 use Rattle.elimination.specs.Elimination.{IsVertex, times}
-use Rattle.matrix_market.specs.Pattern.{has}
+use Rattle.patterns.specs.Pattern.{has}
 use Rattle.elimination.specs.Quotients.{Quotient, IsQuotient, IsParted, at}
 
 -- whether x is marked

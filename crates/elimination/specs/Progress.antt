@@ -1,7 +1,7 @@
 -- How far an elimination has come. No public clause names this.
 use Rattle.std.specs.Prelude.{◌≡◌, ◌≢◌, ℕ, ◌+◌, ◌<◌, ◌≤◌, Bool, IsTrue, List, length}
 use Rattle.std.specs.List.{All}
-use Rattle.matrix_market.specs.Pattern.{is_joined}
+use Rattle.patterns.specs.Pattern.{is_joined}
 use Rattle.elimination.specs.Elimination.{IsVertex, times, IsAdjacency, eliminated, IsRemaining, GoByLeastDegree}
 use Rattle.elimination.specs.Tables.{Tables}
 use Rattle.elimination.specs.Turns.{IsSearch}

@@ -1,6 +1,6 @@
 -- From the quotient graph to rows of bits, for which the vertices that are left are numbered anew. No public clause names this.
 use Rattle.std.specs.Prelude.{◌≡◌, ◌≢◌, ℕ, ◌-◌, ◌<◌, Bool, IsTrue, List, [], length}
-use Rattle.matrix_market.specs.Pattern.{has, is_joined}
+use Rattle.patterns.specs.Pattern.{has, is_joined}
 use Rattle.elimination.specs.Elimination.{IsVertex, IsRemaining, times, eliminated}
 use Rattle.elimination.specs.Quotients.{Quotient, at}
 use Rattle.elimination.specs.Tables.{Tables}

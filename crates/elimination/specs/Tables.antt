@@ -1,7 +1,7 @@
 -- The tables of the code as lists and functions. No public clause names this.
 use Rattle.std.specs.Prelude.{◌≡◌, ℕ, ◌≤◌, Bool, false, List, [], length}
 use Rattle.min_tree.specs.Least.{greatest}
-use Rattle.matrix_market.specs.Pattern.{neighbours_of}
+use Rattle.patterns.specs.Pattern.{neighbours_of}
 use Rattle.elimination.specs.Elimination.{IsVertex}
 use Rattle.elimination.specs.declared.search.Search.{Search}
 use Rattle.elimination.specs.Quotients.{at, inner_at}

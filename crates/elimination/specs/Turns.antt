@@ -1,6 +1,7 @@
 -- How the next vertex is found: by a number for each vertex that is left, not above its degree. No public clause names this.
 use Rattle.std.specs.Prelude.{◌≡◌, ◌≢◌, ◌⊎◌, ℕ, ◌+◌, ◌<◌, ◌≤◌, Bool, false, IsTrue, List, [], length}
-use Rattle.matrix_market.specs.Pattern.{has, is_joined}
+use Rattle.limits.specs.Limits.{most_order}
+use Rattle.patterns.specs.Pattern.{has, is_joined}
 use Rattle.min_tree.specs.Least.{greatest}
 use Rattle.elimination.specs.Elimination.{IsVertex, eliminate, degree_of, IsAhead}
 use Rattle.elimination.specs.Quotients.{Quotient, IsQuotient, AreLinks, LeadsTo, at}
@@ -49,7 +50,7 @@ pub record IsReleased (q : Quotient) (t : Tables) (u : ℕ) : Type 0 where
 -- two twins that stand for their groups, the lesser first
 pub record CanPair (q : Quotient) (t : Tables) (least other : ℕ) : Type 0 where
   pub stand : StandFor q t
-  pub few : q.order ≤ 1000000
+  pub few : q.order ≤ most_order
   pub before : least < other
   pub vertices : IsVertex q.order least × IsVertex q.order other
   pub here : (t.turn least ≡ 0) × (t.turn other ≡ 0)

@@ -2,7 +2,7 @@
 -- listed with it, and have no part in the search until it is eliminated. No public clause names this.
 use Rattle.std.specs.Prelude.{◌≡◌, ◌≢◌, ◌==◌, ◌||◌, ◌⊎◌, ℕ, ◌+◌, ◌<◌, ◌≤◌, Bool, false, IsTrue, List, [], ◌∷◌, ◌++◌, length}
 use Rattle.elimination.specs.Elimination.{IsVertex, times}
-use Rattle.matrix_market.specs.Pattern.{has, neighbours_of}
+use Rattle.patterns.specs.Pattern.{has, neighbours_of}
 use Rattle.elimination.specs.Quotients.{Quotient, LeadsTo, at}
 use Rattle.elimination.specs.Hoods.{mark_at}
 use Rattle.elimination.specs.Tables.{Tables}

@@ -1,8 +1,9 @@
 //! Bounds of degrees, and the vertex that is eliminated next.
 
 ghost use Rattle.std.specs.Prelude.{◌≡◌, ℕ, Bool, ◌+◌, ◌-◌, ◌<◌, ◌≤◌, IsTrue, length, slice_index, false, IfOk, OnOk};
+ghost use Rattle.limits.specs.Limits.{most_order};
 ghost use Rattle.elimination.specs.Elimination.{IsVertex, degree_of};
-ghost use Rattle.matrix_market.specs.Pattern.{has};
+ghost use Rattle.patterns.specs.Pattern.{has};
 ghost use Rattle.elimination.specs.Quotients.{Quotient, at};
 ghost use Rattle.elimination.specs.Tables.{tables, AllHaveLength};
 ghost use Rattle.elimination.specs.Turns.{HasMarks, IsSearch, IsChosen};
@@ -11,8 +12,8 @@ use crate::NoMemory;
 use crate::search::Search;
 use crate::switch::Effort;
 use crate::twins::weigh;
-use matrix_market::Pattern;
 use min_tree::MinTree;
+use patterns::Pattern;
 use std::alloc::Global;
 
 // Lowers the bounds of these vertices by one.
@@ -33,7 +34,7 @@ impl Search {
     // The degree of v, whose neighbours are gathered.
     fn degree(&self, v: u32) -> u64
         requires lengths { AllHaveLength (length self.now.turns.items) self.now }
-        requires few { length self.now.turns.items ≤ 1000001 }
+        requires few { length self.now.turns.items ≤ (most_order + 1) }
         requires start { (q : Quotient) × HasMarks q (tables self.now) v }
         ensures { (q : Quotient) → HasMarks q (tables self.now) v → result ≡ degree_of q.left q.order v }
     {
@@ -50,7 +51,7 @@ impl Search {
         effort: &mut Effort,
     ) -> Result<u32, NoMemory>
         requires lengths { AllHaveLength (length pattern.now + 1) self.old }
-        requires few { length pattern.now ≤ 1000000 }
+        requires few { length pattern.now ≤ most_order }
         requires some { (w : ℕ) × IsVertex (length pattern.now) w × (at self.old.turns.items w ≡ 0) }
         requires start { (left : ℕ → ℕ → Bool) × IsSearch pattern.now left (tables self.old) }
         ensures lengths { OnOk result (AllHaveLength (length pattern.now + 1) self.new) }

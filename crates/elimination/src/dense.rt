@@ -6,7 +6,8 @@ ghost use Rattle.std.specs.Prelude.{◌≡◌, ◌≢◌, ℕ, ◌+◌, ◌-◌,
 ghost use Rattle.std.specs.Prelude.{length, slice_index, take, not, true, false};
 ghost use Rattle.std.specs.List.{count_by, filter, range_with_len};
 ghost use Rattle.std.specs.Int.{bit_at};
-ghost use Rattle.matrix_market.specs.Pattern.{has};
+ghost use Rattle.limits.specs.Limits.{most_order};
+ghost use Rattle.patterns.specs.Pattern.{has};
 ghost use Rattle.elimination.specs.Elimination.{IsVertex, IsRemaining, degree_of};
 ghost use Rattle.elimination.specs.Dense.{bit_in, lacks, Stage, IsStanding, IsInOpen, AreBitRows, IsLookedAt, IsDense, IsDenseChoice};
 ghost use Rattle.elimination.specs.Dense.{IsDenseUnderWay, IsDenseRest, IsLeastDegreeOrder, stage_after, width_of, IsFullRow, IsFilling};
@@ -73,7 +74,7 @@ fn unite(row: &mut [u64], other: &[u64])
 // How many bits two rows have in common.
 fn count_common(row: &[u64], other: &[u64]) -> u32
     requires same { length other.now ≡ length row.now }
-    requires few { length row.now ≤ 100000 }
+    requires few { length row.now ≤ most_order }
     ensures { (n : ℕ) → ((x : ℕ) → IsTrue (bit_in other.now x) → IsVertex n x) →
         result ≡ count_by (λ x. bit_in row.now x && bit_in other.now x) (range_with_len 1 n) }
 {
@@ -86,7 +87,7 @@ fn count_common(row: &[u64], other: &[u64]) -> u32
 
 /// A row of so many vertices, with the bit of v alone.
 pub fn row_with(alloc: Global, order: u32, v: u32) -> Result<Vec<u64>, NoMemory>
-    requires few { order ≤ 1000000 }
+    requires few { order ≤ most_order }
     requires v { v ≤ order }
     ensures len { IfOk result (λ row. length row.items ≡ width_of order) }
     ensures bits { IfOk result (λ row. (x : ℕ) → bit_in row.items x ≡ (v == x)) }
@@ -110,7 +111,7 @@ fn empty_rows(alloc: Global, count: usize) -> Result<Vec<Vec<u64>>, NoMemory>
 impl DenseSearch {
     /// A search of so many vertices, into which those that are left are to be put.
     pub fn new(alloc: Global, order: u32) -> Result<DenseSearch, NoMemory>
-        requires { order ≤ 1000000 }
+        requires { order ≤ most_order }
         ensures filling { IfOk result (λ search. (stage : Stage) → order ≡ stage.order → IsFilling stage search) }
         ensures order { IfOk result (λ search. search.order ≡ order) }
         ensures none { IfOk result (λ search. (x : ℕ) → bit_in search.alive.items x ≡ false) }
@@ -167,7 +168,7 @@ fn unite_open(row: &mut [u64], rows: &[Vec<u64>], pivots: &[u32], v: u32)
 
 // Makes the row of v exact among the vertices that are left, and counts its degree.
 fn look(alloc: Global, rows: &mut [Vec<u64>], pivots: &[u32], alive: &[u64], v: u32) -> u32
-    requires few { length rows.old ≤ 1000001 }
+    requires few { length rows.old ≤ (most_order + 1) }
     requires stand { (stage : Stage) × AreBitRows stage (inner_at rows.old) pivots.now alive.now × IsStanding stage v
         × (length rows.old ≡ stage.order + 1) }
     ensures len { length rows.new ≡ length rows.old }
@@ -218,7 +219,7 @@ fn lower_word(word: u64, first: usize, bounds: &mut MinTree)
 // Lowers by one the bounds of those that two rows have in common.
 fn lower_common(row: &[u64], other: &[u64], bounds: &mut MinTree)
     requires same { length other.now ≡ length row.now }
-    requires few { length row.now ≤ 100000 }
+    requires few { length row.now ≤ most_order }
     requires inside { (x : ℕ) → IsTrue (bit_in other.now x) → x < length bounds.old }
     ensures len { length bounds.new ≡ length bounds.old }
     ensures common { (x : ℕ) → IsTrue (bit_in row.now x && bit_in other.now x) → slice_index bounds.new x ≡ slice_index bounds.old x - 1 }
@@ -265,7 +266,7 @@ fn eliminate(search: &mut DenseSearch, v: u32) -> Result<(), NoMemory>
 // Lists the vertices that are left, where all of them are joined to each other: by rising number.
 fn finish(order: u32, alive: &[u64], vertices: &mut Vec<u32>) -> Result<(), NoMemory>
     requires width { order / 64 < length alive.now }
-    requires few { order ≤ 1000000 }
+    requires few { order ≤ most_order }
     ensures { OnOk result ((joined : ℕ → ℕ → Bool) → IsDenseRest joined order alive.now vertices.old.items 1
         → IsLeastDegreeOrder joined order vertices.new.items) }
 {

@@ -1,12 +1,12 @@
 //! The dense search alone, on orders worked by hand.
 
-ghost use Rattle.std.specs.Prelude.{◌≡◌, ◌<◌, ◌/◌, ◌||◌, ℕ, length, slice_index, IfOk, []};
-ghost use Rattle.matrix_market.specs.Pattern.{has, is_joined};
+ghost use Rattle.std.specs.Prelude.{◌≡◌, ◌<◌, ◌≤◌, ◌/◌, ◌||◌, ℕ, [], All, length, slice_index, IfOk};
+ghost use Rattle.patterns.specs.Pattern.{IsPairWithin, has, is_joined};
 ghost use Rattle.elimination.specs.Dense.{bit_in, IsDenseUnderWay, IsLeastDegreeOrder};
 
 use crate::NoMemory;
 use crate::dense::{DenseSearch, eliminate_dense, row_with, set_bit};
-use matrix_market::{Pattern, read_pattern};
+use patterns::Pattern;
 use std::alloc::Global;
 use std::process::Abort;
 use std::test::Fail;
@@ -26,7 +26,7 @@ fn full_search(alloc: Global, pattern: &Pattern) -> Result<DenseSearch, NoMemory
     ensures order { IfOk result (λ search. search.order ≡ length pattern.now) }
     ensures begins { IfOk result (λ search. IsDenseUnderWay (is_joined pattern.now) [] search) }
 {
-    let n = pattern.order();
+    let n = pattern.rows();
     let mut search = DenseSearch::new(alloc, n)?;
     for v in 1..n + 1 {
         let mut row = row_with(alloc, n, v)?;
@@ -45,11 +45,17 @@ fn dense_order(alloc: Global, pattern: &Pattern) -> Result<Vec<u32>, NoMemory>
     Ok(order)
 }
 
-fn check_order(rt: &impl Abort, alloc: Global, entries: &str, wanted: &[u32]) -> Result<(), Fail> {
-    let matrix = format!(in alloc;
-        "%%MatrixMarket matrix coordinate pattern symmetric\n{entries}"
-    )?;
-    let pattern = read_pattern(alloc, matrix.as_bytes())?;
+fn check_order(
+    rt: &impl Abort,
+    alloc: Global,
+    pairs: Vec<(u32, u32)>,
+    wanted: &[u32],
+) -> Result<(), Fail>
+    requires order { (1 ≤ length wanted.now) × (length wanted.now ≤ 1000) }
+    requires few { length pairs.items ≤ 1000 }
+    requires within { All (IsPairWithin (length wanted.now)) pairs.items }
+{
+    let pattern = Pattern::from_pairs(alloc, wanted.len() as u32, pairs)?;
     let order = dense_order(alloc, &pattern)?;
     assert_eq!(rt; order.as_slice(), wanted);
     Ok(())
@@ -57,16 +63,13 @@ fn check_order(rt: &impl Abort, alloc: Global, entries: &str, wanted: &[u32]) ->
 
 #[test]
 fn a_grid(rt: HostRuntime) -> Result<(), Fail> {
-    check_order(
-        &rt,
-        rt.alloc(),
-        "4 4 4\n2 1\n3 1\n4 2\n4 3\n",
-        &[1, 2, 3, 4],
-    )
+    let pairs = vec![in rt.alloc(); (2, 1), (3, 1), (4, 2), (4, 3)]?;
+    check_order(&rt, rt.alloc(), pairs, &[1, 2, 3, 4])
 }
 
 // The middle has one neighbour left at the third turn.
 #[test]
 fn a_star(rt: HostRuntime) -> Result<(), Fail> {
-    check_order(&rt, rt.alloc(), "4 4 3\n2 1\n3 1\n4 1\n", &[2, 3, 1, 4])
+    let pairs = vec![in rt.alloc(); (2, 1), (3, 1), (4, 1)]?;
+    check_order(&rt, rt.alloc(), pairs, &[2, 3, 1, 4])
 }

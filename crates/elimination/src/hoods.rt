@@ -1,7 +1,7 @@
 //! The neighbours of a vertex in the pattern that is left.
 
 ghost use Rattle.std.specs.Prelude.{◌≡◌, ℕ, ◌+◌, ◌<◌, ◌≤◌, ◌∷◌, List, [], IsTrue, length, take, slice_index, false, OnOk, IfOk};
-ghost use Rattle.matrix_market.specs.Pattern.{has};
+ghost use Rattle.patterns.specs.Pattern.{has};
 ghost use Rattle.elimination.specs.Hoods.{Visits, Enters, Scans, mark_at};
 ghost use Rattle.elimination.specs.Quotients.{Quotient, AreLinks, at, inner_at};
 ghost use Rattle.elimination.specs.Tables.{tables, AllHaveLength};

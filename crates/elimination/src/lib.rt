@@ -19,8 +19,6 @@ mod order;
 mod parts;
 mod search;
 mod switch;
-#[cfg(test)]
-mod tests;
 mod twins;
 
 pub use order::by_least_degree;

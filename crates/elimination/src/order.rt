@@ -2,7 +2,8 @@
 
 ghost use Rattle.std.specs.Prelude.{◌≡◌, ◌≢◌, ℕ, Bool, List, ◌+◌, ◌<◌, ◌≤◌, length, slice_set, IfOk, OnOk};
 ghost use Rattle.std.specs.List.{All};
-ghost use Rattle.matrix_market.specs.Pattern.{is_joined};
+ghost use Rattle.limits.specs.Limits.{most_order};
+ghost use Rattle.patterns.specs.Pattern.{is_joined};
 ghost use Rattle.elimination.specs.Elimination.{IsVertex, times, GoByLeastDegree};
 ghost use Rattle.elimination.specs.Quotients.{at};
 ghost use Rattle.elimination.specs.Tables.{tables, AllHaveLength};
@@ -14,7 +15,7 @@ use crate::bounds::lower;
 use crate::parts::absorb;
 use crate::search::Search;
 use crate::switch::Effort;
-use matrix_market::Pattern;
+use patterns::Pattern;
 use std::alloc::Global;
 
 impl Search {
@@ -27,7 +28,7 @@ impl Search {
         effort: &mut Effort,
     ) -> Result<u32, NoMemory>
         requires lengths { AllHaveLength (length pattern.now + 1) self.old }
-        requires few { length pattern.now ≤ 1000000 }
+        requires few { length pattern.now ≤ most_order }
         requires latest { (x : ℕ) → at self.old.turns.items x < place }
         requires some { (w : ℕ) × IsVertex (length pattern.now) w × (at self.old.turns.items w ≡ 0) }
         requires start { (left : ℕ → ℕ → Bool) × IsSearch pattern.now left (tables self.old) }
@@ -51,7 +52,7 @@ impl Search {
 fn finish(n: u32, vertices: &mut Vec<u32>, turns: &[u32]) -> Result<(), NoMemory>
     requires turns { length turns.now ≡ n + 1 }
     requires some { 1 ≤ n }
-    requires few { n ≤ 1000000 }
+    requires few { n ≤ most_order }
     ensures { OnOk result ((rows : List (List ℕ)) → length rows ≡ n → IsFinishing rows vertices.old.items (at turns.now) 1
         → IsFinishing rows vertices.new.items (at turns.now) (n + 1)) }
 {
@@ -72,7 +73,7 @@ fn eliminate_rest(
     vertices: &mut Vec<u32>,
 ) -> Result<(), NoMemory>
     requires lengths { AllHaveLength (length pattern.now + 1) search.old }
-    requires few { length pattern.now ≤ 1000000 }
+    requires few { length pattern.now ≤ most_order }
     requires start { (place : ℕ) × IsUnderWay pattern.now vertices.old.items (tables search.old) place }
     ensures len { OnOk result (length vertices.new.items ≡ length pattern.now) }
     ensures begun { OnOk result (IsBegun (is_joined pattern.now) (length pattern.now) vertices.new.items) }
@@ -94,7 +95,7 @@ fn eliminate_all(
     ensures len { OnOk result (length vertices.new.items ≡ length pattern.now) }
     ensures begun { OnOk result (IsBegun (is_joined pattern.now) (length pattern.now) vertices.new.items) }
 {
-    let n = pattern.order();
+    let n = pattern.rows();
     let mut effort = Effort { left: n, dear: 0 };
     for place in 1..=n {
         if u64::from(n - place) <= search.bounds.least() {
@@ -119,7 +120,7 @@ pub fn by_least_degree(alloc: Global, pattern: &Pattern) -> Result<Vec<u32>, NoM
     ensures once { IfOk result (λ order. (v : ℕ) → times order.items v ≤ 1) }
     ensures least { IfOk result (λ order. GoByLeastDegree (is_joined pattern.now) (length pattern.now) order.items) }
 {
-    let mut vertices = Vec::with_capacity(alloc, pattern.order() as usize)?;
+    let mut vertices = Vec::with_capacity(alloc, pattern.rows() as usize)?;
     let mut search = Search::new(alloc, pattern)?;
     eliminate_all(alloc, pattern, &mut search, &mut vertices)?;
     Ok(vertices)

@@ -1,7 +1,7 @@
 //! The parts of eliminated vertices that hang together, and their rims.
 
 ghost use Rattle.std.specs.Prelude.{◌≡◌, ℕ, ◌<◌, ◌≤◌, [], IsTrue, length, slice_index, false, IfOk, OnOk};
-ghost use Rattle.matrix_market.specs.Pattern.{has};
+ghost use Rattle.patterns.specs.Pattern.{has};
 ghost use Rattle.elimination.specs.Quotients.{at, inner_at};
 ghost use Rattle.elimination.specs.Turns.{IsAbsorbed};
 

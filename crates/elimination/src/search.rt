@@ -1,7 +1,7 @@
 //! The tables of the search.
 
 ghost use Rattle.std.specs.Prelude.{◌≡◌, ℕ, ◌+◌, length, IfOk};
-ghost use Rattle.matrix_market.specs.Pattern.{neighbours_of};
+ghost use Rattle.patterns.specs.Pattern.{neighbours_of};
 ghost use Rattle.min_tree.specs.Least.{greatest};
 ghost use Rattle.elimination.specs.Elimination.{IsVertex};
 ghost use Rattle.elimination.specs.Quotients.{at};
@@ -10,8 +10,8 @@ ghost use Rattle.elimination.specs.Tables.{tables, AllHaveLength, IsUntouched};
 use crate::NoMemory;
 use crate::hoods::Hood;
 use crate::parts::empty_lists;
-use matrix_market::Pattern;
 use min_tree::MinTree;
+use patterns::Pattern;
 use std::alloc::Global;
 
 /// What is left of a pattern: eliminated vertices that hang together are kept as parts, and each part has a list of the vertices that are
@@ -43,7 +43,7 @@ fn first_bounds(alloc: Global, pattern: &Pattern) -> Result<MinTree, NoMemory>
         → at bounds w ≡ length (neighbours_of pattern.now w)) }
     ensures unused { IfOk result (λ bounds. at bounds 0 ≡ greatest) }
 {
-    let n = pattern.order();
+    let n = pattern.rows();
     let mut bounds = MinTree::new(alloc, n as usize + 1)?;
     for w in 1..=n {
         bounds.put(w as usize, pattern.neighbours(w).len() as u64);
@@ -57,7 +57,7 @@ impl Search {
         ensures lengths { IfOk result (AllHaveLength (length pattern.now + 1)) }
         ensures fresh { IfOk result (λ search. IsUntouched pattern.now (tables search)) }
     {
-        let size = pattern.order() as usize + 1;
+        let size = pattern.rows() as usize + 1;
         let near = Vec::new(alloc);
         let touched = Vec::new(alloc);
         Ok(Search {

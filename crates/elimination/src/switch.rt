@@ -2,7 +2,8 @@
 //! the rows are no longer than what is left.
 
 ghost use Rattle.std.specs.Prelude.{◌≡◌, ◌==◌, ◌≢◌, ◌⊎◌, ℕ, Bool, List, ◌+◌, ◌/◌, ◌<◌, ◌≤◌, IsTrue, length, slice_index, false, IfOk, OnOk};
-ghost use Rattle.matrix_market.specs.Pattern.{has};
+ghost use Rattle.limits.specs.Limits.{most_order};
+ghost use Rattle.patterns.specs.Pattern.{has};
 ghost use Rattle.elimination.specs.Elimination.{IsVertex};
 ghost use Rattle.elimination.specs.Quotients.{Quotient, at, inner_at};
 ghost use Rattle.elimination.specs.Hoods.{mark_at};
@@ -15,7 +16,7 @@ ghost use Rattle.elimination.specs.Switch.{most_of, stage_at, AreNumbered, AreNu
 use crate::NoMemory;
 use crate::dense::{DenseSearch, eliminate_dense, row_with, set_bit};
 use crate::search::Search;
-use matrix_market::Pattern;
+use patterns::Pattern;
 use std::alloc::Global;
 
 // The vertices that are left, numbered anew from 1 on, by rising number.
@@ -37,7 +38,7 @@ pub struct Rest {
 // Numbers the vertices that have had no turn.
 fn number_rest(alloc: Global, turns: &[u32]) -> Result<Numbering, NoMemory>
     requires some { 0 < length turns.now }
-    requires few { length turns.now ≤ 1000001 }
+    requires few { length turns.now ≤ (most_order + 1) }
     ensures len { IfOk result (λ numbering. length numbering.numbers.items ≡ length turns.now) }
     ensures some { IfOk result (λ numbering. 0 < length numbering.vertices.items) }
     ensures few { IfOk result (λ numbering. length numbering.vertices.items ≤ length turns.now) }
@@ -114,7 +115,7 @@ impl Search {
     ) -> Result<Vec<u64>, NoMemory>
         requires lengths { AllHaveLength (length self.now.turns.items) self.now }
         requires len { length numbers.now ≡ length self.now.turns.items }
-        requires few { order ≤ 1000000 }
+        requires few { order ≤ most_order }
         requires most { (x : ℕ) → slice_index numbers.now x ≤ order }
         requires start { (q : Quotient) × IsReleased q (tables self.now) v }
         ensures { IfOk result (λ row. (q : Quotient) (vertices : List ℕ) → IsReleased q (tables self.now) v
@@ -176,7 +177,7 @@ impl Search {
         dense: &mut DenseSearch,
     ) -> Result<(), NoMemory>
         requires lengths { AllHaveLength (length pattern.now + 1) self.old }
-        requires few { length pattern.now ≤ 1000000 }
+        requires few { length pattern.now ≤ most_order }
         requires len { length numbers.now ≡ length pattern.now + 1 }
         requires v { IsVertex (length pattern.now) v × (at self.old.turns.items v ≡ 0) × (mark_at self.old.seen.items v ≡ false) }
         requires start { (q : Quotient) × (vertices : List ℕ) × CanFill pattern.now q (tables self.old)
@@ -202,7 +203,7 @@ impl Search {
     /// What is left, as rows of bits of new numbers.
     pub fn to_dense(&mut self, alloc: Global, pattern: &Pattern) -> Result<Rest, NoMemory>
         requires lengths { AllHaveLength (length pattern.now + 1) self.old }
-        requires few { length pattern.now ≤ 1000000 }
+        requires few { length pattern.now ≤ most_order }
         requires start { (q : Quotient) × CanFill pattern.now q (tables self.old) }
         ensures numbered { IfOk result (λ rest. AreNumbered (at self.old.turns.items) (length pattern.now) rest.vertices.items) }
         ensures dense { IfOk result (λ rest. (q : Quotient) → CanFill pattern.now q (tables self.old)
@@ -210,7 +211,7 @@ impl Search {
     {
         let Numbering { vertices, numbers } = number_rest(alloc, &self.turns)?;
         let mut search = DenseSearch::new(alloc, vertices.len() as u32 - 1)?;
-        for v in 1..pattern.order() + 1 {
+        for v in 1..pattern.rows() + 1 {
             if !self.stands(v) {
                 continue;
             }

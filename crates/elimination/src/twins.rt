@@ -3,8 +3,9 @@
 ghost use Rattle.std.specs.Prelude.{◌≡◌, ◌≢◌, ℕ, ◌+◌, ◌<◌, ◌≤◌, ◌^◌, ◌++◌, ◌∷◌, [], IsTrue, IfSome, length, slice_index, slice_set, false};
 ghost use Rattle.std.specs.Prelude.{OnOk};
 ghost use Rattle.std.specs.List.{sum_by};
+ghost use Rattle.limits.specs.Limits.{most_order, most_total};
 ghost use Rattle.elimination.specs.Elimination.{IsVertex};
-ghost use Rattle.matrix_market.specs.Pattern.{has, neighbours_of, is_joined};
+ghost use Rattle.patterns.specs.Pattern.{has, neighbours_of, is_joined};
 ghost use Rattle.elimination.specs.Quotients.{AreLinks, LeadsTo, at, inner_at, Quotient};
 ghost use Rattle.elimination.specs.Twins.{AreRowsMarked, IsTouched, AreTouched, IsTwinFound};
 ghost use Rattle.elimination.specs.Tables.{tables, AllHaveLength};
@@ -15,17 +16,17 @@ use crate::NoMemory;
 use crate::hoods::unmark;
 use crate::links::last_of;
 use crate::search::Search;
-use matrix_market::Pattern;
 use min_tree::MinTree;
+use patterns::Pattern;
 use std::alloc::Global;
 use std::mem;
 
 // How many vertices these stand for.
 pub fn weigh(list: &[u32], sizes: &[u32]) -> u64
     requires within { (j : ℕ) → j < length list.now → slice_index list.now j < length sizes.now }
-    requires few { length list.now ≤ 1000000 }
+    requires few { length list.now ≤ most_order }
     ensures sum { result ≡ sum_by (at sizes.now) list.now }
-    ensures small { result < 2 ^ 60 }
+    ensures small { result < most_total }
 {
     let mut total = 0;
     for r in list {

@@ -13,6 +13,7 @@ use Rattle.std.proofs.lemmas.Map.{lookup-none}
 use Rattle.std.proofs.lemmas.Map.Entries.{none_below_head}
 use Rattle.std.proofs.lemmas.Cmp.{nat_cmp_total}
 use Rattle.std.proofs.lemmas.Bool.Decides.{nat_tests}
+use Rattle.limits.specs.Limits.{most_total}
 use Rattle.side_laws.specs.Segments.{Segment, net_sum, lowest, top, IsRising}
 use Rattle.side_laws.specs.Merging.{insert_segment, merge_segments, AreStuckAt, IsLeastTogether}
 use Rattle.side_laws.specs.Laws.{NetOfInsert, InsertRises, MergeOfOne, LowestOfMerge, TopOfMerge}
@@ -108,20 +109,20 @@ ropes_put lists (e ∷ es) k v h r = ropes_step lists e es k v h r (ropes_put li
 
 -- ---- the numbers
 
-ups_step : (s e : Segment) (es : List Segment) → s.up ≤ 2 ^ 60 → AllUpsWithin (e ∷ es) → AllUpsWithin (insert_segment s es) → AllUpsWithin (insert_segment s (e ∷ es))
+ups_step : (s e : Segment) (es : List Segment) → s.up ≤ most_total → AllUpsWithin (e ∷ es) → AllUpsWithin (insert_segment s es) → AllUpsWithin (insert_segment s (e ∷ es))
 ups_step s e es hs he ih = grind (arith, nat_tests)
 
-ups_inserted : (s : Segment) (es : List Segment) → s.up ≤ 2 ^ 60 → AllUpsWithin es → AllUpsWithin (insert_segment s es)
+ups_inserted : (s : Segment) (es : List Segment) → s.up ≤ most_total → AllUpsWithin es → AllUpsWithin (insert_segment s es)
 ups_inserted s [] hs he = (hs, tt)
 ups_inserted s (e ∷ es) hs he = ups_step s e es hs he (ups_inserted s es hs he.1)
 
 -- ---- what a look-up finds
 
-own_step : (lists : List (List ℕ)) (k net : ℕ) (e : Entry) (es : List Entry) → HaveRopes lists (segs_of (e ∷ es)) → net_sum (profile (segs_of (e ∷ es))) + net ≤ 2 ^ 60
+own_step : (lists : List (List ℕ)) (k net : ℕ) (e : Entry) (es : List Entry) → HaveRopes lists (segs_of (e ∷ es)) → net_sum (profile (segs_of (e ∷ es))) + net ≤ most_total
     → IfSome (lookup (is_at (nat_cmp k)) es) (λ v. IsRope lists v.tasks × (v.net + net < 2 ^ 64)) → IfSome (lookup (is_at (nat_cmp k)) (e ∷ es)) (λ v. IsRope lists v.tasks × (v.net + net < 2 ^ 64))
 own_step lists k net e es ropes room ih = grind (arith, nat_tests)
 
-pub own_fits : (lists : List (List ℕ)) (k net : ℕ) (es : List Entry) → HaveRopes lists (segs_of es) → net_sum (profile (segs_of es)) + net ≤ 2 ^ 60
+pub own_fits : (lists : List (List ℕ)) (k net : ℕ) (es : List Entry) → HaveRopes lists (segs_of es) → net_sum (profile (segs_of es)) + net ≤ most_total
     → IfSome (lookup (is_at (nat_cmp k)) es) (λ v. IsRope lists v.tasks × (v.net + net < 2 ^ 64))
 own_fits lists k net [] ropes room = tt
 own_fits lists k net (e ∷ es) ropes room = own_step lists k net e es ropes room (own_fits lists k net es ropes.1 (omega arith))
@@ -157,7 +158,7 @@ module _ (s : Segment) (ss ss' : List Segment) (is : ss' ≡ insert_segment s ss
   pub net_after : NetOfInsert → net_sum ss' ≡ net_sum ss + s.net
   net_after net = ap net_sum is ∙ net s ss
 
-  pub side_after : NetOfInsert → InsertRises → s.up ≤ 2 ^ 60 → net_sum ss + s.net ≤ 2 ^ 60 → IsSide ss'
+  pub side_after : NetOfInsert → InsertRises → s.up ≤ most_total → net_sum ss + s.net ≤ most_total → IsSide ss'
   side_after net rises up room = subst IsSide (sym is) (omega (arith, net s ss), ups_inserted s ss up side.1, rises s ss side.2)
 
   merged : MergeOfOne → ss' ≡ merge_segments ((s ∷ []) ∷ ss ∷ [])

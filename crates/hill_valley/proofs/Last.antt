@@ -3,12 +3,15 @@ use Rattle.std.proofs.Common.{◌≡◌, ℕ, suc, ◌-◌, ◌<◌, ◌≤◌, 
 use Rattle.std.specs.List.{slice_get}
 use Rattle.std.proofs.lemmas.Bool.Decides.{nat_tests}
 use Rattle.std.proofs.lemmas.Grind.{common_steps}
+use Rattle.limits.specs.Limits.{most_total}
 use Rattle.side_laws.specs.Segments.{Segment, IsRising, last_up}
 use Rattle.hill_valley.specs.Side.{profile, AllUpsWithin, Run, run_numbers, run_profile, join_runs, insert_run, append_run}
 use Rattle.hill_valley.specs.Descents.{segs_of}
 use Rattle.hill_valley.proofs.Inserting.{Entry}
+use Rattle.lists.proofs.Orders.{lt_or_le}
+use Rattle.side_laws.proofs.Lowest.{last_ge}
 
-pub last_within : (ss : List Segment) → AllUpsWithin ss → last_up ss ≤ 2 ^ 60
+pub last_within : (ss : List Segment) → AllUpsWithin ss → last_up ss ≤ most_total
 last_within [] h = omega arith
 last_within (s ∷ []) h = h.0
 last_within (s ∷ t ∷ ss) h = last_within (t ∷ ss) h.1
@@ -34,20 +37,13 @@ append_step r s t ss top lt le ih =
     let high : s.up < max top r.up = omega arith in
     ap (λ (l : List Run). s ∷ l) ih ∙ sym (past_step (max top r.up) r s (t ∷ ss) high)
 
-last_ge : (s : Segment) (ss : List Segment) → IsRising (s ∷ ss) → s.up ≤ last_up (s ∷ ss)
-last_ge s [] h = omega arith
-last_ge s (t ∷ ss) h = omega (arith, last_ge t ss h.1, h.0)
-
-lt_or_le : (m n : ℕ) → (m < n) ⊎ (n ≤ m)
-lt_or_le m n = grind arith
-
-lower : (r s : Run) → r.up ≤ s.up → append_run r (s ∷ []) ≡ join_runs false r s ∷ []
+pub lower : (r s : Run) → r.up ≤ s.up → append_run r (s ∷ []) ≡ join_runs false r s ∷ []
 lower r s h = grind (arith, nat_tests)
 
-behind : (r s : Run) → s.up < r.up → append_run r (s ∷ []) ≡ s ∷ r ∷ []
+pub behind : (r s : Run) → s.up < r.up → append_run r (s ∷ []) ≡ s ∷ r ∷ []
 behind r s h = grind (arith, nat_tests)
 
-lift_self : (k : ℕ) (r : Run) → k ≡ r.up → lift k r ≡ r
+pub lift_self : (k : ℕ) (r : Run) → k ≡ r.up → lift k r ≡ r
 lift_self k r h = rw h refl
 
 higher : (r s : Run) → s.up < r.up → append_run r (s ∷ []) ≡ insert_run false (lift (max s.up r.up) r) (s ∷ [])

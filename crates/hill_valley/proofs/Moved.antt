@@ -1,5 +1,6 @@
 -- What holds while segments are moved from one side into another, one after another.
 use Rattle.std.proofs.Common.{◌≡◌, ℕ, ◌+◌, ◌≤◌, ◌^◌, List, ◌∷◌, refl, ap, sym, ◌∙◌, arith, Bool}
+use Rattle.limits.specs.Limits.{most_total}
 use Rattle.side_laws.specs.Segments.{net_sum}
 use Rattle.hill_valley.specs.declared.side.Seg.{Seg}
 use Rattle.hill_valley.specs.Ropes.{IsRope, Extends}
@@ -12,14 +13,14 @@ pub record Moving (before : Bool) (ropes0 ropes : List (List ℕ)) (from0 into0 
   pub from_ropes : HaveRopes ropes from
   pub into_ropes : HaveRopes ropes into
   pub kept : Extends ropes0 ropes
-  pub within : net_sum (profile from) + net_sum (profile into) ≤ 2 ^ 60
+  pub within : net_sum (profile from) + net_sum (profile into) ≤ most_total
 
 module _ (before : Bool) where
-  pub moving_starts : (ropes : List (List ℕ)) (from into : List Seg) → HaveRopes ropes from → HaveRopes ropes into → net_sum (profile from) + net_sum (profile into) ≤ 2 ^ 60 → Moving before ropes ropes from into from into
+  pub moving_starts : (ropes : List (List ℕ)) (from into : List Seg) → HaveRopes ropes from → HaveRopes ropes into → net_sum (profile from) + net_sum (profile into) ≤ most_total → Moving before ropes ropes from into from into
   moving_starts ropes from into f i n = record { told = refl; from_ropes = f; into_ropes = i; kept = extends_self ropes; within = n }
 
   module _ (ropes0 ropes : List (List ℕ)) (from0 into0 from into rest : List Seg) (s : Seg) (m : Moving before ropes0 ropes from0 into0 from into) (first : from ≡ s ∷ rest) where
-    pub moving_first : IsRope ropes s.tasks × (net_sum (profile into) + s.net ≤ 2 ^ 60)
+    pub moving_first : IsRope ropes s.tasks × (net_sum (profile into) + s.net ≤ most_total)
     moving_first = let r = rw first at m.from_ropes in let n = rw first at m.within in (r.0, omega arith)
 
     pub moving_on : (ropes' : List (List ℕ)) (into' : List Seg) → Extends ropes ropes' → HaveRopes ropes' into' → runs_of ropes' into' ≡ insert_run before (run_of ropes s) (runs_of ropes into)

@@ -7,6 +7,7 @@ use Rattle.std.proofs.lemmas.Grind.{common_steps}
 use Rattle.side_laws.specs.Segments.{Segment, lowest}
 use Rattle.hill_valley.specs.declared.steps.Step.{Step}
 use Rattle.hill_valley.specs.Staircase.{IsStaircase, level_at, AreSteps, add_step, ends_at}
+use Rattle.lists.proofs.Orders.{compare}
 
 abbrev pub step : ℕ → ℕ → Step
 step bound level = record { bound = bound; level = level }
@@ -135,16 +136,13 @@ before_first level limit s ss h = grind (arith, nat_tests)
 after_first : (level limit : ℕ) (s : Step) (ss : List Step) → s.bound < limit → level_at limit level (s ∷ ss) ≡ level_at limit s.level ss
 after_first level limit s ss h = grind (arith, nat_tests)
 
-order : (m n : ℕ) → (m < n) ⊎ ((m ≡ n) ⊎ (n < m))
-order m n = grind arith
-
 same_step : (s t : Step) → s.bound ≡ t.bound → s.level ≡ t.level → s ≡ t
 same_step s t e f = rw (e, f) refl
 
 module _ (m level : ℕ) (s t : Step) (a b : List Step) (ha : IsStaircase m level (s ∷ a)) (hb : IsStaircase m level (t ∷ b))
     (same : (limit : ℕ) → m < limit → level_at limit level (s ∷ a) ≡ level_at limit level (t ∷ b)) where
   same_bound : s.bound ≡ t.bound
-  same_bound = elim (order s.bound t.bound) [
+  same_bound = elim (compare s.bound t.bound) [
     | inl lt ↦ absurd (let e = same (s.bound + 1) (let h = ha.0 in omega arith) in let f = at_first m level s a ha in let g = before_first level (s.bound + 1) t b (omega arith) in let h = ha.1 in omega (arith, e, f, g))
     | inr h ↦ elim h [
       | inl eq ↦ eq

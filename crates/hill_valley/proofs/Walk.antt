@@ -1,6 +1,7 @@
 -- One turn of a loop down a side.
 use Rattle.std.proofs.Common.{◌≡◌, ℕ, ◌+◌, ◌-◌, ◌<◌, ◌≤◌, ◌^◌, max, List, [], ◌∷◌, sym, arith, ap}
 use Rattle.std.proofs.lemmas.Bool.Decides.{nat_tests}
+use Rattle.limits.specs.Limits.{most_total}
 use Rattle.side_laws.specs.Segments.{Segment, net_sum, lowest, top}
 use Rattle.hill_valley.specs.declared.steps.Step.{Step}
 use Rattle.hill_valley.specs.declared.side.Seg.{Seg}
@@ -11,14 +12,14 @@ use Rattle.hill_valley.proofs.Staircases.{staircase, combine, falls, flat}
 -- what holds at each turn, where ss are the segments that are left
 pub record Walk (level : ℕ) (ss : List Segment) : Type 0 where
   pub room : net_sum ss ≤ level
-  pub low : level ≤ 2 ^ 60
+  pub low : level ≤ most_total
   pub ups : AllUpsWithin ss
 
 -- the numbers of the segments that are left, where this is the first
 pub row_next : (ss rest : List Seg) (s : Seg) → ss ≡ s ∷ rest → profile ss ≡ numbers s ∷ profile rest
 row_next ss rest s e = ap (λ (l : List Seg). profile l) e
 
-pub walk_starts : (level : ℕ) (ss : List Segment) → IsSide ss → net_sum ss ≤ level → level ≤ 2 ^ 60 → Walk level ss
+pub walk_starts : (level : ℕ) (ss : List Segment) → IsSide ss → net_sum ss ≤ level → level ≤ most_total → Walk level ss
 walk_starts level ss side room low = record { room = room; low = low; ups = side.1 }
 
 pub walk_most : (level : ℕ) (ss : List Segment) → max level (top level ss) ≡ top level ss
@@ -26,7 +27,7 @@ walk_most level [] = omega arith
 walk_most level (s ∷ ss) = omega arith
 
 module _ (level : ℕ) (s : Segment) (ss rest : List Segment) (next : ss ≡ s ∷ rest) where
-  pub walk_first : Walk level ss → (s.up ≤ 2 ^ 60) × (s.net ≤ level)
+  pub walk_first : Walk level ss → (s.up ≤ most_total) × (s.net ≤ level)
   walk_first w =
       let u = rw next at w.ups in
       let r = rw next at w.room in

@@ -1,6 +1,7 @@
 -- Two sides taken as one row, the lesser segment first.
 use Rattle.std.proofs.Common.{◌≡◌, ℕ, ◌+◌, ◌<◌, ◌≤◌, ◌^◌, List, [], ◌∷◌, ◌++◌, refl, ap, sym, ◌∙◌, arith, subst, append_assoc, Bool, Option, Some, None, MatchOption}
 use Rattle.std.proofs.lemmas.Grind.{common_steps}
+use Rattle.limits.specs.Limits.{most_total}
 use Rattle.side_laws.specs.Segments.{Segment, net_sum, StartsAbove, IsRising}
 use Rattle.side_laws.specs.Laws.{NetOfInsert, InsertRises}
 use Rattle.hill_valley.specs.declared.side.Seg.{Seg}
@@ -96,7 +97,7 @@ moved_net net before (s ∷ ss) rs =
     let law = net (run_numbers s) (run_profile rs) in
     omega (arith, later, put, law)
 
-moved_side : NetOfInsert → InsertRises → (before : Bool) (ss rs : List Run) → AllUpsWithin (run_profile ss) → IsSide (run_profile rs) → net_sum (run_profile ss) + net_sum (run_profile rs) ≤ 2 ^ 60
+moved_side : NetOfInsert → InsertRises → (before : Bool) (ss rs : List Run) → AllUpsWithin (run_profile ss) → IsSide (run_profile rs) → net_sum (run_profile ss) + net_sum (run_profile rs) ≤ most_total
     → IsSide (run_profile (move_runs before ss rs))
 moved_side net rises before [] rs ups side room = side
 moved_side net rises before (s ∷ ss) rs ups side room =
@@ -133,14 +134,14 @@ pub record Weaving (before : Bool) (ropes0 ropes : List (List ℕ)) (other0 own0
   pub other_ropes : HaveRopes ropes other
   pub own_ropes : HaveRopes ropes own
   pub kept : Extends ropes0 ropes
-  pub net : net_sum (profile other) + net_sum (profile own) ≤ 2 ^ 60
+  pub net : net_sum (profile other) + net_sum (profile own) ≤ most_total
 
-pub weaving_starts : (before : Bool) (ropes : List (List ℕ)) (other own row : List Seg) → row ≡ [] → HaveRopes ropes other → HaveRopes ropes own → net_sum (profile other) + net_sum (profile own) ≤ 2 ^ 60
+pub weaving_starts : (before : Bool) (ropes : List (List ℕ)) (other own row : List Seg) → row ≡ [] → HaveRopes ropes other → HaveRopes ropes own → net_sum (profile other) + net_sum (profile own) ≤ most_total
     → Weaving before ropes ropes other own other own row
 weaving_starts before ropes other own row e o w n = rw e (record { told = refl; row_ropes = tt; other_ropes = o; own_ropes = w; kept = extends_self ropes; net = n })
 
 -- what both sides come to is a side
-pub woven_side : NetOfInsert → InsertRises → (before : Bool) (lists : List (List ℕ)) (other own : List Seg) → IsSide (profile other) → IsSide (profile own) → net_sum (profile other) + net_sum (profile own) ≤ 2 ^ 60
+pub woven_side : NetOfInsert → InsertRises → (before : Bool) (lists : List (List ℕ)) (other own : List Seg) → IsSide (profile other) → IsSide (profile own) → net_sum (profile other) + net_sum (profile own) ≤ most_total
     → IsSide (run_profile (move_runs before (runs_of lists other) (runs_of lists own)))
 woven_side net rises before lists other own h k room =
     let a = profile_runs lists other in

@@ -9,9 +9,9 @@ use Rattle.hill_valley.specs.declared.side.Seg.{Seg}
 use Rattle.hill_valley.specs.Ropes.{list_of, IsRope}
 
 -- the least memory that is above the bound
-abbrev pub limit_of : ℤ → ℕ
-limit_of (pos bound) = bound + 1
-limit_of (negsuc bound) = 0
+abbrev pub limit_from : ℤ → ℕ
+limit_from (pos bound) = bound + 1
+limit_from (negsuc bound) = 0
 
 -- ---- the numbers of a side
 

@@ -14,8 +14,6 @@ mod row;
 mod side;
 mod slot;
 mod steps;
-#[cfg(test)]
-mod tests;
 mod tree;
 
 pub use numbers::Numbers;

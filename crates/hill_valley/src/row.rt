@@ -5,7 +5,7 @@ ghost use Rattle.limits.specs.Limits.{most_total};
 ghost use Rattle.side_laws.specs.Segments.{net_sum, lowest, top, last_up, IsRising};
 ghost use Rattle.hill_valley.specs.Ropes.{list_of, IsRope, Extends};
 ghost use Rattle.hill_valley.specs.Side.{profile, IsSide, HaveRopes, run_of, runs_of, tasks_of, join_runs, insert_run};
-ghost use Rattle.hill_valley.specs.Numbers.{segments_of, first_down_to};
+ghost use Rattle.hill_valley.specs.Numbers.{segments_listed, first_down_to};
 ghost use Rattle.hill_valley.specs.Staircase.{AreSteps};
 ghost use Rattle.hill_valley.specs.Descents.{first_up};
 ghost use Rattle.hill_valley.specs.Places.{IsPlace, IsGap, IsThere};
@@ -188,7 +188,7 @@ impl Row {
     ) -> Result<(), NoMemory>
         requires room { net_sum (profile self.now) ≤ level }
         ensures numbers { OnOk result (
-            segments_of numbers.new.items ≡ segments_of numbers.old.items ++ first_down_to stop level (profile self.now)) }
+            segments_listed numbers.new.items ≡ segments_listed numbers.old.items ++ first_down_to stop level (profile self.now)) }
     {
         let mut at = level;
         for seg in self.segments.iter() {

@@ -6,9 +6,9 @@ ghost use Rattle.limits.specs.Limits.{most_total};
 ghost use Rattle.side_laws.specs.Segments.{net_sum, lowest, top, Passes, StartsAbove, last_up};
 ghost use Rattle.side_laws.specs.Merging.{AreStuckAt, IsLeastTogether};
 ghost use Rattle.hill_valley.specs.Ropes.{list_of, IsRope, Extends};
-ghost use Rattle.hill_valley.specs.Side.{limit_of, numbers, profile, IsSide, HaveRopes, run_of, runs_of, tasks_of, insert_run, move_runs};
+ghost use Rattle.hill_valley.specs.Side.{limit_from, numbers, profile, IsSide, HaveRopes, run_of, runs_of, tasks_of, insert_run, move_runs};
 ghost use Rattle.hill_valley.specs.Side.{append_run};
-ghost use Rattle.hill_valley.specs.Numbers.{segments_of, first_down_to};
+ghost use Rattle.hill_valley.specs.Numbers.{segments_listed, first_down_to};
 ghost use Rattle.hill_valley.specs.Staircase.{AreSteps};
 ghost use Rattle.hill_valley.specs.Descents.{first_up};
 ghost use Rattle.hill_valley.specs.Merging.{IsNextMoved};
@@ -251,7 +251,7 @@ impl Side {
     pub fn lowest(&self, level: u64, bound: i64) -> u64
         requires room { net_sum (profile self.now) ≤ level }
         requires level { level ≤ most_total }
-        ensures lowest { result ≡ lowest (limit_of bound) level (profile self.now) }
+        ensures lowest { result ≡ lowest (limit_from bound) level (profile self.now) }
     {
         let limit = limit_above(bound);
         match &self.segments {
@@ -289,7 +289,7 @@ impl Side {
     ) -> Result<(), NoMemory>
         requires room { net_sum (profile self.now) ≤ level }
         ensures numbers { OnOk result (
-            segments_of numbers.new.items ≡ segments_of numbers.old.items ++ first_down_to stop level (profile self.now)) }
+            segments_listed numbers.new.items ≡ segments_listed numbers.old.items ++ first_down_to stop level (profile self.now)) }
     {
         match &self.segments {
             Segments::Slot(slot) => slot.push_numbers(level, stop, numbers),
@@ -399,7 +399,7 @@ impl Side {
 
 // The least memory above the bound.
 fn limit_above(bound: i64) -> u64
-    ensures { result ≡ limit_of bound }
+    ensures { result ≡ limit_from bound }
 {
     if bound < 0 { 0 } else { bound as u64 + 1 }
 }

@@ -6,7 +6,7 @@ ghost use Rattle.limits.specs.Limits.{most_total};
 ghost use Rattle.side_laws.specs.Segments.{net_sum, lowest, top, last_up};
 ghost use Rattle.hill_valley.specs.Ropes.{list_of, IsRope, Extends};
 ghost use Rattle.hill_valley.specs.Side.{profile, IsSide, HaveRopes, run_of, runs_of, tasks_of, insert_run};
-ghost use Rattle.hill_valley.specs.Numbers.{segments_of, first_down_to};
+ghost use Rattle.hill_valley.specs.Numbers.{segments_listed, first_down_to};
 ghost use Rattle.hill_valley.specs.Staircase.{AreSteps};
 ghost use Rattle.hill_valley.specs.Descents.{list_seen, list_joined, first_up};
 
@@ -171,7 +171,7 @@ impl Tree {
     ) -> Result<(), NoMemory>
         requires room { net_sum (profile self.now) ≤ level }
         ensures numbers { OnOk result (
-            segments_of numbers.new.items ≡ segments_of numbers.old.items ++ first_down_to stop level (profile self.now)) }
+            segments_listed numbers.new.items ≡ segments_listed numbers.old.items ++ first_down_to stop level (profile self.now)) }
     {
         let mut at = level;
         for (up, descent) in self.segments.iter() {

@@ -2,6 +2,7 @@
 use Rattle.std.proofs.Common.{◌≡◌, ◌∙◌, ℕ, ◌≤◌, ◌^◌, List, [], All, Option, Some, None, refl, sym, ap, subst, inl, length, map, arith}
 use Rattle.std.specs.Prelude.{◌↔◌}
 use Rattle.std.proofs.lemmas.List.Elements.{All-weaker}
+use Rattle.limits.specs.Limits.{most_tasks, most_total, most_positions}
 use Rattle.mp_system.specs.Memory.{peak_of}
 use Rattle.mp_system.specs.Renaming.{name_in, IsRenamed}
 use Rattle.mp_system.specs.System.{TaskSystem, IsSystem, IsTask}
@@ -41,7 +42,7 @@ peak_named law (Some names) own system order same walks = law names own system o
 
 -- ---- the limits of a plan
 
-pub few_tasks : (system : TaskSystem) (order : List ℕ) → IsSystem system → length order ≡ length system.tasks → length order ≤ 1000000
+pub few_tasks : (system : TaskSystem) (order : List ℕ) → IsSystem system → length order ≡ length system.tasks → length order ≤ most_tasks
 few_tasks system order is long = omega (arith, long, is.few_tasks)
 
 small_task : (system : TaskSystem) → IsSystem system → (v : ℕ) → IsTask system v → v ≤ 4294967295
@@ -65,7 +66,7 @@ module _
   peak_is_named =
       ap (peak_of system) named_is ∙ peak_named peaks names (system_of_term (term_of positions)) system order term.named walks ∙ peak_is
 
-  pub plan_within : (claims : List Claim) (priority : List ℕ) → priority ≡ [] → peak ≤ 2 ^ 60 → length claims ≤ 4000001 → All IsClaimWithin claims → RiseFrom 0 claims
+  pub plan_within : (claims : List Claim) (priority : List ℕ) → priority ≡ [] → peak ≤ most_total → length claims ≤ most_positions → All IsClaimWithin claims → RiseFrom 0 claims
       → IsPlan (record { order = named; peak = peak; claims = claims; priority = priority })
   plan_within claims priority none small few within rising = record {
     few_tasks = few_tasks system named term.within (long system named walks_named);

@@ -4,9 +4,9 @@ use Rattle.mp_system.specs.System.{TaskSystem}
 use Rattle.sp_terms.specs.declared.position.Position.{Position}
 use Rattle.sp_terms.specs.SystemOfTerm.{system_of_term}
 use Rattle.sp_terms.specs.Values.{term_of}
-use Rattle.tree_input.specs.Forest.{Forest, IsForestOf}
-use Rattle.tree_input.specs.Tree.{system_of_nodes}
-use Rattle.tree_input.specs.TreeTerm.{forest_positions}
+use Rattle.trees.specs.Forest.{Forest, IsForestOf}
+use Rattle.trees.specs.Tree.{system_of_nodes}
+use Rattle.trees.specs.TreeTerm.{forest_positions}
 use Rattle.least_peak.specs.declared.problem.Origin.{Origin}
 use Rattle.least_peak.specs.declared.problem.Origin.TheVariants as origins
 

@@ -14,8 +14,6 @@
 
 mod planning;
 mod problem;
-#[cfg(test)]
-mod tests;
 
 pub use problem::{Origin, Problem};
 use std::alloc::AllocError;

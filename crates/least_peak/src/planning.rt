@@ -14,13 +14,13 @@ use mp_system::laws::{renaming_law, traversal_law};
 use plan_claims::claims_of;
 use plans::Plan;
 use sp_cuts::plan_terms;
-use sp_terms::Terms;
+use sp_terms::TermList;
 use sp_terms::laws::terms_law;
 use std::alloc::Global;
 use std::marker::Brand;
 use std::sync::ledger::{Blank, Ledger};
 use step_count::Steps;
-use tree_input::Names;
+use trees::Names;
 
 // What a task is called; a number that is no task's is called 0.
 fn name_in(names: &[u32], task: u32) -> u32
@@ -64,7 +64,7 @@ fn order_in_system(
 fn plan_counted<L: Ledger>(
     alloc: Global,
     blank: Blank,
-    terms: &Terms,
+    terms: &TermList,
     names: Option<Names>,
 ) -> Result<Plan, NoMemory>
     requires name { blank.name ≡ L.name }
@@ -80,7 +80,7 @@ fn plan_counted<L: Ledger>(
     terms_law();
     let mut steps = Steps::<L>::new(blank);
     let plan = plan_terms(alloc, terms, &mut steps)?;
-    let sp_cuts::Plan {
+    let sp_cuts::Planned {
         order,
         peak,
         part,
@@ -96,7 +96,7 @@ fn plan_counted<L: Ledger>(
 
 /// The plan of a term, and of each system that is that of the term: what the tasks of the term are called in the system; without names
 /// each has its own number.
-pub fn plan_term(alloc: Global, terms: &Terms, names: Option<Names>) -> Result<Plan, NoMemory>
+pub fn plan_term(alloc: Global, terms: &TermList, names: Option<Names>) -> Result<Plan, NoMemory>
     requires { (system : TaskSystem) × IsNamedTerm names terms.now system }
     ensures accepted { IfOk result (λ plan. (system : TaskSystem) → IsNamedTerm names terms.now system → IsAccepted system terms.now plan) }
     ensures best { IfOk result

@@ -25,12 +25,12 @@ use mp_outside::Gate;
 use mp_system::{ReplayRefusal, System, replay};
 use plans::Plan;
 use sp_terms::laws::terms_law;
-use sp_terms::{Position, Terms, system_of};
+use sp_terms::{Position, TermList, system_of};
 use std::alloc::Global;
 use std::marker::Model;
 use std::thread::Threads;
-use tree_input::laws::{forest_law, tree_system, tree_term};
-use tree_input::{Named, Tree, system_of_tree, terms_of_tree};
+use trees::laws::{forest_law, tree_system, tree_term};
+use trees::{Named, Tree, system_of_tree, terms_of_tree};
 
 /// What a problem is made of.
 #[derive(Drop)]
@@ -38,7 +38,7 @@ pub enum Origin {
     /// A tree, whose nodes hand blocks to their parents.
     Tree(Tree),
     /// A series-parallel workflow.
-    Workflow(Terms),
+    Workflow(TermList),
 }
 
 /// Tasks that hand data to each other, for which a traversal of least peak is wanted. Its system and the term of a tree are made where
@@ -57,7 +57,7 @@ impl Model for Problem {
 }
 
 // The number of tasks of a term.
-fn count_tasks(terms: &Terms) -> u32
+fn count_tasks(terms: &TermList) -> u32
     ensures { result ≡ length (system_of_term (term_of terms.now)).tasks }
 {
     terms_law();
@@ -82,7 +82,7 @@ impl Problem {
     }
 
     /// The problem of a workflow. It takes no memory.
-    pub fn of_workflow(terms: Terms) -> Problem
+    pub fn of_workflow(terms: TermList) -> Problem
         ensures { result ≡ origins.Workflow terms }
     {
         Problem {

@@ -1,5 +1,5 @@
 -- The limits, each once.
-use Rattle.std.specs.Prelude.{ℕ, ◌^◌, List, codes}
+use Rattle.std.specs.Prelude.{ℕ, ◌+◌, ◌*◌, ◌^◌, List, codes}
 use Rattle.limits.specs.declared.name.LimitName.{LimitName}
 use Rattle.limits.specs.declared.name.LimitName.TheVariants.{Bytes, Order, Entries, Mindeg, Tasks, Positions, Size, Total, Time, Arcs}
 use Rattle.limits.specs.declared.name.LimitName.TheVariants.{Steps}
@@ -18,13 +18,13 @@ most_entries = 10000000
 abbrev pub most_mindeg : ℕ
 most_mindeg = 50000
 
--- tasks of a workflow or of a task graph, nodes of a tree, numbers of an order
+-- tasks of a workflow or of a task graph, nodes of a tree, numbers of an order: as many as a matrix may have rows
 abbrev pub most_tasks : ℕ
-most_tasks = 1000000
+most_tasks = most_order
 
 -- positions of a term, claims of a plan, data items of a system: four for a task, and one
 abbrev pub most_positions : ℕ
-most_positions = 4000001
+most_positions = 4 * most_tasks + 1
 
 -- one extra or one data size, the sum of all of them, and one duration
 abbrev pub most_size : ℕ
@@ -38,7 +38,11 @@ most_time = 2 ^ 40
 
 -- arcs of a task graph: two for a task, and one
 abbrev pub most_arcs : ℕ
-most_arcs = 2000001
+most_arcs = 2 * most_tasks + 1
+
+-- explicit zeros that one merge of fronts may add
+abbrev pub most_zeros : ℕ
+most_zeros = 2 ^ 40
 
 -- steps of all staircases of a term
 abbrev pub most_steps : ℕ

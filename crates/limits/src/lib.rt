@@ -5,8 +5,6 @@
 #![tactic(auto)]
 
 mod name;
-#[cfg(test)]
-mod tests;
 
 pub use name::LimitName;
 
@@ -22,11 +20,12 @@ pub const MOST_ENTRIES: u64 = 10_000_000;
 /// Rows of a matrix that is ordered by minimum degree.
 pub const MOST_MINDEG: u64 = 50_000;
 
-/// Tasks of a workflow or of a task graph, nodes of a tree, or numbers of an order.
-pub const MOST_TASKS: u64 = 1_000_000;
+/// Tasks of a workflow or of a task graph, nodes of a tree, or numbers of an order: as many as a matrix may have rows, since each row can be
+/// a front of its own.
+pub const MOST_TASKS: u64 = MOST_ORDER;
 
-/// Positions of a term, claims of a plan, or data items of a system.
-pub const MOST_POSITIONS: u64 = 4_000_001;
+/// Positions of a term, claims of a plan, or data items of a system: four for a task, and one.
+pub const MOST_POSITIONS: u64 = 4 * MOST_TASKS + 1;
 
 /// One extra or one data size: 2^40.
 pub const MOST_SIZE: u64 = 1_099_511_627_776;
@@ -37,8 +36,11 @@ pub const MOST_TOTAL: u64 = 1_152_921_504_606_846_976;
 /// One duration: 2^40.
 pub const MOST_TIME: u64 = 1_099_511_627_776;
 
-/// Arcs of a task graph.
-pub const MOST_ARCS: u64 = 2_000_001;
+/// Arcs of a task graph: two for a task, and one.
+pub const MOST_ARCS: u64 = 2 * MOST_TASKS + 1;
+
+/// Explicit zeros that one merge of fronts may add: 2^40.
+pub const MOST_ZEROS: u64 = 1_099_511_627_776;
 
 /// Steps of all staircases of a term.
 pub const MOST_STEPS: u64 = 10_000_000;

@@ -1,22 +1,8 @@
 //! memplan orders tasks so that their temporary data needs as little memory as possible, and proves it.
 #![tactic(auto)]
 
-mod commands;
-mod files;
-mod inputs;
-pub mod laws;
-mod numbered;
-mod page;
-mod request;
-mod run;
-mod status;
-mod stop;
-#[cfg(test)]
-mod tests;
-
 use mp_outside::{NoGate, RealFiles, RealSink};
-pub use run::run_words;
-pub use status::{Status, code_of, complaint};
+use reports::{Status, code_of, complaint, run_words};
 use std::io::ErrorKind;
 use std::process::ExitCode;
 use std::{env, io};

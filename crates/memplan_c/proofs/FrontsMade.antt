@@ -10,12 +10,12 @@ use Rattle.assembly_tree.specs.Amalgamation.{amalgamated}
 use Rattle.assembly_tree.specs.declared.assembly.Super.{Super}
 use Rattle.assembly_tree.specs.declared.front.Shape.{Shape}
 use Rattle.assembly_tree.specs.Assembly.{AssemblyTree, IsAssembly, columns_in, no_super}
-use Rattle.assembly_tree.specs.Fronts.{front_at, fronts_of}
+use Rattle.assembly_tree.specs.Fronts.{front_at, nodes_of_fronts}
 use Rattle.assembly_tree.specs.Relaxation.{IsRelaxed, number_among}
 use Rattle.assembly_tree.specs.Supernodes.{AreSupernodes}
 use Rattle.symbolic.specs.FrontTree.{columns, relaxed, IsAnalysis}
 use Rattle.symbolic.specs.declared.options.FrontOptions.{FrontOptions}
-use Rattle.tree_input.specs.declared.node.Node.{Node}
+use Rattle.trees.specs.declared.node.Node.{Node}
 use Rattle.memplan_c.specs.Fronts.{HaveFronts, fronts_of_columns}
 
 -- merging leaves as many columns as there are
@@ -53,18 +53,18 @@ each_some a is =
     subst (λ (k : ℕ). 1 ≤ (get_or a.supers k no_super).columns) at (is.each (i + 1) (omega arith, omega arith)).some)
 
 pub few_fronts : (shape : Shape) (inplace : Bool) (a : AssemblyTree) (nodes : List Node) → IsAssembly a
-    → nodes ≡ fronts_of shape inplace a.supers → length nodes ≤ length a.nodes
+    → nodes ≡ nodes_of_fronts shape inplace a.supers → length nodes ≤ length a.nodes
 few_fronts shape inplace a nodes is are =
     let long = ap length are ∙ length-map-range_with_len (front_at shape inplace a.supers) 1 (length a.supers) in
     omega (arith, long, one_each a.supers (each_some a is), is.total)
 
 pub made : (options : FrontOptions) (rows : List (List ℕ)) (order perm : List ℕ) (assembly merged : AssemblyTree) (nodes : List Node) (fronts : List ℕ)
     → IsAnalysis rows order perm assembly → length perm ≡ length order → merged ≡ relaxed options.zeros assembly
-    → nodes ≡ fronts_of options.shape options.inplace merged.supers → fronts ≡ fronts_of_columns merged perm
+    → nodes ≡ nodes_of_fronts options.shape options.inplace merged.supers → fronts ≡ fronts_of_columns merged perm
     → HaveFronts options rows order nodes fronts
 made options rows order perm assembly merged nodes fronts is len is_merged is_nodes is_fronts =
     let along = λ (p : List ℕ) (n : ℕ). AreSupernodes (parents_of (columns rows p) n) (counts_of (columns rows p) n) assembly in
-    let nodes_are = is_nodes ∙ ap (λ (a : AssemblyTree). fronts_of options.shape options.inplace a.supers) is_merged in
+    let nodes_are = is_nodes ∙ ap (λ (a : AssemblyTree). nodes_of_fronts options.shape options.inplace a.supers) is_merged in
     record {
       tree = record {
         post = is.postordered.post;

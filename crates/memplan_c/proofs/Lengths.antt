@@ -2,8 +2,8 @@
 use Rattle.std.proofs.Common.{◌≡◌, ◌∙◌, ℕ, suc, ◌+◌, List, [], ◌∷◌, length, refl, sym, ap}
 use Rattle.std.proofs.lemmas.List.{length-map}
 use Rattle.mp_system.specs.System.{TaskSystem}
-use Rattle.tree_input.specs.declared.node.Node.{Node}
-use Rattle.tree_input.specs.Tree.{task_of, items_from, system_of_nodes}
+use Rattle.trees.specs.declared.node.Node.{Node}
+use Rattle.trees.specs.Tree.{task_of_node, items_from, system_of_nodes}
 use Rattle.least_peak.specs.Problem.{system_of}
 use Rattle.least_peak.specs.declared.problem.Origin.{Origin}
 use Rattle.least_peak.specs.declared.problem.Origin.TheVariants as origins
@@ -11,7 +11,7 @@ use Rattle.least_peak.specs.declared.problem.Origin.TheVariants as origins
 -- a traversal of the tree's system
 pub order_long : (tree nodes : List Node) (order : List ℕ) (room : ℕ) → tree ≡ nodes → room ≡ length nodes
     → length order ≡ length (system_of_nodes tree).tasks → length order ≡ room
-order_long tree nodes order room same is long = long ∙ length-map tree task_of ∙ ap (λ (ns : List Node). length ns) same ∙ sym is
+order_long tree nodes order room same is long = long ∙ length-map tree task_of_node ∙ ap (λ (ns : List Node). length ns) same ∙ sym is
 
 -- of a problem that is the tree's
 pub plan_long : (origin : Origin) (tree nodes : List Node) (order : List ℕ) (room : ℕ) → origin ≡ origins.Tree tree → tree ≡ nodes

@@ -8,7 +8,7 @@ use Rattle.plans.specs.declared.claim.Claim.{Claim as PlanClaim}
 use Rattle.plans.specs.Plan.{IsClaimWithin, RiseFrom}
 use Rattle.memplan_c.specs.declared.claims.Claim.{Claim}
 use Rattle.memplan_c.specs.Answers.{claim_given}
-use Rattle.memplan_c.specs.Refusals.{AreClaims}
+use Rattle.memplan_c.specs.Refusals.{AreRisingClaims}
 
 -- what may follow claims stands past this position
 abbrev pub GoesOn : List PlanClaim → ℕ → Type 0
@@ -43,7 +43,7 @@ module _ (claims : List Claim) (i : ℕ) (d : Claim) (there : i < length claims)
   abbrev before : List PlanClaim
   before = map claim_given (take i claims)
 
-  pub are_more : (last : ℕ) → AreClaims (take i claims) → GoesOn before last → last < next.position → IsClaimWithin next → AreClaims (take (i + 1) claims)
+  pub are_more : (last : ℕ) → AreRisingClaims (take i claims) → GoesOn before last → last < next.position → IsClaimWithin next → AreRisingClaims (take (i + 1) claims)
   are_more last are on past within = (
     subst (All IsClaimWithin) (sym (one_more claims i d there)) (All-push IsClaimWithin before next are.0 within),
     subst (RiseFrom 0) (sym (one_more claims i d there)) ((on next).1 past),
@@ -54,7 +54,7 @@ module _ (claims : List Claim) (i : ℕ) (d : Claim) (there : i < length claims)
       (last_rises 0 before next e, rises_more 0 before next e ((on next).1 past)))
 
   -- what the next claim of claims that stand right is
-  pub next_stands : (last : ℕ) → GoesOn before last → AreClaims (take (i + 1) claims) → (last < next.position) × IsClaimWithin next
+  pub next_stands : (last : ℕ) → GoesOn before last → AreRisingClaims (take (i + 1) claims) → (last < next.position) × IsClaimWithin next
   next_stands last on are = (
     (on next).0 (subst (RiseFrom 0) (one_more claims i d there) are.1),
     last_within before next (subst (All IsClaimWithin) (one_more claims i d there) are.0),

@@ -4,13 +4,13 @@ use Rattle.std.specs.List.{range_with_len}
 use Rattle.std.proofs.lemmas.List.FromFn.{length-range_with_len}
 use Rattle.std.proofs.lemmas.List.Sorted.{length_permutation}
 use Rattle.sp_terms.specs.declared.position.Position.{Position}
-use Rattle.tree_input.specs.declared.judged.NodeTest.TheVariants as tests
-use Rattle.tree_input.specs.declared.judged.NodesRefusal.{NodesRefusal}
-use Rattle.tree_input.specs.declared.judged.NodesRefusal.TheVariants as refused_nodes
-use Rattle.tree_input.specs.declared.node.Node.{Node}
-use Rattle.tree_input.specs.Forest.{Forest, no_trees, tree, roots_of, all_numbers, IsForestOf}
-use Rattle.tree_input.specs.Tree.{IsTree}
-use Rattle.tree_input.specs.TreeTerm.{beside_positions, own_positions, tree_positions, forest_positions}
+use Rattle.trees.specs.declared.judged.NodeTest.TheVariants as tests
+use Rattle.trees.specs.declared.judged.NodesRefusal.{NodesRefusal}
+use Rattle.trees.specs.declared.judged.NodesRefusal.TheVariants as refused_nodes
+use Rattle.trees.specs.declared.node.Node.{Node}
+use Rattle.trees.specs.Forest.{Forest, no_trees, tree, roots_of, all_numbers, IsForestOf}
+use Rattle.trees.specs.Tree.{IsTree}
+use Rattle.trees.specs.TreeTerm.{beside_positions, own_positions, tree_positions, forest_positions}
 use Rattle.claim_rules.specs.Claims.{Claim as RuleClaim}
 use Rattle.plans.specs.declared.claim.Claim.{Claim as PlanClaim}
 use Rattle.plans.specs.Plan.{PlanValue, IsPlan, RiseFrom, claim_at, claim_of}
@@ -19,7 +19,7 @@ use Rattle.memplan_c.specs.declared.faults.Fault.{Fault}
 use Rattle.memplan_c.specs.declared.refusal.Refusal.{Refusal}
 use Rattle.memplan_c.specs.declared.refusal.Refusal.TheVariants as refusals
 use Rattle.memplan_c.specs.Answers.{IsCertificate}
-use Rattle.memplan_c.specs.Faults.{IsRefused, answer_of, of_nodes}
+use Rattle.memplan_c.specs.Faults.{IsRefusedFor, answer_to, of_nodes}
 use Rattle.memplan_c.specs.Refusals.{IsCertifyRefusal, most_claims}
 
 -- ---- claims at rising positions
@@ -124,7 +124,7 @@ module _ (each : EachOnce) where
 
   -- a refusal of the kind of claims: there is less room than is always enough, which is told
   by_kind : (nodes : List Node) (places room : ℕ) (refusal : Refusal) → IsCertifyRefusal nodes places room refusal
-      → (answer_of refusal).fault.kind ≡ 3 → (room < most_claims (length nodes)) × ((answer_of refusal).fault.value ≡ most_claims (length nodes))
+      → (answer_to refusal).fault.kind ≡ 3 → (room < most_claims (length nodes)) × ((answer_to refusal).fault.value ≡ most_claims (length nodes))
   by_kind nodes places room (refusals.ClaimRoom needed) because kind =
       (omega (arith, because.past, most nodes because.plan because.tree because.within because.certificate), because.needed_is)
   by_kind nodes places room (refusals.Room needed) because kind = absurd (omega (arith, kind))
@@ -132,17 +132,17 @@ module _ (each : EachOnce) where
   by_kind nodes places room refusals.NoMemory because kind = absurd (omega (arith, kind))
   by_kind nodes places room other because kind = absurd because
 
-  pub told : (nodes : List Node) (places room status : ℕ) (fault : Fault) → IsRefused (IsCertifyRefusal nodes places room) status fault
+  pub told : (nodes : List Node) (places room status : ℕ) (fault : Fault) → IsRefusedFor (IsCertifyRefusal nodes places room) status fault
       → fault.kind ≡ 3 → (room < most_claims (length nodes)) × (fault.value ≡ most_claims (length nodes))
   told nodes places room status fault refused kind =
       let by = by_kind nodes places room refused.refusal refused.because (ap (λ (x : Fault). x.kind) (sym refused.fault_is) ∙ kind) in
       (by.0, ap (λ (x : Fault). x.value) refused.fault_is ∙ by.1)
 
   pub enough : (nodes : List Node) (places room status : ℕ) (fault : Fault) → most_claims (length nodes) ≤ room
-      → IsRefused (IsCertifyRefusal nodes places room) status fault → fault.kind ≡ 3 → ⊥
+      → IsRefusedFor (IsCertifyRefusal nodes places room) status fault → fault.kind ≡ 3 → ⊥
   enough nodes places room status fault is_enough refused kind = omega (arith, is_enough, (told nodes places room status fault refused kind).0)
 
-  pub again : (nodes : List Node) (places room status second : ℕ) (fault other : Fault) → IsRefused (IsCertifyRefusal nodes places room) status fault
-      → fault.kind ≡ 3 → IsRefused (IsCertifyRefusal nodes places fault.value) second other → other.kind ≡ 3 → ⊥
+  pub again : (nodes : List Node) (places room status second : ℕ) (fault other : Fault) → IsRefusedFor (IsCertifyRefusal nodes places room) status fault
+      → fault.kind ≡ 3 → IsRefusedFor (IsCertifyRefusal nodes places fault.value) second other → other.kind ≡ 3 → ⊥
   again nodes places room status second fault other refused kind refused_again other_kind =
       enough nodes places fault.value second other (omega (arith, (told nodes places room status fault refused kind).1)) refused_again other_kind

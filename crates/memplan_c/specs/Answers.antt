@@ -3,12 +3,12 @@ use Rattle.std.specs.Prelude.{◌≡◌, ◌==◌, ℕ, ◌≤◌, if◌then◌e
 use Rattle.mp_system.specs.Memory.{peak_of}
 use Rattle.mp_system.specs.System.{IsSystem}
 use Rattle.mp_system.specs.Traversal.{IsTraversal}
-use Rattle.system_input.specs.declared.given.GivenItem.{GivenItem}
-use Rattle.system_input.specs.declared.given.GivenTask.{GivenTask}
-use Rattle.system_input.specs.Given.{system_given}
+use Rattle.mp_system.specs.declared.given.GivenItem.{GivenItem}
+use Rattle.mp_system.specs.declared.given.GivenTask.{GivenTask}
+use Rattle.mp_system.specs.Given.{system_given}
 use Rattle.sp_terms.specs.declared.position.Position.{Position}
-use Rattle.tree_input.specs.declared.node.Node.{Node}
-use Rattle.tree_input.specs.Tree.{IsTree, system_of_nodes}
+use Rattle.trees.specs.declared.node.Node.{Node}
+use Rattle.trees.specs.Tree.{IsTree, system_of_nodes}
 use Rattle.plans.specs.declared.claim.Claim.{Claim as PlanClaim}
 use Rattle.plans.specs.declared.claim.Direction.TheVariants.{Forward, Backward}
 use Rattle.plans.specs.Plan.{PlanValue, IsPlan}

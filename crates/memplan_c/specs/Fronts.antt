@@ -2,14 +2,14 @@
 use Rattle.std.specs.Prelude.{◌≡◌, ◌≢◌, ◌==◌, ℕ, ◌<◌, ◌≤◌, not, if◌then◌else◌, Option, Some, None, List, [], ◌∷◌, length, map}
 use Rattle.std.specs.List.{range_with_len}
 use Rattle.limits.specs.Limits.{most_mindeg}
-use Rattle.matrix_market.specs.Pattern.{IsPatternOf, is_joined}
-use Rattle.matrix_input.specs.Columns.{AreColumns, IsColumnsRefusal, columns_in, pairs_given}
-use Rattle.matrix_input.specs.Order.{IsPermRefusal, order_given}
+use Rattle.patterns.specs.Pattern.{IsPatternOf, is_joined}
+use Rattle.patterns.specs.Columns.{AreColumns, IsColumnsRefusal, column_count, pairs_given}
+use Rattle.permutations.specs.Order.{IsNumbersRefusal, order_given}
 use Rattle.ordering.specs.MinimumDegree.{IsMinimumDegreeOrder, IsMindegRefusal}
-use Rattle.ordering.specs.Perm.{IsPerm, place_of}
-use Rattle.tree_input.specs.declared.node.Node.{Node}
+use Rattle.permutations.specs.Perm.{IsPerm, place_of}
+use Rattle.trees.specs.declared.node.Node.{Node}
 use Rattle.assembly_tree.specs.Assembly.{AssemblyTree, super_of}
-use Rattle.assembly_tree.specs.Fronts.{fronts_of}
+use Rattle.assembly_tree.specs.Fronts.{nodes_of_fronts}
 use Rattle.assembly_tree.specs.declared.front.Shape.{Shape}
 use Rattle.assembly_tree.specs.declared.front.Shape.TheVariants.{Triangle, Square}
 use Rattle.symbolic.specs.FrontTree.{IsAnalysis, IsFrontTree, relaxed}
@@ -54,7 +54,7 @@ IsMatrixOrder base (number ∷ numbers) rows order = order ≡ order_given base 
 -- the matrix has these rows, and is eliminated in this order
 pub record IsMatrix (m : GivenMatrix) (rows : List (List ℕ)) (order : List ℕ) : Type 0 where
   pub columns : AreColumns m.base m.starts m.rows
-  pub pattern : IsPatternOf (columns_in m.starts) (pairs_given m.base m.starts m.rows) rows
+  pub pattern : IsPatternOf (column_count m.starts) (pairs_given m.base m.starts m.rows) rows
   pub order_is : IsMatrixOrder m.base m.order rows order
   pub perm : IsPerm (length rows) order
 
@@ -69,7 +69,7 @@ pub record HaveFronts (options : FrontOptions) (rows : List (List ℕ)) (order :
   pub perm : List ℕ
   pub assembly : AssemblyTree
   pub analysis : IsAnalysis rows order perm assembly
-  pub nodes_are : nodes ≡ fronts_of options.shape options.inplace (relaxed options.zeros assembly).supers
+  pub nodes_are : nodes ≡ nodes_of_fronts options.shape options.inplace (relaxed options.zeros assembly).supers
   pub fronts_are : fronts ≡ fronts_of_columns (relaxed options.zeros assembly) perm
 
 pub record AreFronts (m : GivenMatrix) (options : FrontOptions) (nodes : List Node) (fronts : List ℕ) : Type 0 where
@@ -88,11 +88,11 @@ pub record IsNodeRoomRefused (m : GivenMatrix) (options : FrontOptions) (room ne
   pub needed_is : needed ≡ length nodes
   pub less : room < needed
   -- room for as many as there are columns does
-  pub few : needed ≤ columns_in m.starts
+  pub few : needed ≤ column_count m.starts
 
 -- numbers, counted from a base, that are no order of n columns; or none, and there is no order of minimum degree
 abbrev pub IsMatrixOrderRefusal : ℕ → List ℕ → ℕ → Refusal → Type 0
-IsMatrixOrderRefusal base numbers n (refusals.Perm refusal) = (numbers ≢ []) × IsPermRefusal base n numbers refusal
+IsMatrixOrderRefusal base numbers n (refusals.Perm refusal) = (numbers ≢ []) × IsNumbersRefusal base n numbers refusal
 IsMatrixOrderRefusal base numbers n (refusals.Degree refusal) = (numbers ≡ []) × IsMindegRefusal n refusal
 IsMatrixOrderRefusal base numbers n refusals.NoMemory = Unit {0}
 IsMatrixOrderRefusal base numbers n other = ⊥
@@ -100,12 +100,12 @@ IsMatrixOrderRefusal base numbers n other = ⊥
 -- with room for so many nodes, and for the fronts of so many columns
 abbrev pub IsMatrixFrontsRefusal : GivenMatrix → GivenOptions → ℕ → ℕ → Refusal → Type 0
 IsMatrixFrontsRefusal m options room columns refusals.Shape = 1 < options.shape
-IsMatrixFrontsRefusal m options room columns (refusals.Room needed) = IsRoomRefused (columns_in m.starts) columns needed
+IsMatrixFrontsRefusal m options room columns (refusals.Room needed) = IsRoomRefused (column_count m.starts) columns needed
 IsMatrixFrontsRefusal m options room columns (refusals.Columns refusal) = IsColumnsRefusal m.base m.starts m.rows refusal
 IsMatrixFrontsRefusal m options room columns (refusals.Perm refusal) =
-    AreColumns m.base m.starts m.rows × IsMatrixOrderRefusal m.base m.order (columns_in m.starts) (refusals.Perm refusal)
+    AreColumns m.base m.starts m.rows × IsMatrixOrderRefusal m.base m.order (column_count m.starts) (refusals.Perm refusal)
 IsMatrixFrontsRefusal m options room columns (refusals.Degree refusal) =
-    AreColumns m.base m.starts m.rows × IsMatrixOrderRefusal m.base m.order (columns_in m.starts) (refusals.Degree refusal)
+    AreColumns m.base m.starts m.rows × IsMatrixOrderRefusal m.base m.order (column_count m.starts) (refusals.Degree refusal)
 IsMatrixFrontsRefusal m options room columns (refusals.NodeRoom needed) = IsNodeRoomRefused m (options_given options) room needed
 IsMatrixFrontsRefusal m options room columns refusals.NoMemory = Unit {0}
 IsMatrixFrontsRefusal m options room columns other = ⊥

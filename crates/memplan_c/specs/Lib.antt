@@ -1,3 +1,5 @@
+pub mod Statuses
+pub mod FaultKinds
 pub mod Faults
 pub mod Answers
 pub mod Refusals

@@ -3,14 +3,14 @@ use Rattle.std.specs.Prelude.{◌≡◌, ◌≢◌, ℕ, ◌+◌, ◌-◌, ◌*�
 use Rattle.limits.specs.Limits.{most_tasks, most_positions, most_total, most_workers}
 use Rattle.mp_system.specs.Refusal.{IsOrderRefusal}
 use Rattle.mp_system.specs.System.{IsSystem}
-use Rattle.system_input.specs.declared.given.GivenItem.{GivenItem}
-use Rattle.system_input.specs.declared.given.GivenTask.{GivenTask}
-use Rattle.system_input.specs.Given.{system_given}
-use Rattle.system_input.specs.Judged.{IsSystemRefusal}
+use Rattle.mp_system.specs.declared.given.GivenItem.{GivenItem}
+use Rattle.mp_system.specs.declared.given.GivenTask.{GivenTask}
+use Rattle.mp_system.specs.Given.{system_given}
+use Rattle.mp_system.specs.Judged.{IsSystemRefusal}
 use Rattle.sp_terms.specs.declared.position.Position.{Position}
-use Rattle.tree_input.specs.declared.node.Node.{Node}
-use Rattle.tree_input.specs.Judged.{IsNodesRefusal}
-use Rattle.tree_input.specs.Tree.{IsTree, system_of_nodes}
+use Rattle.trees.specs.declared.node.Node.{Node}
+use Rattle.trees.specs.Judged.{IsNodesRefusal}
+use Rattle.trees.specs.Tree.{IsTree, system_of_nodes}
 use Rattle.plans.specs.Plan.{PlanValue, IsClaimWithin, IsPlan, RiseFrom}
 use Rattle.claim_check.specs.Accepted.{IsObjection}
 use Rattle.claim_check.specs.declared.objection.Objection.{Objection}
@@ -55,15 +55,15 @@ IsSpillCallRefusal nodes order bound room other = ⊥
 -- ---- plans with claims
 
 -- claims of a caller's array that a plan may have: within the limits, and each at a greater position than the one before
-abbrev pub AreClaims : List Claim → Type 0
-AreClaims claims = All IsClaimWithin (map claim_given claims) × RiseFrom 0 (map claim_given claims)
+abbrev pub AreRisingClaims : List Claim → Type 0
+AreRisingClaims claims = All IsClaimWithin (map claim_given claims) × RiseFrom 0 (map claim_given claims)
 
 -- the first claim, counted from 1, with which they are not
 pub record IsFirstWrong (claims : List Claim) (k : ℕ) : Type 0 where
   pub positive : 1 ≤ k
   pub there : k ≤ length claims
-  pub before : AreClaims (take (k - 1) claims)
-  pub wrong : AreClaims (take k claims) → ⊥
+  pub before : AreRisingClaims (take (k - 1) claims)
+  pub wrong : AreRisingClaims (take k claims) → ⊥
 
 -- the fault is a claim, of which this is said
 abbrev pub IfClaim : PlanFault → (ℕ → Type 0) → Type 0

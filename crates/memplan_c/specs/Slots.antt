@@ -10,7 +10,7 @@ use Rattle.activation.specs.declared.events.EventKind.{EventKind}
 use Rattle.activation.specs.declared.events.EventKind.TheVariants.{Activate}
 use Rattle.memplan_c.specs.declared.faults.Fault.{Fault}
 use Rattle.memplan_c.specs.declared.refusal.Refusal.{Refusal}
-use Rattle.memplan_c.specs.Faults.{IsRefused}
+use Rattle.memplan_c.specs.Faults.{IsRefusedFor}
 
 pub record SlotValue : Type 0 where
   pub core : Option CoreValue
@@ -18,8 +18,8 @@ pub record SlotValue : Type 0 where
 abbrev pub empty : SlotValue
 empty = record { core = None }
 
-abbrev pub setting_of : TaskSystem → List ℕ → ℕ → ℕ → Setting
-setting_of system order bound workers = record { system = system; order = order; bound = bound; workers = workers }
+abbrev pub core_setting : TaskSystem → List ℕ → ℕ → ℕ → Setting
+core_setting system order bound workers = record { system = system; order = order; bound = bound; workers = workers }
 
 abbrev pub core_at_start : Setting → CoreValue
 core_at_start setting = record { setting = setting; state = start_state setting }
@@ -35,7 +35,7 @@ pub record IsCoreBegun (given : Type 0) (cause : Refusal → Type 0) (setting : 
   pub is_setting : answer ≡ 0 → IsSetting setting
   pub few_workers : answer ≡ 0 → setting.workers ≤ most_workers
   pub no_fault : answer ≡ 0 → after ≡ before
-  pub refused : answer ≢ 0 → IsRefused cause answer after
+  pub refused : answer ≢ 0 → IsRefusedFor cause answer after
 
 -- the core after an event
 abbrev pub after_event : CoreValue → EventKind → ℕ → CoreValue

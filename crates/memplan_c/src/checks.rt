@@ -3,7 +3,7 @@
 ghost use Rattle.std.specs.Prelude.{◌≡◌, ◌≢◌, ◌≤◌, [], length, take, drop, IfOk, IfErr, OnOk};
 ghost use Rattle.plans.specs.Plan.{IsPlan};
 ghost use Rattle.memplan_c.specs.Answers.{IsTreeCertified, IsBestOrder, IsCertificate};
-ghost use Rattle.memplan_c.specs.Faults.{IsRefused};
+ghost use Rattle.memplan_c.specs.Faults.{IsRefusedFor};
 ghost use Rattle.memplan_c.specs.Refusals.{IsCertifyRefusal, IsCheckRefusal};
 
 use crate::claims::{Claim, hand_out, plan_of_arrays};
@@ -15,7 +15,7 @@ use least_peak::Problem;
 use mp_system::laws::traversal_law;
 use plans::Plan;
 use std::alloc::Global;
-use tree_input::{Node, tree_of_nodes};
+use trees::{Node, tree_of_nodes};
 
 fn check_plan(
     alloc: Global,
@@ -49,7 +49,7 @@ pub extern "C" fn memplan_check_tree(
 ) -> u32
     // 0: the order is a traversal of the tree's system, with this peak, none has a lower one, and the claims certify it
     ensures certified { result ≡ 0 → IsTreeCertified nodes.now order.now peak claims.now }
-    ensures refused { result ≢ 0 → IsRefused (IsCheckRefusal nodes.now order.now peak claims.now) result fault.new }
+    ensures refused { result ≢ 0 → IsRefusedFor (IsCheckRefusal nodes.now order.now peak claims.now) result fault.new }
     ensures no_fault { result ≡ 0 → fault.new ≡ fault.old }
 {
     match check_plan(alloc, nodes, order, peak, claims) {
@@ -97,7 +97,7 @@ pub extern "C" fn memplan_certify_tree(
     ensures certified { result ≡ 0 → IsTreeCertified nodes.now order.new peak.new (take count.new claims.new) }
     ensures counted { result ≡ 0 → count.new ≤ length claims.new }
     ensures past { result ≡ 0 → drop count.new claims.new ≡ drop count.new claims.old }
-    ensures refused { result ≢ 0 → IsRefused (IsCertifyRefusal nodes.now (length order.old) (length claims.old)) result fault.new }
+    ensures refused { result ≢ 0 → IsRefusedFor (IsCertifyRefusal nodes.now (length order.old) (length claims.old)) result fault.new }
     ensures unchanged { result ≢ 0 →
         (order.new ≡ order.old) × (peak.new ≡ peak.old) × (claims.new ≡ claims.old) × (count.new ≡ count.old) }
     ensures no_fault { result ≡ 0 → fault.new ≡ fault.old }

@@ -4,7 +4,7 @@ ghost use Rattle.std.specs.Prelude.{◌≡◌, ◌≤◌, ◌<◌, ◌↔◌, le
 ghost use Rattle.limits.specs.Limits.{most_tasks, most_positions, most_total};
 ghost use Rattle.plans.specs.Plan.{IsClaimWithin};
 ghost use Rattle.memplan_c.specs.Answers.{claim_given, plan_given};
-ghost use Rattle.memplan_c.specs.Refusals.{AreClaims, IfClaim, IsFirstWrong, IsGivenPlanRefusal, IsPlanFault};
+ghost use Rattle.memplan_c.specs.Refusals.{AreRisingClaims, IfClaim, IsFirstWrong, IsGivenPlanRefusal, IsPlanFault};
 
 use crate::refusal::{PlanFault, Refusal};
 use limits::{MOST_POSITIONS, MOST_TASKS, MOST_TOTAL};
@@ -63,7 +63,7 @@ fn stands(claim: Claim, last: u32) -> bool
 
 // Whether each claim stands past the one before, and is within the limits.
 fn check_claims(claims: &[Claim]) -> Result<(), PlanFault>
-    ensures claims { OnOk result (AreClaims claims.now) }
+    ensures claims { OnOk result (AreRisingClaims claims.now) }
     ensures refused { IfErr result (λ fault. IfClaim fault (IsFirstWrong claims.now)) }
 {
     let mut last: u32 = 0;
@@ -88,7 +88,7 @@ fn check_limits(order: &[u32], peak: u64, claims: &[Claim]) -> Result<(), PlanFa
     ensures few { OnOk result (length order.now ≤ most_tasks) }
     ensures peak { OnOk result (peak ≤ most_total) }
     ensures few_claims { OnOk result (length claims.now ≤ most_positions) }
-    ensures claims { OnOk result (AreClaims claims.now) }
+    ensures claims { OnOk result (AreRisingClaims claims.now) }
     ensures refused { IfErr result (IsPlanFault order.now peak claims.now) }
 {
     if order.len() as u64 > MOST_TASKS {

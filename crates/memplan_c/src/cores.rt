@@ -5,10 +5,10 @@ ghost use Rattle.std.specs.Borrow.{sem, full_share};
 ghost use Rattle.std.specs.Ptr.{lies_at, room_at};
 ghost use Rattle.activation.specs.declared.events.EventKind.TheVariants.{Start, Finish};
 ghost use Rattle.mp_system.specs.System.{IsSystem};
-ghost use Rattle.system_input.specs.Given.{system_given};
-ghost use Rattle.tree_input.specs.Tree.{IsTree, system_of_nodes};
+ghost use Rattle.mp_system.specs.Given.{system_given};
+ghost use Rattle.trees.specs.Tree.{IsTree, system_of_nodes};
 ghost use Rattle.memplan_c.specs.Refusals.{IsBeginRefusal, IsSystemBeginRefusal};
-ghost use Rattle.memplan_c.specs.Slots.{SlotValue, empty, setting_of, begun, IsCoreBegun, activated, IsActivated, stepped, IsStarted};
+ghost use Rattle.memplan_c.specs.Slots.{SlotValue, empty, core_setting, begun, IsCoreBegun, activated, IsActivated, stepped, IsStarted};
 ghost use Rattle.memplan_c.specs.Slots.{IsFinished, IsDone, used_in, booked_in};
 ghost use Rattle.memplan_c.specs.contracts.slot.Slot.{the_row};
 ghost use prog.Memory.{size, capped};
@@ -19,9 +19,9 @@ use crate::slot::{
     Slot, activate, begin, begin_system, booked, end, finish, is_done, is_startable, make, start,
     used,
 };
+use mp_system::{GivenItem, GivenTask};
 use std::alloc::Global;
-use system_input::{GivenItem, GivenTask};
-use tree_input::Node;
+use trees::Node;
 
 /// What C sees of a slot.
 #[repr(C)]
@@ -69,9 +69,9 @@ pub unsafe extern "C" fn memplan_core_begin(
 ) -> u32
     ghost held: { SlotValue }
     requires* { sem 𝓛 (lies_at the_row full_share slot held) }
-    ensures* { sem 𝓛 (lies_at the_row full_share slot (begun held (setting_of (system_of_nodes nodes.now) order.now bound workers) result))
+    ensures* { sem 𝓛 (lies_at the_row full_share slot (begun held (core_setting (system_of_nodes nodes.now) order.now bound workers) result))
         ∗ ⌜ IsCoreBegun (IsTree nodes.now) (IsBeginRefusal nodes.now order.now bound workers)
-        (setting_of (system_of_nodes nodes.now) order.now bound workers) result fault.old fault.new ⌝ }
+        (core_setting (system_of_nodes nodes.now) order.now bound workers) result fault.old fault.new ⌝ }
 {
     begin(
         &mut *(slot as *mut Slot),
@@ -97,9 +97,9 @@ pub unsafe extern "C" fn memplan_core_begin_system(
     ghost held: { SlotValue }
     requires* { sem 𝓛 (lies_at the_row full_share slot held) }
     ensures* { sem 𝓛 (lies_at the_row full_share slot
-        (begun held (setting_of (system_given tasks.now items.now) order.now bound workers) result))
+        (begun held (core_setting (system_given tasks.now items.now) order.now bound workers) result))
         ∗ ⌜ IsCoreBegun (IsSystem (system_given tasks.now items.now)) (IsSystemBeginRefusal tasks.now items.now order.now bound workers)
-        (setting_of (system_given tasks.now items.now) order.now bound workers) result fault.old fault.new ⌝ }
+        (core_setting (system_given tasks.now items.now) order.now bound workers) result fault.old fault.new ⌝ }
 {
     begin_system(
         &mut *(slot as *mut Slot),

@@ -1,21 +1,21 @@
 //! What a refused call answers: a status, and a fault.
 
 ghost use Rattle.std.specs.Prelude.{◌≡◌};
-ghost use Rattle.system_input.specs.declared.judged.SystemRefusal.TheVariants as systems;
-ghost use Rattle.tree_input.specs.declared.judged.NodesRefusal.TheVariants as nodes;
-ghost use Rattle.memplan_c.specs.Faults.{answer, answer_of, of_nodes, of_system, of_replay, of_order, of_core, of_spill, of_plan};
+ghost use Rattle.mp_system.specs.declared.judged.SystemRefusal.TheVariants as systems;
+ghost use Rattle.trees.specs.declared.judged.NodesRefusal.TheVariants as nodes;
+ghost use Rattle.memplan_c.specs.Faults.{answer, answer_to, of_nodes, of_system, of_replay, of_order, of_core, of_spill, of_plan};
 ghost use Rattle.memplan_c.specs.Faults.{of_objection, of_columns, of_perm, of_degree};
 
-use crate::kinds;
 use crate::refusal::{PlanFault, Refusal};
+use crate::{kinds, statuses};
 use activation::CoreRefusal;
 use claim_check::Objection;
-use matrix_input::{ColumnsRefusal, PermRefusal};
-use mp_system::{OrderFault, OrderKind, ReplayRefusal};
+use mp_system::{ItemTest, OrderFault, OrderKind, ReplayRefusal, SystemRefusal, TaskTest};
 use ordering::MindegRefusal;
+use patterns::ColumnsRefusal;
+use permutations::PermRefusal;
 use spill_plan::SpillRefusal;
-use system_input::{ItemTest, SystemRefusal, TaskTest};
-use tree_input::{NodeTest, NodesRefusal};
+use trees::{NodeTest, NodesRefusal};
 
 /// What is wrong, and with which node, place, position or step.
 #[repr(C)]
@@ -46,9 +46,9 @@ fn say(status: u32, kind: u32, at: u64, value: u64) -> Answer
 }
 
 fn no_memory() -> Answer
-    ensures { result ≡ answer_of Refusal.NoMemory }
+    ensures { result ≡ answer_to Refusal.NoMemory }
 {
-    say(8, kinds::NO_MEMORY, 0, 0)
+    say(statuses::NO_MEMORY, kinds::NO_MEMORY, 0, 0)
 }
 
 // A node that fails a test.
@@ -57,10 +57,10 @@ fn of_node(test: NodeTest, node: u32) -> Answer
 {
     let at = u64::from(node);
     match test {
-        NodeTest::Parent => say(3, kinds::PARENT, at, 0),
-        NodeTest::Time => say(3, kinds::TIME, at, 0),
-        NodeTest::Size => say(4, kinds::SIZE, at, 0),
-        NodeTest::LongTime => say(4, kinds::LONG_TIME, at, 0),
+        NodeTest::Parent => say(statuses::FORMAT, kinds::PARENT, at, 0),
+        NodeTest::Time => say(statuses::FORMAT, kinds::TIME, at, 0),
+        NodeTest::Size => say(statuses::LIMIT, kinds::SIZE, at, 0),
+        NodeTest::LongTime => say(statuses::LIMIT, kinds::LONG_TIME, at, 0),
     }
 }
 
@@ -68,12 +68,12 @@ fn of_nodes(refusal: NodesRefusal) -> Answer
     ensures { result ≡ of_nodes refusal }
 {
     match refusal {
-        NodesRefusal::NoNode => say(3, kinds::NO_NODE, 0, 0),
-        NodesRefusal::ManyNodes => say(4, kinds::MANY_TASKS, 0, 0),
+        NodesRefusal::NoNode => say(statuses::FORMAT, kinds::NO_NODE, 0, 0),
+        NodesRefusal::ManyNodes => say(statuses::LIMIT, kinds::MANY_TASKS, 0, 0),
         NodesRefusal::Node { test, node } => of_node(test, node),
-        NodesRefusal::Total => say(4, kinds::TOTAL, 0, 0),
-        NodesRefusal::Cycle(node) => say(3, kinds::CYCLE, u64::from(node), 0),
-        NodesRefusal::Share(node) => say(3, kinds::SHARE, u64::from(node), 0),
+        NodesRefusal::Total => say(statuses::LIMIT, kinds::TOTAL, 0, 0),
+        NodesRefusal::Cycle(node) => say(statuses::FORMAT, kinds::CYCLE, u64::from(node), 0),
+        NodesRefusal::Share(node) => say(statuses::FORMAT, kinds::SHARE, u64::from(node), 0),
         NodesRefusal::NoMemory => no_memory(),
     }
 }
@@ -84,9 +84,9 @@ fn of_task(test: TaskTest, task: u32) -> Answer
 {
     let at = u64::from(task);
     match test {
-        TaskTest::Time => say(3, kinds::TIME, at, 0),
-        TaskTest::Size => say(4, kinds::SIZE, at, 0),
-        TaskTest::LongTime => say(4, kinds::LONG_TIME, at, 0),
+        TaskTest::Time => say(statuses::FORMAT, kinds::TIME, at, 0),
+        TaskTest::Size => say(statuses::LIMIT, kinds::SIZE, at, 0),
+        TaskTest::LongTime => say(statuses::LIMIT, kinds::LONG_TIME, at, 0),
     }
 }
 
@@ -96,8 +96,8 @@ fn of_item(test: ItemTest, item: u32) -> Answer
 {
     let at = u64::from(item);
     match test {
-        ItemTest::Ends => say(3, kinds::ENDS, at, 0),
-        ItemTest::Size => say(4, kinds::ITEM_SIZE, at, 0),
+        ItemTest::Ends => say(statuses::FORMAT, kinds::ENDS, at, 0),
+        ItemTest::Size => say(statuses::LIMIT, kinds::ITEM_SIZE, at, 0),
     }
 }
 
@@ -105,12 +105,12 @@ fn of_system(refusal: SystemRefusal) -> Answer
     ensures { result ≡ of_system refusal }
 {
     match refusal {
-        SystemRefusal::ManyTasks => say(4, kinds::MANY_TASKS, 0, 0),
-        SystemRefusal::ManyItems => say(4, kinds::MANY_ITEMS, 0, 0),
+        SystemRefusal::ManyTasks => say(statuses::LIMIT, kinds::MANY_TASKS, 0, 0),
+        SystemRefusal::ManyItems => say(statuses::LIMIT, kinds::MANY_ITEMS, 0, 0),
         SystemRefusal::Task { test, task } => of_task(test, task),
         SystemRefusal::Item { test, item } => of_item(test, item),
-        SystemRefusal::Total => say(4, kinds::TOTAL, 0, 0),
-        SystemRefusal::Share(task) => say(3, kinds::SHARE, u64::from(task), 0),
+        SystemRefusal::Total => say(statuses::LIMIT, kinds::TOTAL, 0, 0),
+        SystemRefusal::Share(task) => say(statuses::FORMAT, kinds::SHARE, u64::from(task), 0),
         SystemRefusal::NoMemory => no_memory(),
     }
 }
@@ -124,7 +124,7 @@ fn of_order(fault: OrderFault) -> Answer
         OrderKind::TooEarly => kinds::TOO_EARLY,
         OrderKind::Missing => kinds::MISSING,
     };
-    say(1, kind, fault.place, 0)
+    say(statuses::NO, kind, fault.place, 0)
 }
 
 fn of_replay(refusal: ReplayRefusal) -> Answer
@@ -141,7 +141,7 @@ fn of_core(refusal: CoreRefusal) -> Answer
 {
     match refusal {
         CoreRefusal::Order(fault) => of_order(fault),
-        CoreRefusal::BoundBelow { peak, .. } => say(5, kinds::BOUND_BELOW, 0, peak),
+        CoreRefusal::BoundBelow { peak, .. } => say(statuses::BOUND, kinds::BOUND_BELOW, 0, peak),
         CoreRefusal::NoMemory => no_memory(),
     }
 }
@@ -151,7 +151,12 @@ fn of_spill(refusal: SpillRefusal) -> Answer
 {
     match refusal {
         SpillRefusal::Order(fault) => of_order(fault),
-        SpillRefusal::WorkingSet { step, need, .. } => say(10, kinds::WORKING_SET, step, need),
+        SpillRefusal::WorkingSet { step, need, .. } => say(
+            statuses::WORKING_SET,
+            kinds::WORKING_SET,
+            step,
+            need,
+        ),
         SpillRefusal::NoMemory => no_memory(),
     }
 }
@@ -160,10 +165,10 @@ fn of_plan(fault: PlanFault) -> Answer
     ensures { result ≡ of_plan fault }
 {
     match fault {
-        PlanFault::LongOrder => say(4, kinds::LONG_ORDER, 0, 0),
-        PlanFault::GreatPeak => say(4, kinds::GREAT_PEAK, 0, 0),
-        PlanFault::ManyClaims => say(4, kinds::MANY_CLAIMS, 0, 0),
-        PlanFault::Claim(claim) => say(3, kinds::CLAIM, claim, 0),
+        PlanFault::LongOrder => say(statuses::LIMIT, kinds::LONG_ORDER, 0, 0),
+        PlanFault::GreatPeak => say(statuses::LIMIT, kinds::GREAT_PEAK, 0, 0),
+        PlanFault::ManyClaims => say(statuses::LIMIT, kinds::MANY_CLAIMS, 0, 0),
+        PlanFault::Claim(claim) => say(statuses::FORMAT, kinds::CLAIM, claim, 0),
     }
 }
 
@@ -172,9 +177,14 @@ fn of_objection(objection: Objection) -> Answer
 {
     match objection {
         Objection::Order(fault) => of_order(fault),
-        Objection::Peak { replayed, .. } => say(1, kinds::OTHER_PEAK, 0, replayed),
-        Objection::Root { last } => say(1, kinds::NO_ROOT_CLAIM, u64::from(last), 0),
-        Objection::Claim { position, .. } => say(1, kinds::WRONG_CLAIM, u64::from(position), 0),
+        Objection::Peak { replayed, .. } => say(statuses::NO, kinds::OTHER_PEAK, 0, replayed),
+        Objection::Root { last } => say(statuses::NO, kinds::NO_ROOT_CLAIM, u64::from(last), 0),
+        Objection::Claim { position, .. } => say(
+            statuses::NO,
+            kinds::WRONG_CLAIM,
+            u64::from(position),
+            0,
+        ),
     }
 }
 
@@ -182,13 +192,13 @@ fn of_columns(refusal: ColumnsRefusal) -> Answer
     ensures { result ≡ of_columns refusal }
 {
     match refusal {
-        ColumnsRefusal::Base => say(2, kinds::BASE, 0, 0),
-        ColumnsRefusal::NoColumn => say(3, kinds::NO_COLUMN, 0, 0),
-        ColumnsRefusal::ManyColumns => say(4, kinds::MANY_COLUMNS, 0, 0),
-        ColumnsRefusal::ManyEntries => say(4, kinds::MANY_ENTRIES, 0, 0),
-        ColumnsRefusal::Start(start) => say(3, kinds::START, u64::from(start), 0),
-        ColumnsRefusal::Entries(told) => say(2, kinds::ENTRIES, 0, u64::from(told)),
-        ColumnsRefusal::Row(entry) => say(3, kinds::ROW, u64::from(entry), 0),
+        ColumnsRefusal::Base => say(statuses::USAGE, kinds::BASE, 0, 0),
+        ColumnsRefusal::NoColumn => say(statuses::FORMAT, kinds::NO_COLUMN, 0, 0),
+        ColumnsRefusal::ManyColumns => say(statuses::LIMIT, kinds::MANY_COLUMNS, 0, 0),
+        ColumnsRefusal::ManyEntries => say(statuses::LIMIT, kinds::MANY_ENTRIES, 0, 0),
+        ColumnsRefusal::Start(start) => say(statuses::FORMAT, kinds::START, u64::from(start), 0),
+        ColumnsRefusal::Entries(told) => say(statuses::USAGE, kinds::ENTRIES, 0, u64::from(told)),
+        ColumnsRefusal::Row(entry) => say(statuses::FORMAT, kinds::ROW, u64::from(entry), 0),
         ColumnsRefusal::NoMemory => no_memory(),
     }
 }
@@ -197,9 +207,19 @@ fn of_perm(refusal: PermRefusal) -> Answer
     ensures { result ≡ of_perm refusal }
 {
     match refusal {
-        PermRefusal::Places => say(2, kinds::PLACES, 0, 0),
-        PermRefusal::Unknown(place) => say(3, kinds::NO_SUCH_COLUMN, u64::from(place), 0),
-        PermRefusal::Repeated(place) => say(3, kinds::COLUMN_REPEATED, u64::from(place), 0),
+        PermRefusal::Places => say(statuses::USAGE, kinds::PLACES, 0, 0),
+        PermRefusal::Unknown(place) => say(
+            statuses::FORMAT,
+            kinds::NO_SUCH_COLUMN,
+            u64::from(place),
+            0,
+        ),
+        PermRefusal::Repeated(place) => say(
+            statuses::FORMAT,
+            kinds::COLUMN_REPEATED,
+            u64::from(place),
+            0,
+        ),
         PermRefusal::NoMemory => no_memory(),
     }
 }
@@ -208,20 +228,20 @@ fn of_degree(refusal: MindegRefusal) -> Answer
     ensures { result ≡ of_degree refusal }
 {
     match refusal {
-        MindegRefusal::Limit => say(4, kinds::DEGREE, 0, 0),
+        MindegRefusal::Limit => say(statuses::LIMIT, kinds::DEGREE, 0, 0),
         MindegRefusal::NoMemory => no_memory(),
     }
 }
 
 fn answer_of(refusal: Refusal) -> Answer
-    ensures { result ≡ answer_of refusal }
+    ensures { result ≡ answer_to refusal }
 {
     match refusal {
-        Refusal::Room { needed } => say(2, kinds::ROOM, 0, needed),
-        Refusal::ClaimRoom { needed } => say(2, kinds::CLAIM_ROOM, 0, needed),
-        Refusal::NodeRoom { needed } => say(2, kinds::NODE_ROOM, 0, needed),
-        Refusal::Shape => say(2, kinds::SHAPE, 0, 0),
-        Refusal::Workers => say(2, kinds::WORKERS, 0, 0),
+        Refusal::Room { needed } => say(statuses::USAGE, kinds::ROOM, 0, needed),
+        Refusal::ClaimRoom { needed } => say(statuses::USAGE, kinds::CLAIM_ROOM, 0, needed),
+        Refusal::NodeRoom { needed } => say(statuses::USAGE, kinds::NODE_ROOM, 0, needed),
+        Refusal::Shape => say(statuses::USAGE, kinds::SHAPE, 0, 0),
+        Refusal::Workers => say(statuses::USAGE, kinds::WORKERS, 0, 0),
         Refusal::Nodes(refusal) => of_nodes(refusal),
         Refusal::System(refusal) => of_system(refusal),
         Refusal::Replay(refusal) => of_replay(refusal),
@@ -238,8 +258,8 @@ fn answer_of(refusal: Refusal) -> Answer
 
 /// The status of a refusal, whose fault is written.
 pub fn refuse(refusal: Refusal, fault: &mut Fault) -> u32
-    ensures status { result ≡ (answer_of refusal).status }
-    ensures fault { fault.new ≡ (answer_of refusal).fault }
+    ensures status { result ≡ (answer_to refusal).status }
+    ensures fault { fault.new ≡ (answer_to refusal).fault }
 {
     let answer = answer_of(refusal);
     *fault = answer.fault;

@@ -7,7 +7,7 @@ use crate::faults::Fault;
 use crate::fronts::{GivenOptions, memplan_fronts};
 use std::alloc::Global;
 use std::process::Abort;
-use tree_input::Node;
+use trees::Node;
 
 const TRIANGLE: GivenOptions = GivenOptions {
     shape: 0,

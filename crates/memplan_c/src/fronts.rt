@@ -2,10 +2,10 @@
 
 ghost use Rattle.std.specs.Prelude.{◌≡◌, ◌≢◌, ◌≤◌, ◌<◌, length, take, drop, IfOk, IfErr, OnOk};
 ghost use Rattle.limits.specs.Limits.{most_order};
-ghost use Rattle.ordering.specs.Perm.{IsPerm};
+ghost use Rattle.permutations.specs.Perm.{IsPerm};
 ghost use Rattle.symbolic.specs.FrontTree.{relaxed};
 ghost use Rattle.memplan_c.specs.declared.refusal.Refusal.TheVariants as refusals;
-ghost use Rattle.memplan_c.specs.Faults.{IsRefused};
+ghost use Rattle.memplan_c.specs.Faults.{IsRefusedFor};
 ghost use Rattle.memplan_c.specs.Fronts.{AreFronts, HaveFronts, IsMatrixFrontsRefusal, IsMatrixOrder, IsMatrixOrderRefusal};
 ghost use Rattle.memplan_c.specs.Fronts.{fronts_of_columns, matrix_given, options_given, shape_given};
 
@@ -14,13 +14,13 @@ use crate::orders::check_room;
 use crate::refusal::Refusal;
 use assembly_tree::laws::{amalgamation_is_assembly, amalgamation_is_relaxed};
 use assembly_tree::{Assembly, Shape, amalgamate, fronts};
-use matrix_input::{pattern_of_columns, perm_of_numbers};
-use matrix_market::Pattern;
-use ordering::{Perm, min_degree};
+use ordering::min_degree;
+use patterns::{Pattern, pattern_of_columns};
+use permutations::{Perm, perm_of_numbers};
 use std::alloc::{AllocError, Global};
 use symbolic::laws::one_analysis;
 use symbolic::{Analysis, FrontOptions, analyse};
-use tree_input::{Node, Tree};
+use trees::{Node, Tree};
 
 /// How the fronts of a matrix are made.
 #[repr(C)]
@@ -71,7 +71,7 @@ fn order_of(alloc: Global, base: u32, numbers: &[u32], pattern: &Pattern) -> Res
         let order = min_degree(alloc, pattern)?;
         return Ok(order);
     }
-    let order = perm_of_numbers(alloc, base, numbers, pattern.order())?;
+    let order = perm_of_numbers(alloc, base, numbers, pattern.rows())?;
     Ok(order)
 }
 
@@ -194,7 +194,7 @@ pub extern "C" fn memplan_fronts(
     // there are at most as many as columns
     ensures few { result ≡ 0 → count.new ≤ length front_of.new }
     ensures past { result ≡ 0 → drop count.new nodes.new ≡ drop count.new nodes.old }
-    ensures refused { result ≢ 0 → IsRefused
+    ensures refused { result ≢ 0 → IsRefusedFor
         (IsMatrixFrontsRefusal (matrix_given base starts.now rows.now order.now) options.now (length nodes.old) (length front_of.old))
         result fault.new }
     ensures unchanged { result ≢ 0 → (nodes.new ≡ nodes.old) × (count.new ≡ count.old) × (front_of.new ≡ front_of.old) }

@@ -18,5 +18,6 @@ mod orders;
 mod refusal;
 mod replays;
 mod slot;
+mod statuses;
 #[cfg(test)]
 mod tests;

@@ -2,7 +2,7 @@
 
 ghost use Rattle.std.specs.Prelude.{◌≡◌, ◌≢◌, length, IfOk, IfErr, OnOk};
 ghost use Rattle.memplan_c.specs.Answers.{IsBestOrder, IsBestPost};
-ghost use Rattle.memplan_c.specs.Faults.{IsRefused};
+ghost use Rattle.memplan_c.specs.Faults.{IsRefusedFor};
 ghost use Rattle.memplan_c.specs.Refusals.{IsPlanningRefusal};
 
 use crate::faults::{Fault, refuse};
@@ -12,7 +12,7 @@ use mp_system::laws::traversal_law;
 use plans::Plan;
 use postorder_best::{Post, best_postorder};
 use std::alloc::Global;
-use tree_input::{Node, tree_of_nodes};
+use trees::{Node, tree_of_nodes};
 
 /// Whether there is just the room that is needed.
 pub fn check_room(needed: usize, room: usize) -> Result<(), Refusal>
@@ -52,7 +52,7 @@ pub extern "C" fn memplan_plan_tree(
     // 0: the order is a traversal of the tree's system, with this peak, and none has a lower one
     ensures planned { result ≡ 0 → IsBestOrder nodes.now order.new peak.new }
     // else the nodes are refused, or the room, or memory is wanting
-    ensures refused { result ≢ 0 → IsRefused (IsPlanningRefusal nodes.now (length order.old)) result fault.new }
+    ensures refused { result ≢ 0 → IsRefusedFor (IsPlanningRefusal nodes.now (length order.old)) result fault.new }
     ensures unchanged { result ≢ 0 → (order.new ≡ order.old) × (peak.new ≡ peak.old) }
     ensures no_fault { result ≡ 0 → fault.new ≡ fault.old }
 {
@@ -89,7 +89,7 @@ pub extern "C" fn memplan_best_postorder(
 ) -> u32
     // 0: the order is the best postorder, with this peak, and no postorder has a lower one
     ensures best { result ≡ 0 → IsBestPost nodes.now order.new peak.new }
-    ensures refused { result ≢ 0 → IsRefused (IsPlanningRefusal nodes.now (length order.old)) result fault.new }
+    ensures refused { result ≢ 0 → IsRefusedFor (IsPlanningRefusal nodes.now (length order.old)) result fault.new }
     ensures unchanged { result ≢ 0 → (order.new ≡ order.old) × (peak.new ≡ peak.old) }
     ensures no_fault { result ≡ 0 → fault.new ≡ fault.old }
 {

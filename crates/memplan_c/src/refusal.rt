@@ -5,13 +5,13 @@ ghost use Rattle.memplan_c.specs.declared.refusal.Refusal.TheVariants as refusal
 
 use activation::CoreRefusal;
 use claim_check::Objection;
-use matrix_input::{ColumnsRefusal, PermRefusal};
-use mp_system::ReplayRefusal;
+use mp_system::{ReplayRefusal, SystemRefusal};
 use ordering::MindegRefusal;
+use patterns::ColumnsRefusal;
+use permutations::PermRefusal;
 use spill_plan::SpillRefusal;
 use std::alloc::AllocError;
-use system_input::SystemRefusal;
-use tree_input::NodesRefusal;
+use trees::NodesRefusal;
 
 /// Why an order, a peak and claims are no plan that could be judged.
 #[derive(Clone, Copy)]

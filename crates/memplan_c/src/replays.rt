@@ -1,20 +1,19 @@
 //! What an order of tasks needs.
 
 ghost use Rattle.std.specs.Prelude.{◌≡◌, ◌≢◌, length, IfOk, IfErr};
-ghost use Rattle.tree_input.specs.Tree.{IsTree, system_of_nodes};
-ghost use Rattle.tree_input.specs.Judged.{IsNodesRefusal};
+ghost use Rattle.trees.specs.Tree.{IsTree, system_of_nodes};
+ghost use Rattle.trees.specs.Judged.{IsNodesRefusal};
 ghost use Rattle.memplan_c.specs.Answers.{IsReplayed, IsTreeSpilled, IsSystemReplayed};
-ghost use Rattle.memplan_c.specs.Faults.{IsRefused};
+ghost use Rattle.memplan_c.specs.Faults.{IsRefusedFor};
 ghost use Rattle.memplan_c.specs.Refusals.{IsReplayRefusal, IsSpillCallRefusal, IsSystemReplayRefusal};
 
 use crate::faults::{Fault, refuse};
 use crate::orders::check_room;
 use crate::refusal::Refusal;
-use mp_system::{System, replay};
+use mp_system::{GivenItem, GivenTask, System, replay, system_of_arrays};
 use spill_plan::{Spill, spill};
 use std::alloc::Global;
-use system_input::{GivenItem, GivenTask, system_of_arrays};
-use tree_input::{Node, NodesRefusal, system_of_tree, tree_of_nodes};
+use trees::{Node, NodesRefusal, system_of_tree, tree_of_nodes};
 
 /// The system of the tree of these nodes.
 pub fn system_of(alloc: Global, nodes: &[Node]) -> Result<System, NodesRefusal>
@@ -47,7 +46,7 @@ pub extern "C" fn memplan_replay_tree(
 ) -> u32
     // 0: the order is a traversal of the tree's system, with this peak
     ensures replayed { result ≡ 0 → IsReplayed nodes.now order.now peak.new }
-    ensures refused { result ≢ 0 → IsRefused (IsReplayRefusal nodes.now order.now) result fault.new }
+    ensures refused { result ≢ 0 → IsRefusedFor (IsReplayRefusal nodes.now order.now) result fault.new }
     ensures unchanged { result ≢ 0 → peak.new ≡ peak.old }
     ensures no_fault { result ≡ 0 → fault.new ≡ fault.old }
 {
@@ -91,7 +90,7 @@ pub extern "C" fn memplan_spill_tree(
 ) -> u32
     // 0: the amounts are a spill plan of the order, and no spill plan has a lower volume
     ensures spilled { result ≡ 0 → IsTreeSpilled nodes.now order.now bound amounts.new volume.new }
-    ensures refused { result ≢ 0 → IsRefused (IsSpillCallRefusal nodes.now order.now bound (length amounts.old)) result fault.new }
+    ensures refused { result ≢ 0 → IsRefusedFor (IsSpillCallRefusal nodes.now order.now bound (length amounts.old)) result fault.new }
     ensures unchanged { result ≢ 0 → (amounts.new ≡ amounts.old) × (volume.new ≡ volume.old) }
     ensures no_fault { result ≡ 0 → fault.new ≡ fault.old }
 {
@@ -131,7 +130,7 @@ pub extern "C" fn memplan_replay_system(
 ) -> u32
     // 0: the order is a traversal of the system of these tasks and items, with this peak
     ensures replayed { result ≡ 0 → IsSystemReplayed tasks.now items.now order.now peak.new }
-    ensures refused { result ≢ 0 → IsRefused (IsSystemReplayRefusal tasks.now items.now order.now) result fault.new }
+    ensures refused { result ≢ 0 → IsRefusedFor (IsSystemReplayRefusal tasks.now items.now order.now) result fault.new }
     ensures unchanged { result ≢ 0 → peak.new ≡ peak.old }
     ensures no_fault { result ≡ 0 → fault.new ≡ fault.old }
 {

@@ -3,12 +3,12 @@
 ghost use Rattle.std.specs.Prelude.{◌≡◌, ◌↔◌, ◌≤◌, IfOk, IfErr, IsTrue};
 ghost use Rattle.limits.specs.Limits.{most_workers};
 ghost use Rattle.mp_system.specs.System.{IsSystem};
-ghost use Rattle.system_input.specs.Given.{system_given};
+ghost use Rattle.mp_system.specs.Given.{system_given};
 ghost use Rattle.activation.specs.Machine.{IsSetting};
 ghost use Rattle.activation.specs.declared.events.EventKind.TheVariants.{Start, Finish};
-ghost use Rattle.tree_input.specs.Tree.{IsTree, system_of_nodes};
+ghost use Rattle.trees.specs.Tree.{IsTree, system_of_nodes};
 ghost use Rattle.memplan_c.specs.Refusals.{IsBeginRefusal, IsSystemBeginRefusal};
-ghost use Rattle.memplan_c.specs.Slots.{empty, setting_of, core_at_start, begun, IsCoreBegun, activated, IsActivated, stepped, IsStarted};
+ghost use Rattle.memplan_c.specs.Slots.{empty, core_setting, core_at_start, begun, IsCoreBegun, activated, IsActivated, stepped, IsStarted};
 ghost use Rattle.memplan_c.specs.Slots.{IsFinished, IsDone, used_in, booked_in};
 
 use crate::faults::{Fault, refuse};
@@ -16,10 +16,10 @@ use crate::refusal::Refusal;
 use crate::replays::system_of;
 use activation::Core;
 use limits::MOST_WORKERS;
+use mp_system::{GivenItem, GivenTask, system_of_arrays};
 use std::alloc::Global;
 use std::marker::Model;
-use system_input::{GivenItem, GivenTask, system_of_arrays};
-use tree_input::Node;
+use trees::Node;
 
 /// Room for a core, which is empty until one begins.
 #[derive(Drop)]
@@ -60,7 +60,7 @@ fn core_of_tree(
     bound: u64,
     workers: u32,
 ) -> Result<Core, Refusal>
-    ensures core { IfOk result (λ core. core ≡ core_at_start (setting_of (system_of_nodes nodes.now) order.now bound workers)) }
+    ensures core { IfOk result (λ core. core ≡ core_at_start (core_setting (system_of_nodes nodes.now) order.now bound workers)) }
     ensures tree { IfOk result (λ _. IsTree nodes.now) }
     ensures setting { IfOk result (λ core. IsSetting core.setting) }
     ensures few_workers { IfOk result (λ _. workers ≤ most_workers) }
@@ -83,9 +83,9 @@ pub fn begin(
     workers: u32,
     fault: &mut Fault,
 ) -> u32
-    ensures { (slot.new ≡ begun slot.old (setting_of (system_of_nodes nodes.now) order.now bound workers) result)
+    ensures { (slot.new ≡ begun slot.old (core_setting (system_of_nodes nodes.now) order.now bound workers) result)
         × IsCoreBegun (IsTree nodes.now) (IsBeginRefusal nodes.now order.now bound workers)
-        (setting_of (system_of_nodes nodes.now) order.now bound workers) result fault.old fault.new }
+        (core_setting (system_of_nodes nodes.now) order.now bound workers) result fault.old fault.new }
 {
     match core_of_tree(slot.alloc, nodes, order, bound, workers) {
         Ok(core) => {
@@ -104,7 +104,7 @@ fn core_of_system(
     bound: u64,
     workers: u32,
 ) -> Result<Core, Refusal>
-    ensures core { IfOk result (λ core. core ≡ core_at_start (setting_of (system_given tasks.now items.now) order.now bound workers)) }
+    ensures core { IfOk result (λ core. core ≡ core_at_start (core_setting (system_given tasks.now items.now) order.now bound workers)) }
     ensures system { IfOk result (λ _. IsSystem (system_given tasks.now items.now)) }
     ensures setting { IfOk result (λ core. IsSetting core.setting) }
     ensures few_workers { IfOk result (λ _. workers ≤ most_workers) }
@@ -128,9 +128,9 @@ pub fn begin_system(
     workers: u32,
     fault: &mut Fault,
 ) -> u32
-    ensures { (slot.new ≡ begun slot.old (setting_of (system_given tasks.now items.now) order.now bound workers) result)
+    ensures { (slot.new ≡ begun slot.old (core_setting (system_given tasks.now items.now) order.now bound workers) result)
         × IsCoreBegun (IsSystem (system_given tasks.now items.now)) (IsSystemBeginRefusal tasks.now items.now order.now bound workers)
-        (setting_of (system_given tasks.now items.now) order.now bound workers) result fault.old fault.new }
+        (core_setting (system_given tasks.now items.now) order.now bound workers) result fault.old fault.new }
 {
     match core_of_system(slot.alloc, tasks, items, order, bound, workers) {
         Ok(core) => {

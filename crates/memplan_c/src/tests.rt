@@ -9,10 +9,10 @@ use crate::slot::{
     Slot, activate, begin, begin_system, booked, end, finish, is_done, is_startable, make, start,
     used,
 };
+use mp_system::{GivenItem, GivenTask};
 use std::alloc::Global;
 use std::process::Abort;
-use system_input::{GivenItem, GivenTask};
-use tree_input::Node;
+use trees::Node;
 
 fn node(parent: u32, out: u64, extra: u64) -> Node {
     Node {

@@ -11,8 +11,9 @@ use Rattle.std.proofs.lemmas.List.Elements.{All-append}
 use Rattle.std.proofs.lemmas.List.FromFn.{length-range_with_len, get_or-range_with_len}
 use Rattle.std.proofs.lemmas.List.Sums.{sum_by-le}
 use Rattle.limits.specs.Limits.{most_mindeg, most_entries}
-use Rattle.matrix_market.specs.Pattern.{IsPairWithin}
-use Rattle.mp_gen.specs.Grid.{vertex_at, joins_at, joins_in_row, grid_pairs}
+use Rattle.patterns.specs.Pattern.{IsPairWithin}
+use Rattle.mp_gen.specs.Grid.{grid_vertex, joins_at, joins_in_row, grid_pairs}
+use Rattle.lists.proofs.Lists.{range_last}
 
 -- ---- lists over a range
 
@@ -29,25 +30,19 @@ flat-all P f (x ∷ xs) each =
     subst (All P) (sym (flat_map-cons f x xs))
     (All-append P (f x) (flat_map f xs) (each 0 x (omega arith)) (flat-all P f xs (λ k d lt. each (suc k) d (omega arith))))
 
-range-more : (a n : ℕ) → range_with_len a (suc n) ≡ range_with_len a n ++ (a + n) ∷ []
-range-more a zero = let e : a ≡ a + 0 = omega arith in ap (λ (k : ℕ). k ∷ []) e
-range-more a (suc n) =
-    let e : (a + 1) + n ≡ a + suc n = omega arith in
-    ap (λ (xs : List ℕ). a ∷ xs) (range-more (a + 1) n ∙ ap (λ (k : ℕ). range_with_len (a + 1) n ++ k ∷ []) e)
-
 -- a loop over a range, one number further
 pub flat-more : {A : Type 0} (f : ℕ → List A) (n : ℕ) → flat_map f (range_with_len 0 (n + 1)) ≡ flat_map f (range_with_len 0 n) ++ f n
 flat-more f n =
     let next : n + 1 ≡ suc n = omega arith in
     let here : 0 + n ≡ n = omega arith in
     ap (λ (k : ℕ). flat_map f (range_with_len 0 k)) next
-    ∙ ap (flat_map f) (range-more 0 n ∙ ap (λ (k : ℕ). range_with_len 0 n ++ k ∷ []) here)
+    ∙ ap (flat_map f) (range_last 0 n ∙ ap (λ (k : ℕ). range_with_len 0 n ++ k ∷ []) here)
     ∙ flat_map-append f (range_with_len 0 n) (n ∷ [])
     ∙ ap (λ (ys : List _). flat_map f (range_with_len 0 n) ++ ys) (append-nil (f n))
 
 -- ---- vertices and pairs
 
-pub vertex-le : (rows cols row col : ℕ) → row < rows → col < cols → vertex_at cols row col ≤ rows * cols
+pub vertex-le : (rows cols row col : ℕ) → row < rows → col < cols → grid_vertex cols row col ≤ rows * cols
 vertex-le rows cols row col r c =
     let below : suc row * cols ≤ rows * cols = mul-le-mul_right cols r in
     omega arith
@@ -69,9 +64,9 @@ joins-within : (rows cols row col : ℕ) → row < rows → col < cols → All (
 unfolding joins_at
 joins-within rows cols row col r c =
     let here = vertex-le rows cols row col r c in
-    let right : nat_lt (col + 1) cols ≡ true → vertex_at cols row (col + 1) ≤ rows * cols
+    let right : nat_lt (col + 1) cols ≡ true → grid_vertex cols row (col + 1) ≤ rows * cols
     = λ e. vertex-le rows cols row (col + 1) r (ltb-true _ _ e) in
-    let lower : nat_lt (row + 1) rows ≡ true → vertex_at cols (row + 1) col ≤ rows * cols
+    let lower : nat_lt (row + 1) rows ≡ true → grid_vertex cols (row + 1) col ≤ rows * cols
     = λ e. vertex-le rows cols (row + 1) col (ltb-true _ _ e) c in
     All-append (IsPairWithin (rows * cols)) _ _
     (maybe-all (IsPairWithin (rows * cols)) _ _ (λ e. ((omega arith, here), (omega arith, right e))))
@@ -80,8 +75,8 @@ joins-within rows cols row col r c =
 joins-few : (rows cols row col : ℕ) → length (joins_at rows cols row col) ≤ 2
 unfolding joins_at
 joins-few rows cols row col =
-    let right = maybe-few {A = ℕ × ℕ} (nat_lt (col + 1) cols) (vertex_at cols row col, vertex_at cols row (col + 1)) in
-    let lower = maybe-few {A = ℕ × ℕ} (nat_lt (row + 1) rows) (vertex_at cols row col, vertex_at cols (row + 1) col) in
+    let right = maybe-few {A = ℕ × ℕ} (nat_lt (col + 1) cols) (grid_vertex cols row col, grid_vertex cols row (col + 1)) in
+    let lower = maybe-few {A = ℕ × ℕ} (nat_lt (row + 1) rows) (grid_vertex cols row col, grid_vertex cols (row + 1) col) in
     omega (arith, length-append {A = ℕ × ℕ}, right, lower)
 
 row-few : (rows cols row : ℕ) → length (joins_in_row rows cols row) ≤ cols * 2

@@ -7,8 +7,8 @@ use Rattle.std.proofs.lemmas.Bool.{cases_eq, ltb-true}
 use Rattle.std.proofs.lemmas.List.Sums.{sum_by-le}
 use Rattle.limits.specs.Limits.{most_tasks}
 use Rattle.rand_pcg.specs.Lcg.{Lcg}
-use Rattle.tree_input.specs.declared.node.Node.{Node}
-use Rattle.tree_input.specs.Tree.{IsTree, ancestor, parent_of, node_size}
+use Rattle.trees.specs.declared.node.Node.{Node}
+use Rattle.trees.specs.Tree.{IsTree, ancestor, parent_of_node, node_size}
 use Rattle.mp_gen.specs.Dice.{dice_of, draw}
 use Rattle.mp_gen.specs.RandomTree.{draw_parent, draw_node, draw_nodes, tree_of}
 use Rattle.mp_gen.proofs.DrawLemmas.{draw-below}
@@ -95,10 +95,10 @@ module _ (n : ℕ) (nodes : List Node) (h : AreDrawn n n nodes) where
   climbs (suc k) (suc i) le (inl e) = absurd (omega arith)
   climbs (suc k) (suc i) le (inr lt) =
       let at : suc i - 1 ≡ i = omega arith in
-      let same : parent_of nodes (suc i) ≡ (get_or nodes i blank).parent = ap (λ (m : ℕ). (get_or nodes m blank).parent) at in
+      let same : parent_of_node nodes (suc i) ≡ (get_or nodes i blank).parent = ap (λ (m : ℕ). (get_or nodes m blank).parent) at in
       elim (h.each i blank (omega (arith, h.len))).parent [
-        | inl none ↦ climbs k (parent_of nodes (suc i)) (omega (arith, same, none)) (inl (same ∙ none))
-        | inr later ↦ climbs k (parent_of nodes (suc i)) (omega (arith, same, later.1)) (inr (omega (arith, same, later.0)))
+        | inl none ↦ climbs k (parent_of_node nodes (suc i)) (omega (arith, same, none)) (inl (same ∙ none))
+        | inr later ↦ climbs k (parent_of_node nodes (suc i)) (omega (arith, same, later.1)) (inr (omega (arith, same, later.0)))
       ]
 
   pub drawn-tree : 1 ≤ n → n ≤ most_tasks → IsTree nodes

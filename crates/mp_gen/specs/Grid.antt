@@ -3,14 +3,14 @@ use Rattle.std.specs.Prelude.{ℕ, ◌+◌, ◌*◌, nat_lt, if◌then◌else◌
 use Rattle.std.specs.List.{flat_map, range_with_len}
 
 -- the number of a vertex
-abbrev pub vertex_at : ℕ → ℕ → ℕ → ℕ
-vertex_at cols row col = row * cols + col + 1
+abbrev pub grid_vertex : ℕ → ℕ → ℕ → ℕ
+grid_vertex cols row col = row * cols + col + 1
 
 -- a vertex and its right neighbour, a vertex and its lower neighbour, where there is one
 unfoldable pub joins_at : ℕ → ℕ → ℕ → ℕ → List (ℕ × ℕ)
 joins_at rows cols row col =
-    (if nat_lt (col + 1) cols then (vertex_at cols row col, vertex_at cols row (col + 1)) ∷ [] else [])
-    ++ (if nat_lt (row + 1) rows then (vertex_at cols row col, vertex_at cols (row + 1) col) ∷ [] else [])
+    (if nat_lt (col + 1) cols then (grid_vertex cols row col, grid_vertex cols row (col + 1)) ∷ [] else [])
+    ++ (if nat_lt (row + 1) rows then (grid_vertex cols row col, grid_vertex cols (row + 1) col) ∷ [] else [])
 
 -- those of all vertices in a row
 unfoldable pub joins_in_row : ℕ → ℕ → ℕ → List (ℕ × ℕ)

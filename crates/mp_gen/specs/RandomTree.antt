@@ -1,7 +1,7 @@
 -- Random trees, node by node. A draw gives what is drawn, and the generator for the next one.
 use Rattle.std.specs.Prelude.{ℕ, zero, suc, ◌+◌, ◌-◌, min, nat_lt, if◌then◌else◌, List, [], ◌∷◌, ◌++◌}
 use Rattle.rand_pcg.specs.Lcg.{Lcg}
-use Rattle.tree_input.specs.declared.node.Node.{Node}
+use Rattle.trees.specs.declared.node.Node.{Node}
 use Rattle.mp_gen.specs.Dice.{dice_of, draw}
 
 -- the parent of node i of n: one of the next eight, or of the fewer that there are; the last node has none, and takes no word

@@ -4,7 +4,7 @@ use Rattle.rand_pcg.specs.Lcg.{Lcg, started, increment_of}
 use Rattle.rand_pcg.specs.Pcg.{multiplier_64, pcg32}
 use Rattle.sp_terms.specs.declared.position.Position.TheVariants.{Hold}
 use Rattle.sp_terms.specs.declared.position.Position.TheVariants as at
-use Rattle.tree_input.specs.declared.node.Node.{Node}
+use Rattle.trees.specs.declared.node.Node.{Node}
 use Rattle.mp_gen.specs.Dice.{dice_of, draw}
 use Rattle.mp_gen.specs.RandomTree.{draw_parent, draw_node, draw_nodes, tree_of}
 use Rattle.mp_gen.specs.RandomWorkflow.{with_hold, with_data, with_task, with_par, with_one, with_tasks, closed, workflow_of}

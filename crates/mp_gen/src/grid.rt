@@ -2,17 +2,17 @@
 
 ghost use Rattle.std.specs.Prelude.{◌≡◌, ◌<◌, ◌≤◌, ◌*◌, ◌^◌, ◌++◌, IfOk, OnOk};
 ghost use Rattle.limits.specs.Limits.{most_mindeg};
-ghost use Rattle.matrix_market.specs.Pattern.{IsPatternOf};
-ghost use Rattle.mp_gen.specs.Grid.{vertex_at, joins_at, joins_in_row, grid_pairs};
+ghost use Rattle.patterns.specs.Pattern.{IsPatternOf};
+ghost use Rattle.mp_gen.specs.Grid.{grid_vertex, joins_at, joins_in_row, grid_pairs};
 
 use crate::NoMemory;
-use matrix_market::Pattern;
+use patterns::Pattern;
 use std::alloc::Global;
 
 // The number of a vertex.
 fn vertex(cols: u32, row: u32, col: u32) -> u32
-    requires { vertex_at cols row col < 2 ^ 32 }
-    ensures { result ≡ vertex_at cols row col }
+    requires { grid_vertex cols row col < 2 ^ 32 }
+    ensures { result ≡ grid_vertex cols row col }
 {
     row * cols + col + 1
 }

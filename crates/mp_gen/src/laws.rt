@@ -3,7 +3,7 @@
 ghost use Rattle.std.specs.Prelude.{ℕ, ◌≤◌};
 ghost use Rattle.limits.specs.Limits.{most_tasks};
 ghost use Rattle.sp_terms.specs.Values.{IsTerms};
-ghost use Rattle.tree_input.specs.Tree.{IsTree};
+ghost use Rattle.trees.specs.Tree.{IsTree};
 ghost use Rattle.mp_gen.specs.RandomTree.{tree_of};
 ghost use Rattle.mp_gen.specs.RandomWorkflow.{workflow_of};
 

@@ -7,8 +7,6 @@
 mod dice;
 mod grid;
 pub mod laws;
-#[cfg(test)]
-mod tests;
 mod tree;
 mod workflow;
 

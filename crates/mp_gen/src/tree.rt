@@ -8,7 +8,7 @@ use crate::NoMemory;
 use crate::dice::{dice_of, draw};
 use rand_pcg::Pcg32;
 use std::alloc::Global;
-use tree_input::{Node, Tree};
+use trees::{Node, Tree};
 
 // The parent of node i of n.
 #[tactic(auto, unfolding(crate::specs::RandomTree::draw_parent))]

@@ -9,7 +9,7 @@ ghost use Rattle.mp_gen.specs.Room.{HasRoomFor};
 use crate::NoMemory;
 use crate::dice::{dice_of, draw};
 use rand_pcg::Pcg32;
-use sp_terms::{Position, PushRefusal, TermBuilder, Terms};
+use sp_terms::{Position, PushRefusal, TermBuilder, TermList};
 use std::alloc::{AllocError, Global};
 
 // Takes a position that fits what stands before it: nothing but want of memory keeps it out.
@@ -103,7 +103,7 @@ fn close(builder: &mut TermBuilder) -> Result<(), NoMemory>
 
 /// The random workflow of a seed, of n tasks. Data sizes are 1 to 1000, extras 0 to 999, times 1 to 16, and no task has a share.
 /// Linear.
-pub fn gen_workflow(alloc: Global, seed: u64, n: u32) -> Result<Terms, NoMemory>
+pub fn gen_workflow(alloc: Global, seed: u64, n: u32) -> Result<TermList, NoMemory>
     requires some { 1 ≤ n }
     requires few { n ≤ most_tasks }
     ensures { IfOk result (λ terms. terms ≡ workflow_of seed n) }

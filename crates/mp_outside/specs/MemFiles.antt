@@ -6,7 +6,7 @@ use Rattle.std.specs.Str.{bytes_eq}
 use Rattle.mp_outside.specs.Outside.{one_more}
 
 -- a file: its name, its contents, and how many of its loads failed
-pub record NamedFile : Type 0 where
+pub record MemFile : Type 0 where
   pub name : List ℕ
   pub bytes : List ℕ
   pub faults : ℕ
@@ -14,7 +14,7 @@ pub record NamedFile : Type 0 where
 -- the files that are held, the count of faults that all other names share, the most bytes that
 -- a load gives, the number of loads so far, and the numbers of the loads that fail
 pub record FilesState : Type 0 where
-  pub files : List NamedFile
+  pub files : List MemFile
   pub shared : ℕ
   pub most : ℕ
   pub calls : ℕ
@@ -25,11 +25,11 @@ abbrev pub no_files : FilesState
 no_files = record { files = []; shared = 0; most = 2 ^ 64 - 1; calls = 0; failing = [] }
 
 -- whether the file has this name
-abbrev pub has_name : List ℕ → NamedFile → Bool
+abbrev pub has_name : List ℕ → MemFile → Bool
 has_name name file = bytes_eq file.name name
 
 -- the file with this name, if it is held
-abbrev pub file_of : FilesState → List ℕ → Option NamedFile
+abbrev pub file_of : FilesState → List ℕ → Option MemFile
 file_of s name = find (has_name name) s.files
 
 -- the contents of a name, if it is held

@@ -1,6 +1,6 @@
 ghost use Rattle.std.specs.Prelude.{◌≡◌, ◌≤◌, ◌<◌, ◌-◌, IfOk, length, min, position, string_bytes};
 ghost use Rattle.mp_outside.specs.Outside.{Loads, one_more};
-ghost use Rattle.mp_outside.specs.MemFiles.{NamedFile, has_name};
+ghost use Rattle.mp_outside.specs.MemFiles.{MemFile, has_name};
 
 use crate::NoMemory;
 use std::alloc::Global;
@@ -15,7 +15,7 @@ pub struct HeldFile {
 }
 
 impl Model for HeldFile {
-    ghost Value = { NamedFile };
+    ghost Value = { MemFile };
 
     ghost view = { λ f. record { name = string_bytes f.name; bytes = f.bytes.items; faults = f.faults } };
 }

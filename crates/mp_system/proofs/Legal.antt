@@ -13,7 +13,7 @@ use Rattle.mp_system.specs.declared.system.OrderKind.TheVariants.{Unknown, Repea
 use Rattle.mp_system.specs.System.{TaskSystem, IsTask}
 use Rattle.mp_system.specs.Memory.{stands_in, is_ready}
 use Rattle.mp_system.specs.Traversal.{IsTraversal, is_task, fault_of, first_fault, first_fault_after}
-use Rattle.mp_system.proofs.Present.{or_false}
+use Rattle.lists.proofs.Bools.{or_false}
 use Rattle.mp_system.proofs.Counts.{count_of, count_of-cons, counted, once-from_length, length-from_once}
 
 -- ---- what stands in a list with one more task

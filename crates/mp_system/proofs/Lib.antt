@@ -10,3 +10,5 @@ pub mod RenamingNames
 pub mod RenamingItems
 pub mod RenamingOrders
 pub mod RenamingSamples
+pub mod GivenSums
+pub mod Within

@@ -8,10 +8,7 @@ use Rattle.mp_system.specs.declared.system.Item.{Item}
 use Rattle.mp_system.specs.System.{TaskSystem, IsSystem, IsTask, is_named, is_input, is_output, size_if, size_where, inputs_of, outputs_of}
 use Rattle.mp_system.specs.Memory.{is_done_or, is_produced, is_consumed, is_present, is_ready, state_memory, running_memory}
 use Rattle.mp_system.specs.Step.{AddsTask, CanRun}
-
-pub or_false : (b : Bool) → (b || false) ≡ b
-or_false true = refl
-or_false false = refl
+use Rattle.lists.proofs.Bools.{or_false}
 
 -- whether the item has what task v needs
 abbrev pub is_supplied : (ℕ → Bool) → ℕ → Item → Bool

@@ -11,7 +11,8 @@ use Rattle.mp_system.specs.Step.{AddsTask, CanRun}
 use Rattle.mp_system.specs.Traversal.{fault_of}
 use Rattle.mp_system.specs.Replay.{ReplayState, is_marked}
 use Rattle.mp_system.specs.ReplayTables.{AreOutputs, AreInputs, IsReplay}
-use Rattle.mp_system.proofs.Present.{or_false, state_step, later_suppliers, state_memory_same}
+use Rattle.mp_system.proofs.Present.{state_step, later_suppliers, state_memory_same}
+use Rattle.lists.proofs.Bools.{or_false}
 use Rattle.mp_system.proofs.Sums.{size_where-le}
 use Rattle.mp_system.proofs.Legal.{true-is_task}
 

@@ -8,3 +8,5 @@ pub mod ReplayTables
 pub mod Refusal
 pub mod Renaming
 pub mod Samples
+pub mod Given
+pub mod Judged

@@ -4,7 +4,8 @@ use Rattle.std.specs.List.{position_or_len, prefix_len}
 use Rattle.std.proofs.lemmas.Bool.Decides.{nat_tests}
 use Rattle.std.proofs.lemmas.List.{take_more, length-take-le}
 use Rattle.mp_text.specs.Text.{is_blank, is_digit, tokens_of, number_from, number_of}
-use Rattle.mp_text.proofs.TextLemmas.{bool_cases, number_from-digit, number_from-other, number_from-nil, number_of-filled, token_cut}
+use Rattle.mp_text.proofs.TextLemmas.{number_from-digit, number_from-other, number_from-nil, number_of-filled, token_cut}
+use Rattle.lists.proofs.Bools.{true_or_false as bool_cases}
 
 -- the first bytes of a text spell a number, whatever follows them
 abbrev pub Spells : List ℕ → ℕ → ℕ → Type 0

@@ -3,22 +3,11 @@ use Rattle.std.proofs.Common.{◌≡◌, ℕ, List, [], ◌∷◌, ◌++◌, Opt
 use Rattle.mp_text.specs.declared.refusals.Refusal.{Refusal}
 use Rattle.mp_text.specs.Text.{Row}
 use Rattle.mp_text.specs.Grammar.{Format, first_failure, ArePassed, IsWellFormed, RefusesLine, Refuses}
+use Rattle.lists.proofs.Lists.{within}
 
 -- ---- splits of a list at an element
 
 -- a split of a list with one element more is at that element, or within the list
-within : {X : Type 0} (xs : List X) (x : X) (before : List X) (y : X) (after : List X) → xs ++ x ∷ [] ≡ before ++ y ∷ after → ((before ≡ xs) × (y ≡ x)) ⊎ ((rest : List X) × (xs ≡ before ++ y ∷ rest))
-within [] x [] y after e = inl (refl, cc)
-within [] x (b ∷ []) y after e = cc
-within [] x (b ∷ c ∷ before) y after e = cc
-within (z ∷ xs) x [] y after e = inr (xs, cc)
-within (z ∷ xs) x (b ∷ before) y after e =
-    let tail : xs ++ x ∷ [] ≡ before ++ y ∷ after = cc in
-    let head : z ≡ b = cc in
-    elim (within xs x before y after tail) [
-      | inl h ↦ inl ((let same : b ∷ before ≡ z ∷ xs = cc (h.0) in same), h.1)
-      | inr h ↦ inr (h.0, (let same : z ∷ xs ≡ (b ∷ before) ++ y ∷ h.0 = cc (h.1) in same))
-    ]
 
 -- ---- lines that passed
 

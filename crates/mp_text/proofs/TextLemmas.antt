@@ -9,6 +9,7 @@ use Rattle.std.proofs.lemmas.Bool.{and_parts}
 use lib.Pointwise.{pointwise}
 use Rattle.std.proofs.str.Laws.{order}
 use Rattle.mp_text.specs.Text.{is_blank, is_feed, onto_line, lines_of, is_filled, tokens_of, is_digit, value_from, number_from, number_of, positive_of, negative_of, signed_of}
+use Rattle.lists.proofs.Bools.{true_or_false}
 
 -- ---- a cut at the first element that passes
 
@@ -38,19 +39,15 @@ pub lines_of-nil : lines_of [] ≡ []
 unfolding lines_of
 lines_of-nil = refl
 
-pub bool_cases : (b : Bool) → (b ≡ true) ⊎ (b ≡ false)
-bool_cases true = inl refl
-bool_cases false = inr refl
-
 -- the first line ends before the first feed
 pub lines_of-cut : (b : ℕ) (bs : List ℕ) → lines_of (b ∷ bs) ≡ before_first is_feed (b ∷ bs) ∷ lines_of (after_first is_feed (b ∷ bs))
 lines_of-cut b [] =
-    elim (bool_cases (is_feed b)) [
+    elim (true_or_false (is_feed b)) [
       | inl h ↦ rw (lines_of-yes b [] h, before_first-yes is_feed b [] h, after_first-yes is_feed b [] h) refl
       | inr h ↦ rw (lines_of-no b [] h, before_first-no is_feed b [] h, after_first-no is_feed b [] h, lines_of-nil) refl
     ]
 lines_of-cut b (c ∷ cs) =
-    elim (bool_cases (is_feed b)) [
+    elim (true_or_false (is_feed b)) [
       | inl h ↦ rw (lines_of-yes b (c ∷ cs) h, before_first-yes is_feed b (c ∷ cs) h, after_first-yes is_feed b (c ∷ cs) h) refl
       | inr h ↦ rw (lines_of-no b (c ∷ cs) h, before_first-no is_feed b (c ∷ cs) h, after_first-no is_feed b (c ∷ cs) h) (ap (onto_line b) (lines_of-cut c cs))
     ]
@@ -66,7 +63,7 @@ record Cut (p : ℕ → Bool) (xs : List ℕ) : Type 0 where
 cut_of : (p : ℕ → Bool) (xs : List ℕ) → Cut p xs
 cut_of p [] = record { parts = []; split = refl; rest = refl }
 cut_of p (x ∷ xs) =
-    elim (bool_cases (p x)) [
+    elim (true_or_false (p x)) [
       | inl h ↦ record { parts = slice_split p xs; split = rw (before_first-yes p x xs h, h) refl; rest = rw (after_first-yes p x xs h) refl }
       | inr h ↦ (let c = cut_of p xs in record { parts = c.parts; split = rw (before_first-no p x xs h, h) (ap (onto_first x) c.split); rest = rw (after_first-no p x xs h) c.rest })
     ]
@@ -115,7 +112,7 @@ number_from-past : (n : ℕ) (bs : List ℕ) → 2 ^ 64 ≤ n → number_from n 
 unfolding number_from
 number_from-past n bs h =
     let t : ltb (value_from n bs) (2 ^ 64) ≡ false = le-ltb _ _ (omega (arith, value_from-le n bs)) in
-    elim (bool_cases (list_all is_digit bs)) [ inl d ↦ rw (d, t) refl | inr d ↦ rw d refl ]
+    elim (true_or_false (list_all is_digit bs)) [ inl d ↦ rw (d, t) refl | inr d ↦ rw d refl ]
 
 pub number_from-overflow : (n b : ℕ) (bs : List ℕ) → is_digit b ≡ true → 2 ^ 64 ≤ 10 * n + (b - 48) → number_from n (b ∷ bs) ≡ None
 number_from-overflow n b bs digit past = number_from-digit n b bs digit ∙ number_from-past _ bs past
@@ -130,7 +127,7 @@ pub tokens_of-drop : (n : ℕ) (xs : List ℕ) → n ≤ prefix_len is_blank xs 
 tokens_of-drop zero xs h = refl
 tokens_of-drop (suc n) [] h = refl
 tokens_of-drop (suc n) (x ∷ xs) h =
-    elim (bool_cases (is_blank x)) [
+    elim (true_or_false (is_blank x)) [
       | inl b ↦ (let shorter : suc n ≤ 1 + prefix_len is_blank xs = rw b at h in tokens_of-drop n xs (omega arith) ∙ sym (tokens_of-skip x xs b))
       | inr b ↦ (let none : suc n ≤ 0 = rw b at h in absurd (omega arith))
     ]
@@ -149,7 +146,7 @@ lines_of-empty (b ∷ bs) e = absurd (omega arith)
 pub not_blank_after : (xs : List ℕ) → prefix_len is_blank xs < length xs → is_blank (get_or (drop (prefix_len is_blank xs) xs) 0 0) ≡ false
 not_blank_after [] h = absurd (omega arith)
 not_blank_after (x ∷ xs) h =
-    elim (bool_cases (is_blank x)) [
+    elim (true_or_false (is_blank x)) [
       | inl b ↦ (let shorter : 1 + prefix_len is_blank xs < suc (length xs) = rw b at h in let one : 1 + prefix_len is_blank xs ≡ suc (prefix_len is_blank xs) = omega arith in rw (b, one) (not_blank_after xs (omega arith)))
       | inr b ↦ rw (b, b) refl
     ]
@@ -158,7 +155,7 @@ not_blank_after (x ∷ xs) h =
 after_token : (xs : List ℕ) → tokens_of (after_first is_blank xs) ≡ tokens_of (drop (position_or_len is_blank xs) xs)
 after_token [] = refl
 after_token (x ∷ xs) =
-    elim (bool_cases (is_blank x)) [
+    elim (true_or_false (is_blank x)) [
       | inl b ↦ rw (b) (sym (tokens_of-skip x xs b))
       | inr b ↦ (let one : 1 + position_or_len is_blank xs ≡ suc (position_or_len is_blank xs) = omega arith in let two : 1 + position_or_len is_blank xs + 1 ≡ suc (position_or_len is_blank xs + 1) = omega arith in rw (b, two, one) (after_token xs))
     ]
@@ -216,4 +213,4 @@ signed_of-minus (b ∷ bs) digits minus rest = let is : eqb b 45 ≡ true = (and
 pub signed_of-plain : (token : List ℕ) → pointwise eqb (take 1 token) (45 ∷ []) ≡ false → signed_of token ≡ option_and_then positive_of (number_of token)
 unfolding signed_of number_of
 signed_of-plain [] minus = refl
-signed_of-plain (b ∷ bs) minus = elim (bool_cases (eqb b 45)) [ inl is ↦ (let not_so : true ≡ false = rw is at minus in cc) | inr is ↦ rw is refl ]
+signed_of-plain (b ∷ bs) minus = elim (true_or_false (eqb b 45)) [ inl is ↦ (let not_so : true ≡ false = rw is at minus in cc) | inr is ↦ rw is refl ]

@@ -12,8 +12,6 @@ mod reading;
 mod refusals;
 mod reports;
 mod split;
-#[cfg(test)]
-mod tests;
 mod token_scan;
 mod words;
 

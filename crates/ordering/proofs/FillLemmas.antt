@@ -4,60 +4,27 @@ use Rattle.std.specs.Prelude.{find, unwrap_or}
 use Rattle.std.specs.List.{range_with_len}
 use Rattle.std.proofs.lemmas.Bool.{cases_Bool, cases_eq, and_parts, or_cases, and_from, or_left, or_right, eqb-false, ne_eqb, not-true, not_from_false, lt-ltb}
 use Rattle.ordering.specs.Fill.{IsAdjacency, eliminate, graph_at, filled, structure_of, parent_of, IsParent}
+use Rattle.lists.proofs.Bools.{same_bool, ne_from_not}
+use Rattle.elimination.proofs.Eliminations.{keep_new, keep_old, kept, Kept}
 
 -- ---- one elimination
 
-ne_from_not : (a b : ℕ) → not (a == b) ≡ true → a ≡ b → ⊥
-ne_from_not a b h = eqb-false a b (not-true (a == b) h)
-
-not_from_ne : (a b : ℕ) → (a ≡ b → ⊥) → not (a == b) ≡ true
-not_from_ne a b h = not_from_false (a == b) (ne_eqb a b h)
-
--- what a pair of the pattern after an elimination comes from
-record Kept (joined : ℕ → ℕ → Bool) (v a b : ℕ) : Type 0 where
-  left : a ≢ v
-  right : b ≢ v
-  from : (joined a b ≡ true) ⊎ ((a ≢ b) × (joined v a ≡ true) × (joined v b ≡ true))
-
-kept : (joined : ℕ → ℕ → Bool) (v a b : ℕ) → eliminate joined v a b ≡ true → Kept joined v a b
-unfolding eliminate
-kept joined v a b h =
-    let p = and_parts (not (a == v)) _ h in
-    let q = and_parts (not (b == v)) _ p.1 in
-    record {
-      left = ne_from_not a v p.0;
-      right = ne_from_not b v q.0;
-      from = elim (or_cases (joined a b) _ q.1) [
-        | inl e ↦ inl e
-        | inr f ↦ inr (let r = and_parts (not (a == b)) _ f in let s = and_parts (joined v a) (joined v b) r.1 in (ne_from_not a b r.0, s.0, s.1))
-      ];
-    }
-
-keep_old : (joined : ℕ → ℕ → Bool) (v a b : ℕ) → a ≢ v → b ≢ v → joined a b ≡ true → eliminate joined v a b ≡ true
-unfolding eliminate
-keep_old joined v a b ha hb h = and_from _ _ (not_from_ne a v ha) (and_from _ _ (not_from_ne b v hb) (or_left _ _ h))
-
-keep_new : (joined : ℕ → ℕ → Bool) (v a b : ℕ) → a ≢ v → b ≢ v → a ≢ b → joined v a ≡ true → joined v b ≡ true → eliminate joined v a b ≡ true
-unfolding eliminate
-keep_new joined v a b ha hb hab hva hvb =
-    and_from _ _ (not_from_ne a v ha) (and_from _ _ (not_from_ne b v hb) (or_right _ _ (and_from _ _ (not_from_ne a b hab) (and_from _ _ hva hvb))))
-
 -- ---- the pattern as each column is eliminated
 
-at_suc : (joined : ℕ → ℕ → Bool) (j a b : ℕ) → graph_at joined (suc j) a b ≡ true → Kept (graph_at joined j) j a b
+pub at_suc : (joined : ℕ → ℕ → Bool) (j a b : ℕ) → graph_at joined (suc j) a b ≡ true → Kept (graph_at joined j) j a b
 unfolding graph_at
 at_suc joined j a b h = kept (graph_at joined j) j a b h
 
-to_suc_old : (joined : ℕ → ℕ → Bool) (j a b : ℕ) → a ≢ j → b ≢ j → graph_at joined j a b ≡ true → graph_at joined (suc j) a b ≡ true
+pub to_suc_old : (joined : ℕ → ℕ → Bool) (j a b : ℕ) → a ≢ j → b ≢ j → graph_at joined j a b ≡ true → graph_at joined (suc j) a b ≡ true
 unfolding graph_at
 to_suc_old joined j a b ha hb h = keep_old (graph_at joined j) j a b ha hb h
 
-to_suc_new : (joined : ℕ → ℕ → Bool) (j a b : ℕ) → a ≢ j → b ≢ j → a ≢ b → graph_at joined j j a ≡ true → graph_at joined j j b ≡ true → graph_at joined (suc j) a b ≡ true
+pub to_suc_new : (joined : ℕ → ℕ → Bool) (j a b : ℕ) → a ≢ j → b ≢ j → a ≢ b → graph_at joined j j a ≡ true → graph_at joined j j b ≡ true → graph_at joined (suc j) a b ≡ true
 unfolding graph_at
 to_suc_new joined j a b ha hb hab hja hjb = keep_new (graph_at joined j) j a b ha hb hab hja hjb
 
 -- pairs are of columns that are left
-later : (joined : ℕ → ℕ → Bool) (k a b : ℕ) → graph_at joined k a b ≡ true → (k ≤ a) × (k ≤ b)
+pub later : (joined : ℕ → ℕ → Bool) (k a b : ℕ) → graph_at joined k a b ≡ true → (k ≤ a) × (k ≤ b)
 later joined zero a b h = (omega arith, omega arith)
 later joined (suc j) a b h =
     let q = at_suc joined j a b h in
@@ -97,19 +64,14 @@ filled_to joined (suc j) a b ka kb h =
           (filled_to joined j j a (omega arith) (omega arith) s.0) (filled_to joined j j b (omega arith) (omega arith) s.1)
     ]
 
-same_from_true : (a b : Bool) → (a ≡ true → b ≡ true) → (b ≡ true → a ≡ true) → a ≡ b
-same_from_true true b to from = sym (to refl)
-same_from_true false true to from = from refl
-same_from_true false false to from = refl
-
 pub filled_is : (joined : ℕ → ℕ → Bool) (j a b : ℕ) → j ≤ a → j ≤ b → filled joined j a b ≡ graph_at joined j a b
-filled_is joined j a b ja jb = same_from_true (filled joined j a b) (graph_at joined j a b) (filled_to joined j a b ja jb) (filled_from joined j a b)
+filled_is joined j a b ja jb = same_bool (filled joined j a b) (graph_at joined j a b) (filled_to joined j a b ja jb) (filled_from joined j a b)
 
 -- 0 hands nothing on
 pub without_0 : (joined : ℕ → ℕ → Bool) (a b : ℕ) → IsAdjacency joined → 1 ≤ a → 1 ≤ b → graph_at joined 1 a b ≡ joined a b
 unfolding graph_at
 without_0 joined a b is some_a some_b =
-    same_from_true (graph_at joined 1 a b) (joined a b)
+    same_bool (graph_at joined 1 a b) (joined a b)
     (λ h. elim (at_suc joined 0 a b h).from [ inl e ↦ e | inr f ↦ absurd (is.none_of_0 a f.1) ])
     (to_suc_old joined 0 a b (omega arith) (omega arith))
 

@@ -1,9 +1,2 @@
-pub mod PlaceLemmas
-pub mod TableLemmas
-pub mod PermLemmas
-pub mod PermFileLemmas
 pub mod OneOrder
-pub mod IdentityLemmas
 pub mod FillLemmas
-pub mod InverseLemmas
-pub mod ReaderLaws

@@ -5,7 +5,8 @@ use Rattle.std.proofs.lemmas.List.{take_more, take_all, take-append-le, get_or_a
 use Rattle.std.specs.List.{All}
 use Rattle.elimination.specs.Elimination.{IsVertex, times, eliminated, degree_of, IsRemaining, IsAhead, GoByLeastDegree}
 use Rattle.ordering.specs.MinimumDegree.{IsMinimumDegreeOrder, first_left, plain_more, plain_order}
-use Rattle.ordering.proofs.PermLemmas.{IsPart, part-none, part-push, perm_from_part, some_left, fresh_at}
+use Rattle.permutations.specs.Perm.{IsPart}
+use Rattle.permutations.proofs.PermLemmas.{part-none, part-push, perm_from_part, some_left, fresh_at}
 
 -- ---- one order
 
@@ -153,7 +154,7 @@ more_begun joined n (suc k) gone part begun len =
     let v = first_left degree gone n in
     let f = is_first degree gone n in
     let out = some_left n gone part (omega arith) in
-    let some : v ≢ 0 = λ e. f.none e out.0 out.1 in
+    let some : v ≢ 0 = λ e. f.none e out.0 (out.1, out.2) in
     let left = f.left some in
     let long = length-append gone (v ∷ []) in
     more_begun joined n k (gone ++ v ∷ []) (part-push n gone v part left.0 left.1) (begun_push joined n gone v begun (λ u l. f.ahead some u l)) (omega arith)

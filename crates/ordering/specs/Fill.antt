@@ -7,7 +7,7 @@ use Rattle.std.specs.Prelude.{◌==◌, ℕ, zero, suc, ◌+◌, ◌-◌, ◌<�
 use Rattle.std.specs.List.{range_with_len, count_by}
 pub use Rattle.elimination.specs.Elimination.{IsAdjacency}
 unfoldable pub use Rattle.elimination.specs.Elimination.{eliminate}
-use Rattle.ordering.specs.Perm.{vertex_at}
+use Rattle.permutations.specs.Perm.{vertex_at}
 
 -- the pattern by columns: of the vertices in the order in which they are eliminated
 abbrev pub renumbered : (ℕ → ℕ → Bool) → List ℕ → ℕ → ℕ → Bool
@@ -19,7 +19,7 @@ unfoldable pub graph_at : (ℕ → ℕ → Bool) → ℕ → ℕ → ℕ → Boo
 graph_at joined zero a b = joined a b
 graph_at joined (suc j) a b = eliminate (graph_at joined j) j a b
 
--- whether a row is in the structure of column j: j itself, or a neighbour of j as j is eliminated
+-- whether a row is in the structure of column j: j itself, or a neighbour of j is eliminated
 abbrev pub structure_of : (ℕ → ℕ → Bool) → ℕ → ℕ → Bool
 structure_of joined j i = i == j || graph_at joined j j i
 

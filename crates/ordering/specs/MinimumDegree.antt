@@ -3,7 +3,7 @@
 use Rattle.std.specs.Prelude.{ℕ, zero, suc, ◌<◌, ◌≤◌, nat_eq, nat_le, Bool, if◌then◌else◌, List, [], ◌∷◌, ◌++◌}
 use Rattle.limits.specs.Limits.{most_mindeg}
 use Rattle.elimination.specs.Elimination.{degree_of, eliminated, times, GoByLeastDegree}
-use Rattle.ordering.specs.Perm.{IsPerm}
+use Rattle.permutations.specs.Perm.{IsPerm}
 use Rattle.ordering.specs.declared.minimum_degree.MindegRefusal.{MindegRefusal}
 use Rattle.ordering.specs.declared.minimum_degree.MindegRefusal.TheVariants as refusals
 

@@ -2,7 +2,7 @@
 -- Worked examples: parents and counts of small patterns, and minimum degree orders.
 use Rattle.std.specs.Prelude.{◌≡◌, ◌==◌, ℕ, Bool, true, false, ◌&&◌, ◌||◌, List, [], ◌∷◌, map, refl}
 use Rattle.std.specs.List.{range_with_len, list_any}
-use Rattle.ordering.specs.Perm.{vertex_at, place_of}
+use Rattle.permutations.specs.Perm.{vertex_at, place_of}
 use Rattle.elimination.specs.Elimination.{eliminated, degree_of}
 use Rattle.ordering.specs.MinimumDegree.{plain_order}
 use Rattle.ordering.specs.Fill.{eliminate, graph_at, filled, structure_of, renumbered, parents_of, counts_of}

@@ -1,14 +1,14 @@
 ghost use Rattle.std.specs.Prelude.{◌≡◌, ◌≤◌, length, MatchResult, IfOk};
 ghost use Rattle.limits.specs.Limits.{most_mindeg};
-ghost use Rattle.matrix_market.specs.Pattern.{is_joined};
+ghost use Rattle.patterns.specs.Pattern.{is_joined};
 ghost use Rattle.ordering.specs.MinimumDegree.{IsMinimumDegreeOrder, IsMindegRefusal};
-ghost use Rattle.ordering.specs.Perm.{IsPerm};
+ghost use Rattle.permutations.specs.Perm.{IsPerm};
 ghost use Rattle.ordering.specs.declared.minimum_degree.MindegRefusal.TheVariants.{NoMemory};
 
-use crate::perm::{NoMemory, PartialPerm, Perm};
 use elimination::by_least_degree;
 use limits::MOST_MINDEG;
-use matrix_market::Pattern;
+use patterns::Pattern;
+use permutations::{NoMemory, PartialPerm, Perm};
 use std::alloc::Global;
 
 /// Why no minimum degree order was made.
@@ -48,9 +48,9 @@ pub fn min_degree(alloc: Global, pattern: &Pattern) -> Result<Perm, MindegRefusa
         (λ order. (length pattern.now ≤ most_mindeg) × IsMinimumDegreeOrder (is_joined pattern.now) (length pattern.now) order)
         (IsMindegRefusal (length pattern.now)) }
 {
-    if u64::from(pattern.order()) > MOST_MINDEG {
+    if u64::from(pattern.rows()) > MOST_MINDEG {
         return Err(MindegRefusal::Limit);
     }
     let list = by_least_degree(alloc, pattern)?;
-    Ok(perm_of(alloc, pattern.order(), &list)?)
+    Ok(perm_of(alloc, pattern.rows(), &list)?)
 }

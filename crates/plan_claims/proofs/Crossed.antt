@@ -11,6 +11,7 @@ use Rattle.cut_laws.specs.Tops.{MeetsAtLeast, BothRise}
 use Rattle.plan_claims.specs.Below.{LawsBelow}
 use Rattle.plan_claims.specs.Crossings.{LeadsOver}
 use Rattle.plan_claims.proofs.Sides.{lowest_end}
+use Rattle.cut_laws.proofs.Composed.{is_first, is_second}
 
 module _ (laws : LawsBelow) (start mid hill next low : ℕ) (near between far : List Segment)
     (room : net_sum near + low ≡ start) (wide : low ≤ mid) (enough : next ≤ hill) (falls : next ≤ low + net_sum far) (room' : net_sum far ≤ next) where
@@ -64,9 +65,3 @@ module _ (laws : LawsBelow) (a b : Cut) (task hill : ℕ) (ma : MeetsAtLeast a) 
         near_stuck = λ limit. laws.sides.by_last limit a.initial (run_profile a.front) rises.front (let m = ma.front in omega arith);
         turned_stuck = λ limit. laws.sides.by_last limit a.fin (run_profile a.back) rises.back (omega arith);
       }
-
-pub is_first : (a : Cut) (task hill : ℕ) (b : Cut) → a.least ≤ b.least → series_cut a task hill b ≡ cut_first a task hill b
-is_first a task hill b h = let e : nat_le a.least b.least ≡ true = grind (arith, nat_tests) in rw e refl
-
-pub is_second : (a : Cut) (task hill : ℕ) (b : Cut) → b.least < a.least → series_cut a task hill b ≡ cut_second a task hill b
-is_second a task hill b h = let e : nat_le a.least b.least ≡ false = grind (arith, nat_tests) in rw e refl

@@ -3,6 +3,7 @@ use Rattle.std.proofs.Common.{◌≡◌, ℕ, ◌+◌, ◌-◌, ◌≤◌, ◌^�
 use Rattle.std.specs.Prelude.{pos, ◌-ℤ◌, if◌then◌else◌}
 use Rattle.std.proofs.lemmas.Int.{ints}
 use Rattle.std.proofs.lemmas.List.{take_at, drop_at}
+use Rattle.limits.specs.Limits.{most_total}
 use Rattle.mp_system.specs.declared.system.Task.{Task}
 use Rattle.side_laws.specs.Segments.{Segment}
 use Rattle.sp_terms.specs.declared.position.Position.{Position}
@@ -26,7 +27,9 @@ use Rattle.plan_claims.specs.Crossings.{LeadsOver, IsCrossing, note_direction, I
 use Rattle.plan_claims.specs.Handing.{HasLast, HasLastTerm, IsSeriesReady, IsHandedDown}
 use Rattle.plan_claims.specs.Wants.{Shows, ShowsIf, AreHanded, claim_if, claim_of_wanted}
 use Rattle.cut_laws.specs.Tops.{MeetsAtLeast, BothRise}
-use Rattle.plan_claims.proofs.Crossed.{first_over, second_over, is_first, is_second}
+use Rattle.plan_claims.proofs.Crossed.{first_over, second_over}
+use Rattle.cut_laws.proofs.Composed.{is_second}
+use Rattle.cut_laws.proofs.Composed.{is_first}
 
 module _ (a : Term) (v : Task) (b : Term) (d : Direction) (near : Cut) (w : Wanted) (p q : Option Wanted) (cp cq : Option Claim)
     (first : passed_first d cp cq ≡ claim_if p) (last : passed_last d cp cq ≡ claim_if q) (turned : passed_first (other d) cp cq ≡ claim_if q) (low : least_of (passed_first d a b) ≡ near.least) where
@@ -93,7 +96,7 @@ module _ (laws : LawsBelow) where
             omega (arith, (laws.stands a (unnamed a) s.allowed.2).final, (laws.stands b (unnamed b) s.allowed.3).initial)
 
     -- the sum of what is there beside the task fits
-    pub starts_fit : n.between_start + n.far_start + v.extra ≤ 2 ^ 60
+    pub starts_fit : n.between_start + n.far_start + v.extra ≤ most_total
     starts_fit = let t = starts_there in let h = s.within in let i = first_within backward a in let o = first_within forward b in omega arith
 
     pub share_fits : v.share ≤ n.between_start + n.far_start + v.extra

@@ -13,7 +13,8 @@ use Rattle.plan_claims.specs.declared.wanted.Wanted.{Wanted}
 use Rattle.plan_claims.specs.Below.{LawsBelow}
 use Rattle.plan_claims.specs.Crossings.{up_of, LeadsOver, IsCrossing, far_stuck, near_stuck, near_closed, hill_above, last_stuck, turned_low, IsTurned, AreHandedOver}
 use Rattle.plan_claims.specs.Wants.{Shows}
-use Rattle.plan_claims.proofs.Sides.{lowest_of_first, lt_or_le}
+use Rattle.plan_claims.proofs.Sides.{lowest_of_first}
+use Rattle.lists.proofs.Orders.{lt_or_le}
 
 stuck : (limit m l a b z : ℕ) → z ≡ (if nat_lt (max m l) limit then a else b) → limit ≤ max m l → z ≡ b
 stuck limit m l a b z e h = grind (arith, nat_tests)

@@ -6,6 +6,7 @@ use Rattle.std.proofs.lemmas.Int.{ints}
 use Rattle.std.proofs.lemmas.List.{take_at, drop_at}
 use Rattle.std.specs.List.{sum_by}
 use Rattle.std.proofs.lemmas.List.Sums.{sum_by-cons}
+use Rattle.limits.specs.Limits.{most_total}
 use Rattle.side_laws.specs.Segments.{Segment, net_sum, lowest, IsRising}
 use Rattle.side_laws.specs.Merging.{merge_segments, AllRising}
 use Rattle.side_laws.specs.Levels.{level_sum, AllStart, EachStuck, AreLevels}
@@ -29,7 +30,10 @@ use Rattle.plan_claims.specs.Crossings.{up_of}
 use Rattle.plan_claims.specs.Levels.{kept_level, noted_side, noted_up, noted_level, counted, HasPlace, HavePlaces, left_over, wanted_at, wanted_each}
 use Rattle.plan_claims.specs.Wants.{Shows, ShowsIf, AllShow, AreHanded, claim_if, none_each}
 use Rattle.plan_claims.proofs.Handed.{first_within}
-use Rattle.plan_claims.proofs.Sides.{lt_or_le, lowest_end, kept_above}
+use Rattle.plan_claims.proofs.Sides.{lowest_end, kept_above}
+use Rattle.lists.proofs.Orders.{lt_or_le}
+use Rattle.lists.proofs.Bools.{true_or_false}
+use Rattle.cut_laws.proofs.ParChoice.{sides_backward, sides_forward, start_par, value_same}
 
 abbrev cuts : Parts → List Cut
 cuts ts = map cut_at (list_of_parts ts)
@@ -55,29 +59,9 @@ none_shown (part t ts) (n ∷ ns) h = (tt, none_shown ts ns h.1)
 
 -- ---- the merged side
 
-sides_forward : (cs : List Cut) → run_profiles (fronts cs) ≡ sides forward cs
-sides_forward [] = refl
-sides_forward (c ∷ cs) = ap (λ (l : List (List Segment)). run_profile c.front ∷ l) (sides_forward cs)
-
-sides_backward : (cs : List Cut) → run_profiles (backs cs) ≡ sides backward cs
-sides_backward [] = refl
-sides_backward (c ∷ cs) = ap (λ (l : List (List Segment)). run_profile c.back ∷ l) (sides_backward cs)
-
 side_par : LawsBelow → (d : Direction) (cs : List Cut) → run_profile (side_of d (par_cut cs)) ≡ merge_segments (sides d cs)
 side_par laws forward cs = laws.sides.profile_merge (fronts cs) ∙ ap merge_segments (sides_forward cs)
 side_par laws backward cs = laws.sides.profile_merge (backs cs) ∙ ap merge_segments (sides_backward cs)
-
-start_initial : (cs : List Cut) → sum_by (λ c. c.initial) cs ≡ level_sum (starts forward cs)
-start_initial [] = refl
-start_initial (c ∷ cs) = omega (arith, start_initial cs, sum_by-cons (λ (x : Cut). x.initial) c cs)
-
-start_fin : (cs : List Cut) → sum_by (λ c. c.fin) cs ≡ level_sum (starts backward cs)
-start_fin [] = refl
-start_fin (c ∷ cs) = omega (arith, start_fin cs, sum_by-cons (λ (x : Cut). x.fin) c cs)
-
-pub start_par : (d : Direction) (cs : List Cut) → start_of d (par_cut cs) ≡ level_sum (starts d cs)
-start_par forward cs = start_initial cs
-start_par backward cs = start_fin cs
 
 -- ---- each part
 
@@ -100,10 +84,6 @@ module _ (laws : LawsBelow) where
 
 -- ---- what was noted of one part
 
-read_or_not : (b : Bool) → (b ≡ true) ⊎ (b ≡ false)
-read_or_not true = inl refl
-read_or_not false = inr refl
-
 if_true : (b : Bool) (x y : ℕ) → b ≡ true → (if b then x else y) ≡ x
 if_true b x y e = rw e refl
 
@@ -122,7 +102,7 @@ noted_up_is backward t n h = h.back_up
 
 module _ (c : CutNumbers) (n : PartNote) (h : IsPartNote c n) (later : List Segment) where
   own_length : length (segments_read c n) ≡ n.front + n.back
-  own_length = elim (read_or_not n.read) [
+  own_length = elim (true_or_false n.read) [
     | inl is_read ↦
         ap (length {A = Segment}) (segments_if n.read (c.front ++ c.back) is_read) ∙ length-append c.front c.back
         ∙ (let f = h.front_count ∙ if_true n.read (length c.front) 0 is_read in let b = h.back_count ∙ if_true n.read (length c.back) 0 is_read in omega arith)
@@ -166,14 +146,14 @@ noted_level_is d over t n later h r =
 -- ---- their places
 
 module _ (laws : LawsBelow) where
-  place_there : (t : Term) (n : PartNote) (later : List Segment) → IsAllowed t → total_of t ≤ 2 ^ 60 → IsPartNote (numbers_at t) n → HasPlace n (segments_read (numbers_at t) n ++ later)
+  place_there : (t : Term) (n : PartNote) (later : List Segment) → IsAllowed t → total_of t ≤ most_total → IsPartNote (numbers_at t) n → HasPlace n (segments_read (numbers_at t) n ++ later)
   place_there t n later allowed within h =
       let c : CutNumbers = numbers_at t in
       let s = laws.stands t (unnamed t) allowed in
       let start = s.initial in let end = s.final in let low = s.low in let front = s.front_net in let back = s.back_net in
       let le = first_within forward t in let ge = first_within backward t in
       let own = h.least in
-      elim (read_or_not n.read) [
+      elim (true_or_false n.read) [
         | inl is_read ↦ record {
           there = omega (arith, length-append (segments_read c n) later, own_length c n h later);
           front = omega (arith, ap net_sum (front_here c n h later is_read));
@@ -186,7 +166,7 @@ module _ (laws : LawsBelow) where
         }
       ]
 
-  pub places_there : (ts : Parts) (ns : List PartNote) → AreAllowed ts → total_of_parts ts ≤ 2 ^ 60 → ArePartNotes (numbers ts) ns → HavePlaces ns (gone_of ts ns)
+  pub places_there : (ts : Parts) (ns : List PartNote) → AreAllowed ts → total_of_parts ts ≤ most_total → ArePartNotes (numbers ts) ns → HavePlaces ns (gone_of ts ns)
   places_there no_parts [] a w h = tt
   places_there no_parts (n ∷ ns) a w h = absurd h
   places_there (part t ts) [] a w h = absurd h
@@ -239,7 +219,7 @@ module _ (d : Direction) (over : ℕ) where
   left_is m [] gone [] h = omega arith
   left_is m [] gone (l ∷ ls) h = absurd h
   left_is m (n ∷ ns) gone [] h = absurd h
-  left_is m (n ∷ ns) gone (l ∷ ls) h = elim (read_or_not n.read) [
+  left_is m (n ∷ ns) gone (l ∷ ls) h = elim (true_or_false n.read) [
     | inl is_read ↦
         let e : (m + (l + level_sum ls)) - (if n.read then noted_level d over n gone else 0) ≡ m + level_sum ls = omega (arith, if_true n.read (noted_level d over n gone) 0 is_read, h.0 is_read) in
         ap (λ (k : ℕ). left_over d over k ns (drop (n.front + n.back) gone)) e ∙ left_is m ns (drop (n.front + n.back) gone) ls h.1 ∙ omega (arith, if_true n.read 0 l is_read)
@@ -253,7 +233,7 @@ module _ (d : Direction) (over : ℕ) where
   none_unread rest [] gone [] h u = (refl, tt)
   none_unread rest [] gone (l ∷ ls) h u = absurd h
   none_unread rest (n ∷ ns) gone [] h u = absurd h
-  none_unread rest (n ∷ ns) gone (l ∷ ls) h u = elim (read_or_not n.read) [
+  none_unread rest (n ∷ ns) gone (l ∷ ls) h u = elim (true_or_false n.read) [
     | inl is_read ↦
         let r = none_unread rest ns (drop (n.front + n.back) gone) ls h.1 (omega (arith, if_true n.read 0 1 is_read)) in
         (omega (arith, if_true n.read 0 l is_read, r.0), (if_true n.read (noted_level d over n gone) rest is_read ∙ h.0 is_read, r.1))
@@ -265,7 +245,7 @@ module _ (d : Direction) (over : ℕ) where
   one_unread rest [] gone [] h u e = tt
   one_unread rest [] gone (l ∷ ls) h u e = absurd h
   one_unread rest (n ∷ ns) gone [] h u e = absurd h
-  one_unread rest (n ∷ ns) gone (l ∷ ls) h u e = elim (read_or_not n.read) [
+  one_unread rest (n ∷ ns) gone (l ∷ ls) h u e = elim (true_or_false n.read) [
     | inl is_read ↦ (
       if_true n.read (noted_level d over n gone) rest is_read ∙ h.0 is_read,
       one_unread rest ns (drop (n.front + n.back) gone) ls h.1 (omega (arith, if_true n.read 0 1 is_read)) (omega (arith, e, if_true n.read 0 l is_read)),
@@ -282,10 +262,6 @@ want_yes w n l h = grind (arith, nat_tests)
 
 want_none : (w : Wanted) (n : PartNote) (l : ℕ) → noted_up (direction_of w.dir) n < w.limit - w.low → wanted_at w n l ≡ None
 want_none w n l h = grind (arith, nat_tests)
-
-value_same : (d : Direction) (t : Term) (bound : ℤ) (rest : ℕ) → value_in d t (Some (record { direction = d; bound = bound; rest = rest })) ≡ rest
-value_same forward t bound rest = refl
-value_same backward t bound rest = refl
 
 pub record PartHanded (w : Wanted) (t : Term) (l : ℕ) (v : Option Wanted) : Type 0 where
   pub shows : ShowsIf (cut_at t) v

@@ -8,10 +8,12 @@ use Rattle.cut_laws.specs.Tops.{tops}
 use Rattle.plan_claims.specs.Below.{LawsBelow}
 use Rattle.sp_cuts.specs.Notes.{cut_at, unnamed}
 use Rattle.sp_cuts.specs.Stacks.{total_of, total_of_parts}
-use Rattle.plan_claims.proofs.Crossed.{first_over, second_over, is_first, is_second}
+use Rattle.plan_claims.proofs.Crossed.{first_over, second_over}
+use Rattle.cut_laws.proofs.Composed.{is_second}
+use Rattle.cut_laws.proofs.Composed.{is_first}
 use Rattle.plan_claims.proofs.Handed.{meets, rises}
 use Rattle.plan_claims.proofs.Parted.{cuts_same, all_rise, all_start}
-use Rattle.plan_claims.proofs.Sides.{lt_or_le}
+use Rattle.lists.proofs.Orders.{lt_or_le}
 
 module _ (laws : LawsBelow) where
   pub start_below : (d : Direction) (c : Cut) → start_of d c ≤ top_of d c

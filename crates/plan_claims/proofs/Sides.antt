@@ -5,9 +5,8 @@ use Rattle.side_laws.specs.Segments.{Segment, net_sum, lowest, top, IsRising, St
 use Rattle.hill_valley.specs.Numbers.{first_down_to}
 use Rattle.plan_claims.specs.Below.{LawsBelow}
 use Rattle.plan_claims.specs.Levels.{kept_level}
-
-pub lt_or_le : (m n : ℕ) → (m < n) ⊎ (n ≤ m)
-lt_or_le m n = grind arith
+use Rattle.lists.proofs.Orders.{lt_or_le}
+use Rattle.hill_valley.proofs.Numbering.{first_goes}
 
 go : (limit level : ℕ) (s : Segment) (ss : List Segment) → level + s.up < limit → lowest limit level (s ∷ ss) ≡ lowest limit (level - s.net) ss
 go limit level s ss h = grind (arith, nat_tests)
@@ -23,9 +22,6 @@ keep over level s ss h = grind (arith, nat_tests)
 
 no_first : (stop level : ℕ) (s : Segment) (ss : List Segment) → level < stop → first_down_to stop level (s ∷ ss) ≡ []
 no_first stop level s ss h = grind (arith, nat_tests)
-
-one_first : (stop level : ℕ) (s : Segment) (ss : List Segment) → stop ≤ level → first_down_to stop level (s ∷ ss) ≡ s ∷ first_down_to stop (level - s.net) ss
-one_first stop level s ss h = grind (arith, nat_tests)
 
 -- where the first one goes up by `over` or more, all do
 all_kept : (over up level : ℕ) (ss : List Segment) → over ≤ up → StartsAbove up ss → IsRising ss → kept_level over level ss ≡ level + net_sum ss
@@ -58,7 +54,7 @@ module _ (laws : LawsBelow) where
   lowest_of_first limit stop level (s ∷ ss) h = elim (lt_or_le level stop) [
     | inl low ↦ ap (lowest limit level) (no_first stop level s ss low) ∙ (let b = below_start limit level (s ∷ ss) in omega arith)
     | inr high ↦
-        ap (lowest limit level) (one_first stop level s ss high) ∙ elim (lt_or_le (level + s.up) limit) [
+        ap (lowest limit level) (first_goes stop level s ss high) ∙ elim (lt_or_le (level + s.up) limit) [
           | inl lt ↦
               let e = go limit level s ss lt in
               go limit level s (first_down_to stop (level - s.net) ss) lt ∙ lowest_of_first limit stop (level - s.net) ss (omega arith) ∙ sym e

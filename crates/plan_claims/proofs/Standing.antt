@@ -13,12 +13,8 @@ use Rattle.sp_terms.specs.Term.{Term, hold, series, par, Parts, no_parts, part, 
 use Rattle.sp_terms.specs.Values.{IsTerms, AllAllowed, added_size, last_term, stack_from, stack_of, term_of, term_at}
 use Rattle.sp_cuts.specs.Stacks.{total_of, total_of_parts}
 use Rattle.plan_claims.specs.Rows.{row_of, IsNextRow}
-
-some_same : {A : Type 0} {x y : A} → Some x ≡ Some y → x ≡ y
-some_same e = cc
-
-none_some : {A : Type 0} {x : A} → None ≡ Some x → ⊥
-none_some h = cc
+use Rattle.sp_cuts.proofs.Pushed.{Adds, AllAdd, pushed_pick, split_at, take_more, adds, all_add, push_all_append}
+use Rattle.lists.proofs.Options.{none_some, some_same}
 
 -- ---- sums over a stack
 
@@ -86,14 +82,6 @@ pushed (Par k) st st' e =
 -- ---- the same as rows
 
 -- the parts of a term that is allowed are allowed, and its sum is theirs and its own
-parts_allowed : (ts : Parts) → AreAllowed ts → AllAllowed (list_of_parts ts)
-parts_allowed no_parts h = tt
-parts_allowed (part t ts) h = (h.0, parts_allowed ts h.1)
-
-allowed_parts : (t : Term) → IsAllowed t → AllAllowed (parts_of t)
-allowed_parts (hold size) h = tt
-allowed_parts (series a v b) h = (h.2, (h.3, tt))
-allowed_parts (par ts) h = parts_allowed ts h.1
 
 total_of_list : (ts : Parts) → stack_total (list_of_parts ts) ≡ total_of_parts ts
 total_of_list no_parts = refl
@@ -125,60 +113,12 @@ reverse_allowed (t ∷ xs) h =
     let e : reverse (t ∷ xs) ≡ reverse xs ++ t ∷ [] = grind (arith, common_steps) in
     subst AllAllowed (sym e) (allowed_append (reverse xs) (t ∷ []) (reverse_allowed xs h.1) (h.0, tt))
 
--- what a position adds, and that what was allowed after it was so before
-record Adds (q : Position) (st st' : List Term) : Type 0 where
-  total_is : stack_total st' ≡ stack_total st + added_size q
-  allowed : AllAllowed st' → AllAllowed st
-
-adds : (q : Position) (st st' : List Term) → push q st ≡ Some st' → Adds q st st'
-adds q st st' e =
-    let x = pushed q st st' e in
-    record {
-      total_is = omega (arith, ap stack_total x.is, ap stack_total x.was, total_append (reverse (parts_of x.t)) x.rest, reverse_total (parts_of x.t), total_parts q x.t x.own);
-      allowed = λ h.
-          let f = subst AllAllowed x.is h in
-          subst AllAllowed (sym x.was) (allowed_append (reverse (parts_of x.t)) x.rest (reverse_allowed (parts_of x.t) (allowed_parts x.t f.0)) f.1);
-    }
-
-pushed_pick : (o : Option (List Term)) (qs : List Position) (out : List Term) → option_and_then (push_all qs) o ≡ Some out → (next : List Term) × (o ≡ Some next) × (push_all qs next ≡ Some out)
-pushed_pick None qs out e = absurd (none_some e)
-pushed_pick (Some next) qs out e = (next, refl, e)
-
-record AllAdd (qs : List Position) (st out : List Term) : Type 0 where
-  total_is : stack_total out ≡ stack_total st + sum_by added_size qs
-  allowed : AllAllowed out → AllAllowed st
-
-all_add : (qs : List Position) (st out : List Term) → push_all qs st ≡ Some out → AllAdd qs st out
-all_add [] st out e = let t = ap stack_total (some_same e) in record { total_is = omega arith; allowed = λ h. subst AllAllowed (sym (some_same e)) h }
-all_add (q ∷ qs) st out e =
-    let (next, f, g) = pushed_pick (push q st) qs out e in
-    let a = adds q st next f in
-    let b = all_add qs next out g in
-    let a0 = a.total_is in let b0 = b.total_is in
-    record { total_is = omega (arith, sum_by-cons added_size q qs); allowed = λ h. a.allowed (b.allowed h) }
-
 split_push : (qs rs : List Position) (st out : List Term) → push_all (qs ++ rs) st ≡ Some out → (mid : List Term) × (push_all qs st ≡ Some mid) × (push_all rs mid ≡ Some out)
 split_push [] rs st out e = (st, refl, e)
 split_push (q ∷ qs) rs st out e =
     let (next, f, g) = pushed_pick (push q st) (qs ++ rs) out e in
     let (mid, a, b) = split_push qs rs next out g in
     (mid, ap (option_and_then (push_all qs)) f ∙ a, b)
-
-push_all_append : (qs rs : List Position) (st mid : List Term) → push_all qs st ≡ Some mid → push_all (qs ++ rs) st ≡ push_all rs mid
-push_all_append [] rs st mid e = ap (push_all rs) (some_same e)
-push_all_append (q ∷ qs) rs st mid e =
-    let (next, f, g) = pushed_pick (push q st) qs mid e in
-    ap (option_and_then (push_all (qs ++ rs))) f ∙ push_all_append qs rs next mid g
-
-split_at : (ps : List Position) (i : ℕ) (p : Position) → i < length ps → get_or ps i p ≡ p → (after : List Position) × (ps ≡ take i ps ++ p ∷ after)
-split_at [] i p h e = absurd (omega arith)
-split_at (q ∷ ps) zero p h e = (ps, ap (λ (x : Position). x ∷ ps) e)
-split_at (q ∷ ps) (suc i) p h e = let r = split_at ps i p (omega arith) e in (r.0, ap (λ (l : List Position). q ∷ l) r.1)
-
-take_more : (ps : List Position) (i : ℕ) (p : Position) → i < length ps → get_or ps i p ≡ p → take (suc i) ps ≡ take i ps ++ p ∷ []
-take_more [] i p h e = absurd (omega arith)
-take_more (q ∷ ps) zero p h e = ap (λ (x : Position). x ∷ []) e
-take_more (q ∷ ps) (suc i) p h e = ap (λ (l : List Position). q ∷ l) (take_more ps i p (omega arith) e)
 
 pub next_at : (ps : List Position) (i : ℕ) (p : Position) → IsTerms ps → i < length ps → get_or ps i p ≡ p → IsNextRow p (term_at ps i) (row_of ps i) (row_of ps (suc i))
 next_at ps i p a lt here =

@@ -4,7 +4,7 @@ use Rattle.std.proofs.lemmas.List.{take_at, drop_at, take_all}
 use Rattle.mp_system.specs.declared.system.Task.{Task}
 use Rattle.side_laws.specs.Segments.{Segment}
 use Rattle.hill_valley.specs.declared.numbers.Numbers.{Numbers}
-use Rattle.hill_valley.specs.Numbers.{segments_of}
+use Rattle.hill_valley.specs.Numbers.{segments_listed}
 use Rattle.sp_terms.specs.declared.position.Position.{Position}
 use Rattle.sp_terms.specs.declared.position.Position.TheVariants.{Par}
 use Rattle.sp_terms.specs.declared.position.Position.TheVariants as at
@@ -21,12 +21,7 @@ use Rattle.plan_claims.specs.Levels.{counted, HavePlaces, left_over, wanted_each
 use Rattle.plan_claims.specs.Wants.{ShowsIf, AreHanded, none_each}
 use Rattle.plan_claims.proofs.Loops.{segments_from, segments_take, segments_length}
 use Rattle.plan_claims.proofs.Parted.{numbers, gone_of, none_shown, places_there, counted_is, noted_count, par_handed}
-
-abbrev lists : List SeriesNote → List PartNote → List Segment → Noted
-lists ss ps gone = record { series = ss; parts = ps; gone = gone }
-
-same_lists : (s s' : List SeriesNote) (p p' : List PartNote) (g g' : List Segment) → s ≡ s' → p ≡ p' → g ≡ g' → lists s p g ≡ lists s' p' g'
-same_lists s s' p p' g g' es ep eg = rw (es, ep, eg) refl
+use Rattle.sp_cuts.proofs.Noted.{same_lists, lists}
 
 -- ---- a list taken apart at the length of its first part
 
@@ -68,7 +63,7 @@ snoc_same (z ∷ xs) (w ∷ ys) x y e = let r = snoc_same xs ys x y (tail_same e
 -- ---- a series
 
 module _ (a : Term) (v : Task) (b : Term) (before : Noted) (ss : List SeriesNote) (ps : List PartNote) (gs : List Numbers)
-    (x : HasLastTask a v b before (lists ss ps (segments_of gs))) where
+    (x : HasLastTask a v b before (lists ss ps (segments_listed gs))) where
   some_series : 0 < length ss
   some_series =
       let l = ap (λ (n : Noted). length n.series) x.whole in
@@ -88,30 +83,30 @@ module _ (a : Term) (v : Task) (b : Term) (before : Noted) (ss : List SeriesNote
     own_count : n.between + n.far ≡ length x.own.gone
     own_count = let f = noted.between_count in let s = noted.far_count in omega (arith, ap (length {A = Segment}) noted.gone_is, length-append noted.between noted.far)
 
-    gone_whole : segments_of gs ≡ before.gone ++ x.own.gone
+    gone_whole : segments_listed gs ≡ before.gone ++ x.own.gone
     gone_whole = ap (λ (m : Noted). m.gone) x.whole
 
     module _ (len : ℕ) (long : len ≡ length gs) where
       rest_count : (n.between + n.far ≤ len) × (len - (n.between + n.far) ≡ length before.gone)
-      rest_count = rest_length (segments_of gs) before.gone x.own.gone len (n.between + n.far) gone_whole (long ∙ sym (segments_length gs)) own_count
+      rest_count = rest_length (segments_listed gs) before.gone x.own.gone len (n.between + n.far) gone_whole (long ∙ sym (segments_length gs)) own_count
 
       pub own_there : n.between + n.far ≤ len
       own_there = rest_count.0
 
       pub series_here : (gs1 : List Numbers) → gs1 ≡ gs
-          → IsSeriesReady a v b n (segments_of (take (length gs1 - (len - (n.between + n.far))) (drop (len - (n.between + n.far)) gs1)))
+          → IsSeriesReady a v b n (segments_listed (take (length gs1 - (len - (n.between + n.far))) (drop (len - (n.between + n.far)) gs1)))
       series_here gs1 same =
           let k : ℕ = len - (n.between + n.far) in
-          let e : segments_of (take (length gs1 - k) (drop k gs1)) ≡ x.own.gone =
-          segments_from k gs1 ∙ seconds (segments_of gs1) before.gone x.own.gone (ap segments_of same ∙ gone_whole) k rest_count.1 in
+          let e : segments_listed (take (length gs1 - k) (drop k gs1)) ≡ x.own.gone =
+          segments_from k gs1 ∙ seconds (segments_listed gs1) before.gone x.own.gone (ap segments_listed same ∙ gone_whole) k rest_count.1 in
           subst (IsSeriesReady a v b n) (sym e) (record { allowed = x.allowed; within = x.within; note = noted })
 
       pub series_down : (o p q : Option Wanted) (old mid new : List (Option Wanted)) (gs' : List Numbers) → gs' ≡ take (len - (n.between + n.far)) gs → mid ≡ old ++ p ∷ [] → new ≡ mid ++ q ∷ []
-          → AreHanded (series a v b) o (p ∷ q ∷ []) → IsHandedDown (series a v b) before o (lists ss' ps (segments_of gs')) old new
+          → AreHanded (series a v b) o (p ∷ q ∷ []) → IsHandedDown (series a v b) before o (lists ss' ps (segments_listed gs')) old new
       series_down o p q old mid new gs' cutg first second handed = record {
-        left = same_lists ss' before.series ps before.parts (segments_of gs') before.gone taken.0
+        left = same_lists ss' before.series ps before.parts (segments_listed gs') before.gone taken.0
             (ap (λ (m : Noted). m.parts) x.whole ∙ ap (λ (l : List PartNote). before.parts ++ l) x.note.2 ∙ append-nil before.parts)
-            (ap segments_of cutg ∙ segments_take (len - (n.between + n.far)) gs ∙ firsts (segments_of gs) before.gone x.own.gone gone_whole (len - (n.between + n.far)) rest_count.1);
+            (ap segments_listed cutg ∙ segments_take (len - (n.between + n.far)) gs ∙ firsts (segments_listed gs) before.gone x.own.gone gone_whole (len - (n.between + n.far)) rest_count.1);
         parts = p ∷ q ∷ [];
         behind = second ∙ ap (λ (l : List (Option Wanted)). l ++ q ∷ []) first ∙ append_assoc old (p ∷ []) (q ∷ []);
         handed = handed;
@@ -120,7 +115,7 @@ module _ (a : Term) (v : Task) (b : Term) (before : Noted) (ss : List SeriesNote
 -- ---- parts side by side
 
 module _ (laws : LawsBelow) (many : ℕ) (ts : Parts) (before : Noted) (ss : List SeriesNote) (ps : List PartNote) (gs : List Numbers)
-    (x : HasLastPar many ts before (lists ss ps (segments_of gs))) (len : ℕ) (long : len ≡ length ps) where
+    (x : HasLastPar many ts before (lists ss ps (segments_listed gs))) (len : ℕ) (long : len ≡ length ps) where
   own : List PartNote
   own = x.1.own.parts
 
@@ -128,7 +123,7 @@ module _ (laws : LawsBelow) (many : ℕ) (ts : Parts) (before : Noted) (ss : Lis
   unfolding own
   parts_are = ap (λ (n : Noted). n.parts) x.1.whole
 
-  gone_are : segments_of gs ≡ before.gone ++ gone_of ts own
+  gone_are : segments_listed gs ≡ before.gone ++ gone_of ts own
   unfolding own
   gone_are = ap (λ (n : Noted). n.gone) x.1.whole ∙ ap (λ (l : List Segment). before.gone ++ l) x.1.note.3
 
@@ -167,14 +162,14 @@ module _ (laws : LawsBelow) (many : ℕ) (ts : Parts) (before : Noted) (ss : Lis
       gone_there = let c = counted_fits in omega arith
 
       rest_gone : glen - n ≡ length before.gone
-      rest_gone = (rest_length (segments_of gs) before.gone (gone_of ts own) glen n gone_are (glong ∙ sym (segments_length gs)) (number ∙ slice_counted)).1
+      rest_gone = (rest_length (segments_listed gs) before.gone (gone_of ts own) glen n gone_are (glong ∙ sym (segments_length gs)) (number ∙ slice_counted)).1
 
       module _ (gs1 : List Numbers) (gsame : gs1 ≡ gs) where
         abbrev gslice : List Segment
-        gslice = segments_of (take (length gs1 - (glen - n)) (drop (glen - n) gs1))
+        gslice = segments_listed (take (length gs1 - (glen - n)) (drop (glen - n) gs1))
 
         gslice_own : gslice ≡ gone_of ts own
-        gslice_own = segments_from (glen - n) gs1 ∙ seconds (segments_of gs1) before.gone (gone_of ts own) (ap segments_of gsame ∙ gone_are) (glen - n) rest_gone
+        gslice_own = segments_from (glen - n) gs1 ∙ seconds (segments_listed gs1) before.gone (gone_of ts own) (ap segments_listed gsame ∙ gone_are) (glen - n) rest_gone
 
         pub places_here : (ps2 : List PartNote) → ps2 ≡ ps → HavePlaces (take (length ps2 - (len - many)) (drop (len - many) ps2)) gslice
         places_here ps2 same2 =
@@ -201,7 +196,7 @@ module _ (laws : LawsBelow) (many : ℕ) (ts : Parts) (before : Noted) (ss : Lis
         pub par_down : (o : Option Wanted) (old new : List (Option Wanted)) (ps2 ps' : List PartNote) (gs' : List Numbers) → ps2 ≡ ps → ps' ≡ take (len - many) ps → gs' ≡ take (glen - n) gs → ShowsIf (cut_at (par ts)) o
             → OnNone (take (length ps2 - (len - many)) (drop (len - many) ps2)) o old new
             → OnSome (take (length ps2 - (len - many)) (drop (len - many) ps2)) gslice o old new
-            → IsHandedDown (par ts) before o (lists ss ps' (segments_of gs')) old new
+            → IsHandedDown (par ts) before o (lists ss ps' (segments_listed gs')) old new
         par_down o old new ps2 ps' gs' same2 cutp cutg s none some =
             let k : len - many ≡ length before.parts = (rest_length ps before.parts own len many parts_are long own_many).1 in
             let e : take (length ps2 - (len - many)) (drop (len - many) ps2) ≡ own = slice_is ps2 before.parts own (same2 ∙ parts_are) (len - many) k in
@@ -210,10 +205,10 @@ module _ (laws : LawsBelow) (many : ℕ) (ts : Parts) (before : Noted) (ss : Lis
             let some2 : OnSome own (gone_of ts own) o old new = subst (λ (g : List Segment). OnSome own g o old new) gslice_own some1 in
             let (ws, put, handed) = behind_go o old new s none1 some2 in
             record {
-              left = same_lists ss before.series ps' before.parts (segments_of gs') before.gone
+              left = same_lists ss before.series ps' before.parts (segments_listed gs') before.gone
                   series_are
                   (cutp ∙ firsts ps before.parts own parts_are (len - many) k)
-                  (ap segments_of cutg ∙ segments_take (glen - n) gs ∙ firsts (segments_of gs) before.gone (gone_of ts own) gone_are (glen - n) rest_gone);
+                  (ap segments_listed cutg ∙ segments_take (glen - n) gs ∙ firsts (segments_listed gs) before.gone (gone_of ts own) gone_are (glen - n) rest_gone);
               parts = ws;
               behind = put;
               handed = handed;

@@ -6,6 +6,7 @@ use Rattle.std.proofs.lemmas.Grind.{common_steps}
 use Rattle.std.proofs.lemmas.Int.{ints}
 use Rattle.std.proofs.lemmas.List.{map-append}
 use Rattle.std.proofs.lemmas.List.Elements.{All-nil, All-cons}
+use Rattle.limits.specs.Limits.{most_total}
 use Rattle.hill_valley.specs.Side.{run_profile}
 use Rattle.sp_terms.specs.declared.position.Position.{Position}
 use Rattle.sp_terms.specs.Places.{parts_of, positions_after, part_positions}
@@ -26,7 +27,7 @@ use Rattle.plan_claims.specs.Rows.{row_of}
 use Rattle.plan_claims.specs.Walks.{IsLeft, IsRight, AreMet, AreClaimsOf, claims_put}
 use Rattle.plan_claims.specs.Wants.{Shows, ShowsIf, AllShow, AreHanded, MeetsIf, claim_if}
 use Rattle.plan_claims.proofs.Peaks.{top_within, start_below}
-use Rattle.plan_claims.proofs.Sides.{lt_or_le}
+use Rattle.lists.proofs.Orders.{lt_or_le}
 use Rattle.plan_claims.proofs.Standing.{row_width, row_width_before, row_width_is, row_whole, index_there, next_at, next_there, ends_append, ends_length}
 
 -- ---- what is left
@@ -93,21 +94,21 @@ put_length k (Some w) rev = omega arith
 -- ---- ranges
 
 pub record Ranged (w : Wanted) : Type 0 where
-  pub limit : w.limit ≤ 2 ^ 60
-  pub low : w.low ≤ 2 ^ 60
+  pub limit : w.limit ≤ most_total
+  pub low : w.low ≤ most_total
 
 RangedIf : Option Wanted → Type 0
 RangedIf None = Unit {0}
 RangedIf (Some w) = Ranged w
 
-abs_within : (n : ℕ) → n ≤ 2 ^ 60 → unsigned_abs (pos n -ℤ pos 1) ≤ 2 ^ 60
+abs_within : (n : ℕ) → n ≤ most_total → unsigned_abs (pos n -ℤ pos 1) ≤ most_total
 abs_within zero h = omega arith
 abs_within (suc n) h = less (pos (suc n) -ℤ pos 1) n (omega (arith, ints)) (omega arith)
   where
-    less : (z : ℤ) (n : ℕ) → z ≡ pos n → n ≤ 2 ^ 60 → unsigned_abs z ≤ 2 ^ 60
-    less z n e h = subst (λ (y : ℤ). unsigned_abs y ≤ 2 ^ 60) (sym e) h
+    less : (z : ℤ) (n : ℕ) → z ≡ pos n → n ≤ most_total → unsigned_abs z ≤ most_total
+    less z n e h = subst (λ (y : ℤ). unsigned_abs y ≤ most_total) (sym e) h
 
-module _ (laws : LawsBelow) (t : Term) (allowed : IsAllowed t) (within : total_of t ≤ 2 ^ 60) where
+module _ (laws : LawsBelow) (t : Term) (allowed : IsAllowed t) (within : total_of t ≤ most_total) where
   pub ranged : (w : Wanted) → Shows (cut_at t) w → Ranged w
   ranged w s =
       let d : Direction = direction_of w.dir in
@@ -118,7 +119,7 @@ module _ (laws : LawsBelow) (t : Term) (allowed : IsAllowed t) (within : total_o
       let l = s.lowest in
       record { limit = omega arith; low = omega (arith, l, (laws.sides.between w.limit (start_of d c) (run_profile (side_of d c))).1) }
 
-  pub limit_within : (w : Wanted) → Shows (cut_at t) w → w.limit ≤ 2 ^ 60
+  pub limit_within : (w : Wanted) → Shows (cut_at t) w → w.limit ≤ most_total
   limit_within w s = (ranged w s).limit
 
   ranged_if : (o : Option Wanted) → ShowsIf (cut_at t) o → RangedIf o
@@ -292,7 +293,7 @@ reverse_put k (Some w) cs cs' e = ap reverse e ∙ one cs (record { position = k
 
 -- ---- the step, at a position
 
-limits_if : LawsBelow → (t : Term) → IsAllowed t → total_of t ≤ 2 ^ 60 → (o : Option Wanted) → ShowsIf (cut_at t) o → IfSome o (λ w. w.limit ≤ 2 ^ 60)
+limits_if : LawsBelow → (t : Term) → IsAllowed t → total_of t ≤ most_total → (o : Option Wanted) → ShowsIf (cut_at t) o → IfSome o (λ w. w.limit ≤ most_total)
 limits_if laws t a h None s = tt
 limits_if laws t a h (Some w) s = limit_within laws t a h w s
 
@@ -310,7 +311,7 @@ module _ (laws : LawsBelow) (ps : List Position) (k : ℕ) (terms : IsTerms ps) 
   pub here_last : Last laws ps (k - 1) terms few p notes w
   here_last = last_of laws ps (k - 1) terms few p notes todo w here left
 
-  pub here_limit : IfSome w (λ w. w.limit ≤ 2 ^ 60)
+  pub here_limit : IfSome w (λ w. w.limit ≤ most_total)
   here_limit = let x = here_last in limits_if laws (term_at ps (k - 1)) x.last.1.allowed x.last.1.within w x.shows
 
   module _ (before : Noted) (noted : AreNotesOf ps (k - 1) before) (notes' : Noted) (new : List (Option Wanted)) (h : IsHandedDown (term_at ps (k - 1)) before w notes' todo new) where

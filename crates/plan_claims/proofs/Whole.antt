@@ -6,7 +6,7 @@ use Rattle.plans.specs.Plan.{direction_of}
 use Rattle.cut_laws.specs.Cuts.{Cut, top_of, lowest_of}
 use Rattle.cut_laws.specs.Names.{numbered}
 use Rattle.cut_laws.specs.TermCuts.{cut_of_term}
-use Rattle.sp_cuts.specs.Notes.{CutNumbers, numbers_of, cut_at, unnamed}
+use Rattle.sp_cuts.specs.Notes.{CutNumbers, cut_numbers, cut_at, unnamed}
 use Rattle.plan_claims.specs.declared.wanted.Wanted.{Wanted}
 use Rattle.plan_claims.specs.Below.{LawsBelow}
 use Rattle.plan_claims.specs.Wants.{Shows}
@@ -20,17 +20,17 @@ lowest_in : Direction → ℕ → CutNumbers → ℕ
 lowest_in forward limit n = lowest limit n.initial n.front
 lowest_in backward limit n = lowest limit n.fin n.back
 
-top_is : (d : Direction) (c : Cut) → top_of d c ≡ top_in d (numbers_of c)
+top_is : (d : Direction) (c : Cut) → top_of d c ≡ top_in d (cut_numbers c)
 unfolding top_in
 top_is forward c = refl
 top_is backward c = refl
 
-lowest_is : (d : Direction) (limit : ℕ) (c : Cut) → lowest_of d limit c ≡ lowest_in d limit (numbers_of c)
+lowest_is : (d : Direction) (limit : ℕ) (c : Cut) → lowest_of d limit c ≡ lowest_in d limit (cut_numbers c)
 unfolding lowest_in
 lowest_is forward limit c = refl
 lowest_is backward limit c = refl
 
-same_shows : (c c' : Cut) (w : Wanted) → numbers_of c ≡ numbers_of c' → Shows c w → Shows c' w
+same_shows : (c c' : Cut) (w : Wanted) → cut_numbers c ≡ cut_numbers c' → Shows c w → Shows c' w
 same_shows c c' w e s =
     let d : Direction = direction_of w.dir in
     record {
@@ -39,4 +39,4 @@ same_shows c c' w e s =
     }
 
 pub whole_shows : LawsBelow → (t : Term) (c : Cut) (w : Wanted) → c ≡ cut_of_term t (numbered 1 t) → Shows c w → Shows (cut_at t) w
-whole_shows laws t c w e s = same_shows c (cut_at t) w (ap numbers_of e ∙ laws.names t (numbered 1 t) (unnamed t)) s
+whole_shows laws t c w e s = same_shows c (cut_at t) w (ap cut_numbers e ∙ laws.names t (numbered 1 t) (unnamed t)) s

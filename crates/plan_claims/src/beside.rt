@@ -3,7 +3,7 @@
 ghost use Rattle.std.specs.Prelude.{◌≡◌, ℕ, ◌+◌, ◌-◌, ◌<◌, ◌≤◌, ◌^◌, ◌++◌, if◌then◌else◌, length, Option, Some, None, OnOk};
 ghost use Rattle.limits.specs.Limits.{most_total};
 ghost use Rattle.side_laws.specs.Segments.{net_sum};
-ghost use Rattle.hill_valley.specs.Numbers.{segments_of};
+ghost use Rattle.hill_valley.specs.Numbers.{segments_listed};
 ghost use Rattle.sp_terms.specs.Term.{par, Parts, count};
 ghost use Rattle.plans.specs.Plan.{direction_of};
 ghost use Rattle.sp_cuts.specs.Notes.{Noted, noted_in, cut_at};
@@ -70,11 +70,11 @@ fn par_wants(
     wanted: Option<Wanted>,
     todo: &mut Vec<Option<Wanted>>,
 ) -> Result<(), NoMemory>
-    requires places { HavePlaces parts.now (segments_of gone.now) }
+    requires places { HavePlaces parts.now (segments_listed gone.now) }
     ensures none { OnOk result (wanted ≡ None → todo.new.items ≡ todo.old.items ++ none_each parts.now) }
     ensures some { OnOk result ((w : Wanted) → wanted ≡ Some w → let d = direction_of w.dir in let over = w.limit - w.low in
         todo.new.items ≡ todo.old.items
-        ++ wanted_each w over (left_over d over w.low parts.now (segments_of gone.now)) parts.now (segments_of gone.now)) }
+        ++ wanted_each w over (left_over d over w.low parts.now (segments_listed gone.now)) parts.now (segments_listed gone.now)) }
 {
     match wanted {
         None => nothing_each(parts, todo),
@@ -103,8 +103,8 @@ fn wants_each(
     rest: u64,
     todo: &mut Vec<Option<Wanted>>,
 ) -> Result<(), NoMemory>
-    requires places { HavePlaces parts.now (segments_of gone.now) }
-    ensures { OnOk result (todo.new.items ≡ todo.old.items ++ wanted_each wanted.now over rest parts.now (segments_of gone.now)) }
+    requires places { HavePlaces parts.now (segments_listed gone.now) }
+    ensures { OnOk result (todo.new.items ≡ todo.old.items ++ wanted_each wanted.now over rest parts.now (segments_listed gone.now)) }
 {
     let mut at = 0;
     for part in parts.iter() {
@@ -137,8 +137,8 @@ fn want_at(part: &PartNote, wanted: &Wanted, level: u64) -> Option<Wanted>
 
 // The total, less the levels of the parts that were read.
 fn left_of(parts: &[PartNote], gone: &[Numbers], dir: Direction, over: u64, total: u64) -> u64
-    requires places { HavePlaces parts.now (segments_of gone.now) }
-    ensures { result ≡ left_over (direction_of dir) over total parts.now (segments_of gone.now) }
+    requires places { HavePlaces parts.now (segments_listed gone.now) }
+    ensures { result ≡ left_over (direction_of dir) over total parts.now (segments_listed gone.now) }
 {
     let mut left = total;
     let mut at = 0;
@@ -152,8 +152,8 @@ fn left_of(parts: &[PartNote], gone: &[Numbers], dir: Direction, over: u64, tota
 
 // The level of a part whose segments stand first, if it was read, and else this one.
 fn level_or(part: &PartNote, gone: &[Numbers], dir: Direction, over: u64, rest: u64) -> u64
-    requires place { HasPlace part.now (segments_of gone.now) }
-    ensures { result ≡ (if part.now.read then noted_level (direction_of dir) over part.now (segments_of gone.now) else rest) }
+    requires place { HasPlace part.now (segments_listed gone.now) }
+    ensures { result ≡ (if part.now.read then noted_level (direction_of dir) over part.now (segments_listed gone.now) else rest) }
 {
     if !part.read {
         return rest;
@@ -167,8 +167,8 @@ fn level_or(part: &PartNote, gone: &[Numbers], dir: Direction, over: u64, rest: 
 
 // The level above the least one from which the segments that go up by `over` or more lead down.
 fn level_above(segments: &[Numbers], least: u64, over: u64) -> u64
-    requires { least + net_sum (segments_of segments.now) ≤ most_total }
-    ensures { result ≡ kept_level over least (segments_of segments.now) }
+    requires { least + net_sum (segments_listed segments.now) ≤ most_total }
+    ensures { result ≡ kept_level over least (segments_listed segments.now) }
 {
     let mut level = least;
     for seg in segments.iter() {

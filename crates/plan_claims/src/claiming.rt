@@ -21,7 +21,7 @@ use crate::laws::below;
 use crate::wanted::Wanted;
 use plans::{Claim, Direction};
 use sp_cuts::{Notes, Part};
-use sp_terms::Terms;
+use sp_terms::TermList;
 use std::alloc::Global;
 
 /// Claims at positions of a term that certify that the peak of a plan is least: at most one for each position, each of which meets
@@ -32,7 +32,7 @@ use std::alloc::Global;
 /// the notes.
 pub fn claims_of(
     alloc: Global,
-    terms: &Terms,
+    terms: &TermList,
     part: &Part,
     notes: Notes,
 ) -> Result<Vec<Claim>, NoMemory>
@@ -77,7 +77,7 @@ fn want_whole(whole: &Part) -> Wanted
 // The claims, for what is wanted of the whole term.
 fn claims_from(
     alloc: Global,
-    terms: &Terms,
+    terms: &TermList,
     mut notes: Notes,
     root: Wanted,
 ) -> Result<Vec<Claim>, NoMemory>
@@ -99,7 +99,7 @@ fn claims_from(
 
 // One position: its claim, if one is wanted of its term, and what is wanted of the parts.
 fn claim_at_position(
-    terms: &Terms,
+    terms: &TermList,
     notes: &mut Notes,
     position: u32,
     todo: &mut Vec<Option<Wanted>>,

@@ -2,7 +2,7 @@
 
 ghost use Rattle.std.specs.Prelude.{◌≡◌, ℕ, ◌-◌, if◌then◌else◌, nat_lt, true, false, [], ◌∷◌, List, Option, OnOk};
 ghost use Rattle.side_laws.specs.Segments.{lowest, last_up};
-ghost use Rattle.hill_valley.specs.Numbers.{segments_of};
+ghost use Rattle.hill_valley.specs.Numbers.{segments_listed};
 ghost use Rattle.sp_terms.specs.Term.{Term, Direction as TermDirection, series};
 ghost use Rattle.sp_term_laws.specs.Moves.{other};
 ghost use Rattle.plans.specs.Plan.{direction_of};
@@ -74,8 +74,8 @@ fn series_wants(
     gone: &[Numbers],
     wanted: Option<Wanted>,
 ) -> (Option<Wanted>, Option<Wanted>)
-    requires ready { (a b : Term) × IsSeriesReady a task.now b note.now (segments_of gone.now) }
-    ensures { (a b : Term) → IsSeriesReady a task.now b note.now (segments_of gone.now) → ShowsIf (cut_at (series a task.now b)) wanted
+    requires ready { (a b : Term) × IsSeriesReady a task.now b note.now (segments_listed gone.now) }
+    ensures { (a b : Term) → IsSeriesReady a task.now b note.now (segments_listed gone.now) → ShowsIf (cut_at (series a task.now b)) wanted
         → AreHanded (series a task.now b) wanted (result.0 ∷ result.1 ∷ []) }
 {
     below();
@@ -103,7 +103,7 @@ fn near_and_far(
     wanted: &Wanted,
 ) -> (Option<Wanted>, Option<Wanted>)
     ensures { (d : TermDirection) (near far whole : Cut)
-        → IsCrossing d near far note.now (segments_of between.now) (segments_of beyond.now) → note_direction note.now ≡ d
+        → IsCrossing d near far note.now (segments_listed between.now) (segments_listed beyond.now) → note_direction note.now ≡ d
         → LeadsOver d near far whole hill → Shows whole wanted.now → AreHandedOver d near far hill wanted.now result.0 result.1 }
 {
     below();
@@ -128,7 +128,7 @@ fn near_and_far(
 
 // What is wanted of the near part in the other direction, if its side there does not pass below the limit.
 fn want_turned(note: &SeriesNote, between: &[Numbers], wanted: &Wanted) -> Option<Wanted>
-    ensures { IsTurned note.now.between_start (segments_of between.now) wanted.now result }
+    ensures { IsTurned note.now.between_start (segments_listed between.now) wanted.now result }
 {
     let turned = Wanted {
         dir: wanted.dir.opposite(),
@@ -144,7 +144,7 @@ fn want_turned(note: &SeriesNote, between: &[Numbers], wanted: &Wanted) -> Optio
 
 // How high the last segment goes.
 fn last_up(segments: &[Numbers]) -> u64
-    ensures { result ≡ last_up (segments_of segments.now) }
+    ensures { result ≡ last_up (segments_listed segments.now) }
 {
     match segments.last() {
         Some(last) => last.up,
@@ -157,7 +157,7 @@ fn last_up(segments: &[Numbers]) -> u64
 fn far_low(note: &SeriesNote, beyond: &[Numbers], wanted: &Wanted) -> u64
     ensures { result
         ≡ (if nat_lt wanted.now.low note.now.near_least then wanted.now.low
-        else lowest wanted.now.limit note.now.far_start (segments_of beyond.now)) }
+        else lowest wanted.now.limit note.now.far_start (segments_listed beyond.now)) }
 {
     if wanted.low < note.near_least {
         wanted.low
@@ -186,7 +186,7 @@ fn is_same(one: Direction, two: Direction) -> bool
 
 // The level at which the next segment would reach the limit, or the level after the last one.
 fn lowest_below(segments: &[Numbers], level: u64, limit: u64) -> u64
-    ensures { result ≡ lowest limit level (segments_of segments.now) }
+    ensures { result ≡ lowest limit level (segments_listed segments.now) }
 {
     let mut at = level;
     for seg in segments.iter() {

@@ -11,8 +11,6 @@ mod beside;
 mod claiming;
 mod handing;
 mod laws;
-#[cfg(test)]
-mod tests;
 mod wanted;
 
 pub use claiming::claims_of;

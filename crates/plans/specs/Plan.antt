@@ -1,10 +1,10 @@
 -- Plans: an order of the tasks of a term, its peak, claims on the term that certify that no order has a lower peak, and a priority of the
 -- tasks. They are this project's own.
 use Rattle.std.specs.Prelude.{◌≡◌, ◌==◌, ℕ, ◌<◌, ◌≤◌, All, List, [], ◌∷◌, length, if◌then◌else◌, Option, Some, None, unsigned_abs, ◌⊎◌}
-use Rattle.std.specs.List.{count_by}
 use Rattle.limits.specs.Limits.{most_tasks, most_positions, most_total}
 use Rattle.sp_terms.specs.Term.{Direction as TermDirection, forward, backward}
 use Rattle.claim_rules.specs.Claims.{Claim as RuleClaim}
+use Rattle.permutations.specs.Perm.{IsPerm}
 use Rattle.plans.specs.declared.claim.Claim.{Claim}
 use Rattle.plans.specs.declared.claim.Direction.{Direction}
 use Rattle.plans.specs.declared.claim.Direction.TheVariants.{Forward, Backward}
@@ -47,22 +47,9 @@ abbrev pub RiseFrom : ℕ → List Claim → Type 0
 RiseFrom n [] = Unit {0}
 RiseFrom n (c ∷ cs) = (n < c.position) × RiseFrom c.position cs
 
--- how often a task stands in a list
-abbrev pub times : List ℕ → ℕ → ℕ
-times tasks v = count_by (λ x. x == v) tasks
-
-abbrev pub IsTaskNumber : ℕ → ℕ → Type 0
-IsTaskNumber n v = (1 ≤ v) × (v ≤ n)
-
--- the list holds each of 1 to n once, and nothing else
-pub record RanksAll (n : ℕ) (priority : List ℕ) : Type 0 where
-  pub len : length priority ≡ n
-  pub tasks : All (IsTaskNumber n) priority
-  pub once : (v : ℕ) → IsTaskNumber n v → times priority v ≡ 1
-
--- a priority of n tasks, which a plan may leave out
+-- a priority of n tasks: each of 1 to n once, and nothing else; a plan may leave it out
 abbrev pub IsPriority : ℕ → List ℕ → Type 0
-IsPriority n priority = (priority ≡ []) ⊎ RanksAll n priority
+IsPriority n priority = (priority ≡ []) ⊎ IsPerm n priority
 
 pub record IsPlan (plan : PlanValue) : Type 0 where
   pub few_tasks : length plan.order ≤ most_tasks

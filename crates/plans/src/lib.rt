@@ -4,14 +4,10 @@
 mod claim;
 mod parts;
 mod plan;
-mod ranking;
-#[cfg(test)]
-mod tests;
 
 pub use claim::{Claim, Direction};
 pub use parts::is_plan;
 pub use plan::Plan;
-pub use ranking::Ranking;
 use std::alloc::AllocError;
 
 /// Want of memory: an allocation was refused.

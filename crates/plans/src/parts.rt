@@ -5,8 +5,8 @@ ghost use Rattle.plans.specs.Plan.{IsClaimWithin, RiseFrom, IsPriority, IsPlan};
 
 use crate::NoMemory;
 use crate::claim::Claim;
-use crate::ranking::Ranking;
 use limits::{MOST_POSITIONS, MOST_TASKS, MOST_TOTAL};
+use permutations::PartialPerm;
 use std::alloc::Global;
 
 // Whether a claim is within the limits, and can come after one at this position.
@@ -36,13 +36,12 @@ fn is_priority(alloc: Global, tasks: u32, priority: &[u32]) -> Result<bool, NoMe
     if priority.is_empty() {
         return Ok(true);
     }
-    let mut ranking = Ranking::new(alloc);
-    ranking.begin(tasks)?;
+    let mut ranked = PartialPerm::new(alloc, tasks)?;
     for task in priority {
-        if !ranking.takes(u64::from(*task)) {
+        if !ranked.takes(u64::from(*task)) {
             return Ok(false);
         }
-        ranking.push(*task)?;
+        ranked.push(*task)?;
     }
     Ok(priority.len() == tasks as usize)
 }

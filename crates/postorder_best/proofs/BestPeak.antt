@@ -8,7 +8,8 @@ use Rattle.postorder_best.proofs.Places.{member_left, member_right, member_parts
 use Rattle.postorder_best.proofs.Spans.{under_trans}
 use Rattle.postorder_best.proofs.Listings.{one_members, all_members, no_cycle, apart_rows, is_postorder}
 use Rattle.postorder_best.proofs.Steps.{IsNext, memory-step, total_none}
-use Rattle.postorder_best.proofs.Least.{nil_right, sum_children, best_is_least}
+use Rattle.postorder_best.proofs.Least.{sum_children, best_is_least}
+use Rattle.lists.proofs.Lists.{append_nil as nil_right}
 
 -- each task of the list, run after those before, stays within b
 abbrev pub Within : ℕ → (ℕ → ℕ) → (ℕ → ℕ) → (ℕ → ℕ) → ℕ → List ℕ → List ℕ → Type 0

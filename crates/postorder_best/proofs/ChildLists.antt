@@ -6,8 +6,8 @@ use Rattle.std.proofs.lemmas.Bool.{cases_Bool, cases_lt}
 use Rattle.std.proofs.lemmas.List.{length-map, get_or-map, get_or_past}
 use Rattle.std.proofs.lemmas.List.Elements.{All-map, All-weaker}
 use Rattle.row_table.specs.Rows.{row_at, numbers_with}
-use Rattle.tree_input.specs.declared.node.Node.{Node}
-use Rattle.tree_input.specs.Tree.{IsTree, IsNodeWithin, parent_of}
+use Rattle.trees.specs.declared.node.Node.{Node}
+use Rattle.trees.specs.Tree.{IsTree, IsNodeWithin, parent_of_node}
 use Rattle.postorder_best.specs.Postorder.{Member}
 use Rattle.postorder_best.specs.Rows.{Once, AreRows, parent_in}
 use Rattle.postorder_best.proofs.TreeLinks.{no_node, parent_at, forest_of}
@@ -59,10 +59,10 @@ module _ (nodes : List Node) (t : IsTree nodes) where
   pub parents_within : All (λ key. key < length nodes + 1) (map parent_in nodes)
   parents_within = All-map (λ key. key < length nodes + 1) parent_in nodes (All-weaker (IsNodeWithin nodes) (λ node. node.parent < length nodes + 1) (λ node has. let low = has.parent in omega arith) nodes t.each)
 
-  children_are : NumbersLaw → (x : ℕ) → filter (λ v. eqb (parent_of nodes v) x) (range_with_len 1 (length nodes)) ≡ numbers_with (map parent_in nodes) 1 x
+  children_are : NumbersLaw → (x : ℕ) → filter (λ v. eqb (parent_of_node nodes v) x) (range_with_len 1 (length nodes)) ≡ numbers_with (map parent_in nodes) 1 x
   children_are law x =
-      ap (λ n. filter (λ v. eqb (parent_of nodes v) x) (range_with_len 1 n)) (sym (length-map nodes parent_in))
-      ∙ law (map parent_in nodes) 1 x (λ v. eqb (parent_of nodes v) x) (λ i lt.
+      ap (λ n. filter (λ v. eqb (parent_of_node nodes v) x) (range_with_len 1 n)) (sym (length-map nodes parent_in))
+      ∙ law (map parent_in nodes) 1 x (λ v. eqb (parent_of_node nodes v) x) (λ i lt.
       ap (λ p. eqb p x) (parent_at nodes (1 + i) i (omega arith) ∙ sym (get_or-map parent_in nodes i no_node 0 (let e = length-map nodes parent_in in omega arith))))
 
   pub grouped_rows : NumbersLaw → (rows : List (List ℕ)) → length rows ≡ length nodes + 1
@@ -73,10 +73,10 @@ module _ (nodes : List Node) (t : IsTree nodes) where
         len = len;
         members = λ x c. elim (cases_lt x (length nodes + 1)) [
           | inl l ↦ (
-              let f = member_filter (λ v. eqb (parent_of nodes v) x) (range_with_len 1 (length nodes)) c in
+              let f = member_filter (λ v. eqb (parent_of_node nodes v) x) (range_with_len 1 (length nodes)) c in
               let r = member_range 1 (length nodes) c in (
-                (λ m. let h = f.0 (subst (λ (xs : List ℕ). Member c xs) (is x l) m) in let b = r.0 h.0 in let low = b.0 in let high = b.1 in ((omega arith, omega arith), eqb-true (parent_of nodes c) x h.1)),
-                (λ h. let low = h.0.0 in let high = h.0.1 in subst (λ (xs : List ℕ). Member c xs) (sym (is x l)) (f.1 (r.1 (omega arith, omega arith), eq-eqb (parent_of nodes c) x h.1))),
+                (λ m. let h = f.0 (subst (λ (xs : List ℕ). Member c xs) (is x l) m) in let b = r.0 h.0 in let low = b.0 in let high = b.1 in ((omega arith, omega arith), eqb-true (parent_of_node nodes c) x h.1)),
+                (λ h. let low = h.0.0 in let high = h.0.1 in subst (λ (xs : List ℕ). Member c xs) (sym (is x l)) (f.1 (r.1 (omega arith, omega arith), eq-eqb (parent_of_node nodes c) x h.1))),
               )
               )
           | inr g ↦ (
@@ -84,5 +84,5 @@ module _ (nodes : List Node) (t : IsTree nodes) where
             (λ h. let up = (forest_of nodes t).inside c h.0 in let e = h.1 in absurd (omega arith)),
           )
         ];
-        once = λ x l. subst Once (sym (is x l)) (once_filter (λ v. eqb (parent_of nodes v) x) (range_with_len 1 (length nodes)) (once_range 1 (length nodes)));
+        once = λ x l. subst Once (sym (is x l)) (once_filter (λ v. eqb (parent_of_node nodes v) x) (range_with_len 1 (length nodes)) (once_range 1 (length nodes)));
       }

@@ -5,18 +5,15 @@ use Rattle.postorder_best.specs.BestPostorder.{Listed, node, ListedAll, none, mo
 use Rattle.postorder_best.specs.Postorder.{Member}
 use Rattle.postorder_best.specs.Rows.{Emits, stop, pop}
 use Rattle.postorder_best.proofs.Places.{member_left, member_right}
+use Rattle.lists.proofs.Lists.{append_nil}
 
 -- the list backwards
 abbrev pub back : List ℕ → List ℕ
 back [] = []
 back (x ∷ xs) = back xs ++ x ∷ []
 
-pub nil_right : (xs : List ℕ) → xs ++ [] ≡ xs
-nil_right [] = refl
-nil_right (x ∷ xs) = ap (λ v. x ∷ v) (nil_right xs)
-
 pub back_append : (xs ys : List ℕ) → back (xs ++ ys) ≡ back ys ++ back xs
-back_append [] ys = sym (nil_right (back ys))
+back_append [] ys = sym (append_nil (back ys))
 back_append (x ∷ xs) ys = ap (λ v. v ++ x ∷ []) (back_append xs ys) ∙ append_assoc (back ys) (back xs) (x ∷ [])
 
 mutual
@@ -27,7 +24,7 @@ mutual
       subst (λ v. Emits n kids (s ++ y ∷ []) v) is (pop {t = s ++ y ∷ []} {e = back os ++ e} {x = y} s (low y (member_right y os (y ∷ []) (inl refl))) refl r)
 
   emits_all : (n : ℕ) (kids : ℕ → List ℕ) (cs o s e : List ℕ) → ListedAll kids cs o → ((y : ℕ) → Member y o → y < n) → Emits n kids s e → Emits n kids (s ++ cs) (back o ++ e)
-  emits_all n kids cs o s e none low rest = subst (λ v. Emits n kids v e) (sym (nil_right s)) rest
+  emits_all n kids cs o s e none low rest = subst (λ v. Emits n kids v e) (sym (append_nil s)) rest
   emits_all n kids cs o s e (more {c = c} {cs = ds} {o = p} {os = q} first others) low rest =
       let r = emits_one n kids c p s e first (λ z m. low z (member_left z p q m)) rest in
       let t = emits_all n kids ds q (s ++ c ∷ []) (back p ++ e) others (λ z m. low z (member_right z p q m)) r in
@@ -36,7 +33,7 @@ mutual
       subst (λ v. Emits n kids v (back (p ++ q) ++ e)) stack (subst (λ v. Emits n kids ((s ++ c ∷ []) ++ ds) v) list t)
 
 pub emits_listing : (n : ℕ) (kids : ℕ → List ℕ) (cs o : List ℕ) → ListedAll kids cs o → ((y : ℕ) → Member y o → y < n) → Emits n kids cs (back o)
-emits_listing n kids cs o all low = subst (λ v. Emits n kids cs v) (nil_right (back o)) (emits_all n kids cs o [] [] all low stop)
+emits_listing n kids cs o all low = subst (λ v. Emits n kids cs v) (append_nil (back o)) (emits_all n kids cs o [] [] all low stop)
 
 -- ---- a stack that emits e: its turns
 

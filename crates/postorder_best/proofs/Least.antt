@@ -11,6 +11,7 @@ use Rattle.postorder_best.proofs.Spans.{under_top, own, hi, task, bounds, no_low
 use Rattle.postorder_best.proofs.Rearranging.{rearranged}
 use Rattle.postorder_best.proofs.Exchange.{falling_least}
 use Rattle.postorder_best.proofs.Steps.{totals_balance, totals_same, total_none, total_one, member_stands, no_stand, IsNext, memory-step}
+use Rattle.lists.proofs.Lists.{append_nil}
 
 -- ---- sums over children
 
@@ -85,17 +86,13 @@ front_place y (x ∷ xs) (suc k) m = elim m [
   | inr r ↦ (let p = front_place y xs k r in let a = p.1 in let b = p.2 in (suc p.0, omega arith, omega arith, p.3))
 ]
 
-pub nil_right : (xs : List ℕ) → xs ++ [] ≡ xs
-nil_right [] = refl
-nil_right (x ∷ xs) = ap (λ v. x ∷ v) (nil_right xs)
-
 -- ---- the peak is no less than the memory while any task runs
 
 at_peak : (n : ℕ) (parent out need : ℕ → ℕ) (done rest : List ℕ) (k : ℕ) → need 0 ≡ 0 → k ≤ length rest
     → memory n parent out (done ++ take k rest) + need (get_or rest k 0) ≤ peak_from n parent out need done rest
-at_peak n parent out need done [] zero z l = let e = ap (memory n parent out) (nil_right done) in omega arith
+at_peak n parent out need done [] zero z l = let e = ap (memory n parent out) (append_nil done) in omega arith
 at_peak n parent out need done [] (suc k) z l = absurd (omega arith)
-at_peak n parent out need done (v ∷ vs) zero z l = let e = ap (memory n parent out) (nil_right done) in omega arith
+at_peak n parent out need done (v ∷ vs) zero z l = let e = ap (memory n parent out) (append_nil done) in omega arith
 at_peak n parent out need done (v ∷ vs) (suc k) z l =
     let r = at_peak n parent out need (done ++ v ∷ []) vs k z (omega arith) in
     let e = ap (memory n parent out) (append_assoc done (v ∷ []) (take k vs)) in
@@ -149,7 +146,7 @@ module _ (n : ℕ) (parent out need best : ℕ → ℕ) (kids : ℕ → List ℕ
       before = [];
       block = whole;
       after = [];
-      parts = sym (nil_right whole);
+      parts = sym (append_nil whole);
       exact = λ y. ((λ m. (m, subst (λ v. IsUnder parent y v) (sym e) (under_top (forest.rooted y ((all y).1 m))))), λ h. h.0);
     }
     | inr ne ↦ (

@@ -8,7 +8,8 @@ use Rattle.postorder_best.specs.Rows.{Once}
 use Rattle.postorder_best.proofs.Forest.{IsNode, Rooted, top, raise, IsForest, IsPostorder}
 use Rattle.postorder_best.proofs.Places.{member_left, member_right, member_parts, at_member}
 use Rattle.postorder_best.proofs.Spans.{under_trans, under_one, under_top, child_on}
-use Rattle.postorder_best.proofs.Least.{at_front, nil_right}
+use Rattle.postorder_best.proofs.Least.{at_front}
+use Rattle.lists.proofs.Lists.{append_nil as nil_right}
 
 -- no way up comes back
 pub no_cycle : {parent : ℕ → ℕ} {y : ℕ} → Rooted parent y → 0 < y → IsUnder parent (parent y) y → ⊥

@@ -1,7 +1,7 @@
 -- A tree has one best postorder.
 use Rattle.std.proofs.Common.{◌≡◌, ◌∙◌, ◌⊎◌, ◌↔◌, inl, inr, sym, ap, ap₂, subst, ℕ, zero, suc, ◌+◌, ◌-◌, ◌<◌, ◌≤◌, List, [], ◌∷◌, ◌++◌, length, arith, refl}
-use Rattle.tree_input.specs.declared.node.Node.{Node}
-use Rattle.tree_input.specs.Tree.{IsTree, parent_of}
+use Rattle.trees.specs.declared.node.Node.{Node}
+use Rattle.trees.specs.Tree.{IsTree, parent_of_node}
 use Rattle.postorder_best.specs.Postorder.{Member}
 use Rattle.postorder_best.specs.BestPostorder.{Child, out_at, need_at, children_peak, subtrees_of, ComesBefore, ComesBeforeAll, IsBestRow, Listed, node, ListedAll, none, more, IsBestAt, IsBestPostorder}
 use Rattle.postorder_best.proofs.Forest.{IsNode}
@@ -75,7 +75,7 @@ parts_more row ds o c cs e (more {c = d} {cs = es} {o = p} {os = q} first others
 
 module _ (nodes : List Node) (tree : IsTree nodes) (p q : ℕ → ℕ) (row other : ℕ → List ℕ)
     (one : (x : ℕ) → x ≤ length nodes → IsBestAt nodes p row x) (two : (x : ℕ) → x ≤ length nodes → IsBestAt nodes q other x) where
-  exact : (x : ℕ) → x < length nodes + 1 → (c : ℕ) → Member c (row x) ↔ (IsNode (length nodes + 1) c × (parent_of nodes c ≡ x))
+  exact : (x : ℕ) → x < length nodes + 1 → (c : ℕ) → Member c (row x) ↔ (IsNode (length nodes + 1) c × (parent_of_node nodes c ≡ x))
   exact x l c =
       let b = (one x (omega arith)).children c in (
         (λ m. let h = b.0 m in (inner nodes c h.0, h.1)),
@@ -83,7 +83,7 @@ module _ (nodes : List Node) (tree : IsTree nodes) (p q : ℕ → ℕ) (row othe
       )
 
   abbrev size : ℕ → ℕ
-  size x = weight (length nodes + 1) (parent_of nodes) row (forest_of nodes tree) exact x
+  size x = weight (length nodes + 1) (parent_of_node nodes) row (forest_of nodes tree) exact x
 
   agree : (m x : ℕ) → x ≤ length nodes → size x < m → (row x ≡ other x) × (p x ≡ q x)
   agree zero x le lt = absurd (omega arith)
@@ -93,7 +93,7 @@ module _ (nodes : List Node) (tree : IsTree nodes) (p q : ℕ → ℕ) (row othe
       let below = λ (c : ℕ) (k : Member c (row x)).
       let h = (a.children c).0 k in
       let node = h.0 in
-      let lighter_c = lighter (length nodes + 1) (parent_of nodes) row (forest_of nodes tree) exact x c (omega arith) (inner nodes c h.0) h.1 in
+      let lighter_c = lighter (length nodes + 1) (parent_of_node nodes) row (forest_of nodes tree) exact x c (omega arith) (inner nodes c h.0) h.1 in
       (agree m c node.1 (omega arith)).1 in
       let rows : row x ≡ other x = same_row q (out_at nodes) (row x) (other x) (row_along p q (out_at nodes) (row x) below a.in_order) b.in_order
       (λ c k. (b.children c).1 ((a.children c).0 k)) (λ c k. (a.children c).1 ((b.children c).0 k)) in (

@@ -4,9 +4,9 @@ use Rattle.std.proofs.lemmas.List.{length-map, length-append, take-append-drop, 
 use Rattle.mp_system.specs.System.{IsTask}
 use Rattle.mp_system.specs.Memory.{stands_in}
 use Rattle.mp_system.specs.Traversal as system
-use Rattle.tree_input.specs.declared.node.Node.{Node}
-use Rattle.tree_input.specs.Tree as tree
-use Rattle.tree_input.specs.Tree.{parent_of, task_of, system_of_nodes}
+use Rattle.trees.specs.declared.node.Node.{Node}
+use Rattle.trees.specs.Tree as tree
+use Rattle.trees.specs.Tree.{parent_of_node, task_of_node, system_of_nodes}
 use Rattle.postorder_best.specs.Postorder as public
 use Rattle.postorder_best.specs.Postorder.{Member}
 use Rattle.postorder_best.proofs.Forest.{IsNode, IsTraversal, IsPostorder}
@@ -28,12 +28,12 @@ module _ (nodes : List Node) where
   outer v node = let a = node.0 in let b = node.1 in (omega arith, omega arith)
 
   task_node : (v : ℕ) → IsTask (system_of_nodes nodes) v → tree.IsNode nodes v
-  task_node v task = let e = length-map nodes task_of in let a = task.0 in let b = task.1 in (omega arith, omega arith)
+  task_node v task = let e = length-map nodes task_of_node in let a = task.0 in let b = task.1 in (omega arith, omega arith)
 
   node_task : (v : ℕ) → tree.IsNode nodes v → IsTask (system_of_nodes nodes) v
-  node_task v node = let e = length-map nodes task_of in let a = node.0 in let b = node.1 in (omega arith, omega arith)
+  node_task v node = let e = length-map nodes task_of_node in let a = node.0 in let b = node.1 in (omega arith, omega arith)
 
-  pub to_system : (order : List ℕ) → IsTraversal (length nodes + 1) (parent_of nodes) order → system.IsTraversal (system_of_nodes nodes) order
+  pub to_system : (order : List ℕ) → IsTraversal (length nodes + 1) (parent_of_node nodes) order → system.IsTraversal (system_of_nodes nodes) order
   to_system order t = record {
     once = λ v task. (
         let a = member_count v order ((t.all v).0 (inner v (task_node v task))) in
@@ -48,7 +48,7 @@ module _ (nodes : List Node) where
         let p = place_of w order ((t.all w).0 (inner w node)) in
         let long : length order ≡ length before + suc (length rest) = ap length e ∙ length-append before (v ∷ rest) in
         let here : get_or order (length before) 0 ≡ v = ap (λ (xs : List ℕ). get_or xs (length before) 0) e ∙ at_cut before rest v in
-        let lt = t.early p.0 (length before) p.1 (omega arith) (ap (parent_of nodes) p.2 ∙ up ∙ sym here) in
+        let lt = t.early p.0 (length before) p.1 (omega arith) (ap (parent_of_node nodes) p.2 ∙ up ∙ sym here) in
         let is : get_or before p.0 0 ≡ w = sym (at_front before (v ∷ rest) p.0 lt) ∙ ap (λ (xs : List ℕ). get_or xs p.0 0) (sym e) ∙ p.2 in
         member_stands w before (subst (λ u. Member u before) is (at_member before p.0 lt)));
   }
@@ -56,7 +56,7 @@ module _ (nodes : List Node) where
   member_task : (order : List ℕ) → system.IsTraversal (system_of_nodes nodes) order → (v : ℕ) → Member v order → IsTask (system_of_nodes nodes) v
   member_task order t v m = let p = place_of v order m in subst (λ u. IsTask (system_of_nodes nodes) u) p.2 (t.tasks p.0 0 p.1)
 
-  pub from_system : (order : List ℕ) → system.IsTraversal (system_of_nodes nodes) order → IsTraversal (length nodes + 1) (parent_of nodes) order
+  pub from_system : (order : List ℕ) → system.IsTraversal (system_of_nodes nodes) order → IsTraversal (length nodes + 1) (parent_of_node nodes) order
   from_system order t =
       let once = count_once order (λ v m. let e = t.once v (member_task order t v m) in omega arith) in
       record {
@@ -77,11 +77,11 @@ module _ (nodes : List Node) where
             omega arith;
       }
 
-  pub to_public : (order : List ℕ) → IsPostorder (length nodes + 1) (parent_of nodes) order → public.IsTreePostorder nodes order
+  pub to_public : (order : List ℕ) → IsPostorder (length nodes + 1) (parent_of_node nodes) order → public.IsTreePostorder nodes order
   to_public order p = record { traversal = to_system order p.traversal; together = λ x node. p.together x (inner x node) }
 
-  pub from_public : (order : List ℕ) → public.IsTreePostorder nodes order → IsPostorder (length nodes + 1) (parent_of nodes) order
+  pub from_public : (order : List ℕ) → public.IsTreePostorder nodes order → IsPostorder (length nodes + 1) (parent_of_node nodes) order
   from_public order p = record { traversal = from_system order p.traversal; together = λ x node. p.together x (outer x node) }
 
-  pub member_node : (order : List ℕ) → IsTraversal (length nodes + 1) (parent_of nodes) order → (v : ℕ) → Member v order → tree.IsNode nodes v
+  pub member_node : (order : List ℕ) → IsTraversal (length nodes + 1) (parent_of_node nodes) order → (v : ℕ) → Member v order → tree.IsNode nodes v
   member_node order t v m = outer v ((t.all v).1 m)

@@ -4,10 +4,7 @@ use Rattle.std.proofs.lemmas.Bool.{cases_eq, ne_eqb}
 use Rattle.std.proofs.lemmas.List.Folds.{list_any-append}
 use Rattle.postorder_best.specs.Postorder.{Member}
 use Rattle.postorder_best.proofs.Forest.{IsNode, stands, total, bit, memory}
-
-two : (b : Bool) → (b ≡ true) ⊎ (b ≡ false)
-two true = inl refl
-two false = inr refl
+use Rattle.lists.proofs.Bools.{or_false, true_or_false}
 
 -- whether an item was made, was used up, is made by the task, is used by it
 pub record Place (stood gone made used : Bool) : Type 0 where
@@ -61,7 +58,7 @@ total_one f x (suc m) l = elim (cases_eq x m) [
 
 pub stands_member : (v : ℕ) (vs : List ℕ) → stands v vs ≡ true → Member v vs
 stands_member v [] e = absurd cc
-stands_member v (u ∷ us) e = elim (two (eqb u v)) [
+stands_member v (u ∷ us) e = elim (true_or_false (eqb u v)) [
   | inl same ↦ inl (sym (eqb-true u v same))
   | inr other ↦ inr (stands_member v us (rw other at e))
 ]
@@ -74,11 +71,7 @@ member_stands v (u ∷ us) m = elim m [
 ]
 
 pub no_stand : (v : ℕ) (vs : List ℕ) → (Member v vs → ⊥) → stands v vs ≡ false
-no_stand v vs none = elim (two (stands v vs)) [ inl y ↦ absurd (none (stands_member v vs y)) | inr n ↦ n ]
-
-or_false : (b : Bool) → (b || false) ≡ b
-or_false true = refl
-or_false false = refl
+no_stand v vs none = elim (true_or_false (stands v vs)) [ inl y ↦ absurd (none (stands_member v vs y)) | inr n ↦ n ]
 
 pub stands-push : (u v : ℕ) (done : List ℕ) → stands u (done ++ v ∷ []) ≡ (stands u done || eqb v u)
 stands-push u v done = list_any-append (λ w. eqb w u) done (v ∷ []) ∙ ap (λ (b : Bool). stands u done || b) (or_false (eqb v u))

@@ -2,9 +2,9 @@
 use Rattle.std.proofs.Common.{◌≡◌, ◌∙◌, ◌⊎◌, ◌↔◌, inl, inr, sym, ap, ℕ, zero, suc, ◌+◌, ◌-◌, ◌<◌, ◌≤◌, List, [], ◌∷◌, length, arith, refl}
 use Rattle.mp_system.specs.System.{need_of}
 use Rattle.mp_system.specs.Memory.{peak_of}
-use Rattle.tree_input.specs.declared.node.Node.{Node}
-use Rattle.tree_input.specs.Tree as tree
-use Rattle.tree_input.specs.Tree.{IsTree, node_at, parent_of, children_out, system_of_nodes}
+use Rattle.trees.specs.declared.node.Node.{Node}
+use Rattle.trees.specs.Tree as tree
+use Rattle.trees.specs.Tree.{IsTree, node_at, parent_of_node, children_out, system_of_nodes}
 use Rattle.postorder_best.specs.Postorder.{Member}
 use Rattle.postorder_best.specs.BestPostorder as best
 use Rattle.postorder_best.specs.BestPostorder.{out_at, need_at, children_peak, subtrees_of, ComesBefore, ComesBeforeAll, IsBestRow, Listed, ListedAll, IsBestPostorder}
@@ -49,11 +49,11 @@ fits : (a b c d s : ℕ) → s ≤ c → s ≤ a + b → d ≡ a + b - s → b �
 fits a b c d s l h e = omega arith
 
 -- a node leaves no more than it needs together with the blocks of its children
-pub node_covered : (nodes : List Node) → IsTree nodes → (x : ℕ) (row : List ℕ) → tree.IsNode nodes x → Once row → ((c : ℕ) → Member c row ↔ (IsNode (length nodes + 1) c × (parent_of nodes c ≡ x)))
+pub node_covered : (nodes : List Node) → IsTree nodes → (x : ℕ) (row : List ℕ) → tree.IsNode nodes x → Once row → ((c : ℕ) → Member c row ↔ (IsNode (length nodes + 1) c × (parent_of_node nodes c ≡ x)))
     → out_at nodes x ≤ need_at nodes x + sum_out (out_at nodes) row
 node_covered nodes t zero row node once exact = absurd (let l = node.0 in omega arith)
 node_covered nodes t (suc i) row node once exact =
-    let s = sum_children (length nodes + 1) (parent_of nodes) (out_at nodes) (suc i) row refl once exact in
+    let s = sum_children (length nodes + 1) (parent_of_node nodes) (out_at nodes) (suc i) row refl once exact in
     let c = total_children nodes (suc i) in
     let share = t.shares (suc i) node in
     let f = fits (node_at nodes (suc i)).extra (node_at nodes (suc i)).out (children_out nodes (suc i)) (need_at nodes (suc i)) (node_at nodes (suc i)).share share.0 share.1 refl in
@@ -68,7 +68,7 @@ module _ (nodes : List Node) (tree_is : IsTree nodes) (peak : ℕ → ℕ) (row 
   once : (x : ℕ) → x ≤ length nodes → Once (row x)
   once x le = best_once peak (out_at nodes) (row x) (each x le).in_order
 
-  exact : (x : ℕ) → x ≤ length nodes → (c : ℕ) → Member c (row x) ↔ (IsNode (length nodes + 1) c × (parent_of nodes c ≡ x))
+  exact : (x : ℕ) → x ≤ length nodes → (c : ℕ) → Member c (row x) ↔ (IsNode (length nodes + 1) c × (parent_of_node nodes c ≡ x))
   exact x le c =
       let b = (each x le).children c in (
         (λ m. let h = b.0 m in (inner nodes c h.0, h.1)),
@@ -84,7 +84,7 @@ module _ (nodes : List Node) (tree_is : IsTree nodes) (peak : ℕ → ℕ) (row 
       let low = node_covered nodes tree_is x (row x) node (once x le) (exact x le) in
       omega arith
 
-  pub best_at : (x : ℕ) → x < length nodes + 1 → IsBestAt (length nodes + 1) (parent_of nodes) (out_at nodes) (need_at nodes) peak row x
+  pub best_at : (x : ℕ) → x < length nodes + 1 → IsBestAt (length nodes + 1) (parent_of_node nodes) (out_at nodes) (need_at nodes) peak row x
   best_at x l =
       let le : x ≤ length nodes = omega arith in
       let b = each x le in
@@ -96,12 +96,12 @@ module _ (nodes : List Node) (tree_is : IsTree nodes) (peak : ℕ → ℕ) (row 
       }
 
   module _ (need_law : NeedLaw nodes) (order : List ℕ) (listed : ListedAll row (row 0) order) where
-    linked : (other : List ℕ) → IsPostorder (length nodes + 1) (parent_of nodes) other → peak_from (length nodes + 1) (parent_of nodes) (out_at nodes) (need_at nodes) [] other ≡ peak_of (system_of_nodes nodes) other
+    linked : (other : List ℕ) → IsPostorder (length nodes + 1) (parent_of_node nodes) other → peak_from (length nodes + 1) (parent_of_node nodes) (out_at nodes) (need_at nodes) [] other ≡ peak_of (system_of_nodes nodes) other
     linked other p = peak_link nodes need_law [] other (λ m. m) (member_node nodes other p.traversal)
 
     pub is_best : IsBest nodes order (peak 0)
     is_best =
-        let t = best_theorem (length nodes + 1) (parent_of nodes) (out_at nodes) (need_at nodes) peak row (forest_of nodes tree_is) refl best_at order refl listed in
+        let t = best_theorem (length nodes + 1) (parent_of_node nodes) (out_at nodes) (need_at nodes) peak row (forest_of nodes tree_is) refl best_at order refl listed in
         record {
           best = record { peak = peak; row = row; each = each; listed = listed };
           postorder = to_public nodes order t.0;
@@ -113,9 +113,9 @@ module _ (nodes : List Node) (tree_is : IsTree nodes) (peak : ℕ → ℕ) (row 
   pub subtree_peak : NeedLaw nodes → (x : ℕ) (o : List ℕ) → tree.IsNode nodes x → Listed row x o → peak x ≡ peak_of (system_of_nodes nodes) o
   subtree_peak need_law x o real listed =
       let nx = inner nodes x real in
-      let is = alone_peak (length nodes + 1) (parent_of nodes) (out_at nodes) (need_at nodes) peak row (forest_of nodes tree_is) refl best_at x o nx (covered x real) listed in
+      let is = alone_peak (length nodes + 1) (parent_of_node nodes) (out_at nodes) (need_at nodes) peak row (forest_of nodes tree_is) refl best_at x o nx (covered x real) listed in
       let linked_o = peak_link nodes need_law [] o (λ m. m) (λ v m.
-      let h = (one_members (length nodes + 1) (parent_of nodes) row (forest_of nodes tree_is) (λ y l. exact y (omega arith)) (λ y l. once y (omega arith)) x o listed nx.1 v).0 m in
+      let h = (one_members (length nodes + 1) (parent_of_node nodes) row (forest_of nodes tree_is) (λ y l. exact y (omega arith)) (λ y l. once y (omega arith)) x o listed nx.1 v).0 m in
       outer nodes v (pos_under h.1 nx.0, h.0)) in
       sym is ∙ linked_o
 

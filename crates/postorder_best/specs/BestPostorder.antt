@@ -1,8 +1,8 @@
 -- The best postorder of a tree (Liu 1986, On the storage requirement in the out-of-core multifrontal method): the children of each
 -- node, and the roots, by falling peak minus out, a tie to the lower number.
 use Rattle.std.specs.Prelude.{◌≡◌, ◌⊎◌, ◌↔◌, ℕ, zero, suc, ◌+◌, ◌-◌, ◌<◌, ◌≤◌, max, List, [], ◌∷◌, ◌++◌, length, map}
-use Rattle.tree_input.specs.declared.node.Node.{Node}
-use Rattle.tree_input.specs.Tree.{IsNode, node_at, parent_of}
+use Rattle.trees.specs.declared.node.Node.{Node}
+use Rattle.trees.specs.Tree.{IsNode, node_at, parent_of_node}
 use Rattle.postorder_best.specs.Postorder.{Member}
 
 -- the block that a node leaves; the place 0 above the roots leaves none
@@ -46,7 +46,7 @@ IsBestRow peak out (a ∷ cs) = ComesBeforeAll peak out a cs × IsBestRow peak o
 -- row x has the children of x in the best order, those of 0 being the roots, and peak x is the peak of their subtrees in that order and of
 -- x after them
 pub record IsBestAt (nodes : List Node) (peak : ℕ → ℕ) (row : ℕ → List ℕ) (x : ℕ) : Type 0 where
-  pub children : (c : ℕ) → Member c (row x) ↔ (IsNode nodes c × (parent_of nodes c ≡ x))
+  pub children : (c : ℕ) → Member c (row x) ↔ (IsNode nodes c × (parent_of_node nodes c ≡ x))
   pub in_order : IsBestRow peak (out_at nodes) (row x)
   pub reaches : peak x ≡ children_peak (need_at nodes x) (subtrees_of peak (out_at nodes) (row x))
 

@@ -2,8 +2,8 @@
 -- requirement in the out-of-core multifrontal method).
 use Rattle.std.specs.Prelude.{◌≡◌, ◌⊎◌, ◌↔◌, ℕ, ◌<◌, List, [], ◌∷◌, ◌++◌}
 use Rattle.mp_system.specs.Traversal.{IsTraversal}
-use Rattle.tree_input.specs.declared.node.Node.{Node}
-use Rattle.tree_input.specs.Tree.{IsNode, parent_of, system_of_nodes}
+use Rattle.trees.specs.declared.node.Node.{Node}
+use Rattle.trees.specs.Tree.{IsNode, parent_of_node, system_of_nodes}
 
 -- x stands in the list
 abbrev pub Member : ℕ → List ℕ → Type 0
@@ -26,4 +26,4 @@ pub record StandsTogether (parent : ℕ → ℕ) (order : List ℕ) (x : ℕ) : 
 -- a postorder of the tree
 pub record IsTreePostorder (nodes : List Node) (order : List ℕ) : Type 0 where
   pub traversal : IsTraversal (system_of_nodes nodes) order
-  pub together : (x : ℕ) → IsNode nodes x → StandsTogether (parent_of nodes) order x
+  pub together : (x : ℕ) → IsNode nodes x → StandsTogether (parent_of_node nodes) order x

@@ -1,6 +1,6 @@
 ghost use Rattle.std.specs.Prelude.{◌≡◌, ◌≤◌, ℕ, List, IfOk, OnOk};
 ghost use Rattle.mp_system.specs.Memory.{peak_of};
-ghost use Rattle.tree_input.specs.Tree.{IsTree, system_of_nodes};
+ghost use Rattle.trees.specs.Tree.{IsTree, system_of_nodes};
 ghost use Rattle.postorder_best.specs.Postorder.{IsTreePostorder};
 ghost use Rattle.postorder_best.specs.BestPostorder.{IsBestPostorder, ListedAll};
 ghost use Rattle.row_table.specs.Rows.{row_at};
@@ -13,7 +13,7 @@ use crate::tables::{needs_table, outs_table};
 use crate::walking::listing;
 use row_table::RowTable;
 use std::alloc::Global;
-use tree_input::{Node, Tree, laws};
+use trees::{Node, Tree, laws};
 
 /// A postorder of a tree: the numbers of its nodes, from 1, and the peak of their replay.
 #[derive(Drop)]

@@ -1,12 +1,12 @@
 ghost use Rattle.std.specs.Prelude.{◌≡◌, map, IfOk};
-ghost use Rattle.tree_input.specs.Tree.{IsTree};
+ghost use Rattle.trees.specs.Tree.{IsTree};
 ghost use Rattle.postorder_best.specs.Rows.{AreRows, parent_in};
 
 use crate::NoMemory;
 use row_table::RowTable;
 use row_table::laws::numbers_law;
 use std::alloc::Global;
-use tree_input::Node;
+use trees::Node;
 
 // The parent of each node.
 fn parents(alloc: Global, nodes: &[Node]) -> Result<Vec<u32>, NoMemory>

@@ -2,12 +2,12 @@
 
 ghost use Rattle.std.specs.Prelude.{◌≡◌, ◌≤◌, ℕ, List, length};
 ghost use Rattle.mp_system.specs.Memory.{peak_of};
-ghost use Rattle.tree_input.specs.declared.node.Node.{Node};
-ghost use Rattle.tree_input.specs.Tree.{IsNode, IsTree, system_of_nodes};
+ghost use Rattle.trees.specs.declared.node.Node.{Node};
+ghost use Rattle.trees.specs.Tree.{IsNode, IsTree, system_of_nodes};
 ghost use Rattle.postorder_best.specs.Postorder.{IsTreePostorder};
 ghost use Rattle.postorder_best.specs.BestPostorder.{IsBestAt, IsBestPostorder, Listed};
 
-use tree_input::laws as tree_laws;
+use trees::laws as tree_laws;
 
 /// A tree has one best postorder at most.
 pub fn one_best_postorder()

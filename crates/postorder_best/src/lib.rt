@@ -8,8 +8,6 @@ pub mod laws;
 mod peaks;
 mod sorting;
 mod tables;
-#[cfg(test)]
-mod tests;
 mod walking;
 
 pub use best::{Post, best_postorder};

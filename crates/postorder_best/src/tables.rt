@@ -1,10 +1,10 @@
 ghost use Rattle.std.specs.Prelude.{◌≡◌, ◌+◌, ℕ, length, slice_index, IfOk};
-ghost use Rattle.tree_input.specs.Tree.{IsTree};
+ghost use Rattle.trees.specs.Tree.{IsTree};
 ghost use Rattle.postorder_best.specs.BestPostorder.{out_at, need_at};
 
 use crate::NoMemory;
 use std::alloc::Global;
-use tree_input::Node;
+use trees::Node;
 
 /// What each node leaves; place 0, above the roots, has 0.
 pub fn outs_table(alloc: Global, nodes: &[Node]) -> Result<Vec<u64>, NoMemory>

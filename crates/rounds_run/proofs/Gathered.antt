@@ -9,13 +9,16 @@ use Rattle.std.proofs.lemmas.List.Folds.{list_any_at}
 use Rattle.std.proofs.lemmas.List.Kept.{Contains-dedup_nat, Contains-from_dedup}
 use Rattle.std.proofs.lemmas.List.Sorted.{list_any-IsPermutation}
 use Rattle.std.proofs.lemmas.Map.Keys.{IsStrictlyIncreasing-dedup}
-use Rattle.matrix_market.specs.Pattern.{has, neighbours_of, is_joined, IsPattern}
-use Rattle.ordering.specs.Perm.{IsVertex, IsPerm, vertex_at, place_of}
+use Rattle.patterns.specs.Pattern.{has, neighbours_of, is_joined, IsPattern}
+use Rattle.permutations.specs.Perm.{IsVertex, IsPerm, vertex_at, place_of}
 use Rattle.ordering.specs.Fill.{renumbered, structure_of}
 use Rattle.elim_tree.specs.Paths.{IsInherited, IsFromChild}
-use Rattle.rounds_run.specs.FrontRows.{rows_of}
+use Rattle.rounds_run.specs.FrontRows.{rows_of_front}
 use Rattle.rounds_run.specs.Gathering.{in_lists, is_later, is_gathered}
-use Rattle.rounds_run.proofs.NumberLists.{same_bool, has_at, place_in, rising_same}
+use Rattle.patterns.proofs.SameRows.{rising_same}
+use Rattle.patterns.proofs.NumberLists.{place_of as place_in}
+use Rattle.patterns.proofs.NumberLists.{has_at}
+use Rattle.lists.proofs.Bools.{same_bool}
 use Rattle.rounds_run.proofs.OrderlyRounds.{any_place}
 use Rattle.rounds_run.proofs.RowLists.{Laws, has_rows, rows_rise}
 
@@ -90,9 +93,9 @@ module _ (rows : List (List ℕ)) (order : List ℕ) (is : IsOrdered rows order)
       → (list sorted : List ℕ)
       → ((x : ℕ) → has list x ≡ is_gathered order (neighbours_of rows (vertex_at order j)) lists j x)
       → IsPermutation list sorted → IsSorted nat_cmp sorted
-      → dedup eqb sorted ≡ rows_of (renumbered (is_joined rows) order) (length order) j
+      → dedup eqb sorted ≡ rows_of_front (renumbered (is_joined rows) order) (length order) j
   gathered_rows j vertex lists children list sorted holds moved rises =
-      rising_same (dedup eqb sorted) (rows_of (renumbered (is_joined rows) order) (length order) j) (IsStrictlyIncreasing-dedup sorted rises)
+      rising_same (dedup eqb sorted) (rows_of_front (renumbered (is_joined rows) order) (length order) j) (IsStrictlyIncreasing-dedup sorted rises)
       (rows_rise _ _ laws j)
       (λ z. has_dedup sorted z ∙ sym (list_any-IsPermutation (λ y. eqb y z) list sorted moved) ∙ holds z
       ∙ gathered_is j vertex lists children z ∙ sym (has_rows _ _ laws j z vertex))

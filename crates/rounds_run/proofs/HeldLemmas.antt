@@ -5,16 +5,16 @@ use Rattle.std.proofs.Math.Bool.{or-false}
 use Rattle.std.proofs.lemmas.Bool.{cases_eq, cases_lt, cases_Bool, both_ways, eq-eqb, ne_eqb, eqb-true, eqb-false, or_parts, or_cases, or_left, or_right, cond-true, cond-false}
 use Rattle.std.proofs.lemmas.List.{get_or-set_same, get_or-set_other, length-set, length-replicate, get_or-replicate, get_or_default}
 use Rattle.std.proofs.lemmas.List.Folds.{list_any-append}
-use Rattle.matrix_market.specs.Pattern.{has}
+use Rattle.patterns.specs.Pattern.{has}
 use Rattle.assembly_tree.specs.declared.assembly.Super.{Super}
 use Rattle.assembly_tree.specs.Assembly.{IsSuper, super_at}
 use Rattle.rounds_run.specs.declared.front.Job.{Job}
 use Rattle.rounds_run.specs.declared.front.Made.{Made}
 use Rattle.rounds_run.specs.declared.held.Held.{Held}
-use Rattle.rounds_run.specs.FrontRows.{rows_of, list_of}
+use Rattle.rounds_run.specs.FrontRows.{rows_of_front, list_of_front}
 use Rattle.rounds_run.specs.Gathering.{in_lists}
 use Rattle.rounds_run.specs.Holding.{Factor, IsHeld, IsMadeOf, HandedOver, rest_rows, front_rows}
-use Rattle.rounds_run.proofs.NumberLists.{same_bool}
+use Rattle.lists.proofs.Bools.{same_bool}
 
 in_lists_push : (lists : List (List ℕ)) (list : List ℕ) (i : ℕ) → in_lists (lists ++ list ∷ []) i ≡ (in_lists lists i || has list i)
 in_lists_push lists list i =
@@ -56,7 +56,7 @@ pub held_taken : (f : Factor) (taken done also : ℕ → Bool) (s : ℕ) (old ne
 held_taken f taken done also s old new low rows inboxes more is = record {
   rows_long = ap (λ z. length z.items) rows ∙ is.rows_long;
   inboxes_long = ap (λ (z : List (List (List ℕ))). length z) inboxes ∙ length-set old.inboxes.items (s - 1) [] ∙ is.inboxes_long;
-  kept = λ t super d. ap (λ z. list_of z.items t) rows ∙ is.kept t super d;
+  kept = λ t super d. ap (λ z. list_of_front z.items t) rows ∙ is.kept t super d;
   handed = λ t super left i.
       let parts = or_parts (taken t) (eqb s t) (sym (more t) ∙ left) in
       let ne : t - 1 ≢ s - 1 = λ e. eqb-false s t parts.1 (omega (arith, e, low, super.0)) in
@@ -93,7 +93,7 @@ held_made f taken done also s made old new super inside rows inboxes is_made mor
             let lt : s - 1 < length old.rows.items = omega (arith, low, high, is.rows_long) in
             let at : get_or new.rows.items (s - 1) [] ≡ front_rows f s =
             ap (λ (z : List (List ℕ)). get_or z (s - 1) []) rows ∙ get_or-set_same old.rows.items (s - 1) made.rows [] lt ∙ is_made.rows in
-            subst (λ z. list_of new.rows.items z ≡ front_rows f z) e at
+            subst (λ z. list_of_front new.rows.items z ≡ front_rows f z) e at
             )
         | inr ne ↦ (
             let other : t - 1 ≢ s - 1 = λ e. ne (omega (arith, e, super.0, there.0)) in

@@ -5,8 +5,8 @@ use Rattle.std.proofs.Math.Bool.{or_assoc}
 use Rattle.std.proofs.lemmas.Bool.{both_ways, eq-eqb, or_from, false_from_ne_true}
 use Rattle.std.proofs.lemmas.List.{get_or-take, length-take, drop_more}
 use Rattle.std.proofs.lemmas.Map.Keys.{apart_from_distinct}
-use Rattle.matrix_market.specs.Pattern.{has}
-use Rattle.ordering.specs.Perm.{IsVertex}
+use Rattle.patterns.specs.Pattern.{has}
+use Rattle.permutations.specs.Perm.{IsVertex}
 use Rattle.ordering.specs.Fill.{IsParent, parent_of, count_of}
 use Rattle.elim_tree.specs.Paths.{IsFromChild}
 use Rattle.assembly_tree.specs.declared.assembly.Super.{Super}
@@ -16,7 +16,8 @@ use Rattle.rounds_run.specs.declared.front.Job.{Job}
 use Rattle.rounds_run.specs.declared.held.Held.{Held}
 use Rattle.rounds_run.specs.Gathering.{in_lists}
 use Rattle.rounds_run.specs.Holding.{Factor, IsFactor, IsHeld, IsJobOf, AreDue, or_in}
-use Rattle.rounds_run.proofs.NumberLists.{place_in, has_more}
+use Rattle.patterns.proofs.NumberLists.{place_of as place_in}
+use Rattle.patterns.proofs.NumberLists.{has_more}
 use Rattle.rounds_run.proofs.RowLists.{Laws}
 use Rattle.rounds_run.proofs.SuperRows.{first_vertex, columns-le, from_children}
 

@@ -8,95 +8,31 @@ use Rattle.std.proofs.lemmas.List.Folds.{list_any-append, list_any_at, list_any_
 use Rattle.std.proofs.lemmas.List.FromFn.{length-range_with_len, get_or-range_with_len, map-range_with_len_more}
 use Rattle.std.proofs.lemmas.List.{map-id}
 use Rattle.std.proofs.lemmas.List.Kept.{AllPairs-from_increasing}
-use Rattle.matrix_market.specs.Pattern.{has}
-
-pub same_bool : (a b : Bool) → (a ≡ true → b ≡ true) → (b ≡ true → a ≡ true) → a ≡ b
-same_bool true b to from = sym (to refl)
-same_bool false true to from = from refl
-same_bool false false to from = refl
+use Rattle.patterns.specs.Pattern.{has}
+use Rattle.lists.proofs.Bools.{same_bool}
+use Rattle.lists.proofs.Lists.{range_rising, rising-tail}
+use Rattle.patterns.proofs.SameRows.{in_range, above_head, in_tail, head_in, rising_same}
+use Rattle.patterns.proofs.NumberLists.{has_at, has_more, has_push, place_of}
 
 -- ---- what is in a list
 
 pub has_append : (xs ys : List ℕ) (y : ℕ) → has (xs ++ ys) y ≡ (has xs y || has ys y)
 has_append xs ys y = list_any-append (λ z. eqb z y) xs ys
 
-pub has_push : (xs : List ℕ) (x y : ℕ) → has (xs ++ x ∷ []) y ≡ (has xs y || eqb x y)
-has_push xs x y = has_append xs (x ∷ []) y ∙ ap (λ (b : Bool). has xs y || b) (or-false (eqb x y))
-
-pub has_more : (xs : List ℕ) (i y : ℕ) → i < length xs → has (take (i + 1) xs) y ≡ (has (take i xs) y || eqb (get_or xs i 0) y)
-has_more xs i y lt = list_any_more (λ z. eqb z y) xs i 0 lt
-
-pub has_at : (xs : List ℕ) (i : ℕ) → i < length xs → has xs (get_or xs i 0) ≡ true
-has_at xs i lt = list_any_at (λ z. eqb z (get_or xs i 0)) xs i 0 lt (eq-eqb (get_or xs i 0) (get_or xs i 0) refl)
-
 -- where it stands
-pub place_in : (xs : List ℕ) (y : ℕ) → has xs y ≡ true → (i : ℕ) × (i < length xs) × (get_or xs i 0 ≡ y)
-place_in [] y there = absurd cc
-place_in (x ∷ xs) y there =
-    elim (cases_eq x y) [
-      | inl e ↦ (zero, omega arith, e)
-      | inr other ↦ (
-          let rest = place_in xs y (let ne = ne_eqb x y other in rw ne at there) in
-          (suc rest.0, omega (arith, rest.1), rest.2)
-          )
-    ]
-
-pub has_head : (x : ℕ) (xs : List ℕ) → has (x ∷ xs) x ≡ true
-has_head x xs = rw (eq-eqb x x refl) refl
-
-pub has_tail : (x : ℕ) (xs : List ℕ) (y : ℕ) → x ≢ y → has (x ∷ xs) y ≡ has xs y
-has_tail x xs y other = rw (ne_eqb x y other) refl
 
 -- ---- lists that rise
 
-pub rising-tail : (x : ℕ) (xs : List ℕ) → IsStrictlyIncreasing (x ∷ xs) → IsStrictlyIncreasing xs
-rising-tail x xs rising k lt = let next : suc k + 1 ≡ suc (k + 1) = omega arith in rw next at (rising (suc k) (omega arith))
-
-pub above_head : (x : ℕ) (xs : List ℕ) (y : ℕ) → IsStrictlyIncreasing (x ∷ xs) → has xs y ≡ true → x < y
-above_head x xs y rising there =
-    let place = place_in xs y there in
-    let up : x < get_or xs place.0 0 = AllPairs-from_increasing (x ∷ xs) rising 0 (suc place.0) 0 (omega arith) (omega (arith, place.1)) in
-    omega (arith, up, place.2)
-
-not_in_tail : (x : ℕ) (xs : List ℕ) (y : ℕ) → IsStrictlyIncreasing (x ∷ xs) → y ≤ x → has xs y ≡ false
-not_in_tail x xs y rising le = false_from_ne_true (has xs y) (λ there. absurd (let up = above_head x xs y rising there in omega arith))
-
-same_heads : (x y : ℕ) (xs ys : List ℕ) → IsStrictlyIncreasing (x ∷ xs) → IsStrictlyIncreasing (y ∷ ys)
-    → ((z : ℕ) → has (x ∷ xs) z ≡ has (y ∷ ys) z) → x ≡ y
-same_heads x y xs ys one two same =
-    elim (cases_eq x y) [
-      | inl e ↦ e
-      | inr other ↦ absurd (
-          let x_there : has ys x ≡ true = sym (has_tail y ys x (λ e. other (sym e))) ∙ sym (same x) ∙ has_head x xs in
-          let y_there : has xs y ≡ true = sym (has_tail x xs y other) ∙ same y ∙ has_head y ys in
-          let up = above_head y ys x two x_there in
-          let down = above_head x xs y one y_there in
-          omega arith
-          )
-    ]
-
 -- two that have the same numbers are one
-pub rising_same : (xs ys : List ℕ) → IsStrictlyIncreasing xs → IsStrictlyIncreasing ys → ((z : ℕ) → has xs z ≡ has ys z) → xs ≡ ys
-rising_same [] [] one two same = refl
-rising_same [] (y ∷ ys) one two same = absurd (both_ways false refl (same y ∙ has_head y ys))
-rising_same (x ∷ xs) [] one two same = absurd (both_ways false refl (sym (same x) ∙ has_head x xs))
-rising_same (x ∷ xs) (y ∷ ys) one two same =
-    let heads = same_heads x y xs ys one two same in
-    let tails = λ (z : ℕ). elim (cases_eq x z) as (λ _. has xs z ≡ has ys z) [
-      | inl here ↦ not_in_tail x xs z one (omega arith) ∙ sym (not_in_tail y ys z two (omega arith))
-      | inr other ↦ sym (has_tail x xs z other) ∙ same z ∙ has_tail y ys z (λ e. other (heads ∙ e))
-    ] in
-    let rest : xs ≡ ys = rising_same xs ys (rising-tail x xs one) (rising-tail y ys two) tails in
-    cc
 
 -- one that has j, and nothing below it, begins with j
 pub begins_with : (xs : List ℕ) (j : ℕ) → IsStrictlyIncreasing xs → has xs j ≡ true → ((i : ℕ) → has xs i ≡ true → j ≤ i) → xs ≡ j ∷ drop 1 xs
 begins_with [] j rising there least = absurd cc
 begins_with (x ∷ xs) j rising there least =
-    let low = least x (has_head x xs) in
+    let low = least x (head_in x xs) in
     let same : x ≡ j = elim (cases_eq x j) [
       | inl e ↦ e
-      | inr other ↦ absurd (let up = above_head x xs j rising (sym (has_tail x xs j other) ∙ there) in omega arith)
+      | inr other ↦ absurd (let up = above_head x xs j rising (sym (in_tail x xs j other) ∙ there) in omega arith)
     ] in
     ap (λ z. z ∷ xs) same
 
@@ -158,22 +94,9 @@ filter_same p q to (x ∷ xs) le =
 
 -- ---- ranges
 
-pub range_rising : (a n : ℕ) → IsStrictlyIncreasing (range_with_len a n)
-range_rising a n k lt =
-    let long = length-range_with_len a n in
-    rw (get_or-range_with_len a n k 0 (omega arith), get_or-range_with_len a n (k + 1) 0 (omega arith)) (omega arith)
-
-pub in_range : (a n b : ℕ) → a ≤ b → b < a + n → has (range_with_len a n) b ≡ true
-in_range a n b low high =
-    let long = length-range_with_len a n in
-    let lt : b - a < length (range_with_len a n) = omega arith in
-    let at : get_or (range_with_len a n) (b - a) 0 ≡ b =
-    get_or-range_with_len a n (b - a) 0 (omega arith) ∙ (let e : a + (b - a) ≡ b = omega arith in e) in
-    subst (λ z. has (range_with_len a n) z ≡ true) at (has_at (range_with_len a n) (b - a) lt)
-
 pub from_range : (a n b : ℕ) → has (range_with_len a n) b ≡ true → (a ≤ b) × (b < a + n)
 from_range a n b there =
-    let place = place_in (range_with_len a n) b there in
+    let place = place_of (range_with_len a n) b there in
     let lt : place.0 < n = omega (arith, place.1, length-range_with_len a n) in
     let at = get_or-range_with_len a n place.0 0 lt in
     (omega (arith, at, place.2), omega (arith, at, place.2))

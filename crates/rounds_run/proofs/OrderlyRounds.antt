@@ -4,10 +4,10 @@ use Rattle.std.specs.List.{list_any, IsDistinct}
 use Rattle.std.proofs.lemmas.Bool.{cases_lt, cases_Bool, both_ways, false_from_ne_true}
 use Rattle.std.proofs.lemmas.List.{get_or_past, get_or-take, length-take, length-map, get_or-map}
 use Rattle.std.proofs.lemmas.List.Folds.{list_any_at}
-use Rattle.matrix_market.specs.Pattern.{has}
+use Rattle.patterns.specs.Pattern.{has}
 use Rattle.mp_system.specs.System.{TaskSystem, IsTask, task_at}
-use Rattle.tree_input.specs.declared.node.Node.{Node}
-use Rattle.tree_input.specs.Tree.{task_of}
+use Rattle.trees.specs.declared.node.Node.{Node}
+use Rattle.trees.specs.Tree.{task_of_node}
 use Rattle.assembly_tree.specs.declared.assembly.Super.{Super}
 use Rattle.assembly_tree.specs.Assembly.{AssemblyTree, IsAssembly, IsSuper, no_super, super_at}
 use Rattle.activation.specs.declared.events.Event.{Event}
@@ -60,7 +60,7 @@ unit_time assembly is t task =
     let super = super_of_task assembly is t task in
     let lt : t - 1 < length assembly.supers = omega (arith, super.0, super.1) in
     let long = length-map assembly.supers row_node in
-    ap (λ x. x.time) (get_or-map task_of (map row_node assembly.supers) (t - 1) (row_node no_super) _ (omega (arith, lt, long)))
+    ap (λ x. x.time) (get_or-map task_of_node (map row_node assembly.supers) (t - 1) (row_node no_super) _ (omega (arith, lt, long)))
     ∙ ap (λ (x : Node). x.time) (get_or-map row_node assembly.supers (t - 1) no_super (row_node no_super) lt)
 
 module _ (assembly : AssemblyTree) (is : IsAssembly assembly) (bound workers : ℕ) (events : List Event) (rounds : List (List ℕ))

@@ -5,12 +5,20 @@ use Rattle.std.specs.List.Sorted.{IsStrictlyIncreasing}
 use Rattle.std.proofs.lemmas.Bool.{cases_eq, cases_Bool, cases_lt, eq-eqb, ne_eqb, eqb-true, eqb-false, both_ways, and_parts, and_from, or_left, not-true, not_from_false}
 use Rattle.std.proofs.lemmas.List.Kept.{IsStrictlyIncreasing-filter}
 use Rattle.std.proofs.lemmas.List.Sums.{length-filter}
-use Rattle.matrix_market.specs.Pattern.{has}
-use Rattle.ordering.specs.Perm.{IsVertex}
+use Rattle.patterns.specs.Pattern.{has}
+use Rattle.permutations.specs.Perm.{IsVertex}
 use Rattle.ordering.specs.Fill.{IsAdjacency, structure_of, parent_of, count_of}
 use Rattle.elim_tree.specs.Paths.{Path, edge, via, IsWithin, IsInherited, IsFromChild}
-use Rattle.rounds_run.specs.FrontRows.{rows_of}
-use Rattle.rounds_run.proofs.NumberLists.{same_bool, has_filter, has_head, has_tail, rising-tail, above_head, rising_same, begins_with, filter_same, range_rising, in_range, from_range}
+use Rattle.rounds_run.specs.FrontRows.{rows_of_front}
+use Rattle.rounds_run.proofs.NumberLists.{has_filter, begins_with, filter_same, from_range}
+use Rattle.patterns.proofs.SameRows.{rising_same}
+use Rattle.patterns.proofs.SameRows.{head_in as has_head}
+use Rattle.lists.proofs.Lists.{rising-tail}
+use Rattle.patterns.proofs.SameRows.{in_tail as has_tail}
+use Rattle.patterns.proofs.SameRows.{above_head}
+use Rattle.patterns.proofs.SameRows.{in_range}
+use Rattle.lists.proofs.Lists.{range_rising}
+use Rattle.lists.proofs.Bools.{same_bool}
 
 -- the laws of the fill for a pattern of n columns
 pub record Laws (joined : ℕ → ℕ → Bool) (n : ℕ) : Type 0 where
@@ -28,7 +36,7 @@ module _ (joined : ℕ → ℕ → Bool) (n : ℕ) (laws : Laws joined n) where
   own : (j : ℕ) → structure_of joined j j ≡ true
   own j = or_left _ _ (eq-eqb j j refl)
 
-  pub rows_rise : (j : ℕ) → IsStrictlyIncreasing (rows_of joined n j)
+  pub rows_rise : (j : ℕ) → IsStrictlyIncreasing (rows_of_front joined n j)
   rows_rise j = IsStrictlyIncreasing-filter (structure_of joined j) (range_with_len 1 n) (range_rising 1 n)
 
   -- the rows of a column are columns
@@ -43,7 +51,7 @@ module _ (joined : ℕ → ℕ → Bool) (n : ℕ) (laws : Laws joined n) where
             )
       ]
 
-  pub has_rows : (j i : ℕ) → IsVertex n j → has (rows_of joined n j) i ≡ structure_of joined j i
+  pub has_rows : (j i : ℕ) → IsVertex n j → has (rows_of_front joined n j) i ≡ structure_of joined j i
   has_rows j i vertex =
       has_filter (structure_of joined j) (range_with_len 1 n) i
       ∙ same_bool _ _ (λ both. (and_parts (has (range_with_len 1 n) i) (structure_of joined j i) both).1)
@@ -52,21 +60,21 @@ module _ (joined : ℕ → ℕ → Bool) (n : ℕ) (laws : Laws joined n) where
       and_from _ _ (in_range 1 n i is.0 (omega (arith, is.1))) there
       ))
 
-  pub rows_long : (j : ℕ) → length (rows_of joined n j) ≡ count_of joined n j
+  pub rows_long : (j : ℕ) → length (rows_of_front joined n j) ≡ count_of joined n j
   rows_long j = length-filter (structure_of joined j) (range_with_len 1 n)
 
-  pub rows_begin : (j : ℕ) → IsVertex n j → rows_of joined n j ≡ j ∷ drop 1 (rows_of joined n j)
+  pub rows_begin : (j : ℕ) → IsVertex n j → rows_of_front joined n j ≡ j ∷ drop 1 (rows_of_front joined n j)
   rows_begin j vertex =
-      begins_with (rows_of joined n j) j (rows_rise j) (has_rows j j vertex ∙ own j)
+      begins_with (rows_of_front joined n j) j (rows_rise j) (has_rows j j vertex ∙ own j)
       (λ i there. laws.later j i (sym (has_rows j i vertex) ∙ there))
 
-  rest_rises : (j : ℕ) → IsVertex n j → IsStrictlyIncreasing (drop 1 (rows_of joined n j))
+  rest_rises : (j : ℕ) → IsVertex n j → IsStrictlyIncreasing (drop 1 (rows_of_front joined n j))
   rest_rises j vertex = rising-tail j _ (subst IsStrictlyIncreasing (rows_begin j vertex) (rows_rise j))
 
   -- past the column itself
-  pub has_rest : (j i : ℕ) → IsVertex n j → has (drop 1 (rows_of joined n j)) i ≡ (structure_of joined j i && not (eqb i j))
+  pub has_rest : (j i : ℕ) → IsVertex n j → has (drop 1 (rows_of_front joined n j)) i ≡ (structure_of joined j i && not (eqb i j))
   has_rest j i vertex =
-      let rest = drop 1 (rows_of joined n j) in
+      let rest = drop 1 (rows_of_front joined n j) in
       let rises : IsStrictlyIncreasing (j ∷ rest) = subst IsStrictlyIncreasing (rows_begin j vertex) (rows_rise j) in
       let whole : has (j ∷ rest) i ≡ structure_of joined j i =
       ap (λ z. has z i) (sym (rows_begin j vertex)) ∙ has_rows j i vertex in
@@ -84,11 +92,11 @@ module _ (joined : ℕ → ℕ → Bool) (n : ℕ) (laws : Laws joined n) where
 
   -- a column that is the parent of the one before it, and has one row less, has the rows of that but the column itself
   pub rows_next : (j : ℕ) → IsVertex n j → IsVertex n (suc j) → parent_of joined n j ≡ suc j
-      → count_of joined n j ≡ count_of joined n (suc j) + 1 → rows_of joined n (suc j) ≡ drop 1 (rows_of joined n j)
+      → count_of joined n j ≡ count_of joined n (suc j) + 1 → rows_of_front joined n (suc j) ≡ drop 1 (rows_of_front joined n j)
   rows_next j vertex next up fewer =
       let p = λ (i : ℕ). structure_of joined j i && not (eqb i j) in
       let q = structure_of joined (suc j) in
-      let rest = drop 1 (rows_of joined n j) in
+      let rest = drop 1 (rows_of_front joined n j) in
       let listed : rest ≡ filter p (range_with_len 1 n) =
       rising_same rest (filter p (range_with_len 1 n)) (rest_rises j vertex)
       (IsStrictlyIncreasing-filter p (range_with_len 1 n) (range_rising 1 n))
@@ -97,8 +105,8 @@ module _ (joined : ℕ → ℕ → Bool) (n : ℕ) (laws : Laws joined n) where
       let parts = and_parts (structure_of joined j i) (not (eqb i j)) both in
       (laws.children (suc j) i next).1 (inr (inr (j, vertex, up, parts.0, eqb-false i j (not-true (eqb i j) parts.1))))
       ) in
-      let one_less : length rest + 1 ≡ length (rows_of joined n j) = (
-      let long : length (rows_of joined n j) ≡ length (j ∷ rest) = ap (λ (z : List ℕ). length z) (rows_begin j vertex) in
+      let one_less : length rest + 1 ≡ length (rows_of_front joined n j) = (
+      let long : length (rows_of_front joined n j) ≡ length (j ∷ rest) = ap (λ (z : List ℕ). length z) (rows_begin j vertex) in
       omega (arith, long)
       ) in
       let le : length (filter q (range_with_len 1 n)) ≤ length (filter p (range_with_len 1 n)) = (

@@ -7,15 +7,18 @@ use Rattle.std.proofs.lemmas.List.Sums.{sum_by-cons, sum_by-le, AllPass-from_lis
 use Rattle.std.proofs.lemmas.List.Folds.{list_any_at}
 use Rattle.std.proofs.lemmas.List.FromFn.{length-range_with_len, get_or-range_with_len}
 use Rattle.std.proofs.lemmas.Bool.{cases_eq, eq-eqb, ne_eqb, or_left, or_right, or_cases, not_from_false, not-true, both_ways, cond-true, cond-false}
+use Rattle.limits.specs.Limits.{most_order}
 use Rattle.mp_system.specs.declared.system.Item.{Item}
 use Rattle.mp_system.specs.System.{TaskSystem, IsTask, is_input}
 use Rattle.mp_system.specs.Memory.{stands_in, is_ready, is_produced}
 use Rattle.mp_system.specs.Traversal.{IsTraversal}
-use Rattle.tree_input.specs.declared.node.Node.{Node}
-use Rattle.tree_input.specs.Tree.{IsNode, IsTree, IsNodeWithin, node_at, node_size, ancestor, task_of, item_of, items_from}
+use Rattle.trees.specs.declared.node.Node.{Node}
+use Rattle.trees.specs.Tree.{IsNode, IsTree, IsNodeWithin, node_at, node_size, ancestor, task_of_node, item_of_node, items_from}
 use Rattle.assembly_tree.specs.declared.assembly.Super.{Super}
 use Rattle.assembly_tree.specs.Assembly.{AssemblyTree, IsSuper, IsAssembly, no_super, super_at, columns_in, front_of}
 use Rattle.rounds_run.specs.RowSystem.{row_node, row_system, row_order}
+use Rattle.assembly_tree.proofs.FrontLemmas.{rising_leads}
+use Rattle.trees.proofs.SystemLemmas.{get_or-items_from, length-items_from}
 
 -- ---- the nodes
 
@@ -30,32 +33,13 @@ count-le-sum (x ∷ xs) each =
     let first : 1 ≤ x.columns = each zero x (omega arith) in
     omega (arith, first, count-le-sum xs (All-tail (λ (y : Super). 1 ≤ y.columns) x xs each), sum_by-cons columns_in x xs)
 
-ancestor-none : (nodes : List Node) (k : ℕ) → ancestor nodes k 0 ≡ 0
-unfolding ancestor
-ancestor-none nodes zero = refl
-ancestor-none nodes (suc k) = ancestor-none nodes k
-
 -- parents of greater number lead to a root
-rising_leads : (nodes : List Node) → ((v : ℕ) → IsNode nodes v → 0 < (node_at nodes v).parent →
-    (v < (node_at nodes v).parent) × ((node_at nodes v).parent ≤ length nodes)) → (k v : ℕ) → IsNode nodes v
-    → length nodes < v + k → ancestor nodes k v ≡ 0
-unfolding ancestor
-rising_leads nodes rising zero v is far = absurd (omega (arith, is.1, far))
-rising_leads nodes rising (suc k) zero is far = absurd (omega (arith, is.0))
-rising_leads nodes rising (suc k) (suc i) is far =
-    elim (cases_eq (node_at nodes (suc i)).parent 0) [
-      | inl root ↦ rw root (ancestor-none nodes k)
-      | inr child ↦ (
-          let above = rising (suc i) is (omega (arith, child)) in
-          rising_leads nodes rising k (node_at nodes (suc i)).parent (omega (arith, above.0), above.1) (omega (arith, above.0, far))
-          )
-    ]
 
 module _ (assembly : AssemblyTree) (is : IsAssembly assembly) where
   nodes_long : length (map row_node assembly.supers) ≡ length assembly.supers
   nodes_long = length-map assembly.supers row_node
 
-  pub supers_few : length assembly.supers ≤ 1000000
+  pub supers_few : length assembly.supers ≤ most_order
   supers_few =
       let each : All (λ (x : Super). 1 ≤ x.columns) assembly.supers = λ k d lt.
       (let some = (is.each (suc k) (omega arith, omega (arith, lt))).some in omega (arith, some, ap (λ (x : Super). x.columns) (super_here assembly.supers k d lt))) in
@@ -88,10 +72,10 @@ module _ (assembly : AssemblyTree) (is : IsAssembly assembly) where
         subst (λ x. IsNodeWithin (map row_node assembly.supers) (row_node x)) (super_here assembly.supers k d lt)
         (within (suc k) (omega arith, omega (arith, lt))));
     total = (
-        let each : All (λ (x : Node). node_size x ≤ 1000000) (map row_node assembly.supers) =
-        All-map (λ (x : Node). node_size x ≤ 1000000) row_node assembly.supers (λ k d lt.
+        let each : All (λ (x : Node). node_size x ≤ most_order) (map row_node assembly.supers) =
+        All-map (λ (x : Node). node_size x ≤ most_order) row_node assembly.supers (λ k d lt.
         (let fits = is.fits (suc k) (omega arith, omega (arith, lt)) in omega (arith, fits, is.few, ap front_of (super_here assembly.supers k d lt)))) in
-        omega (arith, sum_by-le node_size 1000000 (map row_node assembly.supers) each, supers_few, nodes_long)
+        omega (arith, sum_by-le node_size most_order (map row_node assembly.supers) each, supers_few, nodes_long)
         );
     roots = λ v node. rising_leads (map row_node assembly.supers) (λ w there some.
         let super : IsSuper assembly.supers w = (there.0, omega (arith, there.1, nodes_long)) in
@@ -120,18 +104,6 @@ count_once a (suc n) v low high =
       | inl e ↦ (let here = eq-eqb a v e in rw here (let rest = count_below (a + 1) n v (omega arith) in omega (arith, rest)))
       | inr ne ↦ (let here = ne_eqb a v ne in rw here (let rest = count_once (a + 1) n v (omega arith) (omega arith) in omega (arith, rest)))
     ]
-
-pub item_here : (v : ℕ) (nodes : List Node) (i : ℕ) (d : Item) (e : Node) → i < length nodes
-    → get_or (items_from v nodes) i d ≡ item_of (v + i) (get_or nodes i e)
-item_here v [] i d e lt = absurd (omega arith)
-item_here v (x ∷ xs) zero d e lt = ap (λ (k : ℕ). item_of k x) (let same : v ≡ v + zero = omega arith in same)
-item_here v (x ∷ xs) (suc i) d e lt =
-    item_here (v + 1) xs i d e (omega arith)
-    ∙ ap (λ (k : ℕ). item_of k (get_or xs i e)) (let same : v + 1 + i ≡ v + suc i = omega arith in same)
-
-items_long : (v : ℕ) (nodes : List Node) → length (items_from v nodes) ≡ length nodes
-items_long v [] = refl
-items_long v (x ∷ xs) = ap (λ (k : ℕ). suc k) (items_long (v + 1) xs)
 
 -- an item that v consumes is that of a child of v
 consumes_child : (v u p : ℕ) (done : ℕ → Bool) (item : Item) → item.from ≡ Some u → item.to ≡ cond (eqb p 0) None (Some p)
@@ -173,7 +145,7 @@ child_produced v u p done item from to here some passes =
 
 module _ (assembly : AssemblyTree) (is : IsAssembly assembly) where
   pub tasks_long : length (row_system assembly.supers).tasks ≡ length assembly.supers
-  tasks_long = length-map (map row_node assembly.supers) task_of ∙ length-map assembly.supers row_node
+  tasks_long = length-map (map row_node assembly.supers) task_of_node ∙ length-map assembly.supers row_node
 
   -- tasks are supernodes
   pub super_of_task : (t : ℕ) → IsTask (row_system assembly.supers) t → IsSuper assembly.supers t
@@ -183,14 +155,14 @@ module _ (assembly : AssemblyTree) (is : IsAssembly assembly) where
   task_of_super t super = (super.0, omega (arith, super.1, tasks_long))
 
   item_is : (k : ℕ) (d : Item) → k < length assembly.supers
-      → get_or (row_system assembly.supers).items k d ≡ item_of (suc k) (row_node (super_at assembly.supers (suc k)))
+      → get_or (row_system assembly.supers).items k d ≡ item_of_node (suc k) (row_node (super_at assembly.supers (suc k)))
   item_is k d lt =
       let more : 1 + k ≡ suc k = omega arith in
       let long = length-map assembly.supers row_node in
-      item_here 1 (map row_node assembly.supers) k d (row_node no_super) (omega (arith, lt, long))
-      ∙ ap (λ x. item_of (1 + k) x) (get_or-map row_node assembly.supers k no_super (row_node no_super) lt)
-      ∙ ap (λ x. item_of (1 + k) (row_node x)) (sym (super_here assembly.supers k no_super lt))
-      ∙ ap (λ (i : ℕ). item_of i (row_node (super_at assembly.supers (suc k)))) more
+      get_or-items_from 1 (map row_node assembly.supers) k d (row_node no_super) (omega (arith, lt, long))
+      ∙ ap (λ x. item_of_node (1 + k) x) (get_or-map row_node assembly.supers k no_super (row_node no_super) lt)
+      ∙ ap (λ x. item_of_node (1 + k) (row_node x)) (sym (super_here assembly.supers k no_super lt))
+      ∙ ap (λ (i : ℕ). item_of_node i (row_node (super_at assembly.supers (suc k)))) more
 
   -- a task that is ready has all its children done
   pub child_done : (done : ℕ → Bool) (s c : ℕ) → is_ready (row_system assembly.supers) done s ≡ true → IsSuper assembly.supers c
@@ -199,8 +171,8 @@ module _ (assembly : AssemblyTree) (is : IsAssembly assembly) where
   child_done done s (suc k) ready child up super =
       let test = λ (item : Item). not (is_input s item) || is_produced done item in
       let lt : k < length assembly.supers = omega (arith, child.1) in
-      let long = items_long 1 (map row_node assembly.supers) ∙ length-map assembly.supers row_node in
-      let item = item_of (suc k) (row_node (super_at assembly.supers (suc k))) in
+      let long = length-items_from 1 (map row_node assembly.supers) ∙ length-map assembly.supers row_node in
+      let item = item_of_node (suc k) (row_node (super_at assembly.supers (suc k))) in
       let all = AllPass-from_list_all test (row_system assembly.supers).items ready in
       let passes : test item ≡ true =
       subst (λ z. test z ≡ true) (item_is k item lt) (all k item (omega (arith, lt, long))) in
@@ -232,12 +204,12 @@ module _ (assembly : AssemblyTree) (is : IsAssembly assembly) where
         ) in
         let test = λ (item : Item). not (is_input v item) || is_produced (stands_in before) item in
         list_all-from_AllPass test (row_system assembly.supers).items (λ k d lt.
-        let long = items_long 1 (map row_node assembly.supers) ∙ length-map assembly.supers row_node in
+        let long = length-items_from 1 (map row_node assembly.supers) ∙ length-map assembly.supers row_node in
         let in_range : k < m = omega (arith, lt, long) in
         let child : IsSuper assembly.supers (suc k) = (omega arith, omega (arith, in_range)) in
         let x = super_at assembly.supers (suc k) in
         subst (λ z. test z ≡ true) (sym (item_is k d in_range))
-        (consumes_child v (suc k) x.parent (stands_in before) (item_of (suc k) (row_node x)) refl refl
+        (consumes_child v (suc k) x.parent (stands_in before) (item_of_node (suc k) (row_node x)) refl refl
         (λ same some. stands (suc k) (omega arith) (let above = (is.each (suc k) child).parent some in omega (arith, above.0, same)))))
         );
   } where

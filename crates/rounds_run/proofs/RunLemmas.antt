@@ -5,14 +5,14 @@ use Rattle.std.specs.List.{list_any, IsDistinct}
 use Rattle.std.specs.declared.alloc.AllocError.{AllocError}
 use Rattle.std.proofs.lemmas.List.{get_or_default, take_all, length_push, length-set, take-take, take_at, get_or_push, get_or-take}
 use Rattle.std.proofs.lemmas.List.Folds.{list_any_more}
-use Rattle.matrix_market.specs.Pattern.{has}
+use Rattle.patterns.specs.Pattern.{has}
 use Rattle.assembly_tree.specs.declared.assembly.Super.{Super}
 use Rattle.assembly_tree.specs.Assembly.{IsSuper, super_at}
 use Rattle.assembly_tree.specs.Supernodes.{first_of}
 use Rattle.rounds_run.specs.declared.front.Job.{Job}
 use Rattle.rounds_run.specs.declared.front.Made.{Made}
 use Rattle.rounds_run.specs.declared.held.Held.{Held}
-use Rattle.rounds_run.specs.FrontRows.{rows_of, list_of}
+use Rattle.rounds_run.specs.FrontRows.{rows_of_front, list_of_front}
 use Rattle.rounds_run.specs.Holding.{Factor, IsHeld, IsHandedBack, IsMadeOf, AreJobsOf, AreMadeOf, AreOrderly, AreDue, in_rounds, or_in, front_rows}
 use Rattle.rounds_run.proofs.HeldLemmas.{held_same}
 
@@ -44,7 +44,7 @@ held_next f rounds i round held lt same is =
 
 -- at the end every front is made
 pub all_made : (f : Factor) (rounds : List (List ℕ)) (i : ℕ) (held : Held) → AreOrderly f.supers rounds → length rounds ≤ i
-    → IsHeld f (in_rounds rounds i) (in_rounds rounds i) held → (s : ℕ) → IsSuper f.supers s → list_of held.rows.items s ≡ front_rows f s
+    → IsHeld f (in_rounds rounds i) (in_rounds rounds i) held → (s : ℕ) → IsSuper f.supers s → list_of_front held.rows.items s ≡ front_rows f s
 all_made f rounds i held is end held_is s super =
     held_is.kept s super (ap (λ z. list_any (λ list. has list s) z) (take_all i rounds end) ∙ is.all s super)
 

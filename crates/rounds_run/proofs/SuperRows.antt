@@ -6,30 +6,21 @@ use Rattle.std.proofs.lemmas.List.{drop-drop}
 use Rattle.std.proofs.lemmas.List.FromFn.{get_or-map-range_with_len, length-map-range_with_len}
 use Rattle.std.proofs.lemmas.List.Sums.{sum_by-take-le, sum_by_more}
 use Rattle.std.proofs.lemmas.List.{take_all}
-use Rattle.matrix_market.specs.Pattern.{has}
-use Rattle.ordering.specs.Perm.{IsVertex}
+use Rattle.patterns.specs.Pattern.{has}
+use Rattle.permutations.specs.Perm.{IsVertex}
 use Rattle.ordering.specs.Fill.{structure_of, parent_of, count_of, parents_of, counts_of, IsParent}
 use Rattle.elim_tree.specs.Paths.{IsFromChild}
 use Rattle.elim_tree.specs.Trees.{parent_at}
 use Rattle.assembly_tree.specs.declared.assembly.Super.{Super}
 use Rattle.assembly_tree.specs.Assembly.{AssemblyTree, IsSuper, no_super, super_at, super_of, columns_in, front_of}
 use Rattle.assembly_tree.specs.Supernodes.{AreSupernodes, Continues, count_at, first_of, last_of}
-use Rattle.rounds_run.specs.FrontRows.{rows_of}
+use Rattle.rounds_run.specs.FrontRows.{rows_of_front}
 use Rattle.rounds_run.proofs.RowLists.{Laws, has_rest, rows_long, rows_next}
+use Rattle.assembly_tree.proofs.CountLemmas.{count-listed}
+use Rattle.elim_tree.proofs.Columns.{parent_in_list}
+use Rattle.assembly_tree.proofs.RunLemmas.{last-within}
 
 -- ---- the tables of the fill
-
-pub parent-listed : (joined : ℕ → ℕ → Bool) (n j : ℕ) → IsVertex n j → parent_at (parents_of joined n) j ≡ parent_of joined n j
-parent-listed joined n zero is = absurd (omega (arith, is.0))
-parent-listed joined n (suc i) is =
-    get_or-map-range_with_len (parent_of joined n) 1 n i (suc i) 0 (omega (arith, is.1)) (omega arith)
-
-count-listed : (joined : ℕ → ℕ → Bool) (n j : ℕ) → IsVertex n j → count_at (counts_of joined n) j ≡ count_of joined n j
-count-listed joined n zero is = absurd (omega (arith, is.0))
-count-listed joined n (suc i) is =
-    let back : suc i - 1 ≡ i = omega arith in
-    ap (λ (k : ℕ). get_or (counts_of joined n) k 0) back
-    ∙ get_or-map-range_with_len (count_of joined n) 1 n i (suc i) 0 (omega (arith, is.1)) (omega arith)
 
 -- ---- where the columns of a supernode stand
 
@@ -45,12 +36,6 @@ span supers (suc i) is =
     let more : last_of supers (suc i) ≡ last_of supers i + columns_in (get_or supers i no_super) =
     ap (λ (k : ℕ). last_of supers k) (sym up) ∙ sum_by_more columns_in supers i no_super (omega (arith, is.1)) in
     omega (arith, here, first, more)
-
-pub last-le : (supers : List Super) (s : ℕ) → last_of supers s ≤ last_of supers (length supers)
-last-le supers s =
-    let all : last_of supers (length supers) ≡ sum_by columns_in supers =
-    ap (sum_by columns_in) (take_all (length supers) supers (omega arith)) in
-    omega (arith, sum_by-take-le columns_in supers s, all)
 
 -- each column stands in some supernode
 pub cover : (supers : List Super) (p m : ℕ) → 1 ≤ p → m ≤ length supers → p ≤ last_of supers m
@@ -76,7 +61,7 @@ module _ (joined : ℕ → ℕ → Bool) (n : ℕ) (laws : Laws joined n) (super
   last_all = is.total ∙ order_is
 
   pub column_vertex : (s j : ℕ) → IsSuper supers s → first_of supers s ≤ j → j ≤ last_of supers s → IsVertex n j
-  column_vertex s j super low high = (omega (arith, low), omega (arith, high, last-le supers s, last_all))
+  column_vertex s j super low high = (omega (arith, low), omega (arith, high, last-within supers s, last_all))
 
   pub first_vertex : (s : ℕ) → IsSuper supers s → IsVertex n (first_of supers s)
   first_vertex s super = column_vertex s (first_of supers s) super (omega arith) (is.some s super)
@@ -92,15 +77,15 @@ module _ (joined : ℕ → ℕ → Bool) (n : ℕ) (laws : Laws joined n) (super
   -- ---- the rows of each column
 
   pub rows_from : (s k : ℕ) → IsSuper supers s → first_of supers s + k ≤ last_of supers s
-      → rows_of joined n (first_of supers s + k) ≡ drop k (rows_of joined n (first_of supers s))
-  rows_from s zero super le = ap (rows_of joined n) (let e : first_of supers s + zero ≡ first_of supers s = omega arith in e)
+      → rows_of_front joined n (first_of supers s + k) ≡ drop k (rows_of_front joined n (first_of supers s))
+  rows_from s zero super le = ap (rows_of_front joined n) (let e : first_of supers s + zero ≡ first_of supers s = omega arith in e)
   rows_from s (suc k) super le =
       let j = first_of supers s + k in
       let here = column_vertex s j super (omega arith) (omega (arith, le)) in
       let next = column_vertex s (suc j) super (omega arith) (omega (arith, le)) in
       let goes = is.runs s j super (omega arith) (omega (arith, le)) in
       let more : suc j ≡ j + 1 = omega arith in
-      let up : parent_of joined n j ≡ suc j = sym (parent-listed joined n j here) ∙ goes.parent ∙ sym more in
+      let up : parent_of joined n j ≡ suc j = sym (parent_in_list joined n j here) ∙ goes.parent ∙ sym more in
       let fewer : count_of joined n j ≡ count_of joined n (suc j) + 1 = (
       let one = count-listed joined n j here in
       let two = count-listed joined n (suc j) next in
@@ -109,27 +94,27 @@ module _ (joined : ℕ → ℕ → Bool) (n : ℕ) (laws : Laws joined n) (super
       ) in
       let at : first_of supers s + suc k ≡ suc j = omega arith in
       let count : k + 1 ≡ suc k = omega arith in
-      ap (rows_of joined n) at ∙ rows_next joined n laws j here next up fewer ∙ ap (drop 1) (rows_from s k super (omega (arith, le)))
-      ∙ drop-drop 1 k (rows_of joined n (first_of supers s)) ∙ ap (λ (i : ℕ). drop i (rows_of joined n (first_of supers s))) count
+      ap (rows_of_front joined n) at ∙ rows_next joined n laws j here next up fewer ∙ ap (drop 1) (rows_from s k super (omega (arith, le)))
+      ∙ drop-drop 1 k (rows_of_front joined n (first_of supers s)) ∙ ap (λ (i : ℕ). drop i (rows_of_front joined n (first_of supers s))) count
 
   -- past its columns a list has the rows of the last column but that column
   rest_is : (s : ℕ) → IsSuper supers s
-      → drop (super_at supers s).columns (rows_of joined n (first_of supers s)) ≡ drop 1 (rows_of joined n (last_of supers s))
+      → drop (super_at supers s).columns (rows_of_front joined n (first_of supers s)) ≡ drop 1 (rows_of_front joined n (last_of supers s))
   rest_is s super =
       let count = (super_at supers s).columns in
       let long = span supers s super in
       let some = is.some s super in
       let last : first_of supers s + (count - 1) ≡ last_of supers s = omega (arith, long, some) in
       let back : count - 1 + 1 ≡ count = omega (arith, long, some) in
-      ap (λ (i : ℕ). drop i (rows_of joined n (first_of supers s))) (sym back)
-      ∙ sym (drop-drop 1 (count - 1) (rows_of joined n (first_of supers s)))
-      ∙ ap (drop 1) (sym (rows_from s (count - 1) super (omega (arith, last))) ∙ ap (rows_of joined n) last)
+      ap (λ (i : ℕ). drop i (rows_of_front joined n (first_of supers s))) (sym back)
+      ∙ sym (drop-drop 1 (count - 1) (rows_of_front joined n (first_of supers s)))
+      ∙ ap (drop 1) (sym (rows_from s (count - 1) super (omega (arith, last))) ∙ ap (rows_of_front joined n) last)
 
   -- ---- children
 
   pub super_parent : (c : ℕ) → IsSuper supers c
       → (super_at supers c).parent ≡ super_of nodes (parent_of joined n (last_of supers c))
-  super_parent c super = is.parent c super ∙ ap (super_of nodes) (parent-listed joined n (last_of supers c) (last_vertex c super))
+  super_parent c super = is.parent c super ∙ ap (super_of nodes) (parent_in_list joined n (last_of supers c) (last_vertex c super))
 
   -- the column in whose supernode a column stands
   stands : (s j : ℕ) → IsSuper supers s → first_of supers s ≤ j → j ≤ last_of supers s → super_of nodes j ≡ s
@@ -160,7 +145,7 @@ module _ (joined : ℕ → ℕ → Bool) (n : ℕ) (laws : Laws joined n) (super
               let before : p - 1 + 1 ≡ p = omega (arith, some) in
               let goes = is.runs s (p - 1) super (omega (arith, low, ne)) (omega (arith, high, some)) in
               let listed : parent_at (parents_of joined n) (last_of supers c) ≡ p - 1 + 1 =
-              parent-listed joined n (last_of supers c) (last_vertex c child) ∙ sym before in
+              parent_in_list joined n (last_of supers c) (last_vertex c child) ∙ sym before in
               let vertex = last_vertex c child in
               let only = goes.only (last_of supers c) (vertex.0, omega (arith, vertex.1, order_is)) listed in
               is.longest c child (subst (Continues (parents_of joined n) (counts_of joined n)) (sym only) goes)
@@ -184,7 +169,7 @@ module _ (joined : ℕ → ℕ → Bool) (n : ℕ) (laws : Laws joined n) (super
           | inr ne ↦ absurd (
               let below : x < last_of supers t = omega (arith, own.3, ne) in
               let goes = is.runs t x own.1 own.2 below in
-              let next : first_of supers s ≡ x + 1 = sym up ∙ sym (parent-listed joined n x vertex) ∙ goes.parent in
+              let next : first_of supers s ≡ x + 1 = sym up ∙ sym (parent_in_list joined n x vertex) ∙ goes.parent in
               let same : t ≡ s =
               sym (stands t (first_of supers s) own.1 (omega (arith, next, own.2)) (omega (arith, next, below)))
               ∙ stands s (first_of supers s) super (omega arith) (is.some s super) in
@@ -196,7 +181,7 @@ module _ (joined : ℕ → ℕ → Bool) (n : ℕ) (laws : Laws joined n) (super
     -- what the children leave to a supernode is what its first column gets from its children
     pub from_children : (s i : ℕ) → IsSuper supers s
         → ((c : ℕ) × IsSuper supers c × ((super_at supers c).parent ≡ s)
-        × IsTrue (has (drop (super_at supers c).columns (rows_of joined n (first_of supers c))) i))
+        × IsTrue (has (drop (super_at supers c).columns (rows_of_front joined n (first_of supers c))) i))
         ↔ IsFromChild joined n (first_of supers s) i
     from_children s i super = (
       λ (c, child, up, there).

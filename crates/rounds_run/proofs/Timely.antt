@@ -6,7 +6,7 @@ use Rattle.std.proofs.lemmas.Bool.{cases_eq, cases_lt, cases_Bool, false_from_ne
 use Rattle.std.proofs.lemmas.List.{get_or-set_same, get_or-set_other, length-set, length-replicate, get_or-replicate, get_or_past, append-nil, append_assoc, map-append, length_push}
 use Rattle.std.proofs.lemmas.List.Elements.{filter-append, All-take}
 use Rattle.std.proofs.lemmas.Map.Keys.{IsDistinct-push}
-use Rattle.matrix_market.specs.Pattern.{has}
+use Rattle.patterns.specs.Pattern.{has}
 use Rattle.mp_system.specs.System.{TaskSystem, IsTask, task_at}
 use Rattle.mp_system.specs.Memory.{stands_in, is_ready}
 use Rattle.activation.specs.declared.events.Phase.{Phase}
@@ -17,7 +17,12 @@ use Rattle.activation.specs.declared.events.Event.{Event}
 use Rattle.activation.specs.Machine.{Setting, State, phase_in, with_phase, is_done, is_done_phase, start_state, AllDone}
 use Rattle.activation.specs.Schedule.{Moment, task_entry, with_task_entry, dues_after, moment_after, first_moment, ComesNext, IsSchedule}
 use Rattle.rounds_run.specs.Rounds.{is_start_at, started_at, moments_of, round_count}
-use Rattle.rounds_run.proofs.NumberLists.{same_bool, has_append, has_push, place_in}
+use Rattle.rounds_run.proofs.NumberLists.{has_append}
+use Rattle.patterns.proofs.NumberLists.{place_of as place_in}
+use Rattle.patterns.proofs.NumberLists.{has_push}
+use Rattle.lists.proofs.Bools.{same_bool, eqb_flip}
+use Rattle.activation.proofs.Safety.{phase_replicate}
+use Rattle.activation.proofs.Phases.{done_from}
 
 -- ---- phases, and numbers by task
 
@@ -36,15 +41,6 @@ phases_stay : (phases : List Phase) (t : ℕ) (p : Phase) → length (with_phase
 unfolding with_phase
 phases_stay phases zero p = refl
 phases_stay phases (suc i) p = length-set phases i p
-
-all_idle : (n t : ℕ) → phase_in (replicate n Idle) t ≡ Idle
-unfolding phase_in
-all_idle n zero = refl
-all_idle n (suc i) =
-    elim (cases_lt i n) [
-      | inl lt ↦ get_or-replicate n i Idle Idle lt
-      | inr le ↦ get_or_past (replicate n Idle) i Idle (omega (arith, le, length-replicate n Idle))
-    ]
 
 entry_here : (numbers : List ℕ) (t v : ℕ) → 1 ≤ t → t ≤ length numbers → task_entry (with_task_entry numbers t v) t ≡ v
 unfolding task_entry with_task_entry
@@ -70,11 +66,6 @@ idle_not_done e = cc
 
 running_not_done : Running ≡ Done → ⊥
 running_not_done e = cc
-
-done_phase : (p : Phase) → is_done_phase p ≡ true → p ≡ Done
-done_phase Idle e = absurd (both_ways _ refl e)
-done_phase Running e = absurd (both_ways _ refl e)
-done_phase Done e = refl
 
 -- ---- what starts at a moment, one event later
 
@@ -130,12 +121,9 @@ pub round_count_more : (xs : List Event) (e : Event) → round_count (xs ++ e �
 round_count_more [] e = omega arith
 round_count_more (x ∷ xs) e = let rest = round_count_more xs e in omega arith
 
-pub flip : (a b : ℕ) → eqb a b ≡ eqb b a
-flip a b = same_bool _ _ (λ e. eq-eqb b a (sym (eqb-true a b e))) (λ e. eq-eqb a b (sym (eqb-true b a e)))
-
 pub any_flip : (t : ℕ) (xs : List ℕ) → list_any (eqb t) xs ≡ has xs t
 any_flip t [] = refl
-any_flip t (x ∷ xs) = rw (flip t x, any_flip t xs) refl
+any_flip t (x ∷ xs) = rw (eqb_flip t x, any_flip t xs) refl
 
 pub distinct_nil : IsDistinct eqb []
 unfolding IsDistinct
@@ -168,8 +156,8 @@ module _ (c : Setting) (supplies : ℕ → ℕ → Type 0) (unit : (t : ℕ) →
     few = omega arith;
     counted = omega arith;
     idle = λ u e k. refl;
-    soon = λ u e. absurd (idle_not_running (sym (all_idle (length c.system.tasks) u) ∙ e));
-    done = λ u e. absurd (idle_not_done (sym (all_idle (length c.system.tasks) u) ∙ e));
+    soon = λ u e. absurd (idle_not_running (sym (phase_replicate (length c.system.tasks) u) ∙ e));
+    done = λ u e. absurd (idle_not_done (sym (phase_replicate (length c.system.tasks) u) ∙ e));
     tasks = λ k u there. absurd (both_ways _ refl there);
     once = λ k. distinct_nil;
     apart = λ j k u one two. absurd (both_ways _ refl one);
@@ -317,7 +305,7 @@ module _ (c : Setting) (supplies : ℕ → ℕ → Type 0) (unit : (t : ℕ) →
           | inr same ↦ (
               let from : supplies v t = subst (supplies v) (sym same.1) by in
               let done = ready (is_done m.state) t v next.legal.ready task from in
-              let s = ok.done v (done_phase _ done) in
+              let s = ok.done v (done_from _ done) in
               (s.0, omega (arith, s.1, now, same.0), old s.0 v s.2)
               )
         ];
@@ -347,4 +335,4 @@ module _ (c : Setting) (supplies : ℕ → ℕ → Type 0) (unit : (t : ℕ) →
   -- every task started
   pub all_started : (es : List Event) (end : Moment) → IsTimely c supplies es end → AllDone c end.state
       → (t : ℕ) → IsTask c.system t → (k : ℕ) × (has (started_at k es) t ≡ true)
-  all_started es end ok all t task = let s = ok.done t (done_phase _ (all t task)) in (s.0, s.2)
+  all_started es end ok all t task = let s = ok.done t (done_from _ (all t task)) in (s.0, s.2)

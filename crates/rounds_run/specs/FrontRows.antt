@@ -5,9 +5,9 @@ use Rattle.std.specs.List.{range_with_len}
 use Rattle.ordering.specs.Fill.{structure_of}
 
 -- of n columns, the rows of column j in the filled graph, in rising order
-abbrev pub rows_of : (ℕ → ℕ → Bool) → ℕ → ℕ → List ℕ
-rows_of joined n j = filter (structure_of joined j) (range_with_len 1 n)
+abbrev pub rows_of_front : (ℕ → ℕ → Bool) → ℕ → ℕ → List ℕ
+rows_of_front joined n j = filter (structure_of joined j) (range_with_len 1 n)
 
 -- the list of a supernode, where they are listed by number, from 1
-abbrev pub list_of : List (List ℕ) → ℕ → List ℕ
-list_of lists s = slice_index_or lists (s - 1) []
+abbrev pub list_of_front : List (List ℕ) → ℕ → List ℕ
+list_of_front lists s = slice_index_or lists (s - 1) []

@@ -2,8 +2,8 @@
 -- How the rows of a front are gathered.
 use Rattle.std.specs.Prelude.{◌≡◌, ◌==◌, ℕ, Bool, ◌&&◌, ◌||◌, nat_lt, List}
 use Rattle.std.specs.List.{list_any}
-use Rattle.matrix_market.specs.Pattern.{has}
-use Rattle.ordering.specs.Perm.{place_of}
+use Rattle.patterns.specs.Pattern.{has}
+use Rattle.permutations.specs.Perm.{place_of}
 
 -- the new list has what the old one has and what passes the test
 abbrev pub Adds : (ℕ → Bool) → List ℕ → List ℕ → Type 0

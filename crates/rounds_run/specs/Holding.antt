@@ -4,8 +4,8 @@ use Rattle.std.specs.Prelude.{◌≡◌, ◌↔◌, ℕ, ◌+◌, ◌-◌, ◌<�
 use Rattle.std.specs.Prelude.{drop, take, slice_index, slice_index_or}
 use Rattle.std.specs.List.{list_any, IsDistinct}
 use Rattle.std.specs.declared.alloc.AllocError.{AllocError}
-use Rattle.matrix_market.specs.Pattern.{has}
-use Rattle.ordering.specs.Perm.{IsVertex}
+use Rattle.patterns.specs.Pattern.{has}
+use Rattle.permutations.specs.Perm.{IsVertex}
 use Rattle.ordering.specs.Fill.{IsAdjacency, count_of, parents_of, counts_of}
 use Rattle.elim_tree.specs.Paths.{IsWithin, IsFromChild}
 use Rattle.assembly_tree.specs.declared.assembly.Super.{Super}
@@ -14,7 +14,7 @@ use Rattle.assembly_tree.specs.Supernodes.{AreSupernodes, first_of}
 use Rattle.rounds_run.specs.declared.front.Job.{Job}
 use Rattle.rounds_run.specs.declared.front.Made.{Made}
 use Rattle.rounds_run.specs.declared.held.Held.{Held}
-use Rattle.rounds_run.specs.FrontRows.{rows_of, list_of}
+use Rattle.rounds_run.specs.FrontRows.{rows_of_front, list_of_front}
 use Rattle.rounds_run.specs.Gathering.{in_lists}
 
 -- the factor of a matrix: its pattern by columns, of so many, and its supernodes
@@ -25,7 +25,7 @@ pub record Factor : Type 0 where
 
 -- the rows of a front, and those past its columns
 abbrev pub front_rows : Factor → ℕ → List ℕ
-front_rows f s = rows_of f.joined f.order (first_of f.supers s)
+front_rows f s = rows_of_front f.joined f.order (first_of f.supers s)
 
 abbrev pub rest_rows : Factor → ℕ → List ℕ
 rest_rows f s = drop (super_at f.supers s).columns (front_rows f s)
@@ -44,8 +44,8 @@ pub record IsJobOf (f : Factor) (s : ℕ) (job : Job) : Type 0 where
 
 -- what the task of a column hands back, where the front has so many columns
 pub record IsHandedBack (joined : ℕ → ℕ → Bool) (n first columns : ℕ) (made : Made) : Type 0 where
-  pub rows : made.rows ≡ rows_of joined n first
-  pub rest : made.rest ≡ drop columns (rows_of joined n first)
+  pub rows : made.rows ≡ rows_of_front joined n first
+  pub rest : made.rest ≡ drop columns (rows_of_front joined n first)
 
 abbrev pub IsMadeOf : Factor → ℕ → Made → Type 0
 IsMadeOf f s made = IsHandedBack f.joined f.order (first_of f.supers s) (super_at f.supers s).columns made
@@ -71,7 +71,7 @@ HandedOver f done s i =
 pub record IsHeld (f : Factor) (taken done : ℕ → Bool) (held : Held) : Type 0 where
   pub rows_long : length held.rows.items ≡ length f.supers
   pub inboxes_long : length held.inboxes.items ≡ length f.supers
-  pub kept : (s : ℕ) → IsSuper f.supers s → done s ≡ true → list_of held.rows.items s ≡ front_rows f s
+  pub kept : (s : ℕ) → IsSuper f.supers s → done s ≡ true → list_of_front held.rows.items s ≡ front_rows f s
   pub handed : (s : ℕ) → IsSuper f.supers s → taken s ≡ false → (i : ℕ) →
       IsTrue (in_lists (slice_index_or held.inboxes.items (s - 1) []) i) ↔ HandedOver f done s i
 

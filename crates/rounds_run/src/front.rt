@@ -1,19 +1,19 @@
 //! The task of a front.
 
 ghost use Rattle.std.specs.Prelude.{◌≡◌, ◌≤◌, ℕ, drop, length, IfOk};
-ghost use Rattle.matrix_market.specs.Pattern.{has, is_joined, neighbours_of};
-ghost use Rattle.ordering.specs.Perm.{IsVertex, vertex_at};
+ghost use Rattle.patterns.specs.Pattern.{has, is_joined, neighbours_of};
+ghost use Rattle.permutations.specs.Perm.{IsVertex, vertex_at};
 ghost use Rattle.ordering.specs.Fill.{renumbered};
 ghost use Rattle.rounds_run.specs.Gathering.{is_gathered};
 ghost use Rattle.rounds_run.specs.Holding.{IsJob, IsHandedBack};
 
 use crate::NoMemory;
 use crate::gathering::{add_later, add_lists};
-use crate::lists::{Inbox, NumberList};
+use crate::number_lists::{Inbox, NumberList};
 use elim_tree::laws::{no_earlier_row, path_theorem, renumbered_pattern, structure_by_children};
-use matrix_market::Pattern;
-use ordering::Perm;
-use ordering::laws::places_are_inverse;
+use patterns::Pattern;
+use permutations::Perm;
+use permutations::laws::places_are_inverse;
 use std::alloc::Global;
 
 /// What the task of a front is given.

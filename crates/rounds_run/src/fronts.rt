@@ -1,8 +1,8 @@
 ghost use Rattle.std.specs.Prelude.{◌≡◌, ◌-◌, ◌≤◌, ◌<◌, ◌^◌, length, slice_index_or, []};
-ghost use Rattle.rounds_run.specs.FrontRows.{list_of};
+ghost use Rattle.rounds_run.specs.FrontRows.{list_of_front};
 ghost use Rattle.rounds_run.specs.Fronts.{FrontsValue};
 
-use crate::lists::NumberList;
+use crate::number_lists::NumberList;
 use std::marker::Model;
 
 /// The rows of all fronts, and the rounds in which they were made. Fronts have the numbers of their supernodes, from 1.
@@ -41,7 +41,7 @@ impl Fronts {
     /// The rows of the front of supernode `s`: columns of the matrix, from 1, in rising order, those of the supernode first.
     pub fn rows(&self, s: u32) -> &[u32]
         requires { (1 ≤ s) × (s ≤ length self.now.rows) }
-        ensures { result.now ≡ list_of self.now.rows s }
+        ensures { result.now ≡ list_of_front self.now.rows s }
     {
         self.rows[s as usize - 1].as_slice()
     }
@@ -56,7 +56,7 @@ impl Fronts {
     /// The fronts of round `r`, from 1, in the order in which they started.
     pub fn round(&self, r: u32) -> &[u32]
         requires { (1 ≤ r) × (r ≤ length self.now.rounds) }
-        ensures { result.now ≡ list_of self.now.rounds r }
+        ensures { result.now ≡ list_of_front self.now.rounds r }
     {
         self.rounds[r as usize - 1].as_slice()
     }

@@ -2,15 +2,15 @@
 
 ghost use Rattle.std.specs.Prelude.{◌≡◌, ◌==◌, ◌+◌, ◌-◌, ◌≤◌, ◌<◌, ◌^◌, ℕ, Bool, true, false, ◌||◌, ◌++◌, ◌∷◌, [], All, if◌then◌else◌};
 ghost use Rattle.std.specs.Prelude.{length, slice_set, slice_index_or, IfOk, OnOk};
-ghost use Rattle.matrix_market.specs.Pattern.{has};
+ghost use Rattle.patterns.specs.Pattern.{has};
 ghost use Rattle.assembly_tree.specs.Assembly.{IsSuper, super_at};
 ghost use Rattle.assembly_tree.specs.Supernodes.{first_of};
-ghost use Rattle.rounds_run.specs.FrontRows.{list_of};
+ghost use Rattle.rounds_run.specs.FrontRows.{list_of_front};
 ghost use Rattle.rounds_run.specs.Holding.{Factor, IsFactor, IsHeld, AreJobsOf, AreMadeOf, AreDue, AreFirsts, or_in};
 
 use crate::NoMemory;
 use crate::front::{Job, Made};
-use crate::lists::{Inbox, NumberList, empty_inboxes, empty_lists};
+use crate::number_lists::{Inbox, NumberList, empty_inboxes, empty_lists};
 use assembly_tree::Super;
 use elim_tree::laws::{no_earlier_row, path_theorem, structure_by_children};
 use ordering::laws::parent_is_first;

@@ -6,13 +6,13 @@ ghost use Rattle.assembly_tree.specs.Assembly.{AssemblyTree, IsAssembly, IsSuper
 ghost use Rattle.assembly_tree.specs.Supernodes.{AreSupernodes, first_of, last_of};
 ghost use Rattle.elim_tree.specs.Paths.{IsWithin};
 ghost use Rattle.ordering.specs.Fill.{IsAdjacency, parents_of, counts_of};
-ghost use Rattle.rounds_run.specs.FrontRows.{rows_of};
+ghost use Rattle.rounds_run.specs.FrontRows.{rows_of_front};
 ghost use Rattle.rounds_run.specs.RowSystem.{row_peak, row_setting};
 ghost use Rattle.rounds_run.specs.Rounds.{AreRounds};
 
 use activation::laws::schedule_law;
 use elim_tree::laws::{no_earlier_row, path_theorem, structure_by_children};
-use tree_input::laws::tree_system;
+use trees::laws::tree_system;
 
 /// A setting has one list of rounds, and one greatest use.
 pub fn one_list_of_rounds()
@@ -43,7 +43,7 @@ pub fn columns_of_front()
     ensures { (joined : ℕ → ℕ → Bool) (n : ℕ) (assembly : AssemblyTree) (s j : ℕ) → IsAdjacency joined → IsWithin n joined →
         AreSupernodes (parents_of joined n) (counts_of joined n) assembly → IsSuper assembly.supers s →
         first_of assembly.supers s ≤ j → j ≤ last_of assembly.supers s →
-        rows_of joined n j ≡ drop (j - first_of assembly.supers s) (rows_of joined n (first_of assembly.supers s)) }
+        rows_of_front joined n j ≡ drop (j - first_of assembly.supers s) (rows_of_front joined n (first_of assembly.supers s)) }
 {
     structure_by_children();
     path_theorem();

@@ -16,14 +16,12 @@ mod fronts;
 mod gathering;
 mod held;
 pub mod laws;
-mod lists;
+mod number_lists;
 mod planning;
 mod refusal;
 mod rounds;
 mod row_tree;
 mod running;
-#[cfg(test)]
-mod tests;
 
 pub use fronts::Fronts;
 pub use refusal::FrontsRefusal;

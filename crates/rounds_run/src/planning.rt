@@ -9,7 +9,7 @@ ghost use Rattle.rounds_run.specs.Rounds.{AreRounds};
 ghost use Rattle.rounds_run.specs.Fronts.{IsFrontsRefusal};
 ghost use Rattle.rounds_run.specs.Holding.{AreOrderly};
 
-use crate::lists::NumberList;
+use crate::number_lists::NumberList;
 use crate::refusal::FrontsRefusal;
 use crate::rounds::rounds_of;
 use crate::row_tree::{row_order, row_system};
@@ -20,7 +20,7 @@ use std::alloc::Global;
 
 /// The rounds of the supernodes, and the greatest number of rows that they use.
 #[derive(Drop)]
-pub struct Plan {
+pub struct Rounds {
     pub rounds: Vec<NumberList>,
     pub used: u64,
 }
@@ -59,7 +59,7 @@ pub fn plan_rounds(
     assembly: &Assembly,
     bound: u64,
     workers: u32,
-) -> Result<Plan, FrontsRefusal>
+) -> Result<Rounds, FrontsRefusal>
     requires workers { (1 ≤ workers) × (workers ≤ most_workers) }
     ensures rounds { IfOk result (λ plan. AreRounds (row_setting assembly.now.supers bound workers) plan.rounds.items plan.used) }
     ensures orderly { IfOk result (λ plan. AreOrderly assembly.now.supers plan.rounds.items) }
@@ -74,7 +74,7 @@ pub fn plan_rounds(
     let core = row_core(alloc, assembly, &order, bound, workers)?;
     let trace = Simulator::new(alloc, core)?.run(&order);
     let rounds = rounds_of(alloc, &trace.events)?;
-    Ok(Plan {
+    Ok(Rounds {
         rounds,
         used: trace.used,
     })

@@ -6,7 +6,7 @@ ghost use Rattle.activation.specs.declared.events.EventKind.{EventKind};
 ghost use Rattle.rounds_run.specs.Rounds.{AreStarts};
 
 use crate::NoMemory;
-use crate::lists::NumberList;
+use crate::number_lists::NumberList;
 use activation::{Event, EventKind};
 use std::alloc::Global;
 

@@ -8,7 +8,7 @@ use crate::NoMemory;
 use assembly_tree::{Assembly, Super};
 use mp_system::System;
 use std::alloc::Global;
-use tree_input::{Node, Tree, system_of_tree};
+use trees::{Node, Tree, system_of_tree};
 
 fn row_nodes(alloc: Global, supers: &[Super]) -> Result<Vec<Node>, NoMemory>
     ensures { IfOk result (λ nodes. nodes.items ≡ map row_node supers.now) }

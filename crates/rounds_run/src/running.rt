@@ -2,11 +2,11 @@
 
 ghost use Rattle.std.specs.Prelude.{◌≡◌, ◌+◌, ◌-◌, ◌≤◌, ◌<◌, ◌^◌, ℕ, Bool, true, All, length, drop, slice_index_or, IfOk, IfErr, OnOk};
 ghost use Rattle.limits.specs.Limits.{most_workers, most_order};
-ghost use Rattle.matrix_market.specs.Pattern.{is_joined};
+ghost use Rattle.patterns.specs.Pattern.{is_joined};
 ghost use Rattle.ordering.specs.Fill.{renumbered, parents_of, counts_of};
 ghost use Rattle.assembly_tree.specs.Assembly.{IsSuper};
 ghost use Rattle.assembly_tree.specs.Supernodes.{AreSupernodes, first_of, last_of};
-ghost use Rattle.rounds_run.specs.FrontRows.{rows_of, list_of};
+ghost use Rattle.rounds_run.specs.FrontRows.{rows_of_front, list_of_front};
 ghost use Rattle.rounds_run.specs.RowSystem.{row_peak, row_setting};
 ghost use Rattle.rounds_run.specs.Rounds.{AreRounds};
 ghost use Rattle.rounds_run.specs.Fronts.{IsFrontsRefusal};
@@ -16,16 +16,16 @@ use crate::NoMemory;
 use crate::front::{Job, Made, make_front};
 use crate::fronts::Fronts;
 use crate::held::Held;
-use crate::lists::NumberList;
+use crate::number_lists::NumberList;
 use crate::planning::plan_rounds;
 use crate::refusal::FrontsRefusal;
 use assembly_tree::{Assembly, Super};
 use elim_tree::Numbered;
 use elim_tree::laws::{no_earlier_row, path_theorem, renumbered_pattern, structure_by_children};
-use matrix_market::Pattern;
 use mp_outside::Gate;
-use ordering::Perm;
 use ordering::laws::parent_is_first;
+use patterns::Pattern;
+use permutations::Perm;
 use std::alloc::Global;
 use std::thread;
 use std::thread::Threads;
@@ -96,8 +96,8 @@ fn run_rounds<R: Threads + Sync, G: Gate>(
     requires rounds { AreOrderly supers.now rounds.now }
     requires short { All (λ round. length round < 2 ^ 32) rounds.now }
     ensures len { IfOk result (λ rows. length rows.items ≡ length supers.now) }
-    ensures rows { IfOk result (λ rows. (s : ℕ) → IsSuper supers.now s → list_of rows.items s
-        ≡ rows_of (renumbered (is_joined pattern.now) perm.now) (length perm.now) (first_of supers.now s)) }
+    ensures rows { IfOk result (λ rows. (s : ℕ) → IsSuper supers.now s → list_of_front rows.items s
+        ≡ rows_of_front (renumbered (is_joined pattern.now) perm.now) (length perm.now) (first_of supers.now s)) }
 {
     let firsts = first_columns(alloc, supers)?;
     let mut held = Held::new(alloc, supers.len())?;
@@ -141,13 +141,13 @@ pub fn run_fronts<R: Threads + Sync, G: Gate>(
     requires workers { (1 ≤ workers) × (workers ≤ most_workers) }
     // each list is the structure of the first column, in rising order; and of each column its structure is the list from there on
     ensures len { IfOk result (λ fronts. length fronts.rows ≡ length assembly.now.supers) }
-    ensures rows { IfOk result (λ fronts. (s : ℕ) → IsSuper assembly.now.supers s → list_of fronts.rows s
-        ≡ rows_of (renumbered (is_joined pattern.now) numbered.now.perm) (length numbered.now.perm)
+    ensures rows { IfOk result (λ fronts. (s : ℕ) → IsSuper assembly.now.supers s → list_of_front fronts.rows s
+        ≡ rows_of_front (renumbered (is_joined pattern.now) numbered.now.perm) (length numbered.now.perm)
         (first_of assembly.now.supers s)) }
     ensures columns { IfOk result (λ fronts. (s j : ℕ) → IsSuper assembly.now.supers s →
         first_of assembly.now.supers s ≤ j → j ≤ last_of assembly.now.supers s →
-        rows_of (renumbered (is_joined pattern.now) numbered.now.perm) (length numbered.now.perm) j
-        ≡ drop (j - first_of assembly.now.supers s) (list_of fronts.rows s)) }
+        rows_of_front (renumbered (is_joined pattern.now) numbered.now.perm) (length numbered.now.perm) j
+        ≡ drop (j - first_of assembly.now.supers s) (list_of_front fronts.rows s)) }
     // the rounds are those of the activation machine, under the bound
     ensures rounds { IfOk result (λ fronts.
         AreRounds (row_setting assembly.now.supers bound workers) fronts.rounds fronts.used) }

@@ -4,8 +4,6 @@
 mod grouping;
 pub mod laws;
 mod table;
-#[cfg(test)]
-mod tests;
 
 use std::alloc::AllocError;
 pub use table::RowTable;

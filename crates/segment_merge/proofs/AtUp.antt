@@ -7,7 +7,8 @@ use Rattle.hill_valley.specs.Laws.{RunLaws}
 use Rattle.hill_valley.specs.Side.{Run, tasks_of, join_runs, insert_run}
 use Rattle.segment_merge.specs.Merging.{insert_runs, merge_runs, runs_at, AreMerged}
 use Rattle.segment_merge.proofs.Interleaving.{rising_merge}
-use Rattle.segment_merge.proofs.Order.{order, in_front, further, joined}
+use Rattle.segment_merge.proofs.Order.{in_front, further, joined}
+use Rattle.lists.proofs.Orders.{compare as order}
 
 -- one has a run where the other has one, and their `net` values and their tasks are the same in all
 record Same (xs ys : List Run) : Type 0 where

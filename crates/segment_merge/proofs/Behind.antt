@@ -7,6 +7,7 @@ use Rattle.segment_merge.specs.Crossing.{append_runs}
 use Rattle.hill_valley.specs.Laws.{RunLaws}
 use Rattle.segment_merge.proofs.Order.{rising_put, moved_behind}
 use Rattle.std.proofs.lemmas.Bool.Decides.{nat_tests}
+use Rattle.hill_valley.proofs.Last.{lift_self, lift}
 
 last_behind_step : (s e : Run) → e.up < s.up → last_up (run_profile (insert_run false s (e ∷ []))) ≡ s.up
 last_behind_step s e h = grind (arith, nat_tests)
@@ -27,13 +28,6 @@ last_behind s [] r h = refl
 last_behind s (e ∷ []) r h = last_behind_step s e h
 last_behind s (e ∷ f ∷ es) r h =
     further s e f es (let q = last_from (run_numbers e) (run_numbers f) (run_profile es) r in omega arith) (low s f es r.1 h) ∙ last_behind s (f ∷ es) r.1 h
-
--- a run with another `up`
-abbrev lift : ℕ → Run → Run
-lift k r = record { up = k; net = r.net; tasks = r.tasks }
-
-lift_self : (k : ℕ) (r : Run) → k ≡ r.up → lift k r ≡ r
-lift_self k r h = rw h refl
 
 pub appends_moved : RunLaws → (far near : List Run) → IsRising (run_profile near) → IsRising (run_profile far) → StartsAbove (last_up (run_profile near)) (run_profile far) → append_runs far near ≡ move_runs false far near
 appends_moved laws [] near rn rf h = refl

@@ -1,5 +1,6 @@
 -- What holds while earlier sides are moved into one.
 use Rattle.std.proofs.Common.{◌≡◌, ℕ, ◌+◌, ◌≤◌, ◌^◌, List, [], ◌∷◌, ◌++◌, ap, sym, ◌∙◌, arith, true}
+use Rattle.limits.specs.Limits.{most_total}
 use Rattle.side_laws.specs.Segments.{net_sum, IsRising}
 use Rattle.hill_valley.specs.declared.side.Seg.{Seg}
 use Rattle.hill_valley.specs.Ropes.{Extends}
@@ -16,7 +17,7 @@ pub record Taking (ropes0 ropes : List (List ℕ)) (sides0 : List (List Seg)) (i
   pub into_ropes : HaveRopes ropes into
   pub kept : Extends ropes0 ropes
   pub net : net_sum_all rest + net_sum (profile into) ≡ net_sum_all sides0 + net_sum (profile into0)
-  pub within : net_sum_all rest + net_sum (profile into) ≤ 2 ^ 60
+  pub within : net_sum_all rest + net_sum (profile into) ≤ most_total
 
 module _ (laws : RunLaws) where
   module _ (ropes0 ropes : List (List ℕ)) (sides0 : List (List Seg)) (into0 : List Seg) (rest front : List (List Seg)) (side into : List Seg)

@@ -5,7 +5,8 @@ use Rattle.side_laws.specs.Merging.{AllEmpty, AllRising, IsInterleaving}
 use Rattle.hill_valley.specs.Side.{Run, run_profile, tasks_of, insert_run}
 use Rattle.segment_merge.specs.Merging.{insert_runs, merge_runs, run_profiles, all_tasks_of}
 use Rattle.hill_valley.specs.Laws.{RunLaws}
-use Rattle.segment_merge.proofs.Order.{order, in_front, further, joined, put_nil}
+use Rattle.segment_merge.proofs.Order.{in_front, further, joined, put_nil}
+use Rattle.lists.proofs.Orders.{compare as order}
 use Rattle.std.proofs.lemmas.Bool.Decides.{nat_tests}
 
 -- zs has the elements of xs and of ys, each in their order
@@ -34,17 +35,17 @@ past u s [] h r = tt
 past u s (t ∷ ss) h r = let q = r.0 in omega arith
 
 -- a run that is lower than all of a side stays in front
-put_cons : (ss : List Run) (e : Run) (es : List Run) → StartsAbove e.up (run_profile ss) → IsRising (run_profile ss) → insert_runs ss (e ∷ es) ≡ e ∷ insert_runs ss es
+pub put_cons : (ss : List Run) (e : Run) (es : List Run) → StartsAbove e.up (run_profile ss) → IsRising (run_profile ss) → insert_runs ss (e ∷ es) ≡ e ∷ insert_runs ss es
 put_cons [] e es a r = refl
 put_cons (s ∷ ss) e es a r = ap (insert_run true s) (put_cons ss e es (past e.up s ss a r) r.1) ∙ further true s e (insert_runs ss es) a
 
 in_place_before : (s e : Run) (es : List Run) → s.up ≡ e.up → tasks_of (insert_run true s (e ∷ es)) ≡ s.tasks ++ (e.tasks ++ tasks_of es)
 in_place_before s e es h = ap tasks_of (joined s e es h) ∙ append_assoc s.tasks e.tasks (tasks_of es)
 
-after_step : (u : ℕ) (s e : Run) (es : List Run) → u < s.up → u < e.up → StartsAbove u (run_profile (insert_run true s (e ∷ es)))
+pub after_step : (u : ℕ) (s e : Run) (es : List Run) → u < s.up → u < e.up → StartsAbove u (run_profile (insert_run true s (e ∷ es)))
 after_step u s e es hs he = grind (arith, nat_tests)
 
-after_insert : (u : ℕ) (s : Run) (es : List Run) → u < s.up → StartsAbove u (run_profile es) → StartsAbove u (run_profile (insert_run true s es))
+pub after_insert : (u : ℕ) (s : Run) (es : List Run) → u < s.up → StartsAbove u (run_profile es) → StartsAbove u (run_profile (insert_run true s es))
 after_insert u s [] hs he = hs
 after_insert u s (e ∷ es) hs he = after_step u s e es hs he
 
@@ -52,7 +53,7 @@ after_put : (u : ℕ) (ss es : List Run) → StartsAbove u (run_profile ss) → 
 after_put u [] es a r h = h
 after_put u (s ∷ ss) es a r h = after_insert u s (insert_runs ss es) a (after_put u ss es (past u s ss a r) r.1 h)
 
-cons_front : (s : Run) (es : List Run) → StartsAbove s.up (run_profile es) → insert_run true s es ≡ s ∷ es
+pub cons_front : (s : Run) (es : List Run) → StartsAbove s.up (run_profile es) → insert_run true s es ≡ s ∷ es
 cons_front s [] h = refl
 cons_front s (e ∷ es) h = in_front true s e es h
 

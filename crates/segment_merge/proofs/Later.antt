@@ -2,6 +2,7 @@
 use Rattle.std.proofs.Common.{◌≡◌, ℕ, ◌+◌, ◌<◌, ◌≤◌, ◌^◌, List, [], ◌∷◌, ap, sym, ◌∙◌, arith, false, length, get_or, drop, set}
 use Rattle.std.proofs.lemmas.Grind.{common_steps}
 use Rattle.std.proofs.lemmas.List.{drop_more, drop-set-lt, nil_from_length}
+use Rattle.limits.specs.Limits.{most_total}
 use Rattle.side_laws.specs.Segments.{net_sum, IsRising}
 use Rattle.hill_valley.specs.declared.side.Seg.{Seg}
 use Rattle.hill_valley.specs.Ropes.{Extends}
@@ -25,7 +26,7 @@ pub record Following (ropes0 ropes : List (List ℕ)) (sides0 : List (List Seg))
   pub rest_ropes : AllHaveRopes ropes rest
   pub into_ropes : HaveRopes ropes into
   pub kept : Extends ropes0 ropes
-  pub within : net_sum_all rest + net_sum (profile into) ≤ 2 ^ 60
+  pub within : net_sum_all rest + net_sum (profile into) ≤ most_total
 
 module _ (laws : RunLaws) where
   module _ (ropes0 ropes : List (List ℕ)) (sides0 : List (List Seg)) (into0 : List Seg) (rest : List (List Seg)) (side into : List Seg) (back : List (List Seg))

@@ -5,6 +5,7 @@ use Rattle.hill_valley.specs.Side.{Run, run_profile, join_runs, insert_run}
 use Rattle.segment_merge.specs.Merging.{insert_runs, merge_runs, move_runs}
 use Rattle.hill_valley.specs.Laws.{RunLaws}
 use Rattle.std.proofs.lemmas.Bool.Decides.{nat_tests}
+use Rattle.lists.proofs.Orders.{compare}
 
 abbrev run : ℕ → ℕ → List ℕ → Run
 run u m ts = record { up = u; net = m; tasks = ts }
@@ -12,7 +13,7 @@ run u m ts = record { up = u; net = m; tasks = ts }
 same_run : (u v m n : ℕ) (ts us : List ℕ) (es : List Run) → u ≡ v → m ≡ n → ts ≡ us → run u m ts ∷ es ≡ run v n us ∷ es
 same_run u v m n ts us es p q r = rw (p, q, r) refl
 
--- ---- two runs of different run_profile go in in either order
+-- ---- two runs of different run_profile go in in either compare
 
 apart_nil : (s t : Run) → s.up ≢ t.up → insert_run true s (t ∷ []) ≡ insert_run true t (s ∷ [])
 apart_nil s t h = grind (arith, nat_tests)
@@ -61,9 +62,6 @@ after_on : (u : ℕ) (s : Run) (ss : List Run) → u < s.up → IsRising (run_pr
 after_on u s [] h r = tt
 after_on u s (t ∷ ss) h r = let q = r.0 in omega arith
 
-pub order : (m n : ℕ) → (m < n) ⊎ ((m ≡ n) ⊎ (n < m))
-order m n = grind arith
-
 pub rising_put : RunLaws → (s : Run) (es : List Run) → IsRising (run_profile es) → IsRising (run_profile (insert_run false s es))
 rising_put laws s es r = laws.rises false s es r
 
@@ -107,7 +105,7 @@ further b s m ms h = grind (arith, nat_tests)
 -- a run behind a side goes in in front of the rest
 pub behind : (s : Run) (ms es : List Run) → IsRising (run_profile ms) → insert_runs (insert_run false s ms) es ≡ insert_runs ms (insert_run true s es)
 behind s [] es r = refl
-behind s (m ∷ ms) es r = elim (order s.up m.up) [
+behind s (m ∷ ms) es r = elim (compare s.up m.up) [
   | inl h ↦
       ap (λ (l : List Run). insert_runs l es) (in_front false s m ms h)
       ∙ apart s m (insert_runs ms es) (λ e. omega arith)

@@ -7,8 +7,6 @@
 pub mod laws;
 mod merging;
 mod moving;
-#[cfg(test)]
-mod tests;
 
 pub use merging::merge;
 pub use moving::move_all;

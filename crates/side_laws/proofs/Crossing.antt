@@ -5,6 +5,7 @@ use Rattle.side_laws.specs.Appending.{append_segment, append_segments, cross_hil
 use Rattle.side_laws.proofs.Append.{total_appended, lowest_appended, top_appended}
 use Rattle.side_laws.proofs.Lowest.{lowest_end, lowest_le}
 use Rattle.side_laws.proofs.Passing.{level_le_top}
+use Rattle.lists.proofs.Orders.{lt_or_le}
 
 all_step : (limit t x e y : ℕ) (s : Segment) (ss : List Segment) (t' y' z : ℕ)
     → (t < limit → y ≡ e) → t' ≡ max t (e + s.up) → y' ≡ cond (ltb t limit) (cond (ltb (y + s.up) limit) (y - s.net) y) y
@@ -66,9 +67,6 @@ stop_is end peak level s ss near h = grind (arith, nat_tests)
 
 on_is : (end peak level : ℕ) (s : Segment) (ss near : List Segment) → end < level → cross_hill end peak level (s ∷ ss) near ≡ cross_hill end (max peak (level + s.up)) (level - s.net) ss near
 on_is end peak level s ss near h = grind (arith, nat_tests)
-
-lt_or_le : (m n : ℕ) → (m < n) ⊎ (n ≤ m)
-lt_or_le m n = grind arith
 
 pub lowest_through : (limit start peak level : ℕ) (far near : List Segment) → net_sum near ≤ start → start - net_sum near ≤ peak → level ≤ start - net_sum near + net_sum far → net_sum far ≤ level
     → lowest limit start (cross_hill (start - net_sum near) peak level far near) ≡ cond (ltb (max (top start near) peak) limit) (min (start - net_sum near) (lowest limit level far)) (lowest limit start near)

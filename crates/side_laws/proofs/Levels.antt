@@ -6,6 +6,7 @@ use Rattle.side_laws.specs.Levels.{level_sum, AllStart, AreLevels}
 use Rattle.side_laws.proofs.Merge.{total_inserted, inserted_all_comm, lowest_stuck, stuck_all}
 use Rattle.side_laws.proofs.Insert.{lowest_inserted}
 use Rattle.side_laws.proofs.Passing.{inserted_passes}
+use Rattle.lists.proofs.Orders.{lt_or_le}
 
 -- where two sides that go down together are stuck: each alone is stuck there, below the limit less the other's level
 pub record TwoStuck (limit start_a start_b : ℕ) (a b : List Segment) : Type 0 where
@@ -101,9 +102,6 @@ stay limit start_a start_b a b rising ha hb = record {
   alone_b = stay_b limit start_a start_b b hb;
   pass = stay_pass limit start_a start_b a b ha hb;
 }
-
-lt_or_le : (m n : ℕ) → (m < n) ⊎ (n ≤ m)
-lt_or_le m n = grind arith
 
 two_stuck_in : (n limit start_a start_b : ℕ) (a b : List Segment) → length a + length b ≤ n → IsRising a → IsRising b → net_sum a ≤ start_a → net_sum b ≤ start_b → TwoStuck limit start_a start_b a b
 two_stuck_in n limit start_a start_b [] [] size ra rb room_a room_b = stay limit start_a start_b [] [] tt tt tt

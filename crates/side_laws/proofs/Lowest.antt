@@ -3,15 +3,13 @@ use Rattle.std.proofs.Common.{◌≡◌, ℕ, ◌+◌, ◌-◌, ◌<◌, ◌≤�
 use Rattle.std.proofs.lemmas.Bool.Decides.{nat_tests}
 use Rattle.side_laws.specs.Segments.{Segment, net_sum, lowest, top, Passes, last_up, IsRising, IsStuck}
 use Rattle.side_laws.proofs.Passing.{passes_from_top}
+use Rattle.lists.proofs.Orders.{lt_or_le}
 
 go : (limit level : ℕ) (s : Segment) (ss : List Segment) → level + s.up < limit → lowest limit level (s ∷ ss) ≡ lowest limit (level - s.net) ss
 go limit level s ss h = grind (arith, nat_tests)
 
 stay : (limit level : ℕ) (s : Segment) (ss : List Segment) → limit ≤ level + s.up → lowest limit level (s ∷ ss) ≡ level
 stay limit level s ss h = grind (arith, nat_tests)
-
-lt_or_le : (m n : ℕ) → (m < n) ⊎ (n ≤ m)
-lt_or_le m n = grind arith
 
 -- where all pass, the lowest level is the last
 pub lowest_passed : (limit level : ℕ) (ss : List Segment) → Passes limit level ss → lowest limit level ss ≡ level - net_sum ss

@@ -3,6 +3,7 @@ use Rattle.std.proofs.lemmas.Bool.Decides.{nat_tests}
 use Rattle.side_laws.specs.Segments.{Segment, net_sum, lowest, top, Passes, IsStuck}
 use Rattle.side_laws.specs.Merging.{insert_segment, insert_segments, merge_segments, TakesFirst, TakesAll, AllStuck, AllRising, AllEmpty, PassTogether, AreStuckAt, IsLeastTogether}
 use Rattle.side_laws.proofs.Merge.{merged_takes, total_inserted, rising_run, stuck_merged, stuck_together}
+use Rattle.lists.proofs.Orders.{lt_or_le}
 
 -- a number at which a test passes may be written in another way
 passes_at : (limit m n : ℕ) (es : List Segment) → m ≡ n → Passes limit m es → Passes limit n es
@@ -62,9 +63,6 @@ pub record GoesOn (limit level : ℕ) (sides : List (List Segment)) : Type 0 whe
   pub next : List (List Segment)
   pub takes : TakesFirst sides first next
   pub passes : level + first.up < limit
-
-lt_or_le : (m n : ℕ) → (m < n) ⊎ (n ≤ m)
-lt_or_le m n = grind arith
 
 go_later : (limit level : ℕ) (side : List Segment) (sides : List (List Segment)) → GoesOn limit level sides → GoesOn limit level (side ∷ sides)
 go_later limit level side sides k = record { first = k.first; next = side ∷ k.next; takes = inr (refl, k.takes); passes = k.passes }

@@ -4,6 +4,7 @@ use Rattle.std.specs.Prelude.{nat_le, Result, Ok, Err, IfOk, OnOk}
 use Rattle.std.specs.Bool.{MatchBool}
 use Rattle.std.proofs.lemmas.Bool.Decides.{nat_tests}
 use Rattle.std.proofs.lemmas.List.{length-map}
+use Rattle.limits.specs.Limits.{most_total}
 use Rattle.side_laws.specs.Segments.{Segment, net_sum, IsRising, StartsAbove, last_up}
 use Rattle.hill_valley.specs.declared.side.Seg.{Seg}
 use Rattle.hill_valley.specs.Ropes.{IsRope, Extends}
@@ -68,17 +69,17 @@ pub record Appending (ropes0 ropes : List (List ℕ)) (far0 near0 far near : Lis
   pub far_ropes : HaveRopes ropes far
   pub near_ropes : HaveRopes ropes near
   pub kept : Extends ropes0 ropes
-  pub within : net_sum (profile far) + net_sum (profile near) ≤ 2 ^ 60
+  pub within : net_sum (profile far) + net_sum (profile near) ≤ most_total
   pub fewer : length far ≤ length far0
   pub short : length near ≤ max 1 (length near0)
   pub long : length near0 ≤ length near
 
 module _ (laws : SideLaws) where
-  pub appending_starts : (ropes : List (List ℕ)) (far near : List Seg) → HaveRopes ropes far → HaveRopes ropes near → net_sum (profile far) + net_sum (profile near) ≤ 2 ^ 60 → Appending ropes ropes far near far near
+  pub appending_starts : (ropes : List (List ℕ)) (far near : List Seg) → HaveRopes ropes far → HaveRopes ropes near → net_sum (profile far) + net_sum (profile near) ≤ most_total → Appending ropes ropes far near far near
   appending_starts ropes far near f n w = record { told = refl; far_ropes = f; near_ropes = n; kept = laws.runs.itself ropes; within = w; fewer = omega arith; short = omega arith; long = omega arith }
 
   module _ (ropes0 ropes : List (List ℕ)) (far0 near0 far near rest : List Seg) (s : Seg) (m : Appending ropes0 ropes far0 near0 far near) (first : far ≡ s ∷ rest) where
-    pub appending_first : IsRope ropes s.tasks × (net_sum (profile near) + s.net ≤ 2 ^ 60)
+    pub appending_first : IsRope ropes s.tasks × (net_sum (profile near) + s.net ≤ most_total)
     appending_first = let r = rw first at m.far_ropes in let n = rw first at m.within in (r.0, omega arith)
 
     pub appending_on : (ropes' : List (List ℕ)) (near' : List Seg) → s.up ≤ last_up (profile near) → Extends ropes ropes' → HaveRopes ropes' near' → runs_of ropes' near' ≡ append_run (run_of ropes s) (runs_of ropes near)

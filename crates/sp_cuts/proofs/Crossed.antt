@@ -1,6 +1,7 @@
 -- What holds on the way along a side, over a hill.
 use Rattle.std.proofs.Common.{◌≡◌, ℕ, ◌+◌, ◌-◌, ◌<◌, ◌≤◌, ◌^◌, max, List, [], ◌∷◌, ◌++◌, refl, ap, sym, ◌∙◌, arith, length}
 use Rattle.std.proofs.lemmas.Bool.Decides.{nat_tests}
+use Rattle.limits.specs.Limits.{most_total}
 use Rattle.side_laws.specs.Segments.{net_sum, top}
 use Rattle.hill_valley.specs.declared.ropes.Rope.{Rope}
 use Rattle.hill_valley.specs.declared.side.Seg.{Seg}
@@ -18,8 +19,8 @@ pub record Going (end : ℕ) (ropes0 ropes : List (List ℕ)) (far0 far : List S
   pub room : net_sum (profile far) ≤ level
   pub falls : level ≤ end + net_sum (profile far)
   pub rises : end ≤ hill
-  pub high : top level (profile far) ≤ 2 ^ 60
-  pub within : hill ≤ 2 ^ 60
+  pub high : top level (profile far) ≤ most_total
+  pub within : hill ≤ most_total
   pub fewer : length far ≤ length far0
 
 -- the next run belongs to the hill
@@ -33,12 +34,12 @@ stop_is end hill level ts (s ∷ far) near h = grind (arith, nat_tests)
 
 module _ (laws : SideLaws) (end : ℕ) where
   pub going_starts : (ropes : List (List ℕ)) (far : List Seg) (hill level : ℕ) (tasks : Rope) → HaveRopes ropes far → IsRope ropes tasks → net_sum (profile far) ≤ level → level ≤ end + net_sum (profile far) → end ≤ hill
-      → top level (profile far) ≤ 2 ^ 60 → hill ≤ 2 ^ 60 → Going end ropes ropes far far hill level tasks hill level tasks
+      → top level (profile far) ≤ most_total → hill ≤ most_total → Going end ropes ropes far far hill level tasks hill level tasks
   going_starts ropes far hill level tasks f r a b c d e = record { told = λ near. refl; far_ropes = f; rope = r; kept = laws.runs.itself ropes; room = a; falls = b; rises = c; high = d; within = e; fewer = omega arith }
 
   module _ (ropes0 ropes : List (List ℕ)) (far0 far rest : List Seg) (hill0 level0 : ℕ) (tasks0 : Rope) (hill level : ℕ) (tasks : Rope) (s : Seg)
       (m : Going end ropes0 ropes far0 far hill0 level0 tasks0 hill level tasks) (first : far ≡ s ∷ rest) where
-    pub going_first : IsRope ropes s.tasks × (s.net ≤ level) × (level + s.up ≤ 2 ^ 60)
+    pub going_first : IsRope ropes s.tasks × (s.net ≤ level) × (level + s.up ≤ most_total)
     going_first = let r = rw first at m.far_ropes in let n = rw first at m.room in let h = rw first at m.high in (r.0, omega arith, omega arith)
 
     pub going_on : (ropes' : List (List ℕ)) (hill' : ℕ) (tasks' : Rope) → end < level → hill' ≡ max hill (level + s.up) → Extends ropes ropes' → IsRope ropes' tasks' → list_of ropes' tasks' ≡ list_of ropes tasks ++ list_of ropes s.tasks

@@ -7,7 +7,7 @@ pub mod Counts
 pub mod Stacked
 pub mod Moves
 pub mod Pushed
-pub mod Planned
+pub mod PlannedOrder
 pub mod Standing
 pub mod OneStaircase
 pub mod Reached

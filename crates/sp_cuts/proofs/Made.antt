@@ -1,6 +1,7 @@
 -- The part that a series makes.
 use Rattle.std.proofs.Common.{◌≡◌, ℕ, ◌+◌, ◌<◌, ◌≤◌, ◌^◌, ◌⊎◌, inl, inr, max, leb, List, refl, ap, sym, ◌∙◌, arith, true, false}
 use Rattle.std.proofs.lemmas.Bool.Decides.{nat_tests}
+use Rattle.limits.specs.Limits.{most_total}
 use Rattle.side_laws.specs.Segments.{Segment, net_sum, top}
 use Rattle.hill_valley.specs.declared.ropes.Rope.{Rope}
 use Rattle.hill_valley.specs.declared.side.Seg.{Seg}
@@ -57,7 +58,7 @@ peak_is a b c hill (inl h) = omega (arith, h.front, h.back)
 peak_is a b c hill (inr h) = omega (arith, h.front, h.back)
 
 -- so the part that it makes is rough
-pub series_rough : (r0 r2 : List (List ℕ)) (a b p : Part) (hill : ℕ) → IsRough r0 a → IsRough r0 b → hill ≤ 2 ^ 60 → HasSides r2 p
+pub series_rough : (r0 r2 : List (List ℕ)) (a b p : Part) (hill : ℕ) → IsRough r0 a → IsRough r0 b → hill ≤ most_total → HasSides r2 p
     → LiesInFirst (cut_of r0 a) (cut_of r0 b) hill (cut_of r2 p) ⊎ LiesInSecond (cut_of r0 a) (cut_of r0 b) hill (cut_of r2 p) → p.peak ≡ max a.peak (max hill b.peak) → IsRough r2 p
 series_rough r0 r2 a b p hill ra rb room sides kinds peak =
     let ba = ra.bound in let bb = rb.bound in let wa = ra.within in let wb = rb.within in
@@ -65,14 +66,14 @@ series_rough r0 r2 a b p hill ra rb room sides kinds peak =
 
 -- what leading over a hill asks, where the side over the hill is the `far` one of a part whose least memory is not greater
 pub record Leads (near far : List Seg) (end level high : ℕ) : Type 0 where
-  pub net : net_sum (profile near) + end ≤ 2 ^ 60
+  pub net : net_sum (profile near) + end ≤ most_total
   pub room : net_sum (profile far) ≤ level
   pub falls : level ≤ end + net_sum (profile far)
   pub rises : end ≤ high
-  pub top : top level (profile far) ≤ 2 ^ 60
-  pub hill : high ≤ 2 ^ 60
+  pub top : top level (profile far) ≤ most_total
+  pub hill : high ≤ most_total
 
-module _ (laws : SideLaws) (lists : List (List ℕ)) (a b : Part) (hill high : ℕ) (ra : IsRough lists a) (rb : IsRough lists b) (after : a.fin ≤ hill) (before : b.initial ≤ hill) (room : hill ≤ 2 ^ 60) where
+module _ (laws : SideLaws) (lists : List (List ℕ)) (a b : Part) (hill high : ℕ) (ra : IsRough lists a) (rb : IsRough lists b) (after : a.fin ≤ hill) (before : b.initial ≤ hill) (room : hill ≤ most_total) where
   pub first_leads : a.least ≤ b.least → high ≡ max (top b.initial (profile b.front)) hill → Leads b.back a.back b.least a.fin high
   first_leads le h =
       let wa = within laws lists a ra.both in

@@ -12,12 +12,13 @@ use Rattle.sp_terms.specs.Postfix.{gather}
 use Rattle.sp_terms.specs.SystemOfTerm.{task_count, task_count_of_parts}
 use Rattle.cut_laws.specs.Names.{numbered}
 use Rattle.sp_cuts.specs.declared.parts.Part.{Part}
-use Rattle.sp_cuts.specs.Parts.{fronts_of, backs_of, moves_between, moves_in}
+use Rattle.sp_cuts.specs.Parts.{front_sides, backs_of, moves_between, moves_in}
 use Rattle.segment_merge.specs.Laws.{SideLaws}
 use Rattle.sp_cuts.specs.Stacks.{IsPartOf, ArePartsOf, stack_tasks, AreMoved, AreMovedParts}
 use Rattle.sp_cuts.proofs.Appended.{length_runs}
 use Rattle.sp_cuts.proofs.Counts.{count_of, cut_count}
-use Rattle.sp_cuts.proofs.Stacked.{none_some, some_same}
+use Rattle.lists.proofs.Options.{some_same}
+use Rattle.lists.proofs.Options.{none_some}
 
 few : (lists : List (List ℕ)) (base : ℕ) (t : Term) (p : Part) → IsPartOf lists base t p → length p.front + length p.back ≤ task_count t
 few lists base t p h = omega (arith, ap count_of h.cut, cut_count t (numbered base t), length_runs lists p.front, length_runs lists p.back)
@@ -68,9 +69,9 @@ record AreCounted (ts : Parts) (ps : List Part) (x : ℕ) (cs : List Counted) : 
   all : AllByRecursion IsCounted cs
   moves : sum_by (λ p. p.moves) cs ≡ x
   tasks : sum_by (λ p. p.tasks) cs ≡ task_count_of_parts ts
-  front : sum_by (λ p. p.front) cs ≡ segment_count (fronts_of ps)
+  front : sum_by (λ p. p.front) cs ≡ segment_count (front_sides ps)
   back : sum_by (λ p. p.back) cs ≡ segment_count (backs_of ps)
-  long_front : greatest_of (λ p. p.front) cs ≡ longest (fronts_of ps)
+  long_front : greatest_of (λ p. p.front) cs ≡ longest (front_sides ps)
   long_back : greatest_of (λ p. p.back) cs ≡ longest (backs_of ps)
 
 are_counted : (lists : List (List ℕ)) (base : ℕ) (ts : Parts) (ps : List Part) (x : ℕ) → ArePartsOf lists base ts ps → AreMovedParts ts x → (cs : List Counted) × AreCounted ts ps x cs
@@ -85,7 +86,7 @@ are_counted lists base (part t ts) (p ∷ ps) x h (m, rest, g, e, a) =
         all = ((g, few lists base t p h.0), r.all);
         moves = omega (arith, r.moves, sum_by-cons (λ (x : Counted). x.moves) c cs);
         tasks = omega (arith, r.tasks, sum_by-cons (λ (x : Counted). x.tasks) c cs);
-        front = omega (arith, r.front, sum_by-cons (λ (x : Counted). x.front) c cs, sum_by-cons (length {A = Seg}) p.front (fronts_of ps));
+        front = omega (arith, r.front, sum_by-cons (λ (x : Counted). x.front) c cs, sum_by-cons (length {A = Seg}) p.front (front_sides ps));
         back = omega (arith, r.back, sum_by-cons (λ (x : Counted). x.back) c cs, sum_by-cons (length {A = Seg}) p.back (backs_of ps));
         long_front = omega (arith, r.long_front);
         long_back = omega (arith, r.long_back);

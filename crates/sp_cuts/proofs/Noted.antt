@@ -6,7 +6,7 @@ use Rattle.std.proofs.lemmas.Bool.Decides.{nat_tests}
 use Rattle.std.proofs.lemmas.List.{map-append, drop_more, take_more, take_all}
 use Rattle.side_laws.specs.Segments.{Segment, last_up}
 use Rattle.hill_valley.specs.declared.numbers.Numbers.{Numbers}
-use Rattle.hill_valley.specs.Numbers.{segments_of, first_down_to}
+use Rattle.hill_valley.specs.Numbers.{segments_listed, first_down_to}
 use Rattle.hill_valley.specs.Side.{profile, run_profile, runs_of}
 use Rattle.segment_merge.specs.Laws.{SideLaws}
 use Rattle.sp_terms.specs.declared.position.Position.{Position}
@@ -21,21 +21,23 @@ use Rattle.cut_laws.specs.Names.{numbered}
 use Rattle.sp_cuts.specs.declared.notes.PartNote.{PartNote}
 use Rattle.sp_cuts.specs.declared.notes.SeriesNote.{SeriesNote}
 use Rattle.sp_cuts.specs.declared.parts.Part.{Part}
-use Rattle.sp_cuts.specs.Notes.{CutNumbers, numbers_of, numbers_of_part, numbers_at, unnamed, Noted, nothing_noted, both_noted, IsSeriesNote, IsPartNote, ArePartNotes, segments_read, all_segments_read, unread, IsNote, AreNotesOf}
+use Rattle.sp_cuts.specs.Notes.{CutNumbers, cut_numbers, numbers_of_part, numbers_at, unnamed, Noted, nothing_noted, both_noted, IsSeriesNote, IsPartNote, ArePartNotes, segments_read, all_segments_read, unread, IsNote, AreNotesOf}
 use Rattle.sp_cuts.specs.Noting.{LeadsDown, NotesSeries, NotesPart, NotesParts, NotesPosition}
 use Rattle.sp_cuts.specs.Splits.{IsRough, AreRough}
 use Rattle.sp_cuts.specs.Stacks.{IsPartOf, ArePiled, ArePartsOf, PositionReady, stack_tasks}
 use Rattle.sp_cuts.proofs.Kept.{within}
 use Rattle.sp_cuts.proofs.Pushed.{Standing, one_on}
-use Rattle.sp_cuts.proofs.Stacked.{none_some, some_same, stack_length, many_fit, par_taken, two_tops, all_rough}
+use Rattle.sp_cuts.proofs.Stacked.{stack_length, many_fit, par_taken, two_tops, all_rough}
+use Rattle.lists.proofs.Options.{some_same}
+use Rattle.lists.proofs.Options.{none_some}
 use Rattle.sp_cuts.proofs.Unnamed.{same_numbers}
 
 -- ---- lists of notes
 
-abbrev lists : List SeriesNote → List PartNote → List Segment → Noted
+abbrev pub lists : List SeriesNote → List PartNote → List Segment → Noted
 lists ss ps gone = record { series = ss; parts = ps; gone = gone }
 
-same_lists : (s s' : List SeriesNote) (p p' : List PartNote) (g g' : List Segment) → s ≡ s' → p ≡ p' → g ≡ g' → lists s p g ≡ lists s' p' g'
+pub same_lists : (s s' : List SeriesNote) (p p' : List PartNote) (g g' : List Segment) → s ≡ s' → p ≡ p' → g ≡ g' → lists s p g ≡ lists s' p' g'
 same_lists s s' p p' g g' es ep eg = rw (es, ep, eg) refl
 
 pub nothing_more : (n : Noted) → n ≡ both_noted n nothing_noted
@@ -72,11 +74,11 @@ all_lead_down laws ropes (p ∷ ps) h = (leads_down laws ropes p h.0, all_lead_d
 
 module _ (a b : Part) (between far : ℕ) (ss ss' : List SeriesNote) (ps : List PartNote) (g0 g1 g2 : List Numbers) (up : ℕ) where
   pub noted_in_first : a.least ≤ b.least
-      → between ≡ length (first_down_to 0 b.initial (profile b.front)) → segments_of g1 ≡ segments_of g0 ++ first_down_to 0 b.initial (profile b.front)
-      → far ≡ length (first_down_to (b.least + 1) a.fin (profile a.back)) → segments_of g2 ≡ segments_of g1 ++ first_down_to (b.least + 1) a.fin (profile a.back)
+      → between ≡ length (first_down_to 0 b.initial (profile b.front)) → segments_listed g1 ≡ segments_listed g0 ++ first_down_to 0 b.initial (profile b.front)
+      → far ≡ length (first_down_to (b.least + 1) a.fin (profile a.back)) → segments_listed g2 ≡ segments_listed g1 ++ first_down_to (b.least + 1) a.fin (profile a.back)
       → up ≡ last_up (profile b.back)
       → ss' ≡ ss ++ record { in_first = true; near_up = up; near_least = b.least; between_start = b.initial; far_start = a.fin; between = between; far = far } ∷ []
-      → NotesSeries a b (lists ss ps (segments_of g0)) (lists ss' ps (segments_of g2))
+      → NotesSeries a b (lists ss ps (segments_listed g0)) (lists ss' ps (segments_listed g2))
   noted_in_first le n1 e1 n2 e2 u put =
       let first : List Segment = first_down_to 0 b.initial (profile b.front) in
       let second : List Segment = first_down_to (b.least + 1) a.fin (profile a.back) in (
@@ -99,15 +101,15 @@ module _ (a b : Part) (between far : ℕ) (ss ss' : List SeriesNote) (ps : List 
             far_is = refl;
           });
         },
-        same_lists _ _ _ _ _ _ put (sym (append-nil ps)) (e2 ∙ ap (λ (l : List Segment). l ++ second) e1 ∙ append_assoc (segments_of g0) first second),
+        same_lists _ _ _ _ _ _ put (sym (append-nil ps)) (e2 ∙ ap (λ (l : List Segment). l ++ second) e1 ∙ append_assoc (segments_listed g0) first second),
       )
 
   pub noted_in_second : b.least < a.least
-      → between ≡ length (first_down_to 0 a.fin (profile a.back)) → segments_of g1 ≡ segments_of g0 ++ first_down_to 0 a.fin (profile a.back)
-      → far ≡ length (first_down_to (a.least + 1) b.initial (profile b.front)) → segments_of g2 ≡ segments_of g1 ++ first_down_to (a.least + 1) b.initial (profile b.front)
+      → between ≡ length (first_down_to 0 a.fin (profile a.back)) → segments_listed g1 ≡ segments_listed g0 ++ first_down_to 0 a.fin (profile a.back)
+      → far ≡ length (first_down_to (a.least + 1) b.initial (profile b.front)) → segments_listed g2 ≡ segments_listed g1 ++ first_down_to (a.least + 1) b.initial (profile b.front)
       → up ≡ last_up (profile a.front)
       → ss' ≡ ss ++ record { in_first = false; near_up = up; near_least = a.least; between_start = a.fin; far_start = b.initial; between = between; far = far } ∷ []
-      → NotesSeries a b (lists ss ps (segments_of g0)) (lists ss' ps (segments_of g2))
+      → NotesSeries a b (lists ss ps (segments_listed g0)) (lists ss' ps (segments_listed g2))
   noted_in_second lt n1 e1 n2 e2 u put =
       let first : List Segment = first_down_to 0 a.fin (profile a.back) in
       let second : List Segment = first_down_to (a.least + 1) b.initial (profile b.front) in (
@@ -130,7 +132,7 @@ module _ (a b : Part) (between far : ℕ) (ss ss' : List SeriesNote) (ps : List 
             far_is = refl;
           });
         },
-        same_lists _ _ _ _ _ _ put (sym (append-nil ps)) (e2 ∙ ap (λ (l : List Segment). l ++ second) e1 ∙ append_assoc (segments_of g0) first second),
+        same_lists _ _ _ _ _ _ put (sym (append-nil ps)) (e2 ∙ ap (λ (l : List Segment). l ++ second) e1 ∙ append_assoc (segments_listed g0) first second),
       )
 
 -- ---- a part of parts side by side
@@ -241,7 +243,7 @@ module _ (laws : SideLaws) where
   pub part_numbers : (ropes : List (List ℕ)) (base : ℕ) (t : Term) (p : Part) → IsPartOf ropes base t p → numbers_of_part p ≡ numbers_at t
   part_numbers ropes base t p h =
       same_five (profile p.front) (run_profile (runs_of ropes p.front)) (profile p.back) (run_profile (runs_of ropes p.back)) p.initial p.fin p.least (sym (laws.runs.profile ropes p.front)) (sym (laws.runs.profile ropes p.back))
-      ∙ ap numbers_of h.cut ∙ same_numbers laws t (numbered base t) (unnamed t)
+      ∙ ap cut_numbers h.cut ∙ same_numbers laws t (numbered base t) (unnamed t)
 
   parts_numbers : (ropes : List (List ℕ)) (base : ℕ) (ts : Parts) (ps : List Part) → ArePartsOf ropes base ts ps → map numbers_of_part ps ≡ map numbers_at (list_of_parts ts)
   parts_numbers ropes base no_parts [] h = refl

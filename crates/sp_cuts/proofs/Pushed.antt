@@ -4,6 +4,7 @@ use Rattle.std.specs.Prelude.{option_and_then}
 use Rattle.std.specs.List.{sum_by}
 use Rattle.std.proofs.lemmas.Grind.{common_steps}
 use Rattle.std.proofs.lemmas.List.Sums.{sum_by-cons}
+use Rattle.limits.specs.Limits.{most_total, most_tasks}
 use Rattle.mp_system.specs.declared.system.Task.{Task}
 use Rattle.sp_terms.specs.declared.position.Position.{Position}
 use Rattle.sp_terms.specs.declared.position.Position.TheVariants.{Hold, Par}
@@ -18,7 +19,9 @@ use Rattle.sp_cuts.specs.Parts.{cut_of, IsPart, moves_between, moves_in}
 use Rattle.segment_merge.specs.Laws.{SideLaws}
 use Rattle.sp_cuts.specs.Stacks.{total_of_parts, IsPartOf, ArePiled, stack_tasks, stack_total, SeriesReady, SeriesDone, SeriesSteps, ParReady, ParDone, PositionReady, PositionDone, AreMoved, ParSteps, PositionSteps}
 use Rattle.sp_cuts.proofs.Moves.{moved_hold, moved_series, moved_par, moved_bound}
-use Rattle.sp_cuts.proofs.Stacked.{none_some, some_same, one_more, hold_of, par_taken, two_tops, stack_length}
+use Rattle.sp_cuts.proofs.Stacked.{one_more, hold_of, par_taken, two_tops, stack_length}
+use Rattle.lists.proofs.Options.{some_same}
+use Rattle.lists.proofs.Options.{none_some}
 
 -- ---- a data item
 
@@ -34,7 +37,7 @@ pub hold_done : (old : List (List ℕ)) (items : List Part) (position : Position
     → items' ≡ items ++ p ∷ [] → PositionDone old old items items' position next next
 hold_done old items position size next p items' is cut is_part peak new = subst (λ (x : Position). PositionDone old old items items' x next next) (sym is) (hold_go old items size next p items' cut is_part peak new)
 
-pub hold_fits : (lists : List (List ℕ)) (items : List Part) (position : Position) (size next : ℕ) → position ≡ Hold size → PositionReady lists items position next → size ≤ 2 ^ 60
+pub hold_fits : (lists : List (List ℕ)) (items : List Part) (position : Position) (size next : ℕ) → position ≡ Hold size → PositionReady lists items position next → size ≤ most_total
 hold_fits lists items position size next is r =
     let s = subst (λ (x : Position). PositionReady lists items x next) is r in
     let e = ap stack_total (some_same s.pushed) in
@@ -47,7 +50,7 @@ hold_fits lists items position size next is r =
 abbrev pub task_of : ℕ → ℕ → ℕ → Task
 task_of extra share time = record { extra = extra; share = share; time = time }
 
-series_go : (lists : List (List ℕ)) (items : List Part) (extra share time next : ℕ) (st st' : List Term) → ArePiled lists st (reverse items) → push (at.Task extra share time) st ≡ Some st' → AllAllowed st' → stack_total st' ≤ 2 ^ 60
+series_go : (lists : List (List ℕ)) (items : List Part) (extra share time next : ℕ) (st st' : List Term) → ArePiled lists st (reverse items) → push (at.Task extra share time) st ≡ Some st' → AllAllowed st' → stack_total st' ≤ most_total
     → SeriesReady lists items (task_of extra share time)
 series_go lists items extra share time next [] st' piled pushed allowed within = absurd (none_some pushed)
 series_go lists items extra share time next (b ∷ []) st' piled pushed allowed within = absurd (none_some pushed)
@@ -66,7 +69,7 @@ next_go extra share time [] st' pushed = absurd (none_some pushed)
 next_go extra share time (b ∷ []) st' pushed = absurd (none_some pushed)
 next_go extra share time (b ∷ a ∷ st) st' pushed = let e = ap stack_tasks (some_same pushed) in omega arith
 
-pub next_fits : (lists : List (List ℕ)) (items : List Part) (position : Position) (extra share time next : ℕ) → position ≡ at.Task extra share time → PositionReady lists items position next → next ≤ 1000000
+pub next_fits : (lists : List (List ℕ)) (items : List Part) (position : Position) (extra share time next : ℕ) → position ≡ at.Task extra share time → PositionReady lists items position next → next ≤ most_tasks
 next_fits lists items position extra share time next is r =
     let s = subst (λ (x : Position). PositionReady lists items x next) is r in
     let e = next_go extra share time s.st s.st' s.pushed in
@@ -177,12 +180,12 @@ gather_allowed k st acc ts rest e h g = (go k st acc ts rest e h g).0
     go (suc k) (t ∷ st) acc ts rest e h g = let r = go k st (part t acc) ts rest e h g in ((r.1.0, r.0), r.1.1)
 
 -- what a position adds, and that what was allowed after it was so before
-record Adds (q : Position) (st st' : List Term) : Type 0 where
-  total_is : stack_total st' ≡ stack_total st + added_size q
-  tasks_is : stack_tasks st' ≡ stack_tasks st + added_tasks q
-  allowed : AllAllowed st' → AllAllowed st
+pub record Adds (q : Position) (st st' : List Term) : Type 0 where
+  pub total_is : stack_total st' ≡ stack_total st + added_size q
+  pub tasks_is : stack_tasks st' ≡ stack_tasks st + added_tasks q
+  pub allowed : AllAllowed st' → AllAllowed st
 
-adds : (q : Position) (st st' : List Term) → push q st ≡ Some st' → Adds q st st'
+pub adds : (q : Position) (st st' : List Term) → push q st ≡ Some st' → Adds q st st'
 adds (Hold size) st st' e =
     let t = ap stack_total (some_same e) in let w = ap stack_tasks (some_same e) in
     record { total_is = omega arith; tasks_is = omega arith; allowed = λ h. (subst AllAllowed (sym (some_same e)) h).1 }
@@ -199,16 +202,16 @@ adds (Par k) st st' e =
     let ts = ap stack_total q.pushed in
     record { total_is = omega arith; tasks_is = omega arith; allowed = λ h. let f = subst AllAllowed (sym q.pushed) h in gather_allowed k st no_parts q.ts q.rest q.is f.0.1 f.1 }
 
-pushed_pick : (o : Option (List Term)) (qs : List Position) (out : List Term) → option_and_then (push_all qs) o ≡ Some out → (next : List Term) × (o ≡ Some next) × (push_all qs next ≡ Some out)
+pub pushed_pick : (o : Option (List Term)) (qs : List Position) (out : List Term) → option_and_then (push_all qs) o ≡ Some out → (next : List Term) × (o ≡ Some next) × (push_all qs next ≡ Some out)
 pushed_pick None qs out e = absurd (none_some e)
 pushed_pick (Some next) qs out e = (next, refl, e)
 
-record AllAdd (qs : List Position) (st out : List Term) : Type 0 where
-  total_is : stack_total out ≡ stack_total st + sum_by added_size qs
-  tasks_is : stack_tasks out ≡ stack_tasks st + sum_by added_tasks qs
-  allowed : AllAllowed out → AllAllowed st
+pub record AllAdd (qs : List Position) (st out : List Term) : Type 0 where
+  pub total_is : stack_total out ≡ stack_total st + sum_by added_size qs
+  pub tasks_is : stack_tasks out ≡ stack_tasks st + sum_by added_tasks qs
+  pub allowed : AllAllowed out → AllAllowed st
 
-all_add : (qs : List Position) (st out : List Term) → push_all qs st ≡ Some out → AllAdd qs st out
+pub all_add : (qs : List Position) (st out : List Term) → push_all qs st ≡ Some out → AllAdd qs st out
 all_add [] st out e = let t = ap stack_total (some_same e) in let w = ap stack_tasks (some_same e) in record { total_is = omega arith; tasks_is = omega arith; allowed = λ h. subst AllAllowed (sym (some_same e)) h }
 all_add (q ∷ qs) st out e =
     let (next, f, g) = pushed_pick (push q st) qs out e in
@@ -217,18 +220,18 @@ all_add (q ∷ qs) st out e =
     let a0 = a.total_is in let a1 = a.tasks_is in let b0 = b.total_is in let b1 = b.tasks_is in
     record { total_is = omega (arith, sum_by-cons added_size q qs); tasks_is = omega (arith, sum_by-cons added_tasks q qs); allowed = λ h. a.allowed (b.allowed h) }
 
-push_all_append : (qs rs : List Position) (st mid : List Term) → push_all qs st ≡ Some mid → push_all (qs ++ rs) st ≡ push_all rs mid
+pub push_all_append : (qs rs : List Position) (st mid : List Term) → push_all qs st ≡ Some mid → push_all (qs ++ rs) st ≡ push_all rs mid
 push_all_append [] rs st mid e = ap (push_all rs) (some_same e)
 push_all_append (q ∷ qs) rs st mid e =
     let (next, f, g) = pushed_pick (push q st) qs mid e in
     ap (option_and_then (push_all (qs ++ rs))) f ∙ push_all_append qs rs next mid g
 
-split_at : (ps : List Position) (i : ℕ) (p : Position) → i < length ps → get_or ps i p ≡ p → (after : List Position) × (ps ≡ take i ps ++ p ∷ after)
+pub split_at : (ps : List Position) (i : ℕ) (p : Position) → i < length ps → get_or ps i p ≡ p → (after : List Position) × (ps ≡ take i ps ++ p ∷ after)
 split_at [] i p h e = absurd (omega arith)
 split_at (q ∷ ps) zero p h e = (ps, ap (λ (x : Position). x ∷ ps) e)
 split_at (q ∷ ps) (suc i) p h e = let r = split_at ps i p (omega arith) e in (r.0, ap (λ (l : List Position). q ∷ l) r.1)
 
-take_more : (ps : List Position) (i : ℕ) (p : Position) → i < length ps → get_or ps i p ≡ p → take (suc i) ps ≡ take i ps ++ p ∷ []
+pub take_more : (ps : List Position) (i : ℕ) (p : Position) → i < length ps → get_or ps i p ≡ p → take (suc i) ps ≡ take i ps ++ p ∷ []
 take_more [] i p h e = absurd (omega arith)
 take_more (q ∷ ps) zero p h e = ap (λ (x : Position). x ∷ []) e
 take_more (q ∷ ps) (suc i) p h e = ap (λ (l : List Position). q ∷ l) (take_more ps i p (omega arith) e)
@@ -255,9 +258,9 @@ pub record OneOn (ps : List Position) (i : ℕ) (p : Position) (st : List Term) 
   pub pushed : push p st ≡ Some st'
   pub pushed_all : push_all (take (i + 1) ps) [] ≡ Some st'
   pub allowed : AllAllowed st'
-  pub total_le : stack_total st' ≤ 2 ^ 60
+  pub total_le : stack_total st' ≤ most_total
   pub tasks_le : stack_tasks st' ≤ task_count (term_of ps)
-  pub few : stack_tasks st' ≤ 1000000
+  pub few : stack_tasks st' ≤ most_tasks
 
 pub one_on : (ps : List Position) (i : ℕ) (p : Position) (st : List Term) → IsTerms ps → i < length ps → get_or ps i p ≡ p → push_all (take i ps) [] ≡ Some st → OneOn ps i p st
 one_on ps i p st a lt here pushed =

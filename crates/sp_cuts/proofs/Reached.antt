@@ -32,7 +32,9 @@ use Rattle.sp_cuts.specs.declared.reaching.Stairs.{Stairs}
 use Rattle.sp_cuts.proofs.Kept.{within}
 use Rattle.sp_cuts.proofs.OneStaircase.{staircase_of, start_is, first_have_fewer}
 use Rattle.sp_cuts.proofs.Pushed.{Standing, standing_ready, standing_on}
-use Rattle.sp_cuts.proofs.Stacked.{none_some, some_same, stack_length, start_within, end_within}
+use Rattle.sp_cuts.proofs.Stacked.{stack_length, start_within, end_within}
+use Rattle.lists.proofs.Options.{some_same}
+use Rattle.lists.proofs.Options.{none_some}
 
 -- ---- the last part
 

@@ -4,6 +4,7 @@ use Rattle.std.proofs.lemmas.Grind.{common_steps}
 use Rattle.std.specs.List.{sum_by}
 use Rattle.std.proofs.lemmas.List.{reverse-append}
 use Rattle.std.proofs.lemmas.List.Sums.{sum_by-cons}
+use Rattle.limits.specs.Limits.{most_total}
 use Rattle.hill_valley.specs.Ropes.{Extends}
 use Rattle.mp_system.specs.declared.system.Task.{Task}
 use Rattle.sp_terms.specs.Term.{Term, hold, series, par, Parts, no_parts, part, initial_of, final_of, hill_of}
@@ -19,6 +20,7 @@ use Rattle.segment_merge.specs.Laws.{SideLaws}
 use Rattle.sp_cuts.specs.Stacks.{total_of, total_of_parts, IsPartOf, ArePiled, ArePartsOf, stack_tasks}
 use Rattle.sp_cuts.proofs.Kept.{cut_kept, rough_kept, rough, within}
 use Rattle.sp_cuts.proofs.Counts.{cut_initial, cut_fin}
+use Rattle.lists.proofs.Options.{none_some, some_same}
 
 -- ---- one part
 
@@ -95,12 +97,6 @@ par_of r0 r2 base ts ps p h e r peak =
 pub record Taken (lists : List (List ℕ)) (ts : Parts) (rest : List Term) (ps below : List Part) : Type 0 where
   pub all : ArePartsOf lists (suc (stack_tasks rest)) ts ps
   pub piled : ArePiled lists rest below
-
-pub none_some : {A : Type 0} {x : A} → None ≡ Some x → ⊥
-none_some h = cc
-
-pub some_same : {A : Type 0} {x y : A} → Some x ≡ Some y → x ≡ y
-some_same e = cc
 
 taken_go : (lists : List (List ℕ)) (k : ℕ) (st : List Term) (acc ts : Parts) (rest : List Term) (xs below done : List Part) → length xs ≡ k → ArePiled lists st (xs ++ below)
     → ArePartsOf lists (suc (stack_tasks st)) acc done → gather k st acc ≡ Some (ts, rest) → Taken lists ts rest (reverse xs ++ done) below
@@ -186,7 +182,7 @@ pub record Joined (lists : List (List ℕ)) (v : Task) (pa pb : Part) : Type 0 w
 
 module _ (laws : SideLaws) (r0 r2 : List (List ℕ)) (st : List Term) (a b : Term) (items low1 low : List Part) (pa pb : Part) (number : ℕ) (v : Task)
     (piled : ArePiled r0 (b ∷ a ∷ st) (reverse items)) (top1 : items ≡ low1 ++ pb ∷ []) (top2 : low1 ≡ low ++ pa ∷ []) where
-  pub joins_fit : v.share ≤ final_of a → v.share ≤ v.extra + initial_of b → total_of a + v.extra + total_of b ≤ 2 ^ 60 → Joined r0 v pa pb
+  pub joins_fit : v.share ≤ final_of a → v.share ≤ v.extra + initial_of b → total_of a + v.extra + total_of b ≤ most_total → Joined r0 v pa pb
   joins_fit i o h =
       let t = two_tops r0 st a b items low1 low pa pb piled top1 top2 in
       let wa = end_within laws r0 (suc (stack_tasks st)) a pa t.first in

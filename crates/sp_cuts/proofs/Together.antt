@@ -3,6 +3,7 @@ use Rattle.std.proofs.Common.{◌≡◌, ℕ, ◌+◌, ◌-◌, ◌≤◌, ◌^�
 use Rattle.std.specs.List.{AllByRecursion, sum_by}
 use Rattle.std.proofs.lemmas.List.{append-nil, map-append, nil_from_length}
 use Rattle.std.proofs.lemmas.List.Sums.{sum_by-append, sum_by-cons}
+use Rattle.limits.specs.Limits.{most_total}
 use Rattle.side_laws.specs.Levels.{AllStart}
 use Rattle.side_laws.specs.Merging.{AllRising}
 use Rattle.side_laws.specs.Segments.{net_sum}
@@ -15,7 +16,7 @@ use Rattle.sp_terms.specs.Term.{Direction, forward, backward}
 use Rattle.cut_laws.specs.Cuts.{Cut, par_cut, fronts, backs, top_of, starts, sides}
 use Rattle.cut_laws.specs.Tops.{MeetsAtLeast, BothRise, tops}
 use Rattle.sp_cuts.specs.declared.parts.Part.{Part}
-use Rattle.sp_cuts.specs.Parts.{cut_of, cuts_of, AreParts, fronts_of, backs_of, moves_in}
+use Rattle.sp_cuts.specs.Parts.{cut_of, cuts_of, AreParts, front_sides, backs_of, moves_in}
 use Rattle.sp_cuts.specs.Splits.{IsRough, AreRough, AreSplit}
 use Rattle.sp_cuts.proofs.Kept.{same_cut, sides_of, peak_of_cut, within, rough}
 
@@ -38,20 +39,20 @@ splitting_starts parts all e = record { all = e; splits = record { front = refl;
 
 -- the next sums fit
 pub record Fit (start end low most : ℕ) (p : Part) : Type 0 where
-  pub start_fits : start + p.initial ≤ 2 ^ 60
-  pub end_fits : end + p.fin ≤ 2 ^ 60
-  pub low_fits : low + p.least ≤ 2 ^ 60
-  pub most_fits : most + p.peak ≤ 2 ^ 60
+  pub start_fits : start + p.initial ≤ most_total
+  pub end_fits : end + p.fin ≤ most_total
+  pub low_fits : low + p.least ≤ most_total
+  pub most_fits : most + p.peak ≤ most_total
 
 module _ (yielded rest' rest parts : List Part) (fs bs : List (List Seg)) (start end low most : ℕ) (p : Part)
     (s : Splitting yielded rest' parts fs bs start end low most) (first : rest' ≡ p ∷ rest) where
   together : yielded ++ p ∷ rest ≡ parts
   together = ap (λ (l : List Part). yielded ++ l) (sym first) ∙ s.all
 
-  fits : (f : Part → ℕ) (n : ℕ) → n ≡ sum_by f yielded → sum_by f parts ≤ 2 ^ 60 → n + f p ≤ 2 ^ 60
+  fits : (f : Part → ℕ) (n : ℕ) → n ≡ sum_by f yielded → sum_by f parts ≤ most_total → n + f p ≤ most_total
   fits f n e h = omega (arith, e, ap (sum_by f) together, sum_by-append f yielded (p ∷ rest), sum_by-cons f p rest)
 
-  pub splitting_fit : sum_by (λ p. p.initial) parts ≤ 2 ^ 60 → sum_by (λ p. p.fin) parts ≤ 2 ^ 60 → sum_by (λ p. p.least) parts ≤ 2 ^ 60 → sum_by (λ p. p.peak) parts ≤ 2 ^ 60 → Fit start end low most p
+  pub splitting_fit : sum_by (λ p. p.initial) parts ≤ most_total → sum_by (λ p. p.fin) parts ≤ most_total → sum_by (λ p. p.least) parts ≤ most_total → sum_by (λ p. p.peak) parts ≤ most_total → Fit start end low most p
   splitting_fit a b c d = record {
     start_fits = fits (λ p. p.initial) start s.splits.start_is a;
     end_fits = fits (λ p. p.fin) end s.splits.end_is b;
@@ -82,7 +83,7 @@ splitting_ends yielded rest parts fs bs start end low most s e =
 
 -- ---- what merge needs
 
-fronts_ropes : (lists : List (List ℕ)) (ps : List Part) → AreRough lists ps → AllHaveRopes lists (fronts_of ps)
+fronts_ropes : (lists : List (List ℕ)) (ps : List Part) → AreRough lists ps → AllHaveRopes lists (front_sides ps)
 fronts_ropes lists [] h = tt
 fronts_ropes lists (p ∷ ps) h = (h.0.both.front_ropes, fronts_ropes lists ps h.1)
 
@@ -95,7 +96,7 @@ pub record Sums (ps : List Part) : Type 0 where
   pub start : sum_by (λ p. p.initial) ps ≤ sum_by (λ p. p.peak) ps
   pub end : sum_by (λ p. p.fin) ps ≤ sum_by (λ p. p.peak) ps
   pub low : sum_by (λ p. p.least) ps ≤ sum_by (λ p. p.peak) ps
-  pub front : net_sum_all (fronts_of ps) ≤ sum_by (λ p. p.peak) ps
+  pub front : net_sum_all (front_sides ps) ≤ sum_by (λ p. p.peak) ps
   pub back : net_sum_all (backs_of ps) ≤ sum_by (λ p. p.peak) ps
 
 pub sums : SideLaws → (lists : List (List ℕ)) (ps : List Part) → AreRough lists ps → Sums ps
@@ -111,7 +112,7 @@ sums laws lists (p ∷ ps) h =
       start = omega (arith, sum_by-cons (λ (q : Part). q.initial) p ps);
       end = omega (arith, sum_by-cons (λ (q : Part). q.fin) p ps);
       low = omega (arith, sum_by-cons (λ (q : Part). q.least) p ps);
-      front = omega (arith, sum_by-cons (λ (s : List Seg). net_sum (profile s)) p.front (fronts_of ps));
+      front = omega (arith, sum_by-cons (λ (s : List Seg). net_sum (profile s)) p.front (front_sides ps));
       back = omega (arith, sum_by-cons (λ (s : List Seg). net_sum (profile s)) p.back (backs_of ps));
     }
 
@@ -119,10 +120,10 @@ sums laws lists (p ∷ ps) h =
 pub record Ready (lists : List (List ℕ)) (fs bs : List (List Seg)) : Type 0 where
   pub front_ropes : AllHaveRopes lists fs
   pub back_ropes : AllHaveRopes lists bs
-  pub front_net : net_sum_all fs ≤ 2 ^ 60
-  pub back_net : net_sum_all bs ≤ 2 ^ 60
+  pub front_net : net_sum_all fs ≤ most_total
+  pub back_net : net_sum_all bs ≤ most_total
 
-pub ready : SideLaws → (lists : List (List ℕ)) (parts : List Part) (fs bs : List (List Seg)) (start end low most : ℕ) → AreRough lists parts → sum_by (λ p. p.peak) parts ≤ 2 ^ 60 → AreSplit parts fs bs start end low most → Ready lists fs bs
+pub ready : SideLaws → (lists : List (List ℕ)) (parts : List Part) (fs bs : List (List Seg)) (start end low most : ℕ) → AreRough lists parts → sum_by (λ p. p.peak) parts ≤ most_total → AreSplit parts fs bs start end low most → Ready lists fs bs
 ready laws lists parts fs bs start end low most h room s =
     let t = sums laws lists parts h in
     let a = t.front in let b = t.back in
@@ -161,7 +162,7 @@ tops_le backward lists (p ∷ ps) h = let b = h.0.bound in omega (arith, tops_le
 
 -- the sides and the numbers of several parts are those of their cuts
 pub record Told (lists : List (List ℕ)) (ps : List Part) : Type 0 where
-  pub front : all_runs_of lists (fronts_of ps) ≡ fronts (cuts_of lists ps)
+  pub front : all_runs_of lists (front_sides ps) ≡ fronts (cuts_of lists ps)
   pub back : all_runs_of lists (backs_of ps) ≡ backs (cuts_of lists ps)
   pub start : sum_by (λ p. p.initial) ps ≡ sum_by (λ c. c.initial) (cuts_of lists ps)
   pub end : sum_by (λ p. p.fin) ps ≡ sum_by (λ c. c.fin) (cuts_of lists ps)
@@ -201,7 +202,7 @@ module _ (laws : SideLaws) (r0 r1 r2 : List (List ℕ)) (parts : List Part) (fs 
 
   pub together_rough : ((cs : List Cut) → AllByRecursion MeetsAtLeast cs → MeetsAtLeast (par_cut cs)) → ((cs : List Cut) → BothRise (par_cut cs))
       → ((d : Direction) (cs : List Cut) → AllRising (sides d cs) → AllStart (starts d cs) (sides d cs) → top_of d (par_cut cs) ≤ tops d cs)
-      → sum_by (λ p. p.peak) parts ≤ 2 ^ 60 → IsRough r2 (part_with front back start end low most)
+      → sum_by (λ p. p.peak) parts ≤ most_total → IsRough r2 (part_with front back start end low most)
   together_rough meets rises high room =
       let cs = cuts_of r0 parts in
       let p = part_with front back start end low most in

@@ -7,7 +7,7 @@ use Rattle.sp_cuts.specs.Splits.{IsRough, AreRough}
 use Rattle.sp_terms.specs.Term.{Term}
 use Rattle.cut_laws.specs.Names.{Names}
 use Rattle.cut_laws.specs.TermCuts.{cut_of_term}
-use Rattle.sp_cuts.specs.Notes.{numbers_of}
+use Rattle.sp_cuts.specs.Notes.{cut_numbers}
 
 -- a part is the same cut for good, however many more ropes are made
 abbrev pub PartsStay : Type 0
@@ -33,4 +33,4 @@ NumbersWithinPeak = (lists : List (List ℕ)) (p : Part) → IsPart lists p
 
 -- the numbers of a term's cut are the same whatever its tasks are called
 abbrev pub NumbersWithoutNames : Type 0
-NumbersWithoutNames = (t : Term) (n m : Names t) → numbers_of (cut_of_term t n) ≡ numbers_of (cut_of_term t m)
+NumbersWithoutNames = (t : Term) (n m : Names t) → cut_numbers (cut_of_term t n) ≡ cut_numbers (cut_of_term t m)

@@ -4,7 +4,7 @@
 use Rattle.std.specs.Prelude.{◌≡◌, ℕ, zero, suc, ◌+◌, ◌<◌, ◌≤◌, true, false, if◌then◌else◌, List, [], ◌∷◌, ◌++◌, length, map, ◌⊎◌}
 use Rattle.std.specs.List.{AllZip}
 use Rattle.side_laws.specs.Segments.{Segment, last_up}
-use Rattle.hill_valley.specs.Numbers.{segments_of, first_down_to}
+use Rattle.hill_valley.specs.Numbers.{segments_listed, first_down_to}
 use Rattle.hill_valley.specs.Side.{profile, run_profile}
 use Rattle.sp_terms.specs.declared.position.Position.{Position}
 use Rattle.sp_terms.specs.Places.{list_of_parts}
@@ -27,8 +27,8 @@ pub record CutNumbers : Type 0 where
   pub fin : ℕ
   pub least : ℕ
 
-abbrev pub numbers_of : Cut → CutNumbers
-numbers_of c = record { front = run_profile c.front; back = run_profile c.back; initial = c.initial; fin = c.fin; least = c.least }
+abbrev pub cut_numbers : Cut → CutNumbers
+cut_numbers c = record { front = run_profile c.front; back = run_profile c.back; initial = c.initial; fin = c.fin; least = c.least }
 
 abbrev pub numbers_of_part : Part → CutNumbers
 numbers_of_part p = record { front = profile p.front; back = profile p.back; initial = p.initial; fin = p.fin; least = p.least }
@@ -48,7 +48,7 @@ abbrev pub cut_at : Term → Cut
 cut_at t = cut_of_term t (unnamed t)
 
 abbrev pub numbers_at : Term → CutNumbers
-numbers_at t = numbers_of (cut_at t)
+numbers_at t = cut_numbers (cut_at t)
 
 -- ---- lists of notes
 
@@ -59,7 +59,7 @@ pub record Noted : Type 0 where
   pub gone : List Segment
 
 abbrev pub noted_in : Notes → Noted
-noted_in n = record { series = n.series.items; parts = n.parts.items; gone = segments_of n.gone.items }
+noted_in n = record { series = n.series.items; parts = n.parts.items; gone = segments_listed n.gone.items }
 
 abbrev pub nothing_noted : Noted
 nothing_noted = record { series = []; parts = []; gone = [] }

@@ -70,12 +70,12 @@ AreParts lists ps = AllByRecursion (IsPart lists) ps
 abbrev pub cuts_of : List (List ℕ) → List Part → List Cut
 cuts_of lists ps = map (cut_of lists) ps
 
-abbrev pub fronts_of : List Part → List (List Seg)
-fronts_of ps = map (λ p. p.front) ps
+abbrev pub front_sides : List Part → List (List Seg)
+front_sides ps = map (λ p. p.front) ps
 
 abbrev pub backs_of : List Part → List (List Seg)
 backs_of ps = map (λ p. p.back) ps
 
 -- how many segments are moved where those of the longest front and of the longest back stay
 abbrev pub moves_in : List Part → ℕ
-moves_in ps = (segment_count (fronts_of ps) - longest (fronts_of ps)) + (segment_count (backs_of ps) - longest (backs_of ps))
+moves_in ps = (segment_count (front_sides ps) - longest (front_sides ps)) + (segment_count (backs_of ps) - longest (backs_of ps))

@@ -5,7 +5,7 @@ use Rattle.limits.specs.Limits.{most_total}
 use Rattle.hill_valley.specs.declared.side.Seg.{Seg}
 use Rattle.cut_laws.specs.Cuts.{front_peak, back_peak}
 use Rattle.sp_cuts.specs.declared.parts.Part.{Part}
-use Rattle.sp_cuts.specs.Parts.{cut_of, HasSides, fronts_of, backs_of}
+use Rattle.sp_cuts.specs.Parts.{cut_of, HasSides, front_sides, backs_of}
 
 -- a part whose `peak` is only a bound of its peak
 pub record IsRough (lists : List (List ℕ)) (p : Part) : Type 0 where
@@ -20,7 +20,7 @@ AreRough lists ps = AllByRecursion (IsRough lists) ps
 
 -- the sides of the parts, and the sums of their numbers
 pub record AreSplit (parts : List Part) (fs bs : List (List Seg)) (start end low most : ℕ) : Type 0 where
-  pub front : fs ≡ fronts_of parts
+  pub front : fs ≡ front_sides parts
   pub back : bs ≡ backs_of parts
   pub start_is : start ≡ sum_by (λ p. p.initial) parts
   pub end_is : end ≡ sum_by (λ p. p.fin) parts

@@ -15,13 +15,11 @@ mod noting;
 mod parts;
 mod planning;
 mod reaching;
-#[cfg(test)]
-mod tests;
 
 pub use composing::{parallel, parallel_part, series, series_part};
 pub use notes::{Notes, PartNote, SeriesNote};
 pub use parts::{Part, hill_between, hold};
-pub use planning::{Plan, plan_terms};
+pub use planning::{Planned, plan_terms};
 pub use reaching::{Stairs, StairsRefusal, staircases};
 use std::alloc::AllocError;
 

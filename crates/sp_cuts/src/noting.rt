@@ -3,7 +3,7 @@
 ghost use Rattle.std.specs.Prelude.{◌≡◌, ◌+◌, ◌≤◌, ◌++◌, ℕ, List, [], length, if◌then◌else◌, IfOk, OnOk};
 ghost use Rattle.std.specs.List.{AllByRecursion};
 ghost use Rattle.side_laws.specs.Segments.{net_sum};
-ghost use Rattle.hill_valley.specs.Numbers.{segments_of, first_down_to};
+ghost use Rattle.hill_valley.specs.Numbers.{segments_listed, first_down_to};
 ghost use Rattle.hill_valley.specs.Side.{profile};
 ghost use Rattle.sp_cuts.specs.Notes.{noted_in};
 ghost use Rattle.sp_cuts.specs.Noting.{LeadsDown, NotesSeries, NotesPart, NotesParts, NotesPosition};
@@ -120,8 +120,8 @@ fn note_sides(part: &Part, read: bool, gone: &mut Vec<Numbers>) -> Result<(u32, 
     requires { LeadsDown part.now }
     ensures front { IfOk result (λ n. n.0 ≡ (if read then length (profile part.now.front) else 0)) }
     ensures back { IfOk result (λ n. n.1 ≡ (if read then length (profile part.now.back) else 0)) }
-    ensures gone { OnOk result (segments_of gone.new.items
-        ≡ segments_of gone.old.items ++ (if read then profile part.now.front ++ profile part.now.back else [])) }
+    ensures gone { OnOk result (segments_listed gone.new.items
+        ≡ segments_listed gone.old.items ++ (if read then profile part.now.front ++ profile part.now.back else [])) }
 {
     if !read {
         return Ok((0, 0));
@@ -136,7 +136,7 @@ fn note_sides(part: &Part, read: bool, gone: &mut Vec<Numbers>) -> Result<(u32, 
 fn note_side(side: &Side, level: u64, stop: u64, gone: &mut Vec<Numbers>) -> Result<u32, NoMemory>
     requires room { net_sum (profile side.now) ≤ level }
     ensures count { IfOk result (λ n. n ≡ length (first_down_to stop level (profile side.now))) }
-    ensures gone { OnOk result (segments_of gone.new.items ≡ segments_of gone.old.items ++ first_down_to stop level (profile side.now)) }
+    ensures gone { OnOk result (segments_listed gone.new.items ≡ segments_listed gone.old.items ++ first_down_to stop level (profile side.now)) }
 {
     let before = gone.len();
     side.push_numbers(level, stop, gone)?;

@@ -24,14 +24,14 @@ use crate::parts::{Part, hill_between, hold};
 use hill_valley::Ropes;
 use mp_system::Task;
 use segment_merge::laws;
-use sp_terms::{Position, Terms, laws as term_laws};
+use sp_terms::{Position, TermList, laws as term_laws};
 use std::alloc::Global;
 use std::sync::ledger::Ledger;
 use step_count::Steps;
 
 /// A traversal of least peak, with the part of the whole term that it was read off.
 #[derive(Drop)]
-pub struct Plan {
+pub struct Planned {
     /// The tasks by their numbers, in the order in which they run.
     pub order: Vec<u32>,
     /// The greatest memory of the order, from 0 to 2^60.
@@ -49,9 +49,9 @@ pub struct Plan {
 /// gone for good, and is none. Of s tasks, fewer than 2^d, it takes at most s * d steps. Where memory is wanting, what was counted stays.
 pub fn plan_terms<L: Ledger>(
     alloc: Global,
-    terms: &Terms,
+    terms: &TermList,
     steps: &mut Steps<L>,
-) -> Result<Plan, NoMemory>
+) -> Result<Planned, NoMemory>
     ensures cut { IfOk result (λ p. cut_of p.ropes p.part ≡ cut_of_term (term_of terms.now) (numbered 1 (term_of terms.now))) }
     ensures order { IfOk result (λ p. p.order.items ≡ order_of (cut_of p.ropes p.part)) }
     ensures peak { IfOk result (λ p. p.peak ≡ p.part.peak) }
@@ -82,7 +82,7 @@ pub fn plan_terms<L: Ledger>(
     let up = ropes.flip(back);
     let way = ropes.join(down, up)?;
     let order = ropes.list(alloc, way)?;
-    Ok(Plan {
+    Ok(Planned {
         order,
         peak: part.peak,
         part,
@@ -94,7 +94,7 @@ pub fn plan_terms<L: Ledger>(
 // The part of the term, whose peak is a bound, and the notes of all positions.
 fn part_of<L: Ledger>(
     alloc: Global,
-    terms: &Terms,
+    terms: &TermList,
     ropes: &mut Ropes,
     notes: &mut Notes,
     steps: &mut Steps<L>,

@@ -16,7 +16,7 @@ use crate::planning::push_position;
 use hill_valley::{Ropes, Step};
 use limits::MOST_STEPS;
 use segment_merge::laws;
-use sp_terms::{Terms, laws as term_laws};
+use sp_terms::{TermList, laws as term_laws};
 use std::alloc::{AllocFailed, Global};
 use std::fmt::{self, Display, Formatter, Write};
 use std::sync::ledger::Ledger;
@@ -75,7 +75,7 @@ impl Display for StairsRefusal {
 /// for each position, and the ropes. It ends as soon as the steps pass the limit.
 pub fn staircases<L: Ledger>(
     alloc: Global,
-    terms: &Terms,
+    terms: &TermList,
     steps: &mut Steps<L>,
 ) -> Result<Vec<Stairs>, StairsRefusal>
     ensures stairs { IfOk result (λ all. AreStairs terms.now (all_of all.items)) }

@@ -11,8 +11,8 @@ use Rattle.sp_terms.specs.Term.{Term}
 use Rattle.sp_terms.specs.Postfix.{Denotes, postfix}
 use Rattle.sp_terms.specs.declared.position.Position.{Position}
 use Rattle.sp_terms.specs.Values.{term_of, IsTerms}
-use Rattle.task_graph.specs.declared.arc.Arc.{Arc}
-use Rattle.task_graph.specs.Graph.{TaskGraph, IsAmong, IsArcWithin, IsGraph, is_into, task_at, completed_arcs, completed_system}
+use Rattle.graphs.specs.declared.arc.Arc.{Arc}
+use Rattle.graphs.specs.Graph.{TaskGraph, IsAmong, IsArcWithin, IsGraph, is_into, listed_task, completed_arcs, completed_system}
 use Rattle.sp_reduce.specs.declared.link.Link.{Link}
 use Rattle.sp_reduce.specs.declared.piece.Piece.{Piece}
 use Rattle.sp_reduce.specs.Nets.{Net, names}
@@ -48,13 +48,13 @@ module _ (graph : TaskGraph) (links : List Link) (nodes : List ℕ) (pieces : Li
     answer-small = size-small graph is system within led (net_of x) makes
 
     module _ (form : (u : Term) → Denotes (postfix u) u) where
-      pub answer-terms : IsTerms (postfix (term_of_net (task_at graph.tasks) (net_of x)))
+      pub answer-terms : IsTerms (postfix (term_of_net (listed_task graph.tasks) (net_of x)))
       answer-terms = is-terms graph is system within led (net_of x) makes form
 
-      pub answer-system : (positions : List Position) (named : List ℕ) → positions ≡ postfix (term_of_net (task_at graph.tasks) (net_of x)) → named ≡ names (net_of x)
+      pub answer-system : (positions : List Position) (named : List ℕ) → positions ≡ postfix (term_of_net (listed_task graph.tasks) (net_of x)) → named ≡ names (net_of x)
           → HasSystem named (term_of positions) (completed_system graph)
       answer-system positions named p n =
-          let same : term_of positions ≡ term_of_net (task_at graph.tasks) (net_of x) = ap term_of p ∙ term-same graph is system within led (net_of x) makes form in
+          let same : term_of positions ≡ term_of_net (listed_task graph.tasks) (net_of x) = ap term_of p ∙ term-same graph is system within led (net_of x) makes form in
           subst (λ (xs : List ℕ). HasSystem xs (term_of positions) (completed_system graph)) (sym n)
           (subst (λ (u : Term). HasSystem (names (net_of x)) u (completed_system graph)) (sym same) (has-system graph is system within led (net_of x) makes))
 
@@ -77,8 +77,8 @@ module _ (graph : TaskGraph) (links : List Link) (nodes : List ℕ) (pieces : Li
 pub record IsFound (graph : TaskGraph) (tasks : List Task) (pieces : List Piece) (root : ℕ) : Type 0 where
   pub among : All (IsAmong (length tasks)) (names (net_at (nets_of pieces) root))
   pub small : size_of (net_at (nets_of pieces) root) ≤ most_positions
-  pub terms : (positions : List Position) → positions ≡ postfix (term_of_net (task_at tasks) (net_at (nets_of pieces) root)) → IsTerms positions
-  pub system : (positions : List Position) (named : List ℕ) → positions ≡ postfix (term_of_net (task_at tasks) (net_at (nets_of pieces) root))
+  pub terms : (positions : List Position) → positions ≡ postfix (term_of_net (listed_task tasks) (net_at (nets_of pieces) root)) → IsTerms positions
+  pub system : (positions : List Position) (named : List ℕ) → positions ≡ postfix (term_of_net (listed_task tasks) (net_at (nets_of pieces) root))
       → named ≡ names (net_at (nets_of pieces) root) → HasSystem named (term_of positions) (completed_system graph)
 
 -- the code sees the graph, the links and the pieces through references

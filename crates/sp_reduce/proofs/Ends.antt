@@ -2,12 +2,10 @@
 use Rattle.std.proofs.Common.{◌≡◌, ℕ, ◌+◌, ◌<◌, ◌≤◌, ◌⊎◌, inl, inr, Bool, true, false, cond, refl, subst, ap, arith, Option, Some, None, eqb, eq-eqb}
 use Rattle.std.specs.Prelude.{◌==◌}
 use Rattle.sp_reduce.specs.Nets.{Net, hold, series, both, times, IsDistinct, count, hits, pair, into, out_of, knows}
-
-pub cases_le : (m n : ℕ) → (m ≤ n) ⊎ (n < m)
-cases_le m n = grind arith
+use Rattle.lists.proofs.Orders.{le_or_lt}
 
 pub split : {A : Type 0} (m n : ℕ) → (m ≤ n → A) → (n < m → A) → A
-split m n f g = elim (cases_le m n) [ inl h ↦ f h | inr h ↦ g h ]
+split m n f g = elim (le_or_lt m n) [ inl h ↦ f h | inr h ↦ g h ]
 
 pub hits-self : (o : Option ℕ) → hits o o ≡ 1
 hits-self None = refl

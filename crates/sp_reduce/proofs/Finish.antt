@@ -18,8 +18,8 @@ use Rattle.sp_terms.specs.Term as terms
 use Rattle.sp_terms.specs.SystemOfTerm.{task_count, task_count_of_parts, tasks_of_term, tasks_of_parts}
 use Rattle.sp_terms.specs.Postfix.{Denotes, postfix}
 use Rattle.sp_terms.specs.Values.{stack_from, last_term, term_of, Leaves, IsTerms}
-use Rattle.task_graph.specs.declared.arc.Arc.{Arc}
-use Rattle.task_graph.specs.Graph.{TaskGraph, IsAmong, IsArcWithin, IsGraph, is_into, item_of, end_of, task_at, completed_arcs, completed_system}
+use Rattle.graphs.specs.declared.arc.Arc.{Arc}
+use Rattle.graphs.specs.Graph.{TaskGraph, IsAmong, IsArcWithin, IsGraph, is_into, item_of_arc, end_of, listed_task, completed_arcs, completed_system}
 use Rattle.sp_reduce.specs.Nets.{Net, hold, series, both, names, times, arcs, hits, into}
 use Rattle.sp_reduce.specs.NetGraphs.{arc_weight, counted, Makes}
 use Rattle.sp_reduce.specs.Reduced.{HasSystem, HasParts}
@@ -31,6 +31,7 @@ use Rattle.sp_reduce.proofs.Weights.{weighed}
 use Rattle.sp_reduce.proofs.RenamedTerms.{items-made}
 use Rattle.sp_reduce.proofs.Shaped.{tasks-are, items-are, size_if, size_in, size_out, ShareFits, allowed}
 use Rattle.sp_reduce.proofs.Bounds.{weigh-data, weigh-holds, size-holds, bad, small, AreBound, bounds}
+use Rattle.graphs.proofs.SystemLemmas.{end-is}
 
 -- ---- sums over numbers
 
@@ -126,26 +127,22 @@ count-names v (series a w b) =
     omega (arith, sum_by-append f (names a) (names b ++ w ∷ []), sum_by-append f (names b) (w ∷ []), sum_by-cons f w [], count-names v a, count-names v b)
 count-names v (both a b) = omega (arith, sum_by-append (λ u. cond {A = ℕ} (eqb u v) 1 0) (names a) (names b), count-names v a, count-names v b)
 
-into-counts : (v : ℕ) → 1 ≤ v → (xs : List Arc) → counted (into (Some v)) (map item_of xs) ≡ count_by (is_into v) xs
+into-counts : (v : ℕ) → 1 ≤ v → (xs : List Arc) → counted (into (Some v)) (map item_of_arc xs) ≡ count_by (is_into v) xs
 into-counts v some [] = refl
 into-counts v some (x ∷ xs) =
     omega (
       arith,
-      sum_by-cons (λ (i : Item). into (Some v) i.from i.to) (item_of x) (map item_of xs),
+      sum_by-cons (λ (i : Item). into (Some v) i.from i.to) (item_of_arc x) (map item_of_arc xs),
       sum_by-cons (λ (a : Arc). cond {A = ℕ} (is_into v a) 1 0) x xs,
       hits-end x.to v some,
       into-counts v some xs,
     )
 
-end-is : (t u : ℕ) → end_of t ≡ Some u → (u ≡ t) × (1 ≤ u)
-end-is zero u e = absurd cc
-end-is (suc t) u e = let same : suc t ≡ u = cc in (sym same, omega arith)
-
 -- a task into which an arc leads is one of the graph
-some-end : (n v : ℕ) (xs : List Arc) → All (IsArcWithin n) xs → 1 ≤ counted (into (Some v)) (map item_of xs) → IsAmong n v
+some-end : (n v : ℕ) (xs : List Arc) → All (IsArcWithin n) xs → 1 ≤ counted (into (Some v)) (map item_of_arc xs) → IsAmong n v
 some-end n v [] h some = absurd (omega arith)
 some-end n v (x ∷ xs) h some =
-    let e = sum_by-cons (λ (i : Item). into (Some v) i.from i.to) (item_of x) (map item_of xs) in
+    let e = sum_by-cons (λ (i : Item). into (Some v) i.from i.to) (item_of_arc x) (map item_of_arc xs) in
     split 1 (hits (end_of x.to) (Some v))
     (λ hit. let k = end-is x.to v (hits-same (end_of x.to) (Some v) hit) in let w = All-head (IsArcWithin n) x xs h in (k.1, omega (arith, k.0, w.to)))
     (λ no. some-end n v xs (All-tail (IsArcWithin n) x xs h) (omega (arith, e, some, no)))
@@ -197,7 +194,7 @@ module _ (graph : TaskGraph) (is : IsGraph graph) (system : IsSystem (completed_
     (led : (v : ℕ) → IsAmong (length graph.tasks) v → 1 ≤ count_by (is_into v) (completed_arcs (length graph.tasks) graph.arcs))
     (t : Net) (m : Makes t (completed_system graph).items) where
   tasks : ℕ → Task
-  tasks = task_at graph.tasks
+  tasks = listed_task graph.tasks
 
   known : (v : ℕ) → IsAmong (length graph.tasks) v → times v t ≡ 1
   known v among =
@@ -223,13 +220,13 @@ module _ (graph : TaskGraph) (is : IsGraph graph) (system : IsSystem (completed_
   names-sum : (f : ℕ → ℕ) → sum_by f (names t) ≡ sum_by f (range_with_len 1 (length graph.tasks))
   names-sum f = once-sum f (length graph.tasks) (names t) names-among once
 
-  pub has-system : HasSystem (names t) (term_of_net (task_at graph.tasks) t) (completed_system graph)
+  pub has-system : HasSystem (names t) (term_of_net (listed_task graph.tasks) t) (completed_system graph)
   has-system = record {
     once = once;
     within = names-among;
-    tasks = (tasks-are (task_at graph.tasks) t).0;
+    tasks = (tasks-are (listed_task graph.tasks) t).0;
     items = subst (λ (xs : List Item). IsPermutation xs (completed_system graph).items)
-        (sym (items-are (task_at graph.tasks) (name_in (names t)) 1 None None t (λ k lt. place k)).0)
+        (sym (items-are (listed_task graph.tasks) (name_in (names t)) 1 None None t (λ k lt. place k)).0)
         (items-weighed (arcs None None t) (completed_system graph).items (λ f. sym (weigh-arcs (λ p n q. f (record { from = p; size = n; to = q })) None None t) ∙ m.arcs (λ p n q. f (record { from = p; size = n; to = q }))));
   }
     where
@@ -239,47 +236,47 @@ module _ (graph : TaskGraph) (is : IsGraph graph) (system : IsSystem (completed_
           let at : 1 + k - 1 ≡ k = omega arith in
           rw other (ap (λ (j : ℕ). get_or (names t) j 0) at)
 
-  share-fits : ShareFits (task_at graph.tasks) None None t
+  share-fits : ShareFits (listed_task graph.tasks) None None t
   share-fits v some =
       let has = system.shares v (among-of v some) in (
         omega (arith, has.0, m.arcs (size_in (Some v)), inputs-sum v (completed_system graph).items),
         omega (arith, has.1, m.arcs (size_out (Some v)), outputs-sum v (completed_system graph).items),
       )
 
-  positions-bound : AreBound (task_at graph.tasks) (postfix (term_of_net (task_at graph.tasks) t)) t
+  positions-bound : AreBound (listed_task graph.tasks) (postfix (term_of_net (listed_task graph.tasks) t)) t
   positions-bound =
-      (bounds (task_at graph.tasks) t (small None None t (m.arcs (λ p n q. bad n) ∙ none-bad (completed_system graph) (completed_system graph).items system.items))
+      (bounds (listed_task graph.tasks) t (small None None t (m.arcs (λ p n q. bad n) ∙ none-bad (completed_system graph) (completed_system graph).items system.items))
       (λ v some. let among = among-of v some in
       is.tasks (v - 1) (record { extra = 0; share = 0; time = 0 }) (omega (arith, among.0, among.1)))).0
 
   holds-are : holds_of t ≡ length (completed_arcs (length graph.tasks) graph.arcs)
   holds-are =
       sym (weigh-holds None None t) ∙ m.arcs (λ p n q. 1) ∙ ones-length (completed_system graph).items
-      ∙ length-map (completed_arcs (length graph.tasks) graph.arcs) item_of
+      ∙ length-map (completed_arcs (length graph.tasks) graph.arcs) item_of_arc
 
   pub size-small : size_of t ≤ most_positions
   size-small = omega (arith, size-holds t, holds-are, is.few_arcs)
 
-  extras-are : sum_by (λ v. (task_at graph.tasks v).extra) (names t) ≡ sum_by extra_size graph.tasks
+  extras-are : sum_by (λ v. (listed_task graph.tasks v).extra) (names t) ≡ sum_by extra_size graph.tasks
   extras-are =
-      names-sum (λ v. (task_at graph.tasks v).extra)
-      ∙ range-sum (λ v. (task_at graph.tasks v).extra) extra_size 1 graph.tasks (record { extra = 0; share = 0; time = 0 })
+      names-sum (λ v. (listed_task graph.tasks v).extra)
+      ∙ range-sum (λ v. (listed_task graph.tasks v).extra) extra_size 1 graph.tasks (record { extra = 0; share = 0; time = 0 })
       (λ i lt. let e : 1 + i - 1 ≡ i = omega arith in ap (λ (k : ℕ). (get_or graph.tasks k (record { extra = 0; share = 0; time = 0 })).extra) e)
 
   names-count : length (names t) ≡ length graph.tasks
   names-count = sym (ones-length (names t)) ∙ names-sum (λ v. 1) ∙ ones-length (range_with_len 1 (length graph.tasks)) ∙ length-range_with_len 1 (length graph.tasks)
 
   module _ (form : (u : Term) → Denotes (postfix u) u) where
-    pub term-same : term_of (postfix (term_of_net (task_at graph.tasks) t)) ≡ term_of_net (task_at graph.tasks) t
-    term-same = ap (λ o. last_term (stack_from o)) (form (term_of_net (task_at graph.tasks) t))
+    pub term-same : term_of (postfix (term_of_net (listed_task graph.tasks) t)) ≡ term_of_net (listed_task graph.tasks) t
+    term-same = ap (λ o. last_term (stack_from o)) (form (term_of_net (listed_task graph.tasks) t))
 
-    pub is-terms : IsTerms (postfix (term_of_net (task_at graph.tasks) t))
+    pub is-terms : IsTerms (postfix (term_of_net (listed_task graph.tasks) t))
     is-terms =
-        let u = term_of_net (task_at graph.tasks) t in
+        let u = term_of_net (listed_task graph.tasks) t in
         let b = positions-bound in
         subst (λ (w : Term). Leaves (postfix u) (w ∷ [])) (sym term-same) (record {
           is = form u;
-          allowed = ((allowed (task_at graph.tasks) None None t m.distinct refl refl share-fits).0, tt);
+          allowed = ((allowed (listed_task graph.tasks) None None t m.distinct refl refl share-fits).0, tt);
           within = b.within;
           few = omega (arith, b.few, holds-are, is.few_arcs);
           few_tasks = omega (arith, b.tasks_are, names-count, is.few_tasks);

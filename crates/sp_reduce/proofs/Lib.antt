@@ -16,5 +16,4 @@ pub mod Bounds
 pub mod Finish
 pub mod Outcomes
 pub mod Answer
-pub mod NamedLines
 pub mod NamedTerms

@@ -8,7 +8,7 @@ use Rattle.mp_system.specs.declared.system.Item.{Item}
 use Rattle.mp_system.specs.Renaming.{name_in, renamed, has_producer, is_solid, IsRenamed}
 use Rattle.sp_terms.specs.Term.{Term}
 use Rattle.sp_terms.specs.SystemOfTerm.{system_of_term}
-use Rattle.task_graph.specs.Graph.{TaskGraph, completed_system}
+use Rattle.graphs.specs.Graph.{TaskGraph, completed_system}
 use Rattle.sp_reduce.specs.Reduced.{HasSystem}
 use Rattle.sp_reduce.proofs.Finish.{items-weighed}
 

@@ -6,8 +6,8 @@ use Rattle.std.proofs.lemmas.List.{append-nil, drop_more, length-map, take_more}
 use Rattle.std.proofs.lemmas.List.Sums.{sum_by-cons}
 use Rattle.std.proofs.lemmas.List.Sorted.{IsPermutation-trans, length_permutation, sum_by-IsPermutation}
 use Rattle.mp_system.specs.declared.system.Item.{Item}
-use Rattle.task_graph.specs.declared.arc.Arc.{Arc}
-use Rattle.task_graph.specs.Graph.{end_of, item_of}
+use Rattle.graphs.specs.declared.arc.Arc.{Arc}
+use Rattle.graphs.specs.Graph.{end_of, item_of_arc}
 use Rattle.sp_reduce.specs.declared.link.Link.{Link}
 use Rattle.sp_reduce.specs.declared.piece.Piece.{Piece}
 use Rattle.sp_reduce.specs.Nets.{Net}
@@ -108,24 +108,24 @@ ones-length [] = refl
 ones-length (x ∷ xs) = omega (arith, sum_by-cons (λ (y : ℕ × ℕ). 1) x xs, ones-length xs)
 
 module _ (arcs : List Arc) (links : List Link) (nodes : List ℕ) (pieces : List Piece) (o : IsOutcome arcs links nodes pieces) where
-  forest : IsNetForest (map item_of arcs) (edges_of (nets_of pieces) links nodes)
-  forest = subst (IsNetForest (map item_of arcs)) (no-more (edges_of (nets_of pieces) links nodes)) o.carried.forest
+  forest : IsNetForest (map item_of_arc arcs) (edges_of (nets_of pieces) links nodes)
+  forest = subst (IsNetForest (map item_of_arc arcs)) (no-more (edges_of (nets_of pieces) links nodes)) o.carried.forest
 
   pub node-within : (x : ℕ) → IsLink links x 0 0 → get_or nodes x 0 < length pieces
   node-within x l = o.carried.within x l.within l.alive
 
   -- one link is left, from none to none: its term makes the graph
-  pub outcome-makes : (x : ℕ) → IsLink links x 0 0 → pairs_of links ≡ (0, 0) ∷ [] → Makes (net_at (nets_of pieces) (get_or nodes x 0)) (map item_of arcs)
+  pub outcome-makes : (x : ℕ) → IsLink links x 0 0 → pairs_of links ≡ (0, 0) ∷ [] → Makes (net_at (nets_of pieces) (get_or nodes x 0)) (map item_of_arc arcs)
   outcome-makes x l one =
-      forest-yes (map item_of arcs) (edges_of (nets_of pieces) links nodes) x (net_at (nets_of pieces) (get_or nodes x 0)) forest
+      forest-yes (map item_of_arc arcs) (edges_of (nets_of pieces) links nodes) x (net_at (nets_of pieces) (get_or nodes x 0)) forest
       (omega (arith, edges-length (nets_of pieces) links nodes, l.within)) (live-edge (nets_of pieces) links nodes x 0 0 l)
       (edges-sum (λ p q. 1) (nets_of pieces) links nodes ∙ sym (pairs-sum (λ e. 1) links) ∙ ones-length (pairs_of links) ∙ ap length one)
 
   -- something else is left: no net makes the graph
-  pub outcome-none : (pairs_of links ≡ (0, 0) ∷ [] → ⊥) → (t : Net) → Makes t (map item_of arcs) → ⊥
+  pub outcome-none : (pairs_of links ≡ (0, 0) ∷ [] → ⊥) → (t : Net) → Makes t (map item_of_arc arcs) → ⊥
   outcome-none other t m =
       let same = arcs-edges (nets_of pieces) links nodes in
-      forest-no (map item_of arcs) (edges_of (nets_of pieces) links nodes) forest (subst nets.IsIrreducible (sym same) o.irreducible)
+      forest-no (map item_of_arc arcs) (edges_of (nets_of pieces) links nodes) forest (subst nets.IsIrreducible (sym same) o.irreducible)
       (λ s. not-single links other (subst IsSingle same s)) t m
 
   pub outcome-irreducible : IsIrreducible (pairs_of links)
@@ -195,8 +195,8 @@ carried-empty graph pieces links nodes a b c =
     (subst (λ (ls : List Link). IsCarried graph graph [] ls nodes) (sym b)
     (subst (λ (ns : List ℕ). IsCarried graph graph [] [] ns) (sym c) (carried-start graph)))
 
-pub item-next : (arcs : List Arc) (d : Arc) (i : ℕ) → i < length arcs → map item_of (drop i arcs) ≡ item_of (get_or arcs i d) ∷ map item_of (drop (i + 1) arcs)
-item-next arcs d i lt = ap (map item_of) (drop_more arcs i d lt)
+pub item-next : (arcs : List Arc) (d : Arc) (i : ℕ) → i < length arcs → map item_of_arc (drop i arcs) ≡ item_of_arc (get_or arcs i d) ∷ map item_of_arc (drop (i + 1) arcs)
+item-next arcs d i lt = ap (map item_of_arc) (drop_more arcs i d lt)
 
 pub ends-next : (arcs : List Arc) (d : Arc) (i : ℕ) → i < length arcs → map ends_of (drop i arcs) ≡ ends_of (get_or arcs i d) ∷ map ends_of (drop (i + 1) arcs)
 ends-next arcs d i lt = ap (map ends_of) (drop_more arcs i d lt)

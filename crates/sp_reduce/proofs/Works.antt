@@ -9,7 +9,7 @@ use Rattle.sp_reduce.specs.declared.link.Link.{Link}
 use Rattle.sp_reduce.specs.Nets.{hits, pair, into, out_of}
 use Rattle.sp_reduce.proofs.Ends.{split, hits-le, hits-same}
 use Rattle.sp_reduce.specs.NetGraphs.{arc, arc_weight, counted, IsIrreducible}
-use Rattle.task_graph.specs.Graph.{end_of}
+use Rattle.graphs.specs.Graph.{end_of}
 use Rattle.sp_reduce.specs.Work.{no_link, link_at, hit, link_weight, sum_links, graph_of, key_of, IsWork, HasNone, IsLink, stands}
 
 pub hit-self : (v : ℕ) → hit v v ≡ 1

@@ -9,4 +9,3 @@ pub mod Shapes
 pub mod Writing
 pub mod Outcome
 pub mod Refusal
-pub mod NamedText

@@ -3,7 +3,7 @@
 use Rattle.std.specs.Prelude.{◌≡◌, ℕ, ◌*◌, ◌<◌, cond, true, List, [], ◌∷◌, ◌++◌, length, slice_index, slice_index_or}
 use Rattle.limits.specs.Limits.{most_arcs}
 use Rattle.mp_system.specs.declared.system.Item.{Item}
-use Rattle.task_graph.specs.Graph.{end_of}
+use Rattle.graphs.specs.Graph.{end_of}
 use Rattle.sp_reduce.specs.declared.link.Link.{Link}
 use Rattle.sp_reduce.specs.declared.piece.Piece.{Piece}
 use Rattle.sp_reduce.specs.declared.piece.Piece.TheVariants.{Hold, Series, Both}

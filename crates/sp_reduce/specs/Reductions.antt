@@ -5,7 +5,7 @@ use Rattle.std.specs.Prelude.{◌≡◌, ◌==◌, ℕ, ◌≤◌, List, [], ◌
 use Rattle.std.specs.List.Sorted.{IsPermutation, IsSorted}
 use Rattle.std.specs.Ordering.{nat_cmp, ordering_then}
 use Rattle.std.specs.declared.cmp.Ordering.{Ordering}
-use Rattle.task_graph.specs.declared.arc.Arc.{Arc}
+use Rattle.graphs.specs.declared.arc.Arc.{Arc}
 
 -- the ends of an arc
 abbrev pub ends_of : Arc → ℕ × ℕ

@@ -1,7 +1,7 @@
 -- When a graph has no term.
 use Rattle.std.specs.Prelude.{ℕ, List, map}
 use Rattle.sp_terms.specs.Term.{Term}
-use Rattle.task_graph.specs.Graph.{TaskGraph, completed, completed_system}
+use Rattle.graphs.specs.Graph.{TaskGraph, completed, completed_system}
 use Rattle.sp_reduce.specs.declared.reduced.ReduceRefusal.{ReduceRefusal}
 use Rattle.sp_reduce.specs.declared.reduced.ReduceRefusal.TheVariants.{Rest, NoMemory}
 use Rattle.sp_reduce.specs.Reductions.{ends_of, IsRestOf}

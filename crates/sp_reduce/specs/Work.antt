@@ -7,7 +7,7 @@ use Rattle.sp_reduce.specs.declared.link.Link.{Link}
 use Rattle.sp_reduce.specs.declared.link.Taken.{Taken}
 use Rattle.limits.specs.Limits.{most_tasks, most_arcs}
 use Rattle.mp_system.specs.declared.system.Item.{Item}
-use Rattle.task_graph.specs.Graph.{end_of}
+use Rattle.graphs.specs.Graph.{end_of}
 use Rattle.sp_reduce.specs.NetGraphs.{arc}
 
 abbrev pub no_link : Link

@@ -7,7 +7,7 @@ use Rattle.sp_terms.specs.declared.position.Position.TheVariants.{Par}
 use Rattle.sp_terms.specs.declared.position.Position.TheVariants as at
 use Rattle.sp_terms.specs.Term.{no_parts}
 use Rattle.sp_terms.specs.Postfix.{at_task, postfix, all_postfix}
-use Rattle.task_graph.specs.Graph.{IsAmong}
+use Rattle.graphs.specs.Graph.{IsAmong}
 use Rattle.sp_reduce.specs.declared.piece.Piece.{Piece}
 use Rattle.sp_reduce.specs.declared.piece.Piece.TheVariants.{Hold, Series, Both}
 use Rattle.sp_reduce.specs.declared.postfix.Pending.{Pending}

@@ -3,7 +3,7 @@
 ghost use Rattle.std.specs.Prelude.{◌≡◌, ◌≤◌, ◌<◌, ◌+◌, [], ℕ, List, ◌∷◌, ◌++◌, vec_len, IfOk, MatchOption};
 ghost use Rattle.std.specs.Option.{ForSome};
 ghost use Rattle.mp_system.specs.declared.system.Item.{Item};
-ghost use Rattle.task_graph.specs.Graph.{end_of};
+ghost use Rattle.graphs.specs.Graph.{end_of};
 ghost use Rattle.sp_reduce.specs.declared.link.Link.{Link};
 ghost use Rattle.sp_reduce.specs.Pieces.{IsCarried, most_pieces};
 ghost use Rattle.sp_reduce.specs.Work.{IsLink, IsTaskTaken, fewer_by, link};

@@ -1,6 +1,6 @@
 //! Task graphs reduced to series-parallel terms, or to an irreducible rest (Valdes, Tarjan and Lawler 1982).
 //!
-//! The definitions stand in specs/: `Reductions`, `Reduced`, `NamedText`; the laws in [`laws`].
+//! The definitions stand in specs/: `Reductions`, `Reduced`, `Refusal`; the laws in [`laws`].
 #![tactic(auto)]
 
 mod building;
@@ -10,14 +10,10 @@ mod link;
 mod links;
 mod piece;
 mod postfix;
-mod printing;
 mod reduced;
 mod reducing;
 mod rounds;
-#[cfg(test)]
-mod tests;
 
-pub use printing::print_reduced;
 pub use reduced::{ReduceRefusal, Reduced};
 pub use reducing::reduce;
 use std::alloc::AllocError;

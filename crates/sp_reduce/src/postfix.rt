@@ -3,7 +3,7 @@
 ghost use Rattle.std.specs.Prelude.{◌≡◌, ◌≤◌, ◌<◌, ◌+◌, ◌-◌, ◌^◌, ◌++◌, [], ◌∷◌, ℕ, All, length, min, slice_index, IfOk};
 ghost use Rattle.limits.specs.Limits.{most_positions};
 ghost use Rattle.sp_terms.specs.Postfix.{postfix};
-ghost use Rattle.task_graph.specs.Graph.{IsAmong, task_at};
+ghost use Rattle.graphs.specs.Graph.{IsAmong, listed_task};
 ghost use Rattle.sp_reduce.specs.Nets.{names};
 ghost use Rattle.sp_reduce.specs.Pieces.{AreMade, net_at, nets_of, piece_at};
 ghost use Rattle.sp_reduce.specs.Shapes.{parts_of, size_of, term_of_net};
@@ -62,7 +62,7 @@ fn write_next(
     requires known { IsKnown (length tasks.now) (piece_at pieces.now next.piece) }
     ensures pending { IfOk result (λ _. pending.new.items ≡ pending.old.items ++ children next.among (piece_at pieces.now next.piece)) }
     ensures positions { IfOk result (λ _. written.new.positions.items ≡ written.old.positions.items
-        ++ own_positions (task_at tasks.now) next.among (slice_index counts.now next.piece) (piece_at pieces.now next.piece)) }
+        ++ own_positions (listed_task tasks.now) next.among (slice_index counts.now next.piece) (piece_at pieces.now next.piece)) }
     ensures names { IfOk result (λ _. written.new.names.items ≡ written.old.names.items ++ own_names (piece_at pieces.now next.piece)) }
 {
     match pieces[next.piece as usize] {
@@ -124,7 +124,7 @@ pub fn write_term(
     requires names { All (IsAmong (length tasks.now)) (names (net_at (nets_of pieces.now) root)) }
     requires small { size_of (net_at (nets_of pieces.now) root) ≤ most_positions }
     ensures positions { IfOk result (λ w. w.positions.items
-        ≡ postfix (term_of_net (task_at tasks.now) (net_at (nets_of pieces.now) root))) }
+        ≡ postfix (term_of_net (listed_task tasks.now) (net_at (nets_of pieces.now) root))) }
     ensures names { IfOk result (λ w. w.names.items ≡ names (net_at (nets_of pieces.now) root)) }
 {
     let counts = part_counts(alloc, pieces)?;

@@ -1,14 +1,14 @@
 ghost use Rattle.std.specs.Prelude.{◌≡◌};
 ghost use Rattle.sp_reduce.specs.declared.reduced.ReduceRefusal.TheVariants.{NoMemory};
 
-use sp_terms::Terms;
+use sp_terms::TermList;
 use std::alloc::AllocError;
 
 /// The term of a graph.
 #[derive(Drop)]
 pub struct Reduced {
     /// The term.
-    pub terms: Terms,
+    pub terms: TermList,
     /// For each task of the term, in their order, the number of the graph's task that it is.
     pub names: Vec<u32>,
 }

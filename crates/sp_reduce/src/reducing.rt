@@ -1,7 +1,7 @@
 ghost use Rattle.std.specs.Prelude.{◌≡◌, ◌≤◌, [], ◌∷◌, ℕ, All, length, IfOk, IfErr, MatchOption};
 ghost use Rattle.limits.specs.Limits.{most_tasks, most_arcs};
 ghost use Rattle.sp_terms.specs.Values.{term_of};
-ghost use Rattle.task_graph.specs.Graph.{IsArcWithin, Rises, completed_system};
+ghost use Rattle.graphs.specs.Graph.{IsArcWithin, Rises, completed_system};
 ghost use Rattle.sp_reduce.specs.Outcome.{IsOutcome};
 ghost use Rattle.sp_reduce.specs.Reduced.{HasSystem};
 ghost use Rattle.sp_reduce.specs.Refusal.{IsReduceRefusal};
@@ -15,11 +15,11 @@ use crate::links::Links;
 use crate::postfix::{Written, write_term};
 use crate::reduced::{ReduceRefusal, Reduced};
 use crate::rounds::{all_tasks, reduce_links};
-use sp_terms::Terms;
+use graphs::laws::{completed_law, system_law};
+use graphs::{Arc, Graph};
+use sp_terms::TermList;
 use sp_terms::laws::terms_law;
 use std::alloc::Global;
-use task_graph::laws::{completed_law, system_law};
-use task_graph::{Arc, Graph};
 
 // What is left of the arcs of a graph: links, and the terms that they carry.
 #[derive(Drop)]
@@ -99,7 +99,7 @@ pub fn reduce(alloc: Global, graph: &Graph) -> Result<Reduced, ReduceRefusal>
                 root,
             )?;
             Ok(Reduced {
-                terms: Terms::new(positions),
+                terms: TermList::new(positions),
                 names,
             })
         }

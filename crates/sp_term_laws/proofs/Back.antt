@@ -5,7 +5,9 @@ use Rattle.mp_system.specs.declared.system.Item.{Item}
 use Rattle.sp_terms.specs.SystemOfTerm.{own_number, task_count, task_count_of_parts, items_of_term, items_of_parts}
 use Rattle.sp_terms.specs.Term.{Term, hold, series, par, Parts, no_parts, part}
 use Rattle.sp_term_laws.proofs.Ends.{In, in_split, clash, Near, outside, near_wider, near_within}
-use Rattle.sp_term_laws.proofs.Next.{ne-eqb, eqb_same, Apart, Ready}
+use Rattle.sp_term_laws.proofs.Next.{Apart, Ready}
+use Rattle.std.proofs.lemmas.Bool.{ne_eqb as ne-eqb}
+use Rattle.lists.proofs.Bools.{eqb_same}
 
 -- each item is made by one of the term's tasks, or outside
 mutual

@@ -11,7 +11,9 @@ use Rattle.sp_term_laws.specs.Interleaved.{numbers_within}
 use Rattle.sp_term_laws.specs.Composed.{of_part, parts_memory, parts_running}
 use Rattle.sp_term_laws.proofs.At.{held-append, held_one}
 use Rattle.sp_term_laws.proofs.Ends.{split2, clash}
-use Rattle.sp_term_laws.proofs.Next.{ne-eqb, made-append, made-outside, all_made-outside, length-tasks, need-left, need-right}
+use Rattle.sp_term_laws.proofs.Next.{made-outside, all_made-outside, length-tasks, need-left, need-right}
+use Rattle.sp_terms.proofs.SystemLemmas.{made-append}
+use Rattle.std.proofs.lemmas.Bool.{ne_eqb as ne-eqb}
 use Rattle.sp_term_laws.proofs.Trails.{own-low, own-high, own-in}
 
 -- items that the same tasks make and take

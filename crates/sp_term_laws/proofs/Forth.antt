@@ -10,7 +10,9 @@ use Rattle.sp_term_laws.specs.Moves.{State, States, memory_of, memory_of_parts, 
 use Rattle.sp_term_laws.proofs.At.{At, AllAt}
 use Rattle.sp_term_laws.proofs.Ends.{split_own, in_left, in_right, clash, split2, has_input, all_out, near_absent}
 use Rattle.sp_term_laws.proofs.Walks.{mem-first}
-use Rattle.sp_term_laws.proofs.Next.{has-more, has-new, ne-eqb, eqb_same, fresh-other, ended-more, at-other, all_at-other, fresh-at, at-ended, made-outside, all_made-outside, made-first, length-tasks, need-left, need-first, need-last, need-right, Ready}
+use Rattle.sp_term_laws.proofs.Next.{has-more, has-new, fresh-other, ended-more, at-other, all_at-other, fresh-at, at-ended, made-outside, all_made-outside, made-first, length-tasks, need-left, need-first, need-last, need-right, Ready}
+use Rattle.std.proofs.lemmas.Bool.{ne_eqb as ne-eqb}
+use Rattle.lists.proofs.Bools.{eqb_same}
 use Rattle.sp_term_laws.specs.Ways.{Run, Runs}
 
 pub record Walked (base : ℕ) (done : List ℕ) (t : Term) (s : State t) (v need : ℕ) : Type 0 where

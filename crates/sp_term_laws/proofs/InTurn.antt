@@ -1,7 +1,7 @@
 -- The states and running tasks of a series, from those of its parts; the first, last and least states of a term.
 use Rattle.std.proofs.Common.{◌≡◌, ℕ, suc, ◌+◌, ◌-◌, ◌<◌, ◌≤◌, inl, inr, Bool, true, false, refl, sym, subst, ap, arith, ◌∙◌, List, [], ◌∷◌, ◌++◌, map, length, get_or, Some, None, eq-eqb}
 use Rattle.std.specs.Prelude.{◌==◌, ◌||◌, All}
-use Rattle.std.proofs.lemmas.Bool.{eqb-true}
+use Rattle.std.proofs.lemmas.Bool.{eqb-true, ne_eqb as ne-eqb}
 use Rattle.std.proofs.lemmas.List.Elements.{All-head, All-tail}
 use Rattle.std.proofs.lemmas.List.Folds.{list_any-append}
 use Rattle.mp_system.specs.Memory.{stands_in}
@@ -17,7 +17,7 @@ use Rattle.sp_term_laws.specs.Moves.{State, States, memory_of, memory_of_parts, 
 use Rattle.sp_term_laws.proofs.At.{Ended, held-append, held-fresh, held-ended}
 use Rattle.sp_term_laws.proofs.Ends.{clash, split2}
 use Rattle.sp_term_laws.proofs.Walks.{mem-first, least-le}
-use Rattle.sp_term_laws.proofs.Next.{ne-eqb, made-outside, made-first, length-tasks, need-left, need-right, need-first, need-last, ended-at}
+use Rattle.sp_term_laws.proofs.Next.{made-outside, made-first, length-tasks, need-left, need-right, need-first, need-last, ended-at}
 use Rattle.sp_term_laws.proofs.Orders.{all-here, bool_cases, memory_at, start_at, traversal-ended}
 use Rattle.sp_term_laws.proofs.Trails.{Trail, walks, trail-legal, trail-join, second-trail}
 use Rattle.sp_term_laws.proofs.Composed.{held-same, made-same, eqb-iff}

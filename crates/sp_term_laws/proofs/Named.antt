@@ -9,7 +9,9 @@ use Rattle.sp_term_laws.specs.Moves.{State, States, memory_of, memory_of_parts}
 use Rattle.sp_term_laws.proofs.At.{At, AllAt}
 use Rattle.sp_term_laws.proofs.Ends.{near_there}
 use Rattle.sp_term_laws.proofs.Walks.{mem-first}
-use Rattle.sp_term_laws.proofs.Next.{ne-eqb, eqb_same, has-more, has-new, fresh-other, ended-more, at-other, all_at-other, fresh-at, at-ended, made-outside, all_made-outside, made-first, length-tasks, need-left, need-first, need-last, need-right, Ready}
+use Rattle.sp_term_laws.proofs.Next.{has-more, has-new, fresh-other, ended-more, at-other, all_at-other, fresh-at, at-ended, made-outside, all_made-outside, made-first, length-tasks, need-left, need-first, need-last, need-right, Ready}
+use Rattle.std.proofs.lemmas.Bool.{ne_eqb as ne-eqb}
+use Rattle.lists.proofs.Bools.{eqb_same}
 use Rattle.sp_term_laws.proofs.Back.{Elsewhere, producers, no_consumer, all_no_consumer, ready_both, ready_none}
 use Rattle.sp_term_laws.specs.Ways.{Run, Runs}
 

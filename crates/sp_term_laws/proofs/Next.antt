@@ -14,22 +14,11 @@ use Rattle.sp_term_laws.proofs.Words.{made, done_or, need_with, no_task, need_in
 use Rattle.sp_term_laws.specs.Moves.{State, States, first_state, first_states}
 use Rattle.sp_term_laws.proofs.At.{Fresh, Ended, At, AllAt, held-append, held_one}
 use Rattle.sp_term_laws.proofs.Ends.{split_own, In, split2}
+use Rattle.lists.proofs.Bools.{or_false, or_true, eqb_same}
+use Rattle.std.proofs.lemmas.Bool.{ne_eqb}
+use Rattle.sp_terms.proofs.SystemLemmas.{made-append}
 
 -- one more task is done
-
-pub ne-eqb : (v u : ℕ) → (v ≡ u → ⊥) → (v == u) ≡ false
-ne-eqb v u ne = grind arith
-
-pub eqb_same : (v : ℕ) → (v == v) ≡ true
-eqb_same v = eq-eqb v v refl
-
-or_true : (b : Bool) → (b || true) ≡ true
-or_true true = refl
-or_true false = refl
-
-or_false : (b : Bool) → (b || false) ≡ b
-or_false true = refl
-or_false false = refl
 
 pub has-more : (done : List ℕ) (v u : ℕ) → stands_in done u ≡ true → stands_in (done ++ v ∷ []) u ≡ true
 has-more done v u h = list_any-append (λ x. x == u) done (v ∷ []) ∙ rw h
@@ -38,7 +27,7 @@ pub has-new : (done : List ℕ) (v : ℕ) → stands_in (done ++ v ∷ []) v ≡
 has-new done v = list_any-append (λ x. x == v) done (v ∷ []) ∙ rw (eqb_same v) (or_true (stands_in done v))
 
 pub has-other : (done : List ℕ) (v u : ℕ) → (v ≡ u → ⊥) → stands_in (done ++ v ∷ []) u ≡ stands_in done u
-has-other done v u ne = list_any-append (λ x. x == u) done (v ∷ []) ∙ rw (ne-eqb v u ne) (or_false (stands_in done u))
+has-other done v u ne = list_any-append (λ x. x == u) done (v ∷ []) ∙ rw (ne_eqb v u ne) (or_false (stands_in done u))
 
 -- the own_number is none of the `count` from `base` on
 abbrev pub Apart : ℕ → ℕ → ℕ → Type 0
@@ -111,9 +100,6 @@ mutual
 
 -- what a task produces
 
-pub made-append : (xs ys : List Item) (v : ℕ) → made (xs ++ ys) v ≡ made xs v + made ys v
-made-append xs ys v = held-append (λ item. is_named item.from v) xs ys
-
 -- by a task that is none of these
 mutual
   pub made-outside : (base : ℕ) (from to : Option ℕ) (t : Term) (v : ℕ) → Apart base (task_count t) v → is_named from v ≡ false → made (items_of_term base from to t) v ≡ 0
@@ -123,7 +109,7 @@ mutual
       ∙ omega (
         arith,
         made-outside base from (Some (own_number base a b)) a v (λ l. omega arith) f,
-        made-outside (base + task_count a) (Some (own_number base a b)) to b v (λ l. omega arith) (ne-eqb (own_number base a b) v (λ e. omega arith)),
+        made-outside (base + task_count a) (Some (own_number base a b)) to b v (λ l. omega arith) (ne_eqb (own_number base a b) v (λ e. omega arith)),
       )
   made-outside base from to (par ts) v o f = all_made-outside base from to ts v o f
 
@@ -142,7 +128,7 @@ mutual
       ∙ omega (
         arith,
         made-first base from (Some (own_number base a b)) a v (λ l. omega arith) f,
-        made-outside (base + task_count a) (Some (own_number base a b)) to b v (λ l. omega arith) (ne-eqb (own_number base a b) v (λ e. omega arith)),
+        made-outside (base + task_count a) (Some (own_number base a b)) to b v (λ l. omega arith) (ne_eqb (own_number base a b) v (λ e. omega arith)),
       )
   made-first base from to (par ts) v o f = all_made-first base from to ts v o f
 

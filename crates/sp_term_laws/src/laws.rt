@@ -4,13 +4,13 @@ ghost use Rattle.std.proofs.Common.{inl, inr};
 ghost use Rattle.mp_system.specs.declared.system.Task.{Task};
 ghost use Rattle.mp_system.specs.Memory.{peak_from, peak_of};
 ghost use Rattle.mp_system.specs.Traversal.{IsTraversal};
-ghost use Rattle.sp_terms.specs.Term.{Term, Parts, no_parts, part, series, par, Direction, forward, backward, first_memory, initial_of};
+ghost use Rattle.sp_terms.specs.Term.{Term, Parts, part, series, par, Direction, forward, backward, first_memory, initial_of};
 ghost use Rattle.sp_terms.specs.Term.{final_of, least_of, hill_of, IsAllowed};
 ghost use Rattle.sp_terms.specs.SystemOfTerm.{task_count, task_count_of_parts, system_of_term};
 ghost use Rattle.sp_term_laws.specs.Along.{memory_after, memory_while};
 ghost use Rattle.sp_term_laws.specs.Interleaved.{AreWithin, EachTraversal};
-ghost use Rattle.sp_term_laws.specs.Moves.{State, States, other, memory_of, memory_of_parts, first_state, first_states, Step, Reached};
-ghost use Rattle.sp_term_laws.specs.Ways.{Run, Runs, Way, Ways};
+ghost use Rattle.sp_term_laws.specs.Moves.{State, States, other, memory_of, memory_of_parts, first_state, Step, Reached};
+ghost use Rattle.sp_term_laws.specs.Ways.{Run, Way, Ways};
 ghost use Rattle.sp_term_laws.specs.Composed.{own_task, in_turn, parts_memory, parts_running};
 
 /// The traversals of a series are a traversal of its first part, then its task, then a traversal of its second part; those of

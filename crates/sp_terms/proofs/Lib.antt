@@ -3,10 +3,5 @@ pub mod ValuesLemmas
 pub mod PendingLemmas
 pub mod SystemLemmas
 pub mod BuilderLemmas
-pub mod ReadLemmas
 pub mod Standing
-pub mod PrintedLemmas
-pub mod LengthLemmas
 pub mod Positions
-pub mod ReaderLaws
-pub mod BodyLines

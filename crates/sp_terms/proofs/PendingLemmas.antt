@@ -11,7 +11,8 @@ use Rattle.sp_terms.specs.SystemOfTerm.{task_count, task_count_of_parts, items_o
 use Rattle.sp_terms.specs.Postfix.{push_all}
 use Rattle.sp_terms.specs.Values.{term_of, IsTerms, IsTaskPosition}
 use Rattle.sp_terms.specs.Pending.{next_number, pending_items}
-use Rattle.sp_terms.proofs.Stacks.{some_same, head_same, tail_same, onto, Pushed, held, ran, beside, place}
+use Rattle.sp_terms.proofs.Stacks.{head_same, tail_same, onto, Pushed, held, ran, beside, place}
+use Rattle.lists.proofs.Options.{some_same}
 use Rattle.sp_terms.proofs.ValuesLemmas.{as_task, as_hold, as_par}
 
 -- copies

@@ -10,12 +10,7 @@ use Rattle.sp_terms.specs.declared.position.Position.TheVariants.{Hold, Par}
 use Rattle.sp_terms.specs.declared.position.Position.TheVariants as at
 use Rattle.sp_terms.specs.Term.{Term, hold, series, par, Parts, no_parts, part, count, width_of, width_of_parts}
 use Rattle.sp_terms.specs.Postfix.{gather, push, push_all, postfix, all_postfix, at_task}
-
-pub none_some : {A : Type 0} {x : A} → None ≡ Some x → ⊥
-none_some h = cc
-
-pub some_same : {A : Type 0} {x y : A} → Some x ≡ Some y → x ≡ y
-some_same e = cc
+use Rattle.lists.proofs.Options.{none_some, some_same}
 
 pub head_same : {A : Type 0} {x y : A} {xs ys : List A} → x ∷ xs ≡ y ∷ ys → x ≡ y
 head_same e = cc

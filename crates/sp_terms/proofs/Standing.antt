@@ -12,7 +12,9 @@ use Rattle.sp_terms.specs.Term.{Term, series, Parts, no_parts, part, count, back
 use Rattle.sp_terms.specs.Postfix.{push, push_all, postfix, at_task}
 use Rattle.sp_terms.specs.Values.{stack_from, stack_of, term_of, AllAllowed, IsWithinLimits, added_size, added_tasks, IsTerms}
 use Rattle.sp_terms.specs.Builder.{is_overshared}
-use Rattle.sp_terms.proofs.Stacks.{onto, stack_postfix, Pushed, held, ran, beside, pushed, all_pushed, prefix, all-split, none_some, some_same, length-postfix, some-position}
+use Rattle.sp_terms.proofs.Stacks.{onto, stack_postfix, Pushed, held, ran, beside, pushed, all_pushed, prefix, all-split, length-postfix, some-position}
+use Rattle.lists.proofs.Options.{some_same}
+use Rattle.lists.proofs.Options.{none_some}
 use Rattle.sp_terms.proofs.ValuesLemmas.{first-le-weight}
 
 -- what stood on the stack is allowed where what comes of it is

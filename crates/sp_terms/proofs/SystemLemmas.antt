@@ -23,7 +23,7 @@ use Rattle.sp_terms.specs.Pending.{tasks_in, task_of}
 use Rattle.sp_terms.proofs.Stacks.{all_pushed, all-split, length-postfix}
 
 -- what is made and used among these items
-abbrev made : List Item → ℕ → ℕ
+abbrev pub made : List Item → ℕ → ℕ
 made items v = size_where (is_output v) items
 
 abbrev used : List Item → ℕ → ℕ
@@ -176,7 +176,7 @@ runs-count (Par k ∷ ps) = sum_by-cons added_tasks (Par k) ps ∙ omega (arith,
 used-append : (xs ys : List Item) (v : ℕ) → used (xs ++ ys) v ≡ used xs v + used ys v
 used-append xs ys v = sum_by-append (size_if (λ item. is_named item.to v)) xs ys
 
-made-append : (xs ys : List Item) (v : ℕ) → made (xs ++ ys) v ≡ made xs v + made ys v
+pub made-append : (xs ys : List Item) (v : ℕ) → made (xs ++ ys) v ≡ made xs v + made ys v
 made-append xs ys v = sum_by-append (size_if (λ item. is_named item.from v)) xs ys
 
 -- what leads to the task is all that the term leaves

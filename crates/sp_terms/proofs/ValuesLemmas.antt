@@ -13,7 +13,9 @@ use Rattle.sp_terms.specs.declared.position.Position.TheVariants as at
 use Rattle.sp_terms.specs.Term.{Term, hold, series, par, Parts, no_parts, part, count, width_of, width_of_parts, Direction, forward, backward, first_memory, first_memory_of_parts, least_of, least_of_parts}
 use Rattle.sp_terms.specs.Postfix.{gather, push_all, postfix, all_postfix, at_task}
 use Rattle.sp_terms.specs.Values.{stack_from, last_term, term_at, IsTerms, AreValues, values_of, added_size, IsTaskPosition}
-use Rattle.sp_terms.proofs.Stacks.{none_some, some_same, onto, Pushed, held, ran, beside, place, under, length-all_postfix}
+use Rattle.sp_terms.proofs.Stacks.{onto, Pushed, held, ran, beside, place, under, length-all_postfix}
+use Rattle.lists.proofs.Options.{some_same}
+use Rattle.lists.proofs.Options.{none_some}
 
 -- what a position is, and what it found
 pub as_task : (p : Position) (before after : List Term) → Pushed p before after → IsTaskPosition p → (v : Task) × (a b : Term) × (stack : List Term) × (before ≡ b ∷ a ∷ stack) × (after ≡ series a v b ∷ stack)

@@ -6,8 +6,4 @@ pub mod Places
 pub mod Builder
 pub mod Ends
 pub mod Pending
-pub mod Kinds
-pub mod WorkflowFile
-pub mod Reader
-pub mod WorkflowText
 pub mod Samples

@@ -1,5 +1,5 @@
 ghost use Rattle.std.specs.Prelude.{◌≡◌, ◌≤◌, ◌++◌, ◌∷◌, [], None, List, MatchResult, length, false};
-ghost use Rattle.limits.specs.Limits.{most_positions, most_size, most_total};
+ghost use Rattle.limits.specs.Limits.{most_positions, most_size, most_tasks, most_total};
 ghost use Rattle.sp_terms.specs.Builder.{IsPosition, refusal_of, IsPushRefusal, is_short, passed_limit, total_limit, IsOneTerm};
 ghost use Rattle.sp_terms.specs.Ends.{IsBuilder, over_ends, beside, next_ends, initial_at, fin_at, par_ends, series_ends};
 ghost use Rattle.sp_terms.specs.Values.{added_tasks, added_size, stack_of};
@@ -7,7 +7,7 @@ ghost use Rattle.sp_terms.specs.declared.position.Position.{Position};
 ghost use Rattle.std.specs.List.{sum_by};
 
 use crate::position::Position;
-use crate::terms::Terms;
+use crate::terms::TermList;
 use limits::{LimitName, MOST_POSITIONS, MOST_SIZE, MOST_TASKS, MOST_TIME, MOST_TOTAL};
 use std::alloc::{AllocError, Global};
 use std::fmt::{self, Display, Formatter, Write};
@@ -92,9 +92,10 @@ impl TermBuilder {
         self.ends.len() as u64
     }
 
-    // The number of tasks among the positions.
-    pub(crate) fn tasks(&self) -> u64
-        ensures { result ≡ sum_by added_tasks self.now }
+    /// The number of tasks among the positions.
+    pub fn tasks(&self) -> u64
+        ensures value { result ≡ sum_by added_tasks self.now }
+        ensures few { result ≤ most_tasks }
     {
         self.tasks
     }
@@ -133,26 +134,26 @@ impl TermBuilder {
             return Err(PushRefusal::Share);
         }
         append(&mut self.positions, &mut self.ends, p)?;
-        self.tasks += count(p);
+        self.tasks += tasks_of_position(p);
         self.total += size(p);
         Ok(())
     }
 
     /// The terms, or the builder back where its positions do not leave one term.
-    pub fn finish(self) -> Result<Terms, TermBuilder>
+    pub fn finish(self) -> Result<TermList, TermBuilder>
         ensures { MatchResult result (λ terms. IsOneTerm self × (terms ≡ self)) (λ back. (IsOneTerm self → ⊥) × (back ≡ self)) }
     {
         if self.ends.len() == 1 {
-            Ok(Terms::new(self.positions))
+            Ok(TermList::new(self.positions))
         } else {
             Err(self)
         }
     }
 }
 
-// How many tasks a position is.
+/// How many tasks a position is: 1 for a task, 0 for a data item and for a `Par`.
 #[inline(always)]
-pub(crate) fn count(p: Position) -> u64
+pub fn tasks_of_position(p: Position) -> u64
     ensures { result ≡ added_tasks p }
 {
     match p {

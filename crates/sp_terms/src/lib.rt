@@ -5,28 +5,17 @@
 #![tactic(auto)]
 
 mod builder;
-mod kind;
 pub mod laws;
-mod lines;
 mod position;
-mod printing;
-mod reader;
-mod stage;
 mod system;
 mod terms;
-#[cfg(test)]
-mod tests;
 mod value;
-mod word;
 
-pub use builder::{PushRefusal, TermBuilder};
-pub use kind::WorkflowKind;
+pub use builder::{PushRefusal, TermBuilder, tasks_of_position};
 pub use position::{Position, Values};
-pub use printing::{print_workflow, print_workflow_2};
-pub use reader::read_workflow;
 use std::alloc::AllocError;
 pub use system::system_of;
-pub use terms::Terms;
+pub use terms::TermList;
 pub use value::{hill, values, values_at};
 
 /// Want of memory: an allocation was refused.

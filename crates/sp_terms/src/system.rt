@@ -5,13 +5,13 @@ ghost use Rattle.sp_terms.specs.Pending.{tasks_in};
 
 use crate::NoMemory;
 use crate::position::Position;
-use crate::terms::Terms;
+use crate::terms::TermList;
 use mp_system::{Item, System, Task};
 use std::alloc::Global;
 
 /// The system of a term: one item for each data position, in order, and the tasks in the order of their positions. The task of a
 /// series consumes what its first part leaves, and produces what its second part starts with.
-pub fn system_of(alloc: Global, terms: &Terms) -> Result<System, NoMemory>
+pub fn system_of(alloc: Global, terms: &TermList) -> Result<System, NoMemory>
     ensures { IfOk result (λ s. s ≡ system_of_term (term_of terms.now)) }
 {
     let positions = terms.positions();

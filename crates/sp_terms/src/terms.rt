@@ -8,11 +8,11 @@ use std::marker::Model;
 /// A list of positions in postfix order that denotes one term by the stack rule: at most 4,000,001 positions, 10^6 tasks, sizes and
 /// times of at most 2^40, and at most 2^60 of sizes in all. The tasks are numbered from 1 in the order of their positions.
 #[derive(Drop)]
-pub struct Terms {
+pub struct TermList {
     positions: Vec<Position>,
 }
 
-impl Model for Terms {
+impl Model for TermList {
     ghost Value = { List Position };
 
     ghost view = { λ t. t.positions.items };
@@ -20,13 +20,13 @@ impl Model for Terms {
     ghost invariant = { λ t. IsTerms t.positions.items };
 }
 
-impl Terms {
+impl TermList {
     /// The term of these positions.
-    pub fn new(positions: Vec<Position>) -> Terms
+    pub fn new(positions: Vec<Position>) -> TermList
         requires { IsTerms positions.items }
         ensures { result ≡ positions.items }
     {
-        Terms { positions }
+        TermList { positions }
     }
 
     /// What every value of this type keeps; a proof that needs it calls it. It does nothing.
@@ -53,7 +53,7 @@ impl Terms {
     }
 
     /// All positions.
-    pub(crate) fn positions(&self) -> &[Position]
+    pub fn positions(&self) -> &[Position]
         ensures value { result.now ≡ self.now }
         ensures terms { IsTerms self.now }
     {

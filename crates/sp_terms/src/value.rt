@@ -6,12 +6,12 @@ ghost use Rattle.sp_terms.specs.declared.position.Position.TheVariants.{Par};
 
 use crate::NoMemory;
 use crate::position::{Position, Values};
-use crate::terms::Terms;
+use crate::terms::TermList;
 use mp_system::Task;
 use std::alloc::Global;
 
 /// The values of the term that ends at each position, in the order of the positions.
-pub fn values(alloc: Global, terms: &Terms) -> Result<Vec<Values>, NoMemory>
+pub fn values(alloc: Global, terms: &TermList) -> Result<Vec<Values>, NoMemory>
     ensures len { IfOk result (λ values. vec_len values ≡ length terms.now) }
     ensures each { IfOk result (λ values. AreValues terms.now values.items (length terms.now)) }
 {
@@ -24,7 +24,7 @@ pub fn values(alloc: Global, terms: &Terms) -> Result<Vec<Values>, NoMemory>
 }
 
 /// The values of the term that ends at a position, counted from 1, from those at the positions before it.
-pub fn values_at(terms: &Terms, before: &[Values], position: u32) -> Values
+pub fn values_at(terms: &TermList, before: &[Values], position: u32) -> Values
     requires at { (1 ≤ position) × (position ≤ length terms.now) }
     requires long { position - 1 ≤ length before.now }
     requires known { AreValues terms.now before.now (position - 1) }

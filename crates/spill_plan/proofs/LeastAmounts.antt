@@ -151,7 +151,7 @@ cond_le true n = omega arith
 cond_le false n = omega arith
 
 -- amounts that make a plan come to no less than its volume
-plan_volume-le : (system : TaskSystem) (order amounts : List ℕ) → length amounts ≡ length system.items
+pub plan_volume-le : (system : TaskSystem) (order amounts : List ℕ) → length amounts ≡ length system.items
     → plan_volume system order (plan_by_amounts system order amounts) ≤ sum amounts
 plan_volume-le system order amounts len =
     let plan = plan_by_amounts system order amounts in

@@ -4,6 +4,7 @@ use Rattle.std.specs.Prelude.{nat_lt, nat_le, nat_eq, ◌&&◌, slice_index}
 use Rattle.std.specs.List.{sum_by}
 use Rattle.std.specs.Prelude.{replicate}
 use Rattle.std.proofs.lemmas.List.Sums.{sum_by_more_le_part}
+use Rattle.limits.specs.Limits.{most_total}
 use Rattle.spill_plan.specs.declared.span.Span.{Span}
 use Rattle.spill_plan.specs.Spans.{no_span, AreItemSpans, is_across, start_sum, end_sum, spilled_at, kept_at, amount_sum, demand, IsSpanPlan, span_volume, span_plan, IsRaised, IsSpilledAfter}
 use Rattle.spill_plan.specs.Spilled.{left_at, AreZero, between_at, IsRaising}
@@ -219,7 +220,7 @@ pub kept_after : (xs : List Span) (k over turn : ℕ) (was is : ℕ → ℕ) →
 kept_after xs k over turn was is fits room r = omega (arith, held_parts xs k was fits, held_parts xs k is r.within, r.sum_is)
 
 pub place_fits : (xs : List Span) (steps : ℕ) (test : Span → Bool) (i old : ℕ) → AreItemSpans xs steps → i < length xs → old
-    ≡ sum_by (λ x. cond (test x) x.size 0) (take i xs) → old + (get_or xs i no_span).size ≤ 2 ^ 60
+    ≡ sum_by (λ x. cond (test x) x.size 0) (take i xs) → old + (get_or xs i no_span).size ≤ most_total
 place_fits xs steps test i old spans h e =
     let part = sum_by_more_le_part (λ x. cond (test x) x.size 0) (λ x. x.size) xs i no_span h
     (λ x. part_le (test x) x.size x.size (omega arith)) in
@@ -235,7 +236,7 @@ within_le true a s = omega arith
 within_le false a s = omega arith
 
 pub held_fits : (xs : List Span) (steps k : ℕ) (amount : ℕ → ℕ) → AreItemSpans xs steps
-    → (kept_at k amount xs ≤ 2 ^ 60) × (left_at k amount xs ≤ 2 ^ 60)
+    → (kept_at k amount xs ≤ most_total) × (left_at k amount xs ≤ most_total)
 held_fits xs steps k amount spans = (
   omega (
     arith,

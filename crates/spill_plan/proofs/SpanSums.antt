@@ -6,12 +6,10 @@ use Rattle.std.proofs.lemmas.List.Sums.{sum_by-cons}
 use Rattle.spill_plan.specs.declared.span.Span.{Span}
 use Rattle.spill_plan.specs.SpillPlans.{sum_from}
 use Rattle.spill_plan.specs.Spans.{no_span, is_across}
-
-cases_le : (m n : ℕ) → (m ≤ n) ⊎ (n < m)
-cases_le m n = grind arith
+use Rattle.lists.proofs.Orders.{le_or_lt}
 
 pub split : {A : Type 0} (m n : ℕ) → (m ≤ n → A) → (n < m → A) → A
-split m n f g = elim (cases_le m n) [ inl h ↦ f h | inr h ↦ g h ]
+split m n f g = elim (le_or_lt m n) [ inl h ↦ f h | inr h ↦ g h ]
 
 -- ---- tests of a span
 

@@ -13,12 +13,7 @@ use Rattle.mp_system.specs.Traversal.{IsTraversal}
 use Rattle.spill_plan.specs.SpillPlans.{own_need}
 use Rattle.spill_plan.proofs.SpanSums.{split}
 use Rattle.spill_plan.proofs.OrderSteps.{task_at_step}
-
-size_if-le : (test : Item → Bool) (item : Item) → size_if test item ≤ item_size item
-size_if-le test item = elim (test item) as (λ b. cond b item.size 0 ≤ item.size) [ true ↦ omega arith | false ↦ omega arith ]
-
-size_where-le : (test : Item → Bool) (items : List Item) → size_where test items ≤ sum_by item_size items
-size_where-le test items = sum_by-le-sum_by (size_if test) item_size items (size_if-le test)
+use Rattle.mp_system.proofs.Sums.{size_where-le}
 
 -- the task of a step, as code reads it
 pub record IsStepTask (system : TaskSystem) (order : List ℕ) (k : ℕ) (task : Task) : Type 0 where

@@ -15,8 +15,6 @@ mod spilled;
 mod spilling;
 mod steps;
 mod sums;
-#[cfg(test)]
-mod tests;
 
 pub use amounts::Spill;
 pub use refusal::SpillRefusal;

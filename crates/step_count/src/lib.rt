@@ -5,7 +5,5 @@
 #![tactic(auto)]
 
 mod steps;
-#[cfg(test)]
-mod tests;
 
 pub use steps::Steps;

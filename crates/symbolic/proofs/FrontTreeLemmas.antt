@@ -1,11 +1,10 @@
 -- The steps of the analysis fit together.
-use Rattle.std.proofs.Common.{◌≡◌, ◌∙◌, ℕ, List, length, map, sym, ap, subst}
-use Rattle.ordering.specs.Perm.{vertex_at}
+use Rattle.std.proofs.Common.{◌≡◌, ◌∙◌, ℕ, List, length, sym, ap, subst}
 use Rattle.ordering.specs.Fill.{parents_of, counts_of}
 use Rattle.assembly_tree.specs.Assembly.{AssemblyTree}
-use Rattle.assembly_tree.specs.Fronts.{fronts_of}
+use Rattle.assembly_tree.specs.Fronts.{nodes_of_fronts}
 use Rattle.assembly_tree.specs.Supernodes.{AreColumnCounts, AreSupernodes}
-use Rattle.tree_input.specs.declared.node.Node.{Node}
+use Rattle.trees.specs.declared.node.Node.{Node}
 use Rattle.symbolic.specs.FrontTree.{columns, relaxed, IsAnalysis, IsFrontTree}
 use Rattle.symbolic.specs.declared.options.FrontOptions.{FrontOptions}
 
@@ -29,7 +28,7 @@ module _ (rows : List (List ℕ)) (perm parents counts : List ℕ)
 
 pub front-tree : (options : FrontOptions) (rows : List (List ℕ)) (order perm : List ℕ) (assembly merged : AssemblyTree) (nodes : List Node)
     → IsAnalysis rows order perm assembly → length perm ≡ length order → merged ≡ relaxed options.zeros assembly
-    → nodes ≡ fronts_of options.shape options.inplace merged.supers → IsFrontTree options rows order nodes
+    → nodes ≡ nodes_of_fronts options.shape options.inplace merged.supers → IsFrontTree options rows order nodes
 front-tree options rows order perm assembly merged nodes is len is_merged is_nodes =
     let along = λ (p : List ℕ) (n : ℕ). AreSupernodes (parents_of (columns rows p) n) (counts_of (columns rows p) n) assembly in
     record {
@@ -37,5 +36,5 @@ front-tree options rows order perm assembly merged nodes is len is_merged is_nod
       postorder = is.postordered.postorder;
       assembly = assembly;
       supernodes = subst (λ (p : List ℕ). along p (length order)) is.postordered.along (subst (along perm) len is.supernodes);
-      fronts = is_nodes ∙ ap (λ (a : AssemblyTree). fronts_of options.shape options.inplace a.supers) is_merged;
+      fronts = is_nodes ∙ ap (λ (a : AssemblyTree). nodes_of_fronts options.shape options.inplace a.supers) is_merged;
     }

@@ -1,15 +1,15 @@
 -- The symbolic analysis of a sparse matrix: from its pattern and an order of elimination to a tree of fronts, as a multifrontal solver
 -- makes it. Duff and Reid 1983; Liu 1990 and 1992.
 use Rattle.std.specs.Prelude.{◌≡◌, ℕ, Bool, List, Option, Some, None, length, map}
-use Rattle.matrix_market.specs.Pattern.{is_joined}
-use Rattle.ordering.specs.Perm.{vertex_at}
+use Rattle.patterns.specs.Pattern.{is_joined}
+use Rattle.permutations.specs.Perm.{vertex_at}
 use Rattle.ordering.specs.Fill.{renumbered, parents_of, counts_of}
 use Rattle.elim_tree.specs.Postorders.{IsPostorder, IsPostordered}
 use Rattle.assembly_tree.specs.Amalgamation.{amalgamated}
 use Rattle.assembly_tree.specs.Assembly.{AssemblyTree}
-use Rattle.assembly_tree.specs.Fronts.{fronts_of}
+use Rattle.assembly_tree.specs.Fronts.{nodes_of_fronts}
 use Rattle.assembly_tree.specs.Supernodes.{AreSupernodes}
-use Rattle.tree_input.specs.declared.node.Node.{Node}
+use Rattle.trees.specs.declared.node.Node.{Node}
 use Rattle.symbolic.specs.declared.options.FrontOptions.{FrontOptions}
 
 -- the pattern of a matrix by columns: its vertices in the order in which they are eliminated
@@ -38,4 +38,4 @@ pub record IsFrontTree (options : FrontOptions) (rows : List (List ℕ)) (order 
       (parents_of (columns rows (map (vertex_at order) post)) (length order))
       (counts_of (columns rows (map (vertex_at order) post)) (length order)) assembly
   -- and each is a front
-  pub fronts : nodes ≡ fronts_of options.shape options.inplace (relaxed options.zeros assembly).supers
+  pub fronts : nodes ≡ nodes_of_fronts options.shape options.inplace (relaxed options.zeros assembly).supers

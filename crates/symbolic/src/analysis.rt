@@ -10,10 +10,10 @@ use assembly_tree::{Assembly, amalgamate, fronts, supernodes};
 use column_counts::counts;
 use elim_tree::laws::renumbered_pattern;
 use elim_tree::{Numbered, postordered_etree};
-use matrix_market::Pattern;
-use ordering::Perm;
+use patterns::Pattern;
+use permutations::Perm;
 use std::alloc::Global;
-use tree_input::Tree;
+use trees::Tree;
 
 /// What is known of a matrix and an order of elimination before its fronts are made.
 #[derive(Drop)]

@@ -1,9 +1,9 @@
 //! Laws of front trees: what holds of each, without a call.
 
 ghost use Rattle.std.specs.Prelude.{◌≡◌, ℕ, List, length};
-ghost use Rattle.matrix_market.specs.Pattern.{IsPattern};
-ghost use Rattle.tree_input.specs.declared.node.Node.{Node};
-ghost use Rattle.tree_input.specs.Tree.{IsTree};
+ghost use Rattle.patterns.specs.Pattern.{IsPattern};
+ghost use Rattle.trees.specs.declared.node.Node.{Node};
+ghost use Rattle.trees.specs.Tree.{IsTree};
 ghost use Rattle.assembly_tree.specs.Assembly.{AssemblyTree, IsAssembly};
 ghost use Rattle.symbolic.specs.FrontTree.{IsAnalysis, IsFrontTree};
 ghost use Rattle.symbolic.specs.declared.options.FrontOptions.{FrontOptions};

@@ -2,8 +2,8 @@
 //! multifrontal solver makes it (Duff and Reid 1983; Liu 1990 and 1992).
 //!
 //! ```
-//! let pattern = read_pattern(alloc, text)?;
-//! let perm = read_perm(alloc, order, pattern.order())?;
+//! let pattern = pattern_of_columns(alloc, 0, starts, rows)?;
+//! let perm = perm_of_numbers(alloc, 0, order, pattern.rows())?;
 //! let fronts = FrontOptions { shape: Shape::Triangle, zeros: None, inplace: false };
 //! let tree = front_tree(alloc, &pattern, &perm, fronts)?;
 //! ```
@@ -14,8 +14,6 @@
 mod analysis;
 pub mod laws;
 mod options;
-#[cfg(test)]
-mod tests;
 
 pub use analysis::{Analysis, analyse, front_tree};
 pub use options::FrontOptions;

@@ -4,7 +4,7 @@ use Rattle.std.proofs.lemmas.List.Sums.{sum_by_more_le_part}
 use Rattle.mp_system.specs.System.{size_if, item_size}
 use Rattle.mp_system.specs.Memory.{is_present}
 use Rattle.activation.specs.Tables.{no_item}
-use Rattle.activation.proofs.Sizes.{size_if-le}
+use Rattle.mp_system.proofs.Sums.{size_if-le}
 use Rattle.activation.proofs.start.start_memory.Goals as goal
 
 pub overflow_add-memory : goal.overflow_add-memory

@@ -1,6 +1,6 @@
 use Rattle.std.proofs.Common.{sym, ap, ◌∙◌, subst}
-use Rattle.tree_input.specs.Tree.{IsTree}
-use Rattle.assembly_tree.specs.Fronts.{fronts_of}
+use Rattle.trees.specs.Tree.{IsTree}
+use Rattle.assembly_tree.specs.Fronts.{nodes_of_fronts}
 use Rattle.assembly_tree.proofs.FrontLemmas.{fronts_tree, fronts_with, fronts_inside, parents_inside, supers_few}
 use Rattle.assembly_tree.proofs.front.fronts.Goals as goal
 
@@ -18,9 +18,9 @@ nodes_of-requires-clause-fits c = rw c.supers-supers.ensures.value (fronts_insid
 
 pub new-requires : goal.new-requires
 new-requires c =
-    let is = c.in_ok-nodes.ensures ∙ fronts_with c.args.shape c.args.inplace c.supers-supers.result.now c.deref.result.now (rw c.deref.ensures.value c.in_ok-shares.ensures.shares) ∙ ap (fronts_of c.args.shape c.args.inplace) c.supers-supers.ensures.value in
+    let is = c.in_ok-nodes.ensures ∙ fronts_with c.args.shape c.args.inplace c.supers-supers.result.now c.deref.result.now (rw c.deref.ensures.value c.in_ok-shares.ensures.shares) ∙ ap (nodes_of_fronts c.args.shape c.args.inplace) c.supers-supers.ensures.value in
     subst IsTree (sym is) (fronts_tree c.args.shape c.args.inplace c.args.assembly.now c.supers-supers.ensures.assembly)
 
 pub returns : goal.returns
 returns c =
-    c.new.ensures ∙ c.in_ok-nodes.ensures ∙ fronts_with c.args.shape c.args.inplace c.supers-supers.result.now c.deref.result.now (rw c.deref.ensures.value c.in_ok-shares.ensures.shares) ∙ ap (fronts_of c.args.shape c.args.inplace) c.supers-supers.ensures.value
+    c.new.ensures ∙ c.in_ok-nodes.ensures ∙ fronts_with c.args.shape c.args.inplace c.supers-supers.result.now c.deref.result.now (rw c.deref.ensures.value c.in_ok-shares.ensures.shares) ∙ ap (nodes_of_fronts c.args.shape c.args.inplace) c.supers-supers.ensures.value

@@ -1,5 +1,6 @@
 use Rattle.std.proofs.Common.{sym, ◌∙◌, refl}
-use Rattle.claim_check.proofs.Outside.{some_none, claimed, unclaimed}
+use Rattle.claim_check.proofs.Outside.{claimed, unclaimed}
+use Rattle.lists.proofs.Options.{some_none}
 use Rattle.claim_check.proofs.judge.check_at.Goals as goal
 
 pub returns-then-has_claim-clause-none : goal.returns-then-has_claim-clause-none

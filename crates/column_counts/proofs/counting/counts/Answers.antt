@@ -1,7 +1,7 @@
 use Rattle.std.proofs.Common.{◌≡◌, ◌+◌, ◌-◌, ◌<◌, ℕ, length, map, arith, ap, subst, sym, ◌∙◌}
 use Rattle.std.specs.List.{range_with_len}
 use Rattle.std.proofs.lemmas.Result.{IfOk-weaker}
-use Rattle.matrix_market.specs.Pattern.{is_joined}
+use Rattle.patterns.specs.Pattern.{is_joined}
 use Rattle.ordering.specs.Fill.{renumbered, count_of, counts_of}
 use Rattle.column_counts.specs.Leaves.{IsFirsts, HasCount}
 use Rattle.column_counts.proofs.FactorRows.{length_parents}

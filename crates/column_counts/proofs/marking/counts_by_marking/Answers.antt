@@ -1,9 +1,9 @@
 use Rattle.std.proofs.Common.{◌≡◌, ◌-◌, ℕ, suc, List, [], ◌∷◌, length, take, drop, refl, ap, ◌∙◌, arith}
 use Rattle.std.proofs.Math.Seq.{take-length}
 use Rattle.std.proofs.lemmas.Result.{IfOk-weaker}
-use Rattle.matrix_market.specs.Pattern.{is_joined}
+use Rattle.patterns.specs.Pattern.{is_joined}
 use Rattle.ordering.specs.Fill.{renumbered, counts_of}
-use Rattle.column_counts.proofs.MarkLemmas.{written}
+use Rattle.lists.proofs.Lists.{written}
 use Rattle.column_counts.proofs.FactorRows.{are_counts}
 use Rattle.column_counts.proofs.marking.counts_by_marking.Goals as goal
 use Rattle.column_counts.proofs.marking.counts_by_marking.Goals.{After-mark_rows}

@@ -1,7 +1,8 @@
 use Rattle.std.proofs.Common.{◌≡◌, ◌+◌, ◌<◌, length, set, arith, subst, slice_index}
 use Rattle.elim_tree.specs.Trees.{parent_at}
 use Rattle.column_counts.specs.Marks.{IsMarkedRow}
-use Rattle.column_counts.proofs.MarkLemmas.{at_here, at_other, row_start}
+use Rattle.column_counts.proofs.MarkLemmas.{row_start}
+use Rattle.lists.proofs.Lists.{at_other, at_here}
 use Rattle.column_counts.proofs.RowLemmas.{can_mark_up, one_more, none_more}
 use Rattle.column_counts.proofs.marking.mark_row.Goals as goal
 use Rattle.column_counts.proofs.marking.mark_row.Goals.{then-column-i, else-column-i}

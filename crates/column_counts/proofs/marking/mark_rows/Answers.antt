@@ -1,24 +1,24 @@
 use Rattle.std.proofs.Common.{◌≡◌, ◌+◌, ◌-◌, length, arith, sym, ◌∙◌, ap}
 use Rattle.std.specs.List.{range_with_len, count_by}
-use Rattle.matrix_market.specs.Pattern.{is_joined, neighbours_of}
+use Rattle.patterns.specs.Pattern.{is_joined, neighbours_of}
 use Rattle.ordering.specs.Fill.{renumbered, structure_of}
 use Rattle.column_counts.proofs.FactorRows.{IsFactor, AreRows, row_of, long_parents, vertex_in_list, can_mark, all_marked}
 use Rattle.column_counts.proofs.marking.mark_rows.Goals as goal
-use Rattle.column_counts.proofs.marking.mark_rows.Goals.{After-order-i-end}
+use Rattle.column_counts.proofs.marking.mark_rows.Goals.{After-rows-i-end}
 
-rows_are : (c : After-order-i-end) → AreRows c.args.pattern.now c.args.perm.now
+rows_are : (c : After-rows-i-end) → AreRows c.args.pattern.now c.args.perm.now
 rows_are c = record {
-  pattern = c.order-i-end.ensures.pattern;
+  pattern = c.rows-i-end.ensures.pattern;
   same = c.requires.len;
   vertex_back = c.places_are_inverse.ensures.vertex (length c.args.perm.now) c.args.perm.now c.keeps.ensures;
   place_back = c.places_are_inverse.ensures.place (length c.args.perm.now) c.args.perm.now c.keeps.ensures;
 }
 
-factor_is : (c : After-order-i-end) → IsFactor (renumbered (is_joined c.args.pattern.now) c.args.perm.now) (length c.args.perm.now) c.args.parents.now
+factor_is : (c : After-rows-i-end) → IsFactor (renumbered (is_joined c.args.pattern.now) c.args.perm.now) (length c.args.perm.now) c.args.parents.now
 factor_is c =
     let joined = renumbered (is_joined c.args.pattern.now) c.args.perm.now in
-    let pattern = c.renumbered_pattern.ensures.pattern c.args.pattern.now c.args.perm.now c.order-i-end.ensures.pattern in
-    let inside = c.renumbered_pattern.ensures.within c.args.pattern.now c.args.perm.now c.order-i-end.ensures.pattern in
+    let pattern = c.renumbered_pattern.ensures.pattern c.args.pattern.now c.args.perm.now c.rows-i-end.ensures.pattern in
+    let inside = c.renumbered_pattern.ensures.within c.args.pattern.now c.args.perm.now c.rows-i-end.ensures.pattern in
     record {
       pattern = pattern;
       inside = inside;
@@ -31,19 +31,19 @@ factor_is c =
 
 pub mark_row-requires-clause-lengths : goal.mark_row-requires-clause-lengths
 mark_row-requires-clause-lengths c =
-    let long = long_parents (renumbered (is_joined c.args.pattern.now) c.args.perm.now) (length c.args.perm.now) c.args.parents.now (factor_is (goal.at.mark_row-requires-clause-lengths c).After-order-i-end) in
+    let long = long_parents (renumbered (is_joined c.args.pattern.now) c.args.perm.now) (length c.args.perm.now) c.args.parents.now (factor_is (goal.at.mark_row-requires-clause-lengths c).After-rows-i-end) in
     let lengths = c.requires.lengths in
     let same = c.requires.len in
     (omega arith, omega arith, omega arith)
 
 pub mark_row-requires-clause-vertices : goal.mark_row-requires-clause-vertices
 mark_row-requires-clause-vertices c =
-    vertex_in_list c.args.pattern.now c.args.perm.now (rows_are (goal.at.mark_row-requires-clause-vertices c).After-order-i-end) c.loop-i.i c.neighbours-row.result.now
+    vertex_in_list c.args.pattern.now c.args.perm.now (rows_are (goal.at.mark_row-requires-clause-vertices c).After-rows-i-end) c.loop-i.i c.neighbours-row.result.now
     (c.neighbours-row.ensures ∙ ap (neighbours_of c.args.pattern.now) c.at.ensures.value)
 
 pub mark_row-requires-clause-row : goal.mark_row-requires-clause-row
 mark_row-requires-clause-row c =
-    let before = (goal.at.mark_row-requires-clause-row c).After-order-i-end in
+    let before = (goal.at.mark_row-requires-clause-row c).After-rows-i-end in
     let same = c.requires.len in (
       row_of (renumbered (is_joined c.args.pattern.now) c.args.perm.now) c.loop-i.i,
       can_mark c.args.pattern.now c.args.perm.now (rows_are before) c.loop-i.i c.neighbours-row.result.now (c.neighbours-row.ensures ∙ ap (neighbours_of c.args.pattern.now) c.at.ensures.value)
@@ -52,7 +52,7 @@ mark_row-requires-clause-row c =
 
 pub loop-i-preserved : goal.loop-i-preserved
 loop-i-preserved c =
-    let before = (goal.at.loop-i-preserved c).After-order-i-end in
+    let before = (goal.at.loop-i-preserved c).After-rows-i-end in
     let joined = renumbered (is_joined c.args.pattern.now) c.args.perm.now in
     let same = c.requires.len in
     let row = c.neighbours-row.ensures ∙ ap (neighbours_of c.args.pattern.now) c.at.ensures.value in

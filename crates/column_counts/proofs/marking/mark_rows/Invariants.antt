@@ -1,5 +1,5 @@
 use Rattle.std.proofs.Common.{◌≡◌, ℕ, ◌<◌, slice_index}
-use Rattle.matrix_market.specs.Pattern.{is_joined}
+use Rattle.patterns.specs.Pattern.{is_joined}
 use Rattle.ordering.specs.Fill.{renumbered}
 use Rattle.column_counts.proofs.FactorRows.{row_of}
 use Rattle.column_counts.proofs.marking.mark_rows.Given as goal

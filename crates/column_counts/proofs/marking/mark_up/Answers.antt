@@ -1,7 +1,8 @@
 use Rattle.std.proofs.Common.{◌≡◌, ℕ, ◌+◌, ◌<◌, length, arith, refl, sym, ◌∙◌, ap, inl, inr, set, slice_index}
 use Rattle.std.proofs.lemmas.Bool.{cases_eq}
 use Rattle.elim_tree.specs.Trees.{parent_at}
-use Rattle.column_counts.proofs.MarkLemmas.{at_here, at_other, can_go_on, marked_up, closed_anywhere}
+use Rattle.column_counts.proofs.MarkLemmas.{can_go_on, marked_up, closed_anywhere}
+use Rattle.lists.proofs.Lists.{at_other, at_here}
 use Rattle.column_counts.proofs.marking.mark_up.Goals as goal
 
 pub way-init : goal.way-init

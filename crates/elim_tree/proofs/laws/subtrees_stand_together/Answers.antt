@@ -1,4 +1,4 @@
-use Rattle.ordering.specs.Perm.{place_of}
+use Rattle.permutations.specs.Perm.{place_of}
 use Rattle.elim_tree.proofs.Postorderings.{between}
 use Rattle.elim_tree.proofs.laws.subtrees_stand_together.Goals as goal
 

@@ -1,10 +1,11 @@
 use Rattle.std.proofs.Common.{◌≡◌, ℕ, suc, ◌<◌, List, length, drop, arith, sym, subst, ap, ◌∙◌, slice_index}
-use Rattle.ordering.specs.Perm.{IsVertex}
+use Rattle.permutations.specs.Perm.{IsVertex}
 use Rattle.elim_tree.specs.ParentTables.{parents_in}
 use Rattle.elim_tree.specs.Postorders.{Precedes, IsPostorder}
 use Rattle.elim_tree.specs.Spans.{ArePlaces}
 use Rattle.elim_tree.proofs.Columns.{length_of_table}
-use Rattle.elim_tree.proofs.Places.{written, is_postorder}
+use Rattle.elim_tree.proofs.Places.{is_postorder}
+use Rattle.lists.proofs.Lists.{written}
 use Rattle.elim_tree.proofs.postordering.postorder.Goals as goal
 
 pub invert-requires-clause-places : goal.invert-requires-clause-places

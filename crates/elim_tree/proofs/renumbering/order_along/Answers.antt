@@ -1,5 +1,5 @@
 use Rattle.std.proofs.Common.{length, arith, subst, ◌∙◌, refl}
-use Rattle.ordering.specs.Perm.{IsPerm, vertex_at}
+use Rattle.permutations.specs.Perm.{IsPerm, vertex_at}
 use Rattle.elim_tree.proofs.Renumberings.{tables_along, table_long, table_along}
 use Rattle.elim_tree.proofs.renumbering.order_along.Goals as goal
 

@@ -1,6 +1,6 @@
 use Rattle.std.proofs.Common.{ℕ, Bool, List, length, map, sym, ap, subst, ◌∙◌}
 use Rattle.ordering.specs.Fill.{parents_of, renumbered}
-use Rattle.ordering.specs.Perm.{place_of}
+use Rattle.permutations.specs.Perm.{place_of}
 use Rattle.elim_tree.specs.Postorders.{IsPostorder}
 use Rattle.elim_tree.specs.Trees.{parent_at}
 use Rattle.elim_tree.proofs.Growth.{pattern_renumbered, within_renumbered}

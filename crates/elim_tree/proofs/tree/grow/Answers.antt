@@ -1,7 +1,7 @@
-use Rattle.std.proofs.Common.{◌≡◌, ◌<◌, ◌≤◌, ℕ, List, true, length, arith, sym, ◌∙◌, subst, ap, add-one, slice_index}
+use Rattle.std.proofs.Common.{◌≡◌, ◌<◌, ◌≤◌, ℕ, true, length, arith, sym, ◌∙◌, subst, ap, add-one, slice_index}
 use Rattle.std.specs.List.Sorted.{IsStrictlyIncreasing}
-use Rattle.matrix_market.specs.Pattern.{is_joined, neighbours_of}
-use Rattle.ordering.specs.Perm.{vertex_at, place_of}
+use Rattle.patterns.specs.Pattern.{is_joined, neighbours_of}
+use Rattle.permutations.specs.Perm.{vertex_at, place_of}
 use Rattle.ordering.specs.Fill.{renumbered}
 use Rattle.elim_tree.specs.Forests.{Rooted, IsInTurn, CanTake}
 use Rattle.elim_tree.proofs.Growth.{pattern_by_columns, vertex_in_row, can_take, taken, grown_firsts, first_column}
@@ -22,7 +22,7 @@ vertices_within c =
     let rows = c.args.pattern.now in
     let order = c.args.perm.now in
     subst (λ xs. (j : ℕ) → j < length xs → slice_index xs j ≤ length order) (sym (row_is c))
-    (vertex_in_row rows order c.order-k-end.ensures.pattern c.requires.len (vertex_back c) (place_back c) (vertex_at order c.loop-k.k))
+    (vertex_in_row rows order c.rows-k-end.ensures.pattern c.requires.len (vertex_back c) (place_back c) (vertex_at order c.loop-k.k))
 
 -- the pattern by columns, and the roots so far
 abbrev forest_is : After-neighbours-row → Rooted
@@ -30,7 +30,7 @@ forest_is c = record { joined = renumbered (is_joined c.args.pattern.now) c.args
 
 may_take : (c : After-neighbours-row) → CanTake (forest_is c) c.loop-k.k c.neighbours-row.result.now c.args.perm.now c.loop-k.parents c.loop-k.ancestors
 may_take c =
-    can_take c.args.pattern.now c.args.perm.now c.order-k-end.ensures.pattern c.requires.len (vertex_back c) (place_back c) c.loop-k.k c.loop-k.invariant.0
+    can_take c.args.pattern.now c.args.perm.now c.rows-k-end.ensures.pattern c.requires.len (vertex_back c) (place_back c) c.loop-k.k c.loop-k.invariant.0
     c.loop-k.parents c.loop-k.ancestors c.neighbours-row.result.now (row_is c) c.loop-k.invariant.1
 
 in_turn : (c : After-neighbours-row) → c.is_in_turn-in_turn.result ≡ true → IsInTurn c.neighbours-row.result.now c.args.perm.now
@@ -39,14 +39,14 @@ in_turn c so j lt = c.is_in_turn-in_turn.ensures so (slice_index c.neighbours-ro
 pub loop-k-init : goal.loop-k-init
 loop-k-init c = (
   λ x. x,
-  first_column (renumbered (is_joined c.args.pattern.now) c.args.perm.now) (pattern_by_columns c.args.pattern.now c.args.perm.now c.order-k-end.ensures.pattern)
+  first_column (renumbered (is_joined c.args.pattern.now) c.args.perm.now) (pattern_by_columns c.args.pattern.now c.args.perm.now c.rows-k-end.ensures.pattern)
       c.args.parents.now c.args.ancestors.now c.requires.clear,
 )
 
 pub take_head-requires-clause-rising : goal.take_head-requires-clause-rising
 take_head-requires-clause-rising c =
     subst IsStrictlyIncreasing (sym (row_is (goal.at.take_head-requires-clause-rising c).After-neighbours-row))
-    (c.order-k-end.ensures.pattern.rising (vertex_at c.args.perm.now c.loop-k.k))
+    (c.rows-k-end.ensures.pattern.rising (vertex_at c.args.perm.now c.loop-k.k))
 
 pub take_head-requires-clause-start : goal.take_head-requires-clause-start
 take_head-requires-clause-start c =
@@ -68,10 +68,10 @@ loop-k-preserved c =
     let before = (goal.at.loop-k-preserved c).After-neighbours-row in
     let can = may_take before in
     elim c.if-in_turn.branch [
-      | then-in_turn b ↦ rw (add-one, b.parents-is, b.ancestors-is) (taken rows order c.order-k-end.ensures.pattern c.requires.len (vertex_back before) (place_back before)
+      | then-in_turn b ↦ rw (add-one, b.parents-is, b.ancestors-is) (taken rows order c.rows-k-end.ensures.pattern c.requires.len (vertex_back before) (place_back before)
           c.loop-k.k c.loop-k.invariant.0 b.take_head.new.parents b.take_head.new.ancestors c.neighbours-row.result.now (row_is before)
           (b.take_head.ensures (forest_is before) order (in_turn before b.if-in_turn.true) can))
-      | else-in_turn b ↦ rw (add-one, b.parents-is, b.ancestors-is) (taken rows order c.order-k-end.ensures.pattern c.requires.len (vertex_back before) (place_back before)
+      | else-in_turn b ↦ rw (add-one, b.parents-is, b.ancestors-is) (taken rows order c.rows-k-end.ensures.pattern c.requires.len (vertex_back before) (place_back before)
           c.loop-k.k c.loop-k.invariant.0 b.take_row.new.parents b.take_row.new.ancestors c.neighbours-row.result.now (row_is before)
           (b.take_row.ensures (forest_is before) can))
     ]
@@ -79,5 +79,5 @@ loop-k-preserved c =
 pub returns-clause-firsts : goal.returns-clause-firsts
 returns-clause-firsts c =
     let order = c.args.perm.now in
-    grown_firsts c.args.pattern.now order c.order-k-end.ensures.pattern c.requires.len (c.places_are_inverse.ensures.vertex (length order) order c.keeps.ensures)
+    grown_firsts c.args.pattern.now order c.rows-k-end.ensures.pattern c.requires.len (c.places_are_inverse.ensures.vertex (length order) order c.keeps.ensures)
     (c.places_are_inverse.ensures.place (length order) order c.keeps.ensures) c.loop-k.k (omega arith) c.loop-k.invariant.0 c.loop-k.parents c.loop-k.ancestors c.loop-k.invariant.1

@@ -1,5 +1,5 @@
 use Rattle.std.proofs.Common.{ℕ, slice_index}
-use Rattle.matrix_market.specs.Pattern.{is_joined}
+use Rattle.patterns.specs.Pattern.{is_joined}
 use Rattle.ordering.specs.Fill.{renumbered}
 use Rattle.elim_tree.specs.Forests.{IsGrown}
 use Rattle.elim_tree.proofs.tree.grow.Given as goal

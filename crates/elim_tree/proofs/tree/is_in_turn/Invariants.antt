@@ -1,5 +1,5 @@
 use Rattle.std.proofs.Common.{◌≡◌, ◌<◌, ℕ}
-use Rattle.ordering.specs.Perm.{place_of}
+use Rattle.permutations.specs.Perm.{place_of}
 use Rattle.elim_tree.proofs.tree.is_in_turn.Given as goal
 
 abbrev pub invariant-loop-v : goal.invariant-loop-v

@@ -1,5 +1,6 @@
 use Rattle.std.proofs.Common.{◌<◌, length, arith, set, slice_index}
-use Rattle.elim_tree.proofs.Forests.{way_on, way_met, way_end, put_under, at_other, at_here}
+use Rattle.elim_tree.proofs.Forests.{way_on, way_met, way_end, put_under}
+use Rattle.lists.proofs.Lists.{at_other, at_here}
 use Rattle.elim_tree.proofs.tree.link.Goals as goal
 
 pub returns-then-next-k : goal.returns-then-next-k

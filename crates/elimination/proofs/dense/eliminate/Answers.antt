@@ -5,7 +5,7 @@ use Rattle.std.specs.Vec.{with_items}
 use Rattle.std.proofs.lemmas.List.{with_items_is}
 use Rattle.min_tree.specs.Least.{greatest}
 use Rattle.elimination.specs.Dense.{AreBitRows, bit_in, stage_after, width_of, lacks}
-use Rattle.elimination.proofs.VertexLists.{has_at}
+use Rattle.patterns.proofs.NumberLists.{has_at}
 use Rattle.elimination.proofs.ListWrites.{list_get}
 use Rattle.elimination.proofs.DenseSteps.{eliminated_rows, eliminated_bounds}
 use Rattle.elimination.proofs.dense.eliminate.Goals as goal

@@ -4,7 +4,7 @@ use Rattle.std.specs.List.{count_by, range_with_len}
 use Rattle.std.proofs.lemmas.List.{with_items_is}
 use Rattle.std.specs.Vec.{with_items}
 use Rattle.elimination.specs.Dense.{bit_in, width_of}
-use Rattle.elimination.proofs.VertexLists.{has_at}
+use Rattle.patterns.proofs.NumberLists.{has_at}
 use Rattle.elimination.proofs.ListWrites.{list_get, list_here, list_other}
 use Rattle.elimination.proofs.DenseLooks.{open_apart, looked}
 use Rattle.elimination.proofs.dense.look.Goals as goal

@@ -2,7 +2,8 @@ use Rattle.std.proofs.Common.{◌≡◌, inl, inr, ℕ, ◌||◌, get_or, length
 use Rattle.elimination.specs.Quotients.{inner_at}
 use Rattle.std.proofs.lemmas.Bool.{cases_eq, or_cases, or_left, or_right, both_ways}
 use Rattle.elimination.specs.Dense.{bit_in}
-use Rattle.elimination.proofs.VertexLists.{has_at, place_of}
+use Rattle.patterns.proofs.NumberLists.{place_of}
+use Rattle.patterns.proofs.NumberLists.{has_at}
 use Rattle.elimination.proofs.ListWrites.{list_get}
 use Rattle.elimination.proofs.dense.unite_open.Goals as goal
 use Rattle.elimination.proofs.dense.unite_open.Goals.{After-deref, then-has_bit, else-has_bit}

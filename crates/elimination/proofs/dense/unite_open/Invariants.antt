@@ -1,6 +1,6 @@
 use Rattle.std.proofs.Common.{◌⊎◌, ℕ, ◌<◌, get_or, IsTrue}
 use Rattle.elimination.specs.Quotients.{inner_at}
-use Rattle.matrix_market.specs.Pattern.{has}
+use Rattle.patterns.specs.Pattern.{has}
 use Rattle.elimination.specs.Dense.{bit_in}
 use Rattle.elimination.proofs.dense.unite_open.Given as goal
 

@@ -1,5 +1,5 @@
 use Rattle.std.proofs.Common.{subst, sym}
-use Rattle.matrix_market.specs.Pattern.{is_joined}
+use Rattle.patterns.specs.Pattern.{is_joined}
 use Rattle.elimination.specs.Dense.{IsDenseUnderWay, IsLeastDegreeOrder}
 use Rattle.elimination.proofs.dense_tests.dense_order.Goals as goal
 

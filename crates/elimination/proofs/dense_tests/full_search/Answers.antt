@@ -2,11 +2,11 @@ use Rattle.std.proofs.Common.{◌||◌, ℕ, eqb, List, [], IsTrue, length, get_
 use Rattle.std.specs.Vec.{with_items}
 use Rattle.std.proofs.lemmas.Bool.{cases_eq, both_ways}
 use Rattle.std.proofs.lemmas.List.{with_items_is}
-use Rattle.matrix_market.specs.Pattern.{IsPattern, is_joined, has}
+use Rattle.patterns.specs.Pattern.{IsPattern, is_joined, has}
 use Rattle.elimination.specs.Elimination.{IsVertex, IsAdjacency}
 use Rattle.elimination.specs.Dense.{IsFilling, IsDense, IsDenseUnderWay, bit_in, stage_of, width_of}
 use Rattle.elimination.specs.declared.dense.DenseSearch.{DenseSearch}
-use Rattle.elimination.proofs.VertexLists.{has_at}
+use Rattle.patterns.proofs.NumberLists.{has_at}
 use Rattle.elimination.proofs.Orders.{begun_none}
 use Rattle.elimination.proofs.DenseFilling.{filled}
 use Rattle.elimination.proofs.dense_tests.full_search.Goals as goal
@@ -32,16 +32,16 @@ begun rows search p s all =
 
 pub loop-v-init : goal.loop-v-init
 loop-v-init c = record {
-  filling = c.in_ok-search.ensures.filling (stage_of (is_joined c.args.pattern.now) (length c.args.pattern.now) []) c.order-n.ensures.value;
+  filling = c.in_ok-search.ensures.filling (stage_of (is_joined c.args.pattern.now) (length c.args.pattern.now) []) c.rows-n.ensures.value;
   passed = λ x one lt. absurd (omega arith);
 }
 
 pub set_bits-requires : goal.set_bits-requires
 set_bits-requires c = λ j lt.
-    let p = c.order-n.ensures.pattern in
+    let p = c.rows-n.ensures.pattern in
     let h = subst (λ z. IsTrue (has z (get_or c.neighbours.result.now j 0))) c.neighbours.ensures (has_at c.neighbours.result.now j lt) in
     let v = (p.inside c.loop-v.v (get_or c.neighbours.result.now j 0) h).1 in
-    let n = c.order-n.ensures.value in
+    let n = c.rows-n.ensures.value in
     let w = ap length c.deref_mut.ensures.value in
     let l = c.in_ok-row.ensures.len in
     omega arith
@@ -50,7 +50,7 @@ pub put-requires : goal.put-requires
 put-requires c = (
   stage_of (is_joined c.args.pattern.now) (length c.args.pattern.now) [],
   c.loop-v.invariant.filling,
-  ((let n = c.order-n.ensures.value in (omega arith, omega arith)), refl),
+  ((let n = c.rows-n.ensures.value in (omega arith, omega arith)), refl),
 )
 
 pub loop-v-preserved : goal.loop-v-preserved
@@ -58,7 +58,7 @@ loop-v-preserved c =
     let v = c.loop-v.v in
     let rows = c.args.pattern.now in
     let stage = stage_of (is_joined c.args.pattern.now) (length c.args.pattern.now) [] in
-    let n = c.order-n.ensures.value in
+    let n = c.rows-n.ensures.value in
     let made = with_items_is c.in_ok-row.row c.set_bits.new.row (c.set_bits.auto.row ∙ c.deref_mut.ensures.len) in
     let row = (with_items c.in_ok-row.row c.set_bits.new.row).items in
     record {
@@ -83,6 +83,6 @@ returns-clause-order c = c.loop-v.invariant.filling.order_is
 
 pub returns-clause-begins : goal.returns-clause-begins
 returns-clause-begins c =
-    let n = c.order-n.ensures.value in
-    begun c.args.pattern.now c.loop-v.search c.order-n.ensures.pattern c.loop-v.invariant.filling
+    let n = c.rows-n.ensures.value in
+    begun c.args.pattern.now c.loop-v.search c.rows-n.ensures.pattern c.loop-v.invariant.filling
     (λ x vx. let one = vx.0 in let le = vx.1 in c.loop-v.invariant.passed x one (omega arith))

@@ -1,5 +1,5 @@
 use Rattle.std.proofs.Common.{◌<◌, ◌≤◌, ℕ, [], IsTrue, length}
-use Rattle.matrix_market.specs.Pattern.{is_joined}
+use Rattle.patterns.specs.Pattern.{is_joined}
 use Rattle.elimination.specs.Dense.{IsFilling, bit_in, stage_of}
 use Rattle.elimination.proofs.dense_tests.full_search.Given as goal
 

@@ -2,9 +2,9 @@ use Rattle.std.proofs.Common.{◌||◌, get_or, take, arith, sym, ap, ◌∙◌,
 use Rattle.std.proofs.lemmas.Bool.{cases_eq, eq-eqb, ne_eqb, or_right}
 use Rattle.std.proofs.lemmas.List.{take_all}
 use Rattle.std.proofs.Math.Bool.{or-false}
-use Rattle.matrix_market.specs.Pattern.{has}
+use Rattle.patterns.specs.Pattern.{has}
 use Rattle.elimination.specs.Dense.{bit_in}
-use Rattle.elimination.proofs.VertexLists.{has_more}
+use Rattle.patterns.proofs.NumberLists.{has_more}
 use Rattle.elimination.proofs.dense_tests.set_bits.Goals as goal
 
 pub loop-x-init : goal.loop-x-init

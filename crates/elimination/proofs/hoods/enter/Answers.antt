@@ -1,6 +1,6 @@
 use Rattle.std.proofs.Common.{◌≡◌, ◌+◌, Bool, arith, subst, sym, ap, ◌∙◌, get_or, true, set, length-set}
-use Rattle.matrix_market.specs.Pattern.{has}
-use Rattle.elimination.proofs.VertexLists.{has_at}
+use Rattle.patterns.specs.Pattern.{has}
+use Rattle.patterns.proofs.NumberLists.{has_at}
 use Rattle.elimination.specs.Quotients.{inner_at}
 use Rattle.elimination.specs.Hoods.{IsScanned, Visits}
 use Rattle.elimination.proofs.ListWrites.{list_get}

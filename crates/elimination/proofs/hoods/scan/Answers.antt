@@ -1,5 +1,5 @@
 use Rattle.std.proofs.Common.{◌≡◌, ◌<◌, ◌∷◌, [], length, ℕ, List, arith, subst, sym, ◌∙◌, IsTrue}
-use Rattle.elimination.proofs.VertexLists.{has_at}
+use Rattle.patterns.proofs.NumberLists.{has_at}
 use Rattle.elimination.specs.Elimination.{IsVertex}
 use Rattle.elimination.specs.Quotients.{Quotient, IsQuotient, at, inner_at}
 use Rattle.elimination.specs.Hoods.{IsScanned, IsRowOf, CanEnter, AreLeft}

@@ -1,5 +1,5 @@
 use Rattle.std.proofs.Common.{◌≡◌, arith, subst, false}
-use Rattle.elimination.proofs.VertexLists.{place_of}
+use Rattle.patterns.proofs.NumberLists.{place_of}
 use Rattle.elimination.specs.Hoods.{mark_at}
 use Rattle.elimination.proofs.ListFacts.{absent}
 use Rattle.elimination.proofs.hoods.unmark.Goals as goal

@@ -13,4 +13,4 @@ eliminate_all-requires-clause-start c =
     let links = len.links in
     let bounds = len.bounds in
     subst (λ z. IsUnderWay rows z t 1) (sym c.in_ok-vertices.ensures.items)
-    (under_way_first rows c.order.ensures.pattern t fresh (omega arith) (omega arith))
+    (under_way_first rows c.rows.ensures.pattern t fresh (omega arith) (omega arith))

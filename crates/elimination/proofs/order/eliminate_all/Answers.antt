@@ -1,5 +1,5 @@
 use Rattle.std.proofs.Common.{◌+◌, length, arith, subst, sym, ◌∙◌, ap}
-use Rattle.matrix_market.specs.Pattern.{is_joined}
+use Rattle.patterns.specs.Pattern.{is_joined}
 use Rattle.elimination.specs.Elimination.{eliminated}
 use Rattle.elimination.specs.Quotients.{at}
 use Rattle.elimination.specs.Tables.{tables}
@@ -37,8 +37,8 @@ finished c =
     c.least.ensures.1 (omega (arith, c.least.ensures.2)) in
     let start' : IsFinishing rows l.vertices.items (at c.deref.result.now) 1 = subst (λ z. IsFinishing rows l.vertices.items (at z) 1)
     (sym c.deref.ensures.value) start in
-    subst (λ n. IsFinishing rows c.finish.new.vertices.items (at c.deref.result.now) (n + 1)) c.order-n.ensures.value
-    (c.in_ok-finish.ensures rows (sym c.order-n.ensures.value) start')
+    subst (λ n. IsFinishing rows c.finish.new.vertices.items (at c.deref.result.now) (n + 1)) c.rows-n.ensures.value
+    (c.in_ok-finish.ensures rows (sym c.rows-n.ensures.value) start')
 
 pub returns-then-from-least-clause-len : goal.returns-then-from-least-clause-len
 returns-then-from-least-clause-len c =

@@ -1,5 +1,5 @@
 use Rattle.std.proofs.Common.{ℕ, List, length, refl}
-use Rattle.matrix_market.specs.Pattern.{is_joined}
+use Rattle.patterns.specs.Pattern.{is_joined}
 use Rattle.elimination.specs.Elimination.{times, eliminated}
 use Rattle.elimination.specs.Quotients.{at}
 use Rattle.elimination.specs.Tables.{Tables, tables}

@@ -1,5 +1,5 @@
 use Rattle.std.proofs.Common.{◌≡◌, ℕ, arith, subst, sym, ◌∙◌, IsTrue, false}
-use Rattle.matrix_market.specs.Pattern.{has}
+use Rattle.patterns.specs.Pattern.{has}
 use Rattle.elimination.proofs.ListWrites.{list_here, list_other}
 use Rattle.elimination.proofs.BoundSteps.{at_other, at_here}
 use Rattle.elimination.proofs.parts.absorb.Goals as goal

@@ -1,6 +1,6 @@
 use Rattle.std.proofs.Common.{◌≡◌, ◌≢◌, ◌<◌, length, ℕ, arith, subst, sym, ◌∙◌, ap, [], get_or, inl, inr, set, length-set, List, ◌+◌}
 use Rattle.std.proofs.lemmas.Bool.{cases_eq}
-use Rattle.elimination.proofs.VertexLists.{place_of}
+use Rattle.patterns.proofs.NumberLists.{place_of}
 use Rattle.elimination.specs.Quotients.{at, inner_at}
 use Rattle.elimination.proofs.ListWrites.{list_here, list_other}
 use Rattle.elimination.proofs.BoundSteps.{at_other, at_here}

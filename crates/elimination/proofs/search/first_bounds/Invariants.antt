@@ -1,5 +1,5 @@
 use Rattle.std.proofs.Common.{◌≡◌, ◌+◌, ◌<◌, ◌≤◌, ℕ, length}
-use Rattle.matrix_market.specs.Pattern.{neighbours_of}
+use Rattle.patterns.specs.Pattern.{neighbours_of}
 use Rattle.min_tree.specs.Least.{greatest}
 use Rattle.elimination.specs.Quotients.{at}
 use Rattle.elimination.proofs.search.first_bounds.Given as goal

@@ -1,5 +1,5 @@
 use Rattle.std.proofs.Common.{◌⊎◌, ℕ, ◌<◌, get_or, IsTrue}
-use Rattle.matrix_market.specs.Pattern.{has}
+use Rattle.patterns.specs.Pattern.{has}
 use Rattle.elimination.specs.Quotients.{inner_at}
 use Rattle.elimination.specs.Dense.{bit_in}
 use Rattle.elimination.specs.Switch.{IsNumberInGroups}

@@ -1,7 +1,8 @@
 use Rattle.std.proofs.Common.{inl, inr, ℕ, get_or, arith, subst, sym, ap, ◌∙◌, IsTrue}
 use Rattle.std.proofs.lemmas.Bool.{cases_eq}
 use Rattle.elimination.specs.Dense.{bit_in}
-use Rattle.elimination.proofs.VertexLists.{has_at, place_of}
+use Rattle.patterns.proofs.NumberLists.{place_of}
+use Rattle.patterns.proofs.NumberLists.{has_at}
 use Rattle.elimination.proofs.switch.set_numbers.Goals as goal
 
 pub loop-x-init : goal.loop-x-init

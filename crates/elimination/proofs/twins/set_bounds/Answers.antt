@@ -1,5 +1,5 @@
 use Rattle.std.proofs.Common.{◌≡◌, arith, subst}
-use Rattle.elimination.proofs.VertexLists.{place_of}
+use Rattle.patterns.proofs.NumberLists.{place_of}
 use Rattle.elimination.specs.Quotients.{at}
 use Rattle.elimination.proofs.ListFacts.{absent}
 use Rattle.elimination.proofs.twins.set_bounds.Goals as goal

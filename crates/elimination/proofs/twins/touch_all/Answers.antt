@@ -1,5 +1,5 @@
 use Rattle.std.proofs.Common.{◌≡◌, arith, subst, ap, length, get_or}
-use Rattle.matrix_market.specs.Pattern.{has, is_joined}
+use Rattle.patterns.specs.Pattern.{has, is_joined}
 use Rattle.elimination.proofs.VertexLists.{row_within}
 use Rattle.elimination.specs.Quotients.{at, inner_at}
 use Rattle.elimination.specs.Twins.{AreTouched}

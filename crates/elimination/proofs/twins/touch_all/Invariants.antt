@@ -1,5 +1,5 @@
 use Rattle.std.proofs.Common.{ℕ}
-use Rattle.matrix_market.specs.Pattern.{is_joined}
+use Rattle.patterns.specs.Pattern.{is_joined}
 use Rattle.elimination.specs.Quotients.{AreLinks, LeadsTo, at, inner_at}
 use Rattle.elimination.specs.Twins.{AreTouched}
 use Rattle.elimination.proofs.twins.touch_all.Given as goal

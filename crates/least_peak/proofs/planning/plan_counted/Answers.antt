@@ -1,5 +1,6 @@
 use Rattle.std.proofs.Common.{◌≡◌, ◌≤◌, ◌^◌, ℕ, sym, ap, subst, length, Some}
 use Rattle.std.specs.Prelude.{pos, ◌+ℤ◌, ◌≤ℤ◌}
+use Rattle.limits.specs.Limits.{most_total}
 use Rattle.claim_rules.specs.Claims.{Claim}
 use Rattle.claim_check.specs.Accepted.{HasRoot}
 use Rattle.claim_check.specs.Judged.{PassesAt}
@@ -16,7 +17,7 @@ claims_of-requires g c = record {
 pub new-requires-2 : goal.new-requires-2
 new-requires-2 g c =
     let made = c.in_ok-plan.ensures in
-    let small : c.in_ok-plan.plan.peak ≤ 2 ^ 60 = subst (λ n. n ≤ 2 ^ 60) (sym made.peak) made.part.within in
+    let small : c.in_ok-plan.plan.peak ≤ most_total = subst (λ n. n ≤ most_total) (sym made.peak) made.part.within in
     let claims = c.in_ok-claims.ensures in
     plan_within c.renaming_law.ensures.traversal c.renaming_law.ensures.peak c.traversal_law.ensures.long c.requires.term.0 c.args.terms.now c.args.names c.requires.term.1
     c.in_ok-plan.plan.order.items c.in_ok-plan.plan.peak made.traversal.0 made.traversal.1 c.in_ok-named.named.items c.in_ok-named.ensures

@@ -1,6 +1,6 @@
 use Rattle.std.proofs.Common.{◌∙◌, ◌+◌, ◌-◌, ◌≡◌, ℕ, take, sym, subst, arith}
 use Rattle.std.proofs.lemmas.Bool.{true≢false}
-use Rattle.memplan_c.specs.Refusals.{AreClaims}
+use Rattle.memplan_c.specs.Refusals.{AreRisingClaims}
 use Rattle.memplan_c.proofs.RisingClaims.{no_claim, are_more, goes_on, next_stands}
 use Rattle.memplan_c.proofs.claims.check_claims.Goals as goal
 
@@ -12,7 +12,7 @@ returns-then-not-stands-clause-refused c =
     record {
       positive = omega arith;
       there = omega (arith, c.loop-i-test.true);
-      before = subst (λ (n : ℕ). AreClaims (take n claims)) here c.loop-i.invariant.are;
+      before = subst (λ (n : ℕ). AreRisingClaims (take n claims)) here c.loop-i.invariant.are;
       wrong = λ are.
           let next = next_stands claims i no_claim c.loop-i-test.true c.loop-i.last c.loop-i.invariant.on are in
           true≢false (sym (c.stands.ensures.1 next) ∙ c.if-not-stands.true);

@@ -2,12 +2,12 @@ use Rattle.memplan_c.proofs.Steps.{◌≡◌, ℕ, [], ◌∷◌, ◌++◌, refl
 use denote.Slice.{ShrSlice, shr_slice_vals, shr_slice_Tells, shr_slice_Lawful}
 use denote.Triple.Walked.{gave_ref, Goes-gave_ref}
 use denote.Signature.{shr_slice_of}
-use Rattle.tree_input.specs.Tree.{IsTree, system_of_nodes}
-use Rattle.tree_input.specs.contracts.node.Node.{the_row as NodeRow}
+use Rattle.trees.specs.Tree.{IsTree, system_of_nodes}
+use Rattle.trees.specs.contracts.node.Node.{the_row as NodeRow}
 use Rattle.memplan_c.specs.Refusals.{IsBeginRefusal}
 use Rattle.memplan_c.specs.declared.faults.Fault.{Fault}
 use Rattle.memplan_c.specs.contracts.faults.Fault.{the_row as FaultRow}
-use Rattle.memplan_c.specs.Slots.{SlotValue, setting_of, begun, IsCoreBegun}
+use Rattle.memplan_c.specs.Slots.{SlotValue, core_setting, begun, IsCoreBegun}
 use Rattle.memplan_c.specs.contracts.slot.Slot.{the_row as R}
 use Rattle.memplan_c.specs.contracts.cores.memplan_core_begin as f
 use Rattle.memplan_c.proofs.cores.memplan_core_begin.Statement.{statement}
@@ -52,14 +52,14 @@ memplan_core_begin_spec 𝓤 𝓛 𝓜 𝓡 wired =
     calls_at ! (framed 𝓤 𝓛.H 𝓜 (tables 𝓤 𝓛.H 𝓜 𝓡 𝓡.env)) G (met 𝓤 𝓛 𝓜 𝓡 (code.calls-memplan_c::slot::begin 𝓡.env wired)) z
     (and_then ! (get ! refl) (and_then ! (get ! refl) (and_then ! (get ! refl) (and_then ! (get ! refl) (and_then ! (get ! refl) (and_then ! (get ! refl) (no_more !))))))) (λ v.
     use1 𝓛 (later (some (λ (u : ℕ). ((‵ (flft (α ∷ []) full_share) ⊛ toks) ⊛ ‵ (u32.own_val u (v ∷ []))) ⊛
-    some (λ (ws : SlotValue × (Unit {0} × (Unit {0} × (Unit {0} × (Unit {0} × (Fault × Unit {0})))))). ‵ (lasts g.ended z.0.0 z.0.3 ws) ⊛ raw (fact 𝓤 ((ws.0 ≡ begun held (setting_of (system_of_nodes p0.now) p1.now p2 p3) u) × (IsCoreBegun (IsTree p0.now) (IsBeginRefusal p0.now p1.now p2 p3) (setting_of (system_of_nodes p0.now) p1.now p2 p3) u p4.now ws.1.1.1.1.1.0))))))) (id⊢ 𝓤 _) $
+    some (λ (ws : SlotValue × (Unit {0} × (Unit {0} × (Unit {0} × (Unit {0} × (Fault × Unit {0})))))). ‵ (lasts g.ended z.0.0 z.0.3 ws) ⊛ raw (fact 𝓤 ((ws.0 ≡ begun held (core_setting (system_of_nodes p0.now) p1.now p2 p3) u) × (IsCoreBegun (IsTree p0.now) (IsBeginRefusal p0.now p1.now p2 p3) (core_setting (system_of_nodes p0.now) p1.now p2 p3) u p4.now ws.1.1.1.1.1.0))))))) (id⊢ 𝓤 _) $
     await ! tt $ pick ! (λ u. split ! $ split ! $ split ! $ lft_end ! tt $ move ! (2 ∷ []) $
     peeks ! u32 (Is u32) (shows 𝓛 u32) u (v ∷ []) (λ is. lands_as ! refl refl ((uint_Lawful 𝓛 w32).typed u _ is).0 $
     -- [the result; the end of α; the tokens; the clauses; what the lender keeps]
     move ! (3 ∷ []) $ pick ! (λ ws. split ! $ move ! (1 ∷ []) $ heard ! _ (λ facts. fsplit ! $ fsplit ! $
     rewrite ! 0 (λ (m : SlotValue). ‵ (fres γ (R.coded.code m))) facts.0 refl $
     -- [the last value; its borrow; what the references leave; the result; the end of α; the tokens; what the lender keeps]
-    move ! (4 ∷ 6 ∷ 0 ∷ []) $ use3 𝓛 (later (‵ (lies_at R full_share (block_ptr b o) (begun held (setting_of (system_of_nodes p0.now) p1.now p2 p3) u)))) (ref_back 𝓛 R (α ∷ []) γ (begun held (setting_of (system_of_nodes p0.now) p1.now p2 p3) u) b o) $ await ! tt $
+    move ! (4 ∷ 6 ∷ 0 ∷ []) $ use3 𝓛 (later (‵ (lies_at R full_share (block_ptr b o) (begun held (core_setting (system_of_nodes p0.now) p1.now p2 p3) u)))) (ref_back 𝓛 R (α ∷ []) γ (begun held (core_setting (system_of_nodes p0.now) p1.now p2 p3) u) b o) $ await ! tt $
     move ! (2 ∷ []) $ fsplit ! $ drop ! $ fsplit ! $ drop ! $ fsplit ! $ drop ! $ fsplit ! $ drop ! $ fsplit ! $
     returns ! (look_at ! 0 refl) $ free_all ! refl $ keep ! (0 ∷ 5 ∷ 4 ∷ 2 ∷ []) $
     suffices ! _ (ends_at 𝓛 f.ended stayed c (y (block_ptr b o)) v u (tt, (tt, (tt, (tt, (tt, (ws.1.1.1.1.1.0, tt)))))) (tt, (tt, (tt, (tt, (tt, (tt, tt))))))) $

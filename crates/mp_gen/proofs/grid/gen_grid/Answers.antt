@@ -1,6 +1,6 @@
 use Rattle.std.proofs.Common.{ℕ, ◌*◌, List, ◌++◌, length, ap, sym, subst, ◌∙◌, arith}
 use Rattle.std.specs.Prelude.{All, IfOk}
-use Rattle.matrix_market.specs.Pattern.{IsPairWithin, IsPatternOf}
+use Rattle.patterns.specs.Pattern.{IsPairWithin, IsPatternOf}
 use Rattle.mp_gen.specs.Grid.{joins_in_row}
 use Rattle.mp_gen.proofs.GridLemmas.{flat-more, all-joins, grid-few, grid-within}
 use Rattle.mp_gen.proofs.grid.gen_grid.Goals as goal

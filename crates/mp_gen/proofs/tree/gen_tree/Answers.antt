@@ -1,5 +1,5 @@
 use Rattle.std.proofs.Common.{sym, subst, ◌∙◌, arith}
-use Rattle.tree_input.specs.Tree.{IsTree}
+use Rattle.trees.specs.Tree.{IsTree}
 use Rattle.mp_gen.specs.Dice.{dice_of}
 use Rattle.mp_gen.specs.RandomTree.{draw_nodes}
 use Rattle.mp_gen.proofs.TreeLemmas.{nodes-more, all-nodes, tree_of-tree}

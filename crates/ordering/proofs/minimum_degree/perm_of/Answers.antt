@@ -1,7 +1,6 @@
 use Rattle.std.proofs.Common.{◌≡◌, ap, sym, subst, get_or, arith}
-use Rattle.ordering.specs.Perm.{times}
-use Rattle.ordering.specs.PermTables.{PermState}
-use Rattle.ordering.proofs.PermLemmas.{fresh_at}
+use Rattle.permutations.specs.Perm.{PermState, times}
+use Rattle.permutations.proofs.PermLemmas.{fresh_at}
 use Rattle.ordering.proofs.minimum_degree.perm_of.Goals as goal
 
 pub push-requires-clause-fresh : goal.push-requires-clause-fresh

@@ -1,5 +1,5 @@
 use Rattle.std.proofs.Common.{◌∙◌, ap, arith}
-use Rattle.hill_valley.specs.Numbers.{segments_of}
+use Rattle.hill_valley.specs.Numbers.{segments_listed}
 use Rattle.plan_claims.proofs.Handed.{between_there, starts_fit, share_fits, hill_is, handed_forward, handed_backward, lifted}
 use Rattle.plan_claims.proofs.Loops.{segments_take, segments_drop, segments_length}
 use Rattle.plan_claims.proofs.handing.series_wants.Goals as goal
@@ -19,13 +19,13 @@ overflow_sub-hill c = let h = share_fits c.below.ensures c.requires.ready.0 c.ar
 pub returns-then-note : goal.returns-then-note
 returns-then-note c a b ready shows =
     lifted _ c.args.wanted c.in-Some.wanted _ c.in-Some.is
-    (handed_backward c.below.ensures a c.args.task.now b c.args.note.now (segments_of c.args.gone.now) ready c.in-Some.wanted _ (hill_is c.below.ensures a c.args.task.now b c.args.note.now (segments_of c.args.gone.now) ready)
-    (segments_of c.split_at.result.0.now) (segments_of c.split_at.result.1.now) (ap segments_of c.split_at.ensures.front ∙ segments_take c.args.note.now.between c.args.gone.now)
-    (ap segments_of c.split_at.ensures.back ∙ segments_drop c.args.note.now.between c.args.gone.now) _ _ c.if-note.true c.near_and_far-near.ensures) shows
+    (handed_backward c.below.ensures a c.args.task.now b c.args.note.now (segments_listed c.args.gone.now) ready c.in-Some.wanted _ (hill_is c.below.ensures a c.args.task.now b c.args.note.now (segments_listed c.args.gone.now) ready)
+    (segments_listed c.split_at.result.0.now) (segments_listed c.split_at.result.1.now) (ap segments_listed c.split_at.ensures.front ∙ segments_take c.args.note.now.between c.args.gone.now)
+    (ap segments_listed c.split_at.ensures.back ∙ segments_drop c.args.note.now.between c.args.gone.now) _ _ c.if-note.true c.near_and_far-near.ensures) shows
 
 pub returns-else-note : goal.returns-else-note
 returns-else-note c a b ready shows =
     lifted _ c.args.wanted c.in-Some.wanted _ c.in-Some.is
-    (handed_forward c.below.ensures a c.args.task.now b c.args.note.now (segments_of c.args.gone.now) ready c.in-Some.wanted _ (hill_is c.below.ensures a c.args.task.now b c.args.note.now (segments_of c.args.gone.now) ready)
-    (segments_of c.split_at.result.0.now) (segments_of c.split_at.result.1.now) (ap segments_of c.split_at.ensures.front ∙ segments_take c.args.note.now.between c.args.gone.now)
-    (ap segments_of c.split_at.ensures.back ∙ segments_drop c.args.note.now.between c.args.gone.now) _ _ c.if-note.false c.near_and_far-near.ensures) shows
+    (handed_forward c.below.ensures a c.args.task.now b c.args.note.now (segments_listed c.args.gone.now) ready c.in-Some.wanted _ (hill_is c.below.ensures a c.args.task.now b c.args.note.now (segments_listed c.args.gone.now) ready)
+    (segments_listed c.split_at.result.0.now) (segments_listed c.split_at.result.1.now) (ap segments_listed c.split_at.ensures.front ∙ segments_take c.args.note.now.between c.args.gone.now)
+    (ap segments_listed c.split_at.ensures.back ∙ segments_drop c.args.note.now.between c.args.gone.now) _ _ c.if-note.false c.near_and_far-near.ensures) shows

@@ -1,6 +1,6 @@
 use Rattle.std.proofs.Common.{sym, subst, List}
-use Rattle.tree_input.specs.declared.node.Node.{Node}
-use Rattle.tree_input.specs.Tree.{IsTree}
+use Rattle.trees.specs.declared.node.Node.{Node}
+use Rattle.trees.specs.Tree.{IsTree}
 use Rattle.postorder_best.specs.Rows.{IsBest}
 use Rattle.postorder_best.proofs.Assembly.{can_list}
 use Rattle.postorder_best.proofs.best.best_postorder.Goals as goal

@@ -1,4 +1,5 @@
-use Rattle.std.proofs.Common.{◌≡◌, ◌∙◌, ◌^◌, ◌<◌, ◌≤◌, ℕ, List, length, get_or, sym, subst, ap, arith}
+use Rattle.std.proofs.Common.{◌+◌, ◌≡◌, ◌∙◌, ◌^◌, ◌<◌, ◌≤◌, ℕ, List, length, get_or, sym, subst, ap, arith}
+use Rattle.limits.specs.Limits.{most_tasks}
 use Rattle.postorder_best.specs.Rows.{IsUpward, IsBest}
 use Rattle.postorder_best.proofs.Assembly.{can_list, upward, few, moderate, after_sort, first_of_table}
 use Rattle.postorder_best.proofs.best.sort_rows.Goals as goal
@@ -9,7 +10,7 @@ listing-requires-clause-listed c = can_list c.args.nodes.now c.args.rows.now c.r
 pub fill_peaks-requires-clause-few : goal.fill_peaks-requires-clause-few
 fill_peaks-requires-clause-few c =
     let up_is = c.deref.ensures.value ∙ c.in_ok-push.ensures.items in
-    subst (λ (xs : List ℕ). length xs ≤ 2 ^ 20) (sym up_is) (few c.args.nodes.now c.args.rows.now c.requires.tree c.requires.rows c.in_ok-upward.upward.items c.in_ok-upward.ensures)
+    subst (λ (xs : List ℕ). length xs ≤ most_tasks + 2) (sym up_is) (few c.args.nodes.now c.args.rows.now c.requires.tree c.requires.rows c.in_ok-upward.upward.items c.in_ok-upward.ensures)
 
 pub fill_peaks-requires-clause-upward : goal.fill_peaks-requires-clause-upward
 fill_peaks-requires-clause-upward c =

@@ -2,7 +2,8 @@ use Rattle.std.proofs.Common.{rules, arith, ◌∙◌, sym, subst, ap, [], ◌�
 use Rattle.std.proofs.lemmas.List.{length-append}
 use Rattle.row_table.specs.Rows.{row_at}
 use Rattle.postorder_best.specs.Rows.{Emits}
-use Rattle.postorder_best.proofs.Emitting.{pops, ended, nil_right}
+use Rattle.postorder_best.proofs.Emitting.{pops, ended}
+use Rattle.lists.proofs.Lists.{append_nil as nil_right}
 use Rattle.postorder_best.proofs.walking.walk.Goals as goal
 
 pub row-requires-in-Some : goal.row-requires-in-Some

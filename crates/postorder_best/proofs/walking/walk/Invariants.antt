@@ -1,4 +1,5 @@
-use Rattle.std.proofs.Common.{◌≡◌, ◌-◌, ◌^◌, ◌++◌, ℕ, List, length}
+use Rattle.std.proofs.Common.{◌+◌, ◌≡◌, ◌-◌, ◌^◌, ◌++◌, ℕ, List, length}
+use Rattle.limits.specs.Limits.{most_tasks}
 use Rattle.row_table.specs.Rows.{row_at}
 use Rattle.postorder_best.specs.Rows.{Emits}
 use Rattle.postorder_best.proofs.walking.walk.Given as goal
@@ -9,4 +10,4 @@ invariant-loop-x l = record {
 }
 
 abbrev pub decreases-loop-x : goal.decreases-loop-x
-decreases-loop-x l = 2 ^ 20 - length l.listing.items
+decreases-loop-x l = most_tasks + 2 - length l.listing.items

@@ -1,10 +1,11 @@
 use Rattle.std.proofs.Common.{◌≡◌, ◌∷◌, ◌++◌, [], ◌||◌, eqb, get_or, refl, ap, sym, ◌∙◌, arith}
 use Rattle.std.specs.List.{list_any}
 use Rattle.std.proofs.lemmas.List.{get_or_default}
-use Rattle.matrix_market.specs.Pattern.{has, neighbours_of}
-use Rattle.ordering.specs.Perm.{vertex_at}
+use Rattle.patterns.specs.Pattern.{has, neighbours_of}
+use Rattle.permutations.specs.Perm.{vertex_at}
 use Rattle.rounds_run.specs.Gathering.{in_lists, is_later}
-use Rattle.rounds_run.proofs.NumberLists.{has_at, has_push}
+use Rattle.patterns.proofs.NumberLists.{has_push}
+use Rattle.patterns.proofs.NumberLists.{has_at}
 use Rattle.rounds_run.proofs.front.gather.Goals as goal
 
 pub add_later-requires : goal.add_later-requires

@@ -1,9 +1,9 @@
 use Rattle.std.proofs.Common.{◌≡◌, ℕ, ◌+◌, ◌<◌, ◌≤◌, eqb, List, length, drop, ap, ◌∙◌, arith}
 use Rattle.std.proofs.lemmas.List.Filters.{dedup_is}
-use Rattle.matrix_market.specs.Pattern.{is_joined, neighbours_of}
-use Rattle.ordering.specs.Perm.{vertex_at}
+use Rattle.patterns.specs.Pattern.{is_joined, neighbours_of}
+use Rattle.permutations.specs.Perm.{vertex_at}
 use Rattle.ordering.specs.Fill.{renumbered}
-use Rattle.rounds_run.specs.FrontRows.{rows_of}
+use Rattle.rounds_run.specs.FrontRows.{rows_of_front}
 use Rattle.rounds_run.specs.Gathering.{is_gathered}
 use Rattle.rounds_run.proofs.Gathered.{IsOrdered, gathered_rows}
 use Rattle.rounds_run.proofs.RowLists.{Laws, row_vertex, rows_long}
@@ -25,7 +25,7 @@ laws_of c =
     }
 
 rows_are : (c : After-deref) → c.dedup.new.self.items
-    ≡ rows_of (renumbered (is_joined c.args.pattern.now) c.args.perm.now) (length c.args.perm.now) c.args.job.first
+    ≡ rows_of_front (renumbered (is_joined c.args.pattern.now) c.args.perm.now) (length c.args.perm.now) c.args.job.first
 rows_are c =
     let rows = c.args.pattern.now in
     let order = c.args.perm.now in

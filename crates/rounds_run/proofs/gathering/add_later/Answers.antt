@@ -1,10 +1,10 @@
 use Rattle.std.proofs.Common.{◌+◌, ◌||◌, eqb, length, get_or, take, [], ◌∷◌, ◌++◌, ap, sym, ◌∙◌, arith}
 use Rattle.std.specs.List.{list_any}
 use Rattle.std.proofs.lemmas.List.Folds.{list_any_more}
-use Rattle.matrix_market.specs.Pattern.{has}
+use Rattle.patterns.specs.Pattern.{has}
 use Rattle.rounds_run.specs.Gathering.{is_later}
 use Rattle.rounds_run.proofs.Additions.{adds_more, adds_none, later_yes, later_no}
-use Rattle.rounds_run.proofs.NumberLists.{has_push}
+use Rattle.patterns.proofs.NumberLists.{has_push}
 use Rattle.rounds_run.proofs.gathering.add_later.Goals as goal
 use Rattle.rounds_run.proofs.gathering.add_later.Goals.{then-column-first+in_ok-push, else-column-first}
 

@@ -1,6 +1,6 @@
 use Rattle.std.proofs.Common.{◌+◌, ◌||◌, ◌++◌, get_or, take, ap, sym, ◌∙◌}
 use Rattle.std.proofs.lemmas.List.Folds.{list_any_more}
-use Rattle.matrix_market.specs.Pattern.{has}
+use Rattle.patterns.specs.Pattern.{has}
 use Rattle.rounds_run.specs.Gathering.{in_lists}
 use Rattle.rounds_run.proofs.Additions.{adds_more}
 use Rattle.rounds_run.proofs.NumberLists.{has_append}

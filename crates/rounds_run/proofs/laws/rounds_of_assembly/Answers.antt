@@ -3,8 +3,8 @@ use Rattle.activation.specs.Machine.{IsSetting, start_state}
 use Rattle.activation.specs.Schedule.{HoldsEach}
 use Rattle.assembly_tree.specs.Assembly.{AssemblyTree, IsAssembly}
 use Rattle.mp_system.specs.System.{IsSystem}
-use Rattle.tree_input.specs.declared.node.Node.{Node}
-use Rattle.tree_input.specs.Tree.{IsTree, system_of_nodes}
+use Rattle.trees.specs.declared.node.Node.{Node}
+use Rattle.trees.specs.Tree.{IsTree, system_of_nodes}
 use Rattle.rounds_run.specs.RowSystem.{row_node, row_system, row_order, row_peak, row_setting}
 use Rattle.rounds_run.proofs.MostUsed.{most_within}
 use Rattle.rounds_run.proofs.PlanLemmas.{holds_each}

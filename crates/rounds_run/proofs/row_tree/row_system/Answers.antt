@@ -1,5 +1,5 @@
 use Rattle.std.proofs.Common.{ap, sym, subst, ◌∙◌, map}
-use Rattle.tree_input.specs.Tree.{IsTree}
+use Rattle.trees.specs.Tree.{IsTree}
 use Rattle.rounds_run.specs.RowSystem.{row_node}
 use Rattle.rounds_run.proofs.RowTrees.{row_tree}
 use Rattle.rounds_run.proofs.row_tree.row_system.Goals as goal

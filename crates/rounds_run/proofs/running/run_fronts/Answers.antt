@@ -1,9 +1,9 @@
 use Rattle.std.proofs.Common.{◌≡◌, ℕ, ◌+◌, ◌-◌, ◌<◌, ◌≤◌, refl, List, length, drop, ap, sym, subst, ◌∙◌, arith}
-use Rattle.matrix_market.specs.Pattern.{is_joined}
+use Rattle.patterns.specs.Pattern.{is_joined}
 use Rattle.ordering.specs.Fill.{renumbered, parents_of, counts_of}
 use Rattle.assembly_tree.specs.Assembly.{IsSuper}
 use Rattle.assembly_tree.specs.Supernodes.{AreSupernodes, first_of}
-use Rattle.rounds_run.specs.FrontRows.{rows_of, list_of}
+use Rattle.rounds_run.specs.FrontRows.{rows_of_front, list_of_front}
 use Rattle.rounds_run.specs.Holding.{IsFactor}
 use Rattle.rounds_run.proofs.RowLists.{Laws}
 use Rattle.rounds_run.proofs.RowTrees.{supers_few, parents_within}
@@ -34,15 +34,15 @@ of-requires g c =
     let few = supers_few c.args.assembly.now c.supers.ensures.assembly in
     (omega (arith, few, ap length c.supers.ensures.value, c.in_ok-rows.ensures.len), c.in_ok-plan.ensures.few)
 
-rows_are : (g : _) (c : After-of g) (s : ℕ) → IsSuper c.args.assembly.now.supers s → list_of c.of.result.rows s
-    ≡ rows_of (renumbered (is_joined c.args.pattern.now) c.args.numbered.now.perm) (length c.args.numbered.now.perm)
+rows_are : (g : _) (c : After-of g) (s : ℕ) → IsSuper c.args.assembly.now.supers s → list_of_front c.of.result.rows s
+    ≡ rows_of_front (renumbered (is_joined c.args.pattern.now) c.args.numbered.now.perm) (length c.args.numbered.now.perm)
     (first_of c.args.assembly.now.supers s)
 rows_are g c s super =
     let joined = renumbered (is_joined c.args.pattern.now) c.args.numbered.now.perm in
     let n = length c.args.numbered.now.perm in
     let here : IsSuper c.supers.result.now s = subst (λ z. IsSuper z s) (sym c.supers.ensures.value) super in
-    ap (λ z. list_of z.rows s) c.of.ensures ∙ c.in_ok-rows.ensures.rows s here
-    ∙ ap (λ z. rows_of joined n (first_of z s)) c.supers.ensures.value
+    ap (λ z. list_of_front z.rows s) c.of.ensures ∙ c.in_ok-rows.ensures.rows s here
+    ∙ ap (λ z. rows_of_front joined n (first_of z s)) c.supers.ensures.value
 
 pub returns-clause-rows : goal.returns-clause-rows
 returns-clause-rows g c = rows_are g (goal.at.returns-clause-rows g c).After-of
@@ -66,5 +66,5 @@ returns-clause-columns g c = λ s j super low high.
     let supers = c.args.assembly.now.supers in
     let k = j - first_of supers s in
     let at : first_of supers s + k ≡ j = omega (arith, low) in
-    ap (rows_of joined n) (sym at) ∙ rows_from joined n laws supers c.args.assembly.now.nodes own s k super (omega (arith, at, high))
+    ap (rows_of_front joined n) (sym at) ∙ rows_from joined n laws supers c.args.assembly.now.nodes own s k super (omega (arith, at, high))
     ∙ ap (drop k) (sym (rows_are g before s super))

@@ -1,5 +1,5 @@
 use Rattle.std.proofs.Common.{◌≡◌, ℕ, ◌+◌, ◌<◌, ◌≤◌, refl, List, [], length, get_or, ap, sym, subst, ◌∙◌, arith}
-use Rattle.matrix_market.specs.Pattern.{has, is_joined}
+use Rattle.patterns.specs.Pattern.{has, is_joined}
 use Rattle.ordering.specs.Fill.{renumbered}
 use Rattle.rounds_run.specs.Holding.{Factor, IsHeld, AreJobsOf, AreDue, in_rounds, or_in}
 use Rattle.rounds_run.proofs.RunLemmas.{round_is, round_due, held_next, all_made, made_of}

@@ -1,6 +1,6 @@
 use Rattle.std.proofs.Common.{◌≡◌, ℕ, ◌+◌, length}
 use Rattle.std.specs.List.{All}
-use Rattle.matrix_market.specs.Pattern.{is_joined}
+use Rattle.patterns.specs.Pattern.{is_joined}
 use Rattle.ordering.specs.Fill.{renumbered}
 use Rattle.rounds_run.specs.Holding.{Factor, IsHeld, in_rounds}
 use Rattle.rounds_run.proofs.running.run_rounds.Given as goal

@@ -5,7 +5,7 @@ use Rattle.cut_laws.specs.Cuts.{order_of}
 use Rattle.cut_laws.specs.Names.{numbered}
 use Rattle.sp_cuts.specs.Parts.{cut_of, IsPart}
 use Rattle.sp_cuts.proofs.Kept.{parts_stay}
-use Rattle.sp_cuts.proofs.Planned.{read_order}
+use Rattle.sp_cuts.proofs.PlannedOrder.{read_order}
 use Rattle.sp_cuts.proofs.Standing.{plan_stands, plan_leads, plan_least}
 use Rattle.sp_cuts.proofs.planning.plan_terms.Given.{Over}
 use Rattle.sp_cuts.proofs.planning.plan_terms.Goals as goal

@@ -2,8 +2,8 @@ use Rattle.std.proofs.Common.{◌+◌, ◌++◌, ◌∷◌, ℕ, List, length, m
 use Rattle.std.proofs.lemmas.List.{append-nil, drop_all}
 use Rattle.std.proofs.lemmas.List.Sorted.{IsPermutation-refl}
 use Rattle.mp_system.specs.declared.system.Item.{Item}
-use Rattle.task_graph.specs.declared.arc.Arc.{Arc}
-use Rattle.task_graph.specs.Graph.{item_of}
+use Rattle.graphs.specs.declared.arc.Arc.{Arc}
+use Rattle.graphs.specs.Graph.{item_of_arc}
 use Rattle.sp_reduce.specs.declared.link.Link.{Link}
 use Rattle.sp_reduce.specs.Pieces.{IsCarried}
 use Rattle.sp_reduce.specs.Reductions.{ReducesTo, in_order, ends_of}
@@ -16,7 +16,7 @@ pub loop-arc-init : goal.loop-arc-init
 loop-arc-init c = record {
   tasks = refl;
   ranked = λ rank rises x lt. absurd (omega (arith, lt, ap length c.requires.empty.0));
-  carried = carried-empty (map item_of c.args.arcs.now) c.args.forest.now.pieces.items c.args.links.now.list c.args.forest.now.nodes.items c.requires.empty.2 c.requires.empty.0 c.requires.empty.1;
+  carried = carried-empty (map item_of_arc c.args.arcs.now) c.args.forest.now.pieces.items c.args.links.now.list c.args.forest.now.nodes.items c.requires.empty.2 c.requires.empty.0 c.requires.empty.1;
   row = subst (λ (ls : List Link). ReducesTo (map ends_of c.args.arcs.now) (pairs_of ls ++ map ends_of c.args.arcs.now)) (sym c.requires.empty.0) (in_order (IsPermutation-refl (map ends_of c.args.arcs.now)));
   lens = omega (arith, c.args.forest.now.nodes.ok.0, ap length c.requires.empty.0, ap length c.requires.empty.1);
   few = omega (arith, ap length c.requires.empty.0);
@@ -43,8 +43,8 @@ loop-arc-preserved c =
     record {
       tasks = c.in_ok-add_arc.ensures.tasks ∙ c.loop-arc.invariant.tasks;
       ranked = λ rank rises. c.in_ok-add_arc.ensures.ranked rank (rises i no_arc lt) (c.loop-arc.invariant.ranked rank rises);
-      carried = c.in_ok-add_arc.ensures.carried (map item_of arcs) (map item_of (drop (i + 1) arcs))
-          (subst (λ (xs : List Item). IsCarried (map item_of arcs) xs c.loop-arc.forest.pieces.items links c.loop-arc.forest.nodes.items) (item-next arcs no_arc i lt) c.loop-arc.invariant.carried);
+      carried = c.in_ok-add_arc.ensures.carried (map item_of_arc arcs) (map item_of_arc (drop (i + 1) arcs))
+          (subst (λ (xs : List Item). IsCarried (map item_of_arc arcs) xs c.loop-arc.forest.pieces.items links c.loop-arc.forest.nodes.items) (item-next arcs no_arc i lt) c.loop-arc.invariant.carried);
       row = leads-trans (map ends_of arcs) (pairs_of links ++ ends_of (get_or arcs i no_arc) ∷ map ends_of (drop (i + 1) arcs)) (pairs_of c.add_arc.new.links.list ++ map ends_of (drop (i + 1) arcs))
           (subst (λ (xs : List (ℕ × ℕ)). ReducesTo (map ends_of arcs) (pairs_of links ++ xs)) (ends-next arcs no_arc i lt) c.loop-arc.invariant.row)
           (c.in_ok-add_arc.ensures.row (map ends_of (drop (i + 1) arcs)));
@@ -55,7 +55,7 @@ loop-arc-preserved c =
 
 pub returns-clause-carried : goal.returns-clause-carried
 returns-clause-carried c =
-    subst (λ (xs : List Arc). IsCarried (map item_of c.args.arcs.now) (map item_of xs) c.loop-arc.forest.pieces.items c.loop-arc.links.list c.loop-arc.forest.nodes.items)
+    subst (λ (xs : List Arc). IsCarried (map item_of_arc c.args.arcs.now) (map item_of_arc xs) c.loop-arc.forest.pieces.items c.loop-arc.links.list c.loop-arc.forest.nodes.items)
     (drop_all c.loop-arc.arc-index c.args.arcs.now c.loop-arc-test.false) c.loop-arc.invariant.carried
 
 pub returns-clause-row : goal.returns-clause-row

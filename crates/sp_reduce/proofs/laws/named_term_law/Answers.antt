@@ -1,7 +1,7 @@
 use Rattle.std.proofs.Common.{map, sym, ◌∙◌}
 use Rattle.mp_system.specs.Renaming.{name_in}
 use Rattle.sp_terms.specs.SystemOfTerm.{system_of_term}
-use Rattle.task_graph.specs.Graph.{completed_system}
+use Rattle.graphs.specs.Graph.{completed_system}
 use Rattle.sp_reduce.proofs.NamedTerms.{is-renamed}
 use Rattle.sp_reduce.proofs.laws.named_term_law.Goals as goal
 

@@ -1,6 +1,6 @@
 use Rattle.std.proofs.Common.{◌≡◌, ◌<◌, ◌++◌, [], ◌∷◌, ℕ, List, false, length, get_or, arith, refl, sym, ap, ◌∙◌}
 use Rattle.sp_terms.specs.Postfix.{postfix}
-use Rattle.task_graph.specs.Graph.{task_at}
+use Rattle.graphs.specs.Graph.{listed_task}
 use Rattle.sp_reduce.specs.declared.postfix.Pending.{Pending}
 use Rattle.sp_reduce.specs.Nets.{names}
 use Rattle.sp_reduce.specs.Pieces.{net_at, nets_of, piece_at}
@@ -11,7 +11,7 @@ use Rattle.sp_reduce.proofs.postfix.write_term.Goals as goal
 
 pub loop-next-init : goal.loop-next-init
 loop-next-init c =
-    let tasks = task_at c.args.tasks.now in
+    let tasks = listed_task c.args.tasks.now in
     let n = length c.args.tasks.now in
     let ps = c.args.pieces.now in
     let t = net_at (nets_of c.args.pieces.now) c.args.root in
@@ -23,7 +23,7 @@ loop-next-init c =
 
 pub write_next-requires-clause-place : goal.write_next-requires-clause-place
 write_next-requires-clause-place c =
-    let tasks = task_at c.args.tasks.now in
+    let tasks = listed_task c.args.tasks.now in
     let n = length c.args.tasks.now in
     let ps = c.args.pieces.now in
     let t = net_at (nets_of c.args.pieces.now) c.args.root in
@@ -36,7 +36,7 @@ write_next-requires-clause-place c =
 
 pub write_next-requires-clause-known : goal.write_next-requires-clause-known
 write_next-requires-clause-known c =
-    let tasks = task_at c.args.tasks.now in
+    let tasks = listed_task c.args.tasks.now in
     let n = length c.args.tasks.now in
     let ps = c.args.pieces.now in
     let t = net_at (nets_of c.args.pieces.now) c.args.root in
@@ -48,7 +48,7 @@ write_next-requires-clause-known c =
 
 pub loop-next-preserved : goal.loop-next-preserved
 loop-next-preserved c =
-    let tasks = task_at c.args.tasks.now in
+    let tasks = listed_task c.args.tasks.now in
     let n = length c.args.tasks.now in
     let ps = c.args.pieces.now in
     let t = net_at (nets_of c.args.pieces.now) c.args.root in
@@ -68,7 +68,7 @@ loop-next-preserved c =
 
 pub loop-next-smaller : goal.loop-next-smaller
 loop-next-smaller c =
-    let tasks = task_at c.args.tasks.now in
+    let tasks = listed_task c.args.tasks.now in
     let n = length c.args.tasks.now in
     let ps = c.args.pieces.now in
     let t = net_at (nets_of c.args.pieces.now) c.args.root in
@@ -85,7 +85,7 @@ loop-next-smaller c =
 
 pub returns-clause-positions : goal.returns-clause-positions
 returns-clause-positions c =
-    let tasks = task_at c.args.tasks.now in
+    let tasks = listed_task c.args.tasks.now in
     let t = net_at (nets_of c.args.pieces.now) c.args.root in
     c.reverse.ensures.items
     ∙ (writing-done tasks (length c.args.tasks.now) c.args.pieces.now (postfix (term_of_net tasks t)) (names t) (size_of t) c.loop-next.pending.items c.loop-next.written.positions.items c.loop-next.written.names.items
@@ -93,7 +93,7 @@ returns-clause-positions c =
 
 pub returns-clause-names : goal.returns-clause-names
 returns-clause-names c =
-    let tasks = task_at c.args.tasks.now in
+    let tasks = listed_task c.args.tasks.now in
     let t = net_at (nets_of c.args.pieces.now) c.args.root in
     c.reverse-2.ensures.items
     ∙ (writing-done tasks (length c.args.tasks.now) c.args.pieces.now (postfix (term_of_net tasks t)) (names t) (size_of t) c.loop-next.pending.items c.loop-next.written.positions.items c.loop-next.written.names.items

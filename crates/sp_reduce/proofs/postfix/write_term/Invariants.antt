@@ -1,6 +1,6 @@
 use Rattle.std.proofs.Common.{length}
 use Rattle.sp_terms.specs.Postfix.{postfix}
-use Rattle.task_graph.specs.Graph.{task_at}
+use Rattle.graphs.specs.Graph.{listed_task}
 use Rattle.sp_reduce.specs.Nets.{names}
 use Rattle.sp_reduce.specs.Pieces.{net_at, nets_of}
 use Rattle.sp_reduce.specs.Shapes.{size_of, term_of_net}
@@ -11,7 +11,7 @@ use Rattle.sp_reduce.proofs.postfix.write_term.Given as goal
 abbrev pub invariant-loop-next : goal.invariant-loop-next
 invariant-loop-next l =
     let t = net_at (nets_of l.pieces) l.root in
-    IsWriting (task_at l.tasks) (length l.tasks) l.pieces (postfix (term_of_net (task_at l.tasks) t)) (names t) (size_of t)
+    IsWriting (listed_task l.tasks) (length l.tasks) l.pieces (postfix (term_of_net (listed_task l.tasks) t)) (names t) (size_of t)
     l.pending.items l.written.positions.items l.written.names.items
 
 abbrev pub decreases-loop-next : goal.decreases-loop-next

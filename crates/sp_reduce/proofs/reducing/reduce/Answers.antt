@@ -1,9 +1,9 @@
 use Rattle.std.proofs.Common.{◌≡◌, ◌∷◌, [], ℕ, List, sym, ap, subst, ◌∙◌}
 use Rattle.std.specs.Prelude.{IsPermutation}
-use Rattle.task_graph.specs.declared.arc.Arc.{Arc}
+use Rattle.graphs.specs.declared.arc.Arc.{Arc}
 use Rattle.sp_terms.specs.Values.{term_of}
 use Rattle.sp_terms.specs.declared.position.Position.{Position}
-use Rattle.task_graph.specs.Graph.{completed_system}
+use Rattle.graphs.specs.Graph.{completed_system}
 use Rattle.sp_reduce.specs.declared.link.Link.{Link}
 use Rattle.sp_reduce.specs.Outcome.{IsOutcome}
 use Rattle.sp_reduce.specs.Reduced.{HasSystem}

@@ -1,5 +1,5 @@
 use Rattle.std.proofs.Common.{ℕ, List, length, map, sym, ap, subst, arith, ◌∙◌}
-use Rattle.task_graph.specs.Graph.{item_of}
+use Rattle.graphs.specs.Graph.{item_of_arc}
 use Rattle.sp_reduce.specs.declared.link.Link.{Link}
 use Rattle.sp_reduce.specs.Outcome.{IsOutcome}
 use Rattle.sp_reduce.specs.Reductions.{ends_of}
@@ -23,7 +23,7 @@ returns c =
     let whole : IsOutcome arcs last.links.list last.forest.nodes.items last.forest.pieces.items = record {
       row = leads-trans (map ends_of arcs) (pairs_of first.links.list) (pairs_of last.links.list) c.in_ok-add_arcs.ensures.row c.in_ok-reduce_links.ensures.row;
       irreducible = c.into_vec.ensures.irreducible c.in_ok-reduce_links.ensures.idle;
-      carried = c.in_ok-reduce_links.ensures.carried (map item_of arcs) c.in_ok-add_arcs.ensures.carried;
+      carried = c.in_ok-reduce_links.ensures.carried (map item_of_arc arcs) c.in_ok-add_arcs.ensures.carried;
       few = omega (arith, c.into_vec.ensures.few, ap length c.into_vec.ensures.list);
     } in
     subst (λ (ls : List Link). IsOutcome arcs ls last.forest.nodes.items last.forest.pieces.items) (sym c.into_vec.ensures.list) whole

@@ -1,12 +1,12 @@
 use Rattle.std.proofs.Common.{◌≡◌, ◌∙◌, ℕ, Option, Some, None, length, map, sym, subst, arith}
 use Rattle.std.proofs.lemmas.List.{length-map}
 use Rattle.std.proofs.lemmas.List.FromFn.{length-map-range_with_len}
-use Rattle.ordering.specs.Perm.{vertex_at}
+use Rattle.permutations.specs.Perm.{vertex_at}
 use Rattle.ordering.specs.Fill.{parent_of, parents_of, counts_of}
 use Rattle.elim_tree.specs.Paths.{IsWithin}
 use Rattle.assembly_tree.specs.Amalgamation.{amalgamated}
 use Rattle.assembly_tree.specs.Assembly.{AssemblyTree, IsAssembly}
-use Rattle.tree_input.specs.Tree.{IsTree}
+use Rattle.trees.specs.Tree.{IsTree}
 use Rattle.symbolic.specs.FrontTree.{columns, relaxed}
 use Rattle.symbolic.proofs.laws.front_tree_is_tree.Goals as goal
 

@@ -1,13 +1,12 @@
 use Rattle.std.proofs.Common.{◌≡◌, ◌∙◌, ℕ, List, length, map, sym, ap, subst, arith}
 use Rattle.std.proofs.lemmas.List.{length-map}
 use Rattle.std.proofs.lemmas.List.FromFn.{length-map-range_with_len}
-use Rattle.matrix_market.specs.Pattern.{is_joined}
-use Rattle.ordering.specs.Perm.{vertex_at}
+use Rattle.patterns.specs.Pattern.{is_joined}
+use Rattle.permutations.specs.Perm.{vertex_at}
 use Rattle.ordering.specs.Fill.{parent_of, parents_of, counts_of}
 use Rattle.elim_tree.specs.Postorders.{IsPostordered}
-use Rattle.assembly_tree.specs.Assembly.{AssemblyTree}
 use Rattle.assembly_tree.specs.Supernodes.{AreSupernodes}
-use Rattle.symbolic.specs.FrontTree.{columns, IsAnalysis}
+use Rattle.symbolic.specs.FrontTree.{columns}
 use Rattle.symbolic.proofs.laws.one_analysis.Goals as goal
 
 long : (rows : List (List ℕ)) (order perm : List ℕ) → IsPostordered (is_joined rows) order perm → length perm ≡ length order

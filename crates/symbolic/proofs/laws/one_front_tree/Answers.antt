@@ -1,8 +1,8 @@
 use Rattle.std.proofs.Common.{◌∙◌, ℕ, List, length, map, sym, ap, subst, arith}
-use Rattle.ordering.specs.Perm.{vertex_at}
+use Rattle.permutations.specs.Perm.{vertex_at}
 use Rattle.ordering.specs.Fill.{parents_of, counts_of}
 use Rattle.assembly_tree.specs.Assembly.{AssemblyTree}
-use Rattle.assembly_tree.specs.Fronts.{fronts_of}
+use Rattle.assembly_tree.specs.Fronts.{nodes_of_fronts}
 use Rattle.assembly_tree.specs.Supernodes.{AreSupernodes}
 use Rattle.symbolic.specs.FrontTree.{columns, relaxed}
 use Rattle.symbolic.proofs.laws.one_front_tree.Goals as goal
@@ -17,4 +17,4 @@ returns c = λ options rows order one two pattern len a b.
     let counts = λ (p : List ℕ). counts_of (columns rows (map (vertex_at order) p)) n in
     let other = subst (λ (p : List ℕ). AreSupernodes (parents p) (counts p) b.assembly) (sym post) b.supernodes in
     let same = c.one_list_of_supernodes.ensures (parents a.post) (counts a.post) a.assembly b.assembly a.supernodes other in
-    a.fronts ∙ ap (λ (x : AssemblyTree). fronts_of options.shape options.inplace (relaxed options.zeros x).supers) same ∙ sym b.fronts
+    a.fronts ∙ ap (λ (x : AssemblyTree). nodes_of_fronts options.shape options.inplace (relaxed options.zeros x).supers) same ∙ sym b.fronts

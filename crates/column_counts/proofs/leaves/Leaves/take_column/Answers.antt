@@ -1,6 +1,6 @@
 use Rattle.std.proofs.Common.{sym, ap, refl, ◌∙◌, ◌≡◌, ◌+◌, ◌-◌, ◌≤◌, ◌<◌, ℕ, inl, inr, length, arith, subst, slice_index}
 use Rattle.std.proofs.lemmas.Bool.{cases_lt}
-use Rattle.ordering.specs.Perm.{vertex_at, place_of}
+use Rattle.permutations.specs.Perm.{vertex_at, place_of}
 use Rattle.column_counts.specs.Leaves.{AreLeavesWith, growth, last_of}
 use Rattle.column_counts.proofs.ColumnLemmas.{Takes, own_row, own_leaf, last_leaf, next_row, no_row, all_rows}
 use Rattle.column_counts.proofs.VertexRows.{place_within}

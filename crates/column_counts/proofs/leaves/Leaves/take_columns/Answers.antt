@@ -1,29 +1,29 @@
 use Rattle.std.proofs.Common.{◌≡◌, ◌+◌, ◌-◌, ◌<◌, ℕ, length, arith, ◌∙◌, ap, inl, inr, slice_index}
 use Rattle.std.proofs.lemmas.Bool.{cases_lt}
 use Rattle.std.proofs.lemmas.List.{get_or_past}
-use Rattle.matrix_market.specs.Pattern.{is_joined, neighbours_of}
-use Rattle.ordering.specs.Perm.{vertex_at}
+use Rattle.patterns.specs.Pattern.{is_joined, neighbours_of}
+use Rattle.permutations.specs.Perm.{vertex_at}
 use Rattle.ordering.specs.Fill.{renumbered}
 use Rattle.column_counts.proofs.FactorRows.{IsFactor, AreRows, few_columns, long_parents, vertex_in_list}
 use Rattle.column_counts.proofs.SpanRows.{spans, first_some, first_ancestors, parent_low}
 use Rattle.column_counts.proofs.ColumnRows.{none_taken, short_row, can_take}
 use Rattle.column_counts.proofs.LeafCounts.{are_balanced}
 use Rattle.column_counts.proofs.leaves.Leaves.take_columns.Goals as goal
-use Rattle.column_counts.proofs.leaves.Leaves.take_columns.Goals.{After-order-j-end}
+use Rattle.column_counts.proofs.leaves.Leaves.take_columns.Goals.{After-rows-j-end}
 
-rows_are : (c : After-order-j-end) → AreRows c.args.pattern.now c.args.perm.now
+rows_are : (c : After-rows-j-end) → AreRows c.args.pattern.now c.args.perm.now
 rows_are c = record {
-  pattern = c.order-j-end.ensures.pattern;
+  pattern = c.rows-j-end.ensures.pattern;
   same = c.requires.len;
   vertex_back = c.places_are_inverse.ensures.vertex (length c.args.perm.now) c.args.perm.now c.keeps.ensures;
   place_back = c.places_are_inverse.ensures.place (length c.args.perm.now) c.args.perm.now c.keeps.ensures;
 }
 
-factor_is : (c : After-order-j-end) → IsFactor (renumbered (is_joined c.args.pattern.now) c.args.perm.now) (length c.args.perm.now) c.args.parents.now
+factor_is : (c : After-rows-j-end) → IsFactor (renumbered (is_joined c.args.pattern.now) c.args.perm.now) (length c.args.perm.now) c.args.parents.now
 factor_is c =
     let joined = renumbered (is_joined c.args.pattern.now) c.args.perm.now in
-    let pattern = c.renumbered_pattern.ensures.pattern c.args.pattern.now c.args.perm.now c.order-j-end.ensures.pattern in
-    let inside = c.renumbered_pattern.ensures.within c.args.pattern.now c.args.perm.now c.order-j-end.ensures.pattern in
+    let pattern = c.renumbered_pattern.ensures.pattern c.args.pattern.now c.args.perm.now c.rows-j-end.ensures.pattern in
+    let inside = c.renumbered_pattern.ensures.within c.args.pattern.now c.args.perm.now c.rows-j-end.ensures.pattern in
     record {
       pattern = pattern;
       inside = inside;
@@ -34,7 +34,7 @@ factor_is c =
       later = c.no_earlier_row.ensures joined;
     }
 
-long_firsts : (c : After-order-j-end) → length c.args.firsts.now ≡ length c.args.perm.now + 1
+long_firsts : (c : After-rows-j-end) → length c.args.firsts.now ≡ length c.args.perm.now + 1
 long_firsts c = c.requires.long ∙ ap (λ m. m + 1) (long_parents (renumbered (is_joined c.args.pattern.now) c.args.perm.now) (length c.args.perm.now) c.args.parents.now (factor_is c))
 
 pub loop-j-init : goal.loop-j-init
@@ -65,11 +65,11 @@ loop-j-init c =
     }
 
 pub take_column-requires-clause-len : goal.take_column-requires-clause-len
-take_column-requires-clause-len c = long_firsts (goal.at.take_column-requires-clause-len c).After-order-j-end
+take_column-requires-clause-len c = long_firsts (goal.at.take_column-requires-clause-len c).After-rows-j-end
 
 pub take_column-requires-clause-places : goal.take_column-requires-clause-places
 take_column-requires-clause-places c =
-    let before = (goal.at.take_column-requires-clause-places c).After-order-j-end in
+    let before = (goal.at.take_column-requires-clause-places c).After-rows-j-end in
     let rows = c.args.pattern.now in
     let order = c.args.perm.now in
     let are = rows_are before in
@@ -85,7 +85,7 @@ take_column-requires-clause-places c =
 
 pub take_column-requires-clause-vertices : goal.take_column-requires-clause-vertices
 take_column-requires-clause-vertices c =
-    vertex_in_list c.args.pattern.now c.args.perm.now (rows_are (goal.at.take_column-requires-clause-vertices c).After-order-j-end) c.loop-j.j c.neighbours-row.result.now
+    vertex_in_list c.args.pattern.now c.args.perm.now (rows_are (goal.at.take_column-requires-clause-vertices c).After-rows-j-end) c.loop-j.j c.neighbours-row.result.now
     (c.neighbours-row.ensures ∙ ap (neighbours_of c.args.pattern.now) c.at.ensures.value)
 
 pub take_column-requires-clause-spans : goal.take_column-requires-clause-spans
@@ -93,7 +93,7 @@ take_column-requires-clause-spans c = spans c.args.parents.now c.keeps-2.ensures
 
 pub take_column-requires-clause-row : goal.take_column-requires-clause-row
 take_column-requires-clause-row c =
-    let before = (goal.at.take_column-requires-clause-row c).After-order-j-end in (
+    let before = (goal.at.take_column-requires-clause-row c).After-rows-j-end in (
       renumbered (is_joined c.args.pattern.now) c.args.perm.now,
       can_take c.args.pattern.now c.args.perm.now (rows_are before) c.args.parents.now (factor_is before) c.args.firsts.now (long_firsts before) c.requires.firsts
           c.loop-j.j c.neighbours-row.result.now (c.neighbours-row.ensures ∙ ap (neighbours_of c.args.pattern.now) c.at.ensures.value) c.loop-j.self c.loop-j.invariant.leaves,
@@ -101,7 +101,7 @@ take_column-requires-clause-row c =
 
 pub loop-j-preserved : goal.loop-j-preserved
 loop-j-preserved c =
-    let before = (goal.at.loop-j-preserved c).After-order-j-end in
+    let before = (goal.at.loop-j-preserved c).After-rows-j-end in
     let can = can_take c.args.pattern.now c.args.perm.now (rows_are before) c.args.parents.now (factor_is before) c.args.firsts.now (long_firsts before) c.requires.firsts
     c.loop-j.j c.neighbours-row.result.now (c.neighbours-row.ensures ∙ ap (neighbours_of c.args.pattern.now) c.at.ensures.value) c.loop-j.self c.loop-j.invariant.leaves in
     let e : c.loop-j.j + 1 - 1 ≡ c.loop-j.j = omega arith in
@@ -113,6 +113,6 @@ loop-j-preserved c =
 
 pub returns-clause-balanced : goal.returns-clause-balanced
 returns-clause-balanced c =
-    let before = (goal.at.returns-clause-balanced c).After-order-j-end in
+    let before = (goal.at.returns-clause-balanced c).After-rows-j-end in
     are_balanced (renumbered (is_joined c.args.pattern.now) c.args.perm.now) (length c.args.perm.now) c.args.parents.now (factor_is before) c.args.firsts.now (long_firsts before) c.requires.firsts
     c.args.perm.now c.loop-j.self c.loop-j.j (let same = c.requires.len in omega arith) c.loop-j.invariant.leaves

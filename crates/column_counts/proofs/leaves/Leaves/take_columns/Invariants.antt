@@ -1,5 +1,5 @@
 use Rattle.std.proofs.Common.{◌-◌}
-use Rattle.matrix_market.specs.Pattern.{is_joined}
+use Rattle.patterns.specs.Pattern.{is_joined}
 use Rattle.ordering.specs.Fill.{renumbered}
 use Rattle.column_counts.specs.Leaves.{AreReady, AreLeavesBefore, AreAtMost, growth}
 use Rattle.column_counts.proofs.leaves.Leaves.take_columns.Given as goal

@@ -1,7 +1,8 @@
 use Rattle.std.proofs.Common.{sym, ap, ◌∙◌, ◌+◌, ◌<◌, ◌≤◌, ◌≡◌, ◌≢◌, ℕ, length, arith, set, slice_index, subst}
-use Rattle.ordering.specs.Perm.{vertex_at, place_of}
+use Rattle.permutations.specs.Perm.{vertex_at, place_of}
 use Rattle.column_counts.specs.Leaves.{AreAncestors, last_of}
-use Rattle.column_counts.proofs.MarkLemmas.{at_here, at_other, read_at}
+use Rattle.column_counts.proofs.MarkLemmas.{read_at}
+use Rattle.lists.proofs.Lists.{at_other, at_here}
 use Rattle.column_counts.proofs.RowLeaves.{no_leaf, first_leaf, further_leaf}
 use Rattle.column_counts.proofs.VertexRows.{other_vertex, place_within}
 use Rattle.column_counts.proofs.leaves.Leaves.take_leaf.Goals as goal

@@ -1,10 +1,11 @@
 use Rattle.std.proofs.Common.{◌≡◌, inl, inr, ℕ, ◌≤◌, ◌<◌, get_or, length, arith, refl, subst, sym, ap, ◌∙◌, IsTrue}
 use Rattle.std.proofs.lemmas.Bool.{eq-eqb, eqb-true}
-use Rattle.matrix_market.specs.Pattern.{has}
+use Rattle.patterns.specs.Pattern.{has}
 use Rattle.elimination.specs.Quotients.{at, inner_at}
 use Rattle.elimination.specs.Tables.{tables}
 use Rattle.elimination.specs.Dense.{bit_in}
-use Rattle.elimination.proofs.VertexLists.{has_at, place_of}
+use Rattle.patterns.proofs.NumberLists.{place_of}
+use Rattle.patterns.proofs.NumberLists.{has_at}
 use Rattle.elimination.proofs.ListWrites.{list_get}
 use Rattle.elimination.proofs.Switches.{group_vertex, full_exact}
 use Rattle.elimination.proofs.search.Search.add_hood.Goals as goal

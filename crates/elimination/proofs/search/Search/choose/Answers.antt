@@ -2,7 +2,7 @@ use Rattle.std.proofs.Common.{◌≡◌, ◌+◌, ◌-◌, length, ℕ, Bool, Li
 use Rattle.std.specs.Prelude.{min, max}
 use Rattle.std.specs.List.{sum_by}
 use Rattle.min_tree.specs.Least.{IsFirstLeast, greatest}
-use Rattle.matrix_market.specs.Pattern.{has}
+use Rattle.patterns.specs.Pattern.{has}
 use Rattle.elimination.specs.Elimination.{IsVertex}
 use Rattle.elimination.specs.Quotients.{Quotient, at}
 use Rattle.elimination.specs.Tables.{Tables, tables}

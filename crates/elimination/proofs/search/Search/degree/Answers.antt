@@ -1,6 +1,7 @@
 use Rattle.std.proofs.Common.{◌≡◌, ◌≤◌, ◌∙◌, ap, arith, length, subst, sym}
 use Rattle.std.specs.List.{sum_by}
 use Rattle.std.proofs.lemmas.Grind.{get_or_default_zero}
+use Rattle.limits.specs.Limits.{most_order}
 use Rattle.elimination.specs.Quotients.{at}
 use Rattle.elimination.specs.Tables.{tables}
 use Rattle.elimination.proofs.Choices.{degree_is, near_few}
@@ -13,7 +14,7 @@ weigh-requires-clause-few c =
     let size = m.1.gathered.quotient.size in
     let len = c.requires.lengths.links in
     let most = c.requires.few in
-    subst (λ z. length z ≤ 1000000) (sym c.deref.ensures.value) (omega arith)
+    subst (λ z. length z ≤ most_order) (sym c.deref.ensures.value) (omega arith)
 
 pub returns : goal.returns
 returns c = λ q m.

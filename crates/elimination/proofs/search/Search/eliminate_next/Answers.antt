@@ -1,7 +1,7 @@
 use Rattle.std.proofs.Common.{◌≡◌, ◌<◌, ◌+◌, length, ℕ, arith, subst, sym, ap, set, get_or, IsTrue, false}
 use Rattle.std.specs.Vec.{with_items}
 use Rattle.std.proofs.lemmas.List.{with_items_is}
-use Rattle.matrix_market.specs.Pattern.{has}
+use Rattle.patterns.specs.Pattern.{has}
 use Rattle.elimination.specs.Quotients.{at, inner_at}
 use Rattle.elimination.specs.Tables.{tables}
 use Rattle.elimination.specs.Turns.{IsChosen, IsAbsorbed, IsEliminated, quotient_of}

@@ -2,13 +2,14 @@ use Rattle.std.proofs.Common.{◌≡◌, ◌<◌, arith, subst, sym, ◌∙◌, 
 use Rattle.std.specs.Vec.{with_items}
 use Rattle.std.proofs.lemmas.List.{with_items_is}
 use Rattle.std.proofs.lemmas.Grind.{get_or_default_zero}
-use Rattle.matrix_market.specs.Pattern.{has, neighbours_of}
+use Rattle.patterns.specs.Pattern.{has, neighbours_of}
 use Rattle.elimination.specs.declared.search.Search.{Search}
 use Rattle.elimination.specs.Quotients.{AreLinks, LeadsTo, at}
 use Rattle.elimination.specs.Twins.{AreRowsMarked}
 use Rattle.elimination.specs.Tables.{tables}
 use Rattle.elimination.specs.Turns.{HasMarks}
-use Rattle.elimination.proofs.VertexLists.{has_at, row_within}
+use Rattle.elimination.proofs.VertexLists.{row_within}
+use Rattle.patterns.proofs.NumberLists.{has_at}
 use Rattle.elimination.proofs.Choices.{marked_still}
 use Rattle.elimination.proofs.search.Search.find_twin.Goals as goal
 use Rattle.elimination.proofs.search.Search.find_twin.Goals.{After-all_marked, After-neighbours-row}

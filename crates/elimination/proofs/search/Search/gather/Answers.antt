@@ -3,7 +3,7 @@ use Rattle.std.specs.Vec.{with_item, with_items}
 use Rattle.std.proofs.lemmas.List.{with_items_is}
 use Rattle.elimination.specs.Quotients.{Quotient, IsQuotient, at, inner_at}
 use Rattle.elimination.specs.Hoods.{Scans, IsRowOf, IsGathered}
-use Rattle.elimination.proofs.VertexLists.{has_at}
+use Rattle.patterns.proofs.NumberLists.{has_at}
 use Rattle.elimination.proofs.Gatherings.{start, gathered}
 use Rattle.elimination.proofs.search.Search.gather.Goals as goal
 

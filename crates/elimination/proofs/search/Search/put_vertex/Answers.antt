@@ -1,6 +1,6 @@
 use Rattle.std.proofs.Common.{◌≡◌, inl, inr, ℕ, List, get_or, arith, subst, sym, ap, ◌∙◌, IsTrue}
 use Rattle.std.proofs.lemmas.Bool.{cases_eq, both_ways}
-use Rattle.matrix_market.specs.Pattern.{has}
+use Rattle.patterns.specs.Pattern.{has}
 use Rattle.elimination.specs.Elimination.{IsVertex}
 use Rattle.elimination.specs.Quotients.{Quotient, at, inner_at}
 use Rattle.elimination.specs.Tables.{tables}

@@ -5,7 +5,7 @@ use Rattle.assembly_tree.specs.Assembly.{IsSuper, super_at}
 use Rattle.assembly_tree.specs.Supernodes.{first_of}
 use Rattle.rounds_run.specs.declared.front.Job.{Job}
 use Rattle.rounds_run.specs.Holding.{Factor, IsFactor, IsHeld, IsJobOf, or_in}
-use Rattle.rounds_run.proofs.NumberLists.{has_at}
+use Rattle.patterns.proofs.NumberLists.{has_at}
 use Rattle.rounds_run.proofs.HeldLemmas.{held_taken}
 use Rattle.rounds_run.proofs.JobLemmas.{or_in_more, not_taken, job_is}
 use Rattle.rounds_run.proofs.RowLists.{Laws}

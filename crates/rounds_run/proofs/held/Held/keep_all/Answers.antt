@@ -5,7 +5,7 @@ use Rattle.assembly_tree.specs.Assembly.{IsSuper, no_super, super_at}
 use Rattle.rounds_run.specs.Holding.{IsHeld, IsMadeOf, or_in}
 use Rattle.rounds_run.proofs.HeldLemmas.{held_made}
 use Rattle.rounds_run.proofs.JobLemmas.{or_in_before}
-use Rattle.rounds_run.proofs.NumberLists.{has_at}
+use Rattle.patterns.proofs.NumberLists.{has_at}
 use Rattle.rounds_run.proofs.RunLemmas.{popped, popped_at, cond_long}
 use Rattle.rounds_run.proofs.held.Held.keep_all.Goals as goal
 

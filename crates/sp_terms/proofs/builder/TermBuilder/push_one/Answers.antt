@@ -40,7 +40,7 @@ invariant_of-self-2 c =
     let short = ap (λ (n : ℕ). is_short n c.args.p) (sym (c.len.ensures ∙ c.self.inside.ends.ok.0)) ∙ sym c.short.ensures ∙ c.if-short.false in
     let limit = ap (λ (n : ℕ). passed_limit n c.self.inside.tasks c.self.inside.total c.args.p) (sym (c.len-2.ensures ∙ c.self.inside.positions.ok.0)) ∙ sym c.in_default.ensures in
     let over = ap (λ (z : List Ends). over_ends z c.args.p) (sym c.deref.ensures.value) ∙ sym c.overshared.ensures ∙ c.if-overshared.false in
-    rw (c.in_ok-append.ensures.positions, c.in_ok-append.ensures.ends, c.count.ensures, c.size.ensures) (builder_more _ _ _ _ c.args.p c.self.invariant c.requires short limit over)
+    rw (c.in_ok-append.ensures.positions, c.in_ok-append.ensures.ends, c.tasks_of_position.ensures, c.size.ensures) (builder_more _ _ _ _ c.args.p c.self.invariant c.requires short limit over)
 
 pub returns : goal.returns
 returns c =

@@ -1,0 +1,4 @@
+pub mod GraphFile
+pub mod Kinds
+pub mod Reader
+pub mod Stated

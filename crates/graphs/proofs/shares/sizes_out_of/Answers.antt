@@ -1,0 +1,16 @@
+use Rattle.std.proofs.Common.{◌<◌, length, get_or, arith, ◌∙◌}
+use Rattle.std.proofs.lemmas.List.{get_or_read}
+use Rattle.graphs.proofs.CountLemmas.{out-fits}
+use Rattle.graphs.proofs.QueueLemmas.{no_arc}
+use Rattle.graphs.proofs.shares.sizes_out_of.Goals as goal
+
+pub overflow_add-index_mut : goal.overflow_add-index_mut
+overflow_add-index_mut c =
+    let arcs = c.args.arcs.now in
+    let l = c.loop-arc in
+    let i = l.arc-index in
+    let v = (get_or arcs i no_arc).from in
+    let small = (c.requires.within i no_arc c.loop-arc-test.true).from in
+    let room : v < length l.sizes.items = omega (arith, small, l.invariant.len) in
+    let old = get_or_read l.sizes.items v c.index_mut.result.now room c.index_mut.ensures.value 0 ∙ l.invariant.sums v in
+    omega (arith, old, out-fits v arcs i no_arc c.loop-arc-test.true, c.requires.total)

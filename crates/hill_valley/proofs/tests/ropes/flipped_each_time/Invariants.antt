@@ -1,5 +1,0 @@
-use Rattle.hill_valley.specs.Ropes.{IsRope}
-use Rattle.hill_valley.proofs.tests.ropes.flipped_each_time.Given as goal
-
-abbrev pub invariant-loop-task : goal.invariant-loop-task
-invariant-loop-task l = IsRope l.ropes l.rope

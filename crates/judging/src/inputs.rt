@@ -1,0 +1,299 @@
+//! The files of an input are read and judged one after the other, and come to a tree or a problem; and so are the order of its tasks and
+//! their priority.
+
+ghost use Rattle.std.specs.Prelude.{◌≡◌, ◌≤◌, ℕ, List, [], ◌∷◌, ◌++◌, IfOk, MatchResult, length, option_map};
+ghost use Rattle.activation.specs.Schedule.{HoldsEach};
+ghost use Rattle.mp_system.specs.System.{TaskSystem};
+ghost use Rattle.mp_system.specs.Traversal.{IsTraversal};
+ghost use Rattle.plans.specs.Plan.{IsPlan};
+ghost use Rattle.judging.specs.Files.{IsOrderOf, IsMatrixTree, IsTreeOf, IsFirstRefusal};
+ghost use Rattle.judging.specs.Priorities.{priority_or};
+ghost use Rattle.judging.specs.Judged.{AreJudged, IsRefusingPage, IsRefusedOrder, IsMatrixRead, IsProblemOf, IsOrderedOf, IsOrderRead};
+ghost use Rattle.judging.specs.Judged.{IsRefusedSource, IsPriorityOf, IsRefusedRanking, IsRanking, order_tasks, own_priority};
+ghost use Rattle.requests.specs.Request.{FileRole, matrix_files, ordered_matrix_files, min_degree, ordering_files, tree_input_files};
+ghost use Rattle.requests.specs.Request.{input_files, source_file, priority_files};
+ghost use Rattle.requests.specs.RequestViews.{ordering_view, matrix_view, ordered_matrix_view, tree_input_view, input_view, source_view};
+
+use crate::files::{
+    MatrixFile, OrderFile, PermFile, PlanFile, Ranked, TreeFile, WorkflowFile, judge,
+};
+use crate::page::limit_page;
+use crate::stop::Stop;
+use least_peak::Problem;
+use limits::LimitName;
+use matrix_files::laws::read_is_perm;
+use mp_outside::Files;
+use mp_system::laws::traversal_law;
+use ordering::{MindegRefusal, min_degree};
+use patterns::Pattern;
+use permutations::{Perm, identity};
+use plans::Plan;
+use requests::{Input, Matrix, OrderSource, OrderedMatrix, Ordering, TreeInput};
+use sp_terms::laws::terms_law;
+use std::alloc::{AllocError, Global};
+use symbolic::front_tree;
+use trees::Tree;
+
+// The minimum degree order of a matrix that is not too large for it.
+fn by_min_degree(alloc: Global, pattern: &Pattern) -> Result<Perm, Stop>
+    ensures { MatchResult result (IsOrderOf min_degree pattern.now []) (IsRefusingPage (IsRefusedOrder min_degree pattern.now [])) }
+{
+    match min_degree(alloc, pattern) {
+        Ok(order) => Ok(order),
+        Err(MindegRefusal::Limit) => {
+            let page = limit_page(alloc, "matrix", LimitName::Mindeg)?;
+            Err(Stop::Refused(page))
+        }
+        Err(MindegRefusal::NoMemory) => Err(Stop::NoMemory),
+    }
+}
+
+// The order in which the rows of a matrix are eliminated.
+fn judge_ordering<F: Files>(
+    alloc: Global,
+    files: &mut F,
+    ordering: Ordering<'_>,
+    pattern: &Pattern,
+) -> Result<Perm, Stop>
+    ensures judged { AreJudged (F.bytes_of files.old) (F.faults_of files.old) (F.faults_of files.new)
+        (ordering_files (ordering_view ordering.entry)) (IsOrderOf (ordering_view ordering.entry) pattern.now)
+        (IsRefusedOrder (ordering_view ordering.entry) pattern.now) result }
+    ensures len { IfOk result (λ order. length order ≡ length pattern.now) }
+    ensures same { (other : List ℕ) → F.bytes_of files.new other ≡ F.bytes_of files.old other }
+    ensures later { (other : List ℕ) → F.faults_of files.old other ≤ F.faults_of files.new other }
+{
+    read_is_perm();
+    let n = pattern.rows();
+    match ordering {
+        Ordering::Natural => Ok(identity(alloc, n)?),
+        Ordering::MinDegree => by_min_degree(alloc, pattern),
+        Ordering::Perm(name) => {
+            let ranked = Ranked::Vertices;
+            judge(alloc, files, name, &PermFile { ranked, n })
+        }
+    }
+}
+
+/// The pattern of a matrix, and the order in which its rows are eliminated.
+#[derive(Drop)]
+pub struct OrderedPattern {
+    pub pattern: Pattern,
+    pub order: Perm,
+}
+
+/// The pattern of a matrix, and the order in which its rows are eliminated.
+pub fn judge_pattern<F: Files>(
+    alloc: Global,
+    files: &mut F,
+    matrix: OrderedMatrix<'_>,
+) -> Result<OrderedPattern, Stop>
+    ensures judged { AreJudged (F.bytes_of files.old) (F.faults_of files.old) (F.faults_of files.new)
+        (ordered_matrix_files (ordered_matrix_view matrix.entry)) (IsMatrixRead (ordering_view matrix.entry.ordering))
+        (IsFirstRefusal (ordered_matrix_files (ordered_matrix_view matrix.entry)) []) result }
+    ensures len { IfOk result (λ read. length read.order ≡ length read.pattern) }
+    ensures same { (other : List ℕ) → F.bytes_of files.new other ≡ F.bytes_of files.old other }
+    ensures later { (other : List ℕ) → F.faults_of files.old other ≤ F.faults_of files.new other }
+{
+    let pattern = judge(alloc, files, matrix.name, &MatrixFile)?;
+    let order = judge_ordering(alloc, files, matrix.ordering, &pattern)?;
+    Ok(OrderedPattern { pattern, order })
+}
+
+/// The tree of the fronts of a matrix.
+pub fn judge_matrix<F: Files>(
+    alloc: Global,
+    files: &mut F,
+    matrix: Matrix<'_>,
+) -> Result<Tree, Stop>
+    ensures judged { AreJudged (F.bytes_of files.old) (F.faults_of files.old) (F.faults_of files.new)
+        (matrix_files (matrix_view matrix.entry)) (IsMatrixTree (matrix_view matrix.entry))
+        (IsFirstRefusal (matrix_files (matrix_view matrix.entry)) []) result }
+    ensures same { (other : List ℕ) → F.bytes_of files.new other ≡ F.bytes_of files.old other }
+    ensures later { (other : List ℕ) → F.faults_of files.old other ≤ F.faults_of files.new other }
+{
+    let (name, ordering) = (matrix.name, matrix.ordering);
+    let read = judge_pattern(alloc, files, OrderedMatrix { name, ordering })?;
+    Ok(front_tree(alloc, &read.pattern, &read.order, matrix.fronts)?)
+}
+
+/// The tree of an input.
+pub fn judge_tree<F: Files>(
+    alloc: Global,
+    files: &mut F,
+    input: TreeInput<'_>,
+) -> Result<Tree, Stop>
+    ensures judged { AreJudged (F.bytes_of files.old) (F.faults_of files.old) (F.faults_of files.new)
+        (tree_input_files (tree_input_view input.entry)) (IsTreeOf (tree_input_view input.entry))
+        (IsFirstRefusal (tree_input_files (tree_input_view input.entry)) []) result }
+    ensures same { (other : List ℕ) → F.bytes_of files.new other ≡ F.bytes_of files.old other }
+    ensures later { (other : List ℕ) → F.faults_of files.old other ≤ F.faults_of files.new other }
+{
+    match input {
+        TreeInput::Tree(name) => judge(alloc, files, name, &TreeFile),
+        TreeInput::Matrix(matrix) => judge_matrix(alloc, files, matrix),
+    }
+}
+
+/// The problem of an input.
+pub fn judge_input<F: Files>(
+    alloc: Global,
+    files: &mut F,
+    input: Input<'_>,
+) -> Result<Problem, Stop>
+    ensures judged { AreJudged (F.bytes_of files.old) (F.faults_of files.old) (F.faults_of files.new) (input_files (input_view input.entry))
+        (IsProblemOf (input_view input.entry)) (IsFirstRefusal (input_files (input_view input.entry)) []) result }
+    ensures same { (other : List ℕ) → F.bytes_of files.new other ≡ F.bytes_of files.old other }
+    ensures later { (other : List ℕ) → F.faults_of files.old other ≤ F.faults_of files.new other }
+{
+    match input {
+        Input::Tree(input) => {
+            let tree = judge_tree(alloc, files, input)?;
+            Ok(Problem::of_tree(tree))
+        }
+        Input::Workflow(name) => {
+            terms_law();
+            let terms = judge(alloc, files, name, &WorkflowFile)?;
+            terms.keeps();
+            Ok(Problem::of_workflow(terms))
+        }
+    }
+}
+
+/// An order of tasks: of an order file, or of a plan.
+#[derive(Drop)]
+pub enum Order {
+    Listed(Vec<u32>),
+    Planned(Plan),
+}
+
+impl Order {
+    /// The tasks in the order in which they run.
+    pub fn numbers(&self) -> &[u32]
+        ensures { result.now ≡ order_tasks self.now }
+    {
+        match self {
+            Order::Listed(numbers) => numbers,
+            Order::Planned(plan) => plan.order(),
+        }
+    }
+
+    /// The tasks in the order in which they claim a worker: the priority of a plan that has one, else the order itself.
+    pub fn priority(&self) -> &[u32]
+        ensures value { result.now ≡ own_priority self.now }
+        ensures each { (system : TaskSystem) → IsTraversal system (order_tasks self.now) → HoldsEach system result.now }
+    {
+        traversal_law();
+        match self {
+            Order::Listed(numbers) => numbers,
+            Order::Planned(plan) => priority_of(plan),
+        }
+    }
+}
+
+// The priority of a plan that has one, else its order.
+fn priority_of(plan: &Plan) -> &[u32]
+    ensures value { result.now ≡ priority_or plan.now.order plan.now.priority }
+    ensures plan { IsPlan plan.now }
+{
+    let order = plan.order();
+    if plan.priority().is_empty() {
+        order
+    } else {
+        plan.priority()
+    }
+}
+
+// The order that a source gives.
+fn judge_order<F: Files>(
+    alloc: Global,
+    files: &mut F,
+    source: OrderSource<'_>,
+) -> Result<Order, Stop>
+    ensures judged { AreJudged (F.bytes_of files.old) (F.faults_of files.old) (F.faults_of files.new)
+        (source_file (source_view source.entry) ∷ []) (IsOrderRead (source_view source.entry))
+        (IsRefusedSource (source_view source.entry)) result }
+    ensures same { (other : List ℕ) → F.bytes_of files.new other ≡ F.bytes_of files.old other }
+    ensures later { (other : List ℕ) → F.faults_of files.old other ≤ F.faults_of files.new other }
+{
+    match source {
+        OrderSource::Order(name) => {
+            let numbers = judge(alloc, files, name, &OrderFile)?;
+            Ok(Order::Listed(numbers))
+        }
+        OrderSource::Plan(name) => {
+            let plan = judge(alloc, files, name, &PlanFile)?;
+            Ok(Order::Planned(plan))
+        }
+    }
+}
+
+/// A problem, and an order of its tasks.
+#[derive(Drop)]
+pub struct OrderedProblem {
+    pub problem: Problem,
+    pub order: Order,
+}
+
+/// The problem of an input, and the order of a source.
+pub fn judge_ordered<F: Files>(
+    alloc: Global,
+    files: &mut F,
+    input: Input<'_>,
+    source: OrderSource<'_>,
+) -> Result<OrderedProblem, Stop>
+    ensures judged { AreJudged (F.bytes_of files.old) (F.faults_of files.old) (F.faults_of files.new)
+        (input_files (input_view input.entry) ++ source_file (source_view source.entry) ∷ [])
+        (IsOrderedOf (input_view input.entry) (source_view source.entry))
+        (IsFirstRefusal (input_files (input_view input.entry) ++ source_file (source_view source.entry) ∷ []) []) result }
+    ensures same { (other : List ℕ) → F.bytes_of files.new other ≡ F.bytes_of files.old other }
+    ensures later { (other : List ℕ) → F.faults_of files.old other ≤ F.faults_of files.new other }
+{
+    let problem = judge_input(alloc, files, input)?;
+    let order = judge_order(alloc, files, source)?;
+    Ok(OrderedProblem { problem, order })
+}
+
+// ---- the priority
+
+/// Where a priority of tasks comes from.
+#[derive(Drop)]
+pub enum Priority {
+    /// It comes with the order.
+    Own,
+    /// It is read from a file.
+    Given(Vec<u32>),
+}
+
+// The numbers of a permutation by place.
+fn listed(alloc: Global, perm: &Perm) -> Result<Vec<u32>, AllocError>
+    ensures { IfOk result (λ numbers. numbers.items ≡ perm.now) }
+{
+    let mut numbers = Vec::with_capacity(alloc, perm.len() as usize)?;
+    for place in 0..perm.len() {
+        numbers.push(perm.at(place + 1))?;
+    }
+    Ok(numbers)
+}
+
+/// The priority of `n` tasks of a file, if one is named.
+pub fn judge_priority<F: Files>(
+    alloc: Global,
+    files: &mut F,
+    name: Option<&str>,
+    n: u32,
+) -> Result<Priority, Stop>
+    ensures judged { (role : FileRole) → AreJudged (F.bytes_of files.old) (F.faults_of files.old) (F.faults_of files.new)
+        (priority_files role (option_map (λ s. s.now) name.entry)) (IsPriorityOf (option_map (λ s. s.now) name.entry) n)
+        (IsRefusedRanking n) result }
+    ensures each { IfOk result (IsRanking n) }
+    ensures same { (other : List ℕ) → F.bytes_of files.new other ≡ F.bytes_of files.old other }
+    ensures later { (other : List ℕ) → F.faults_of files.old other ≤ F.faults_of files.new other }
+{
+    read_is_perm();
+    let Some(name) = name else {
+        return Ok(Priority::Own);
+    };
+    let ranked = Ranked::Tasks;
+    let perm = judge(alloc, files, name, &PermFile { ranked, n })?;
+    Ok(Priority::Given(listed(alloc, &perm)?))
+}

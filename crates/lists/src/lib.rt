@@ -1,0 +1,2 @@
+//! The shelf: definitions and lemmas on numbers and lists that several crates cite.
+#![tactic(auto)]

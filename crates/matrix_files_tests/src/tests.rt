@@ -1,0 +1,4 @@
+//! Files by hand: matrices, orders and permutations.
+
+mod matrices;
+mod orders;

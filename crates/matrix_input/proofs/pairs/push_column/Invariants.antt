@@ -1,6 +1,0 @@
-use Rattle.std.proofs.Common.{◌≡◌, ◌++◌, map, take}
-use Rattle.matrix_input.specs.Numbers.{from_one}
-use Rattle.matrix_input.proofs.pairs.push_column.Given as goal
-
-abbrev pub invariant-loop-row : goal.invariant-loop-row
-invariant-loop-row l = l.pairs.items ≡ l.initial.pairs.items ++ map (λ row. (from_one l.base row, l.column)) (take l.row-index l.rows)

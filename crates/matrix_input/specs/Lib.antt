@@ -1,4 +1,0 @@
-pub mod Numbers
-pub mod Columns
-pub mod Order
-pub mod PlaceTables

@@ -1,6 +1,0 @@
-use Rattle.std.proofs.Common.{◌≡◌, take}
-use Rattle.memplan.specs.Segments.{task_positions}
-use Rattle.memplan.proofs.numbered.task_positions.Given as goal
-
-abbrev pub invariant-loop-done : goal.invariant-loop-done
-invariant-loop-done l = l.found.items ≡ task_positions 1 (take l.done l.terms)

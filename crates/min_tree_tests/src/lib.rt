@@ -1,0 +1,5 @@
+//! Tests of `min_tree`, over its public functions.
+#![tactic(auto)]
+
+#[cfg(test)]
+mod tests;

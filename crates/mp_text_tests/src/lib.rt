@@ -1,0 +1,5 @@
+//! Tests of `mp_text`, over its public functions.
+#![tactic(auto)]
+
+#[cfg(test)]
+mod tests;

@@ -1,0 +1,9 @@
+pub mod Entries
+pub mod GroupLemmas
+pub mod NumberLists
+pub mod PartnerLemmas
+pub mod PatternLemmas
+pub mod SameRows
+pub mod SortLemmas
+pub mod Starts
+pub mod TableLemmas

@@ -1,0 +1,5 @@
+pub mod Columns
+pub mod Partners
+pub mod Pattern
+pub mod Plain
+pub mod Table

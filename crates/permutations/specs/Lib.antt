@@ -1,0 +1,4 @@
+pub mod Order
+pub mod Perm
+pub mod PermTables
+pub mod PlaceTables

@@ -1,0 +1,5 @@
+pub mod FormLemmas
+pub mod JsonLemmas
+pub mod LengthLemmas
+pub mod PrintedLemmas
+pub mod ReaderLaws

@@ -1,0 +1,19 @@
+//! Plan files of versions 1 and 2, their reader and their printers, and plans as JSON.
+#![tactic(auto)]
+
+mod json_text;
+mod kind;
+pub mod laws;
+mod lines;
+mod printing;
+mod reader;
+mod stage;
+
+pub use json_text::{PlanJson, plan_json, send_claim};
+pub use kind::PlanKind;
+pub use printing::{print_plan, print_plan_2};
+pub use reader::read_plan;
+use std::alloc::AllocError;
+
+/// Want of memory: an allocation was refused.
+pub type NoMemory = AllocError;

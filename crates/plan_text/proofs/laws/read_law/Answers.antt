@@ -1,5 +1,0 @@
-use Rattle.plan_text.proofs.FormLemmas.{reads-is_plan}
-use Rattle.plan_text.proofs.laws.read_law.Goals as goal
-
-pub returns : goal.returns
-returns c = reads-is_plan

@@ -1,0 +1,5 @@
+//! Tests of `plans`, over its public functions.
+#![tactic(auto)]
+
+#[cfg(test)]
+mod tests;

@@ -1,0 +1,14 @@
+pub mod DemoLemmas
+pub mod FrontLemmas
+pub mod OneFile
+pub mod OneInput
+pub mod OneReport
+pub mod ReductionLemmas
+pub mod ReportLemmas
+pub mod RunLemmas
+pub mod SimulationLemmas
+pub mod SoundAnswer
+pub mod SpillLemmas
+pub mod StairPages
+pub mod StairsLemmas
+pub mod UpgradeLemmas

@@ -1,0 +1,17 @@
+pub mod Replay
+pub mod Tree
+pub mod Post
+pub mod Check
+pub mod Plan
+pub mod Simulate
+pub mod Demo
+pub mod Upgrade
+pub mod Spill
+pub mod Segments
+pub mod Fronts
+pub mod Reduce
+pub mod Reports
+pub mod Promises
+pub mod Clauses
+pub mod Reported
+pub mod Samples

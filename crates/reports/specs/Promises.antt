@@ -1,0 +1,66 @@
+-- What each command promises of what it prints, beside that it is an answer.
+use Rattle.std.specs.Prelude.{◌≡◌, ◌≤◌, ℕ, List}
+use Rattle.requests.specs.Request.{Request, replay, tree, post, check, planning, simulate, demo, upgrade, spill, segments, fronts, reduce}
+use Rattle.requests.specs.Request.{IsMakeable}
+use Rattle.judging.specs.Files.{Answer}
+use Rattle.reports.specs.Reports.{IsReport}
+use Rattle.reports.specs.Check.{IsCertified}
+use Rattle.reports.specs.Plan.{IsBestPlan}
+use Rattle.reports.specs.Simulate.{IsSimulated}
+use Rattle.reports.specs.Demo.{IsShown}
+use Rattle.reports.specs.Upgrade.{IsUpgraded}
+use Rattle.reports.specs.Spill.{IsSpilled}
+use Rattle.reports.specs.Segments.{IsReached}
+use Rattle.reports.specs.Fronts.{IsFactored}
+use Rattle.reports.specs.Reduce.{IsReduced, HasIrreducibleRest}
+use Rattle.judging.specs.declared.status.Status.{Status}
+use Rattle.judging.specs.declared.status.Status.TheVariants as status
+
+-- the answer that ends with done and this text
+abbrev pub done_answer : List ℕ → Answer
+done_answer printed = record { status = status.Done; text = printed }
+
+-- what a request says by what it printed, over the texts of its files and with the status with which it ended
+abbrev pub Says : Request → List (List ℕ) → Status → List ℕ → Type 0
+-- where a peak was printed, the order is a traversal of the input's system, and the peak is its
+Says (replay input source) texts ended printed = ended ≡ status.Done → IsReport (replay input source) texts (done_answer printed)
+-- where a tree was printed, it is the tree of the fronts of the matrix
+Says (tree matrix) texts ended printed = ended ≡ status.Done → IsReport (tree matrix) texts (done_answer printed)
+-- where a postorder was printed, it is the best postorder of the tree, and the printed peak is its
+Says (post input) texts ended printed = ended ≡ status.Done → IsReport (post input) texts (done_answer printed)
+-- where a plan was checked and accepted, its order is a traversal of the input's system, its peak is the one that it states and that
+-- was printed, and no traversal has a lower one
+Says (check input plan workers) texts ended printed = ended ≡ status.Done → IsCertified input texts printed
+-- where a plan was made, what was printed is a plan file, or the JSON of its plan: the order is a traversal of the input's system, its
+-- peak is the one that the plan states, no traversal has a lower one, and `check` says yes to the file
+Says (planning input format) texts ended printed = ended ≡ status.Done → IsBestPlan input format texts printed
+-- where a run was simulated to its end, its events are one activation, one start and one finish of each task of the input's system, and
+-- memory stayed within the bound, which is at least the peak of the order
+Says (simulate input source simulation) texts ended printed = ended ≡ status.Done → IsSimulated input source simulation texts printed
+-- where a demo was made, what was printed is its summary: the checker says yes, and no traversal of the made system has a lower peak
+-- than the one that was printed
+Says (demo made) texts ended printed = ended ≡ status.Done → IsShown made printed
+-- where a file was upgraded, what was printed is a file of version 2 that is read as what was upgraded
+Says (upgrade file) texts ended printed = ended ≡ status.Done → IsUpgraded file texts printed
+-- where amounts were printed, they are a spill plan of the input's system, the order and the bound, whose volume is the printed one,
+-- and no spill plan of these has a lower one
+Says (spill input source bound) texts ended printed = ended ≡ status.Done → IsSpilled input source bound texts printed
+-- where staircases were printed, of every printed pair the level is the memory of a state that is reached within the bound, and none
+-- that is reached within it has a lower one; so it is for every bound
+Says (segments input) texts ended printed = ended ≡ status.Done → IsReached input texts printed
+-- where the rows of the fronts of a matrix were printed, each list is the structure of the first column of its supernode in the filled
+-- graph, and of each further column the structure is the list from there on; the printed rounds are those of the activation machine,
+-- and along them the rows that are used are at most the bound
+Says (fronts matrix bound workers) texts ended printed = ended ≡ status.Done → IsFactored matrix bound workers texts printed
+-- where a task graph was reduced, a workflow file was printed, with names: the traversals of its system are those of the graph under
+-- these names, with the same peaks, and so are the least peaks;
+-- where it is told that a task graph is not series-parallel, no term has the system of the completed graph, and the arcs of an
+-- irreducible rest of it were printed
+Says (reduce name) texts ended printed =
+    (ended ≡ status.Done → IsReduced texts printed) × (ended ≡ status.NotSeriesParallel → HasIrreducibleRest texts printed)
+
+-- what is asked of a request for that: a run has a worker, and an input that is to be made can be
+abbrev pub IsPossible : Request → Type 0
+IsPossible (simulate input source simulation) = 1 ≤ simulation.workers
+IsPossible (demo made) = IsMakeable made
+IsPossible request = Unit {0}

@@ -1,0 +1,46 @@
+-- The commands: the words that ask for each, and what is answered over the contents of its files, a status and a text. There is one
+-- answer for a first refusal, in the order of the files, and else the report.
+use Rattle.std.specs.Prelude.{◌≡◌, ℕ, List, [], ◌⊎◌}
+use Rattle.trees.specs.declared.node.Node.{Node}
+use Rattle.requests.specs.Request.{Request, replay, tree, post, check, planning, simulate, demo, upgrade, spill, fronts, segments, reduce}
+use Rattle.requests.specs.Request.{files_of}
+use Rattle.reports.specs.Replay.{IsReplayOf}
+use Rattle.judging.specs.Files.{IsTreeOf, IsFirstRefusal, IsMatrixTree, Answer}
+use Rattle.reports.specs.Check.{IsCheckOf}
+use Rattle.reports.specs.Simulate.{IsSimulationOf}
+use Rattle.reports.specs.Plan.{IsPlanOf}
+use Rattle.reports.specs.Demo.{IsDemoOf}
+use Rattle.reports.specs.Tree.{tree_answer}
+use Rattle.reports.specs.Post.{IsPost}
+use Rattle.reports.specs.Upgrade.{IsUpgradeOf}
+use Rattle.reports.specs.Spill.{IsSpillOf}
+use Rattle.reports.specs.Segments.{IsSegmentsOf}
+use Rattle.reports.specs.Reduce.{IsReduceOf}
+use Rattle.reports.specs.Fronts.{IsFrontsOf}
+
+-- what is answered where all files have values
+abbrev pub IsReport : Request → List (List ℕ) → Answer → Type 0
+IsReport (replay input source) texts answer = IsReplayOf input source texts answer
+IsReport (tree m) texts answer = (nodes : List Node) × IsMatrixTree m texts nodes × (answer ≡ tree_answer nodes)
+IsReport (post input) texts answer = (nodes : List Node) × IsTreeOf input texts nodes × IsPost nodes answer
+IsReport (check input plan workers) texts answer = IsCheckOf input texts answer
+IsReport (planning input format) texts answer = IsPlanOf input format texts answer
+IsReport (simulate input source s) texts answer = IsSimulationOf input source s texts answer
+IsReport (demo made) texts answer = IsDemoOf made answer
+IsReport (upgrade u) texts answer = IsUpgradeOf u texts answer
+IsReport (spill input source bound) texts answer = IsSpillOf input source bound texts answer
+IsReport (segments input) texts answer = IsSegmentsOf input texts answer
+IsReport (fronts m bound workers) texts answer = IsFrontsOf m bound workers texts answer
+IsReport (reduce name) texts answer = IsReduceOf texts answer
+
+-- the files of a request decide its answer; but `plan` may print any plan of least peak with a certificate, `spill` the amounts of any
+-- spill plan of least volume, and `reduce` any term of a graph or any irreducible rest
+abbrev pub IsDecided : Request → Type 0
+IsDecided (planning input format) = ⊥
+IsDecided (spill input source bound) = ⊥
+IsDecided (reduce name) = ⊥
+IsDecided request = Unit {0}
+
+-- the answer to a request over the texts of its files
+abbrev pub IsAnswer : Request → List (List ℕ) → Answer → Type 0
+IsAnswer request texts answer = IsFirstRefusal (files_of request) [] texts answer ⊎ IsReport request texts answer

@@ -1,0 +1,155 @@
+-- No public clause names this.
+-- The words of each command as a request, words that ask for nothing, and the files of requests in the order in which they are judged.
+use Rattle.std.specs.Prelude.{◌≡◌, ℕ, true, false, Option, Some, None, List, [], ◌∷◌, map, codes, refl}
+use Rattle.mp_text.specs.Text.{tokens_of, number_of, number_from}
+use Rattle.assembly_tree.specs.declared.front.Shape.TheVariants.{Triangle, Square}
+use Rattle.command_line.specs.Words.{Shape}
+use Rattle.requests.specs.declared.commands.demo.Demo.TheVariants as demos
+use Rattle.requests.specs.Table.{commands}
+use Rattle.requests.specs.Request.{Request, Input, tree_input, tree_named, matrix_named, workflow_named, Matrix, natural, min_degree}
+use Rattle.requests.specs.Request.{perm_named, order_named, plan_named, replay, tree, post, check, planning, as_file, as_json, simulate}
+use Rattle.requests.specs.Request.{demo, upgrade, tree_upgrade, plan_upgrade, spill, segments, fronts, reduce, files_of, FileRole, tree_file}
+use Rattle.requests.specs.Request.{workflow_file, graph_file, matrix_file, perm_file, order_file, plan_file, priority_file}
+use Rattle.requests.specs.Request.{plan_priority_file, NamedFile}
+use Rattle.requests.specs.Words.{request_of, AsksNothing}
+
+-- the commands of the table
+abbrev pub name_of : Shape → List ℕ
+name_of shape = shape.name
+
+pub names_of_commands :
+    map name_of commands
+    ≡ codes "replay" ∷ codes "tree" ∷ codes "post" ∷ codes "check" ∷ codes "plan" ∷ codes "simulate" ∷ codes "demo" ∷ codes "upgrade"
+    ∷ codes "spill" ∷ codes "segments" ∷ codes "fronts" ∷ codes "reduce" ∷ []
+names_of_commands = refl
+
+-- what the words of a line ask for
+abbrev pub asked : List ℕ → Option Request
+asked line = request_of (tokens_of line)
+
+abbrev pub a_tree : Input
+a_tree = tree_input (tree_named (codes "t"))
+
+abbrev pub a_workflow : Input
+a_workflow = workflow_named (codes "w")
+
+-- a matrix whose options are all left out
+abbrev pub a_matrix : Matrix
+a_matrix = record { name = codes "m"; ordering = natural; fronts = record { shape = Triangle; zeros = None; inplace = false } }
+
+-- ---- each command
+
+pub replay_asked : asked (codes "replay --tree t --order o") ∷ asked (codes "replay --plan=p --workflow=w") ∷ []
+    ≡ Some (replay a_tree (order_named (codes "o"))) ∷ Some (replay a_workflow (plan_named (codes "p"))) ∷ []
+unfolding tokens_of
+replay_asked = refl
+
+pub tree_asked : asked (codes "tree --matrix m") ∷
+    asked (codes "tree --matrix m --perm p --shape square --amalgamate 16 --inplace yes") ∷ []
+    ≡ Some (tree a_matrix)
+    ∷ Some (tree (record {
+      name = codes "m";
+      ordering = perm_named (codes "p");
+      fronts = record { shape = Square; zeros = Some 16; inplace = true };
+    })) ∷ []
+unfolding tokens_of number_of number_from
+tree_asked = refl
+
+pub post_asked : asked (codes "post --tree t") ∷ asked (codes "post --matrix m") ∷ []
+    ≡ Some (post (tree_named (codes "t"))) ∷ Some (post (matrix_named a_matrix)) ∷ []
+unfolding tokens_of
+post_asked = refl
+
+-- one worker, where no number is given
+pub check_asked : asked (codes "check --tree t --plan p") ∷ asked (codes "check --tree t --plan p --workers 4") ∷ []
+    ≡ Some (check a_tree (codes "p") 1) ∷ Some (check a_tree (codes "p") 4) ∷ []
+unfolding tokens_of number_of number_from
+check_asked = refl
+
+pub plan_asked : asked (codes "plan --tree t") ∷ asked (codes "plan --workflow w --print json") ∷ []
+    ≡ Some (planning a_tree as_file) ∷ Some (planning a_workflow as_json) ∷ []
+unfolding tokens_of
+plan_asked = refl
+
+pub simulate_asked : asked (codes "simulate --tree t --order o --bound 22 --workers 2 --priority r")
+    ≡ Some (simulate a_tree (order_named (codes "o")) (record { bound = 22; workers = 2; priority = Some (codes "r") }))
+unfolding tokens_of number_of number_from
+simulate_asked = refl
+
+pub demo_asked :
+    asked (codes "demo --seed 1 --tasks 5") ∷ asked (codes "demo --kind workflow --seed 1 --tasks 5")
+    ∷ asked (codes "demo --kind grid --rows 2 --cols 3") ∷ []
+    ≡ Some (demo (demos.Tree 1 5)) ∷ Some (demo (demos.Workflow 1 5)) ∷ Some (demo (demos.Grid 2 3)) ∷ []
+unfolding tokens_of number_of number_from
+demo_asked = refl
+
+pub upgrade_asked : asked (codes "upgrade --tree t") ∷ asked (codes "upgrade --plan p --priority r") ∷ []
+    ≡ Some (upgrade (tree_upgrade (codes "t"))) ∷ Some (upgrade (plan_upgrade (codes "p") (Some (codes "r")))) ∷ []
+unfolding tokens_of
+upgrade_asked = refl
+
+pub spill_asked : asked (codes "spill --tree t --order o --bound 11") ≡ Some (spill a_tree (order_named (codes "o")) 11)
+unfolding tokens_of number_of number_from
+spill_asked = refl
+
+pub segments_asked : asked (codes "segments --workflow w") ≡ Some (segments a_workflow)
+unfolding tokens_of
+segments_asked = refl
+
+pub fronts_asked : asked (codes "fronts --matrix m --ordering mindeg --bound 4 --workers 2")
+    ≡ Some (fronts (record { name = codes "m"; ordering = min_degree }) 4 2)
+unfolding tokens_of number_of number_from
+fronts_asked = refl
+
+pub reduce_asked : asked (codes "reduce --graph g") ≡ Some (reduce (codes "g"))
+unfolding tokens_of
+reduce_asked = refl
+
+-- ---- words that ask for nothing
+
+-- no words; help; no order; an order and a plan; two inputs; an option of matrices with a tree; no worker; two orders of elimination;
+-- 90,000 vertices of a grid; a priority without a plan
+pub nothing_asked :
+    map asked
+    ([] ∷ codes "--help"
+    ∷ codes "replay --tree t"
+    ∷ codes "replay --tree t --order o --plan p"
+    ∷ codes "plan --tree t --workflow w"
+    ∷ codes "plan --tree t --shape square"
+    ∷ codes "check --tree t --plan p --workers 0"
+    ∷ codes "tree --matrix m --perm p --ordering natural"
+    ∷ codes "demo --kind grid --rows 300 --cols 300"
+    ∷ codes "upgrade --tree t --priority r"
+    ∷ [])
+    ≡ None ∷ None ∷ None ∷ None ∷ None ∷ None ∷ None ∷ None ∷ None ∷ None ∷ []
+unfolding tokens_of number_of number_from
+nothing_asked = refl
+
+-- the same in the words of the top call's clauses
+pub no_words_ask_nothing : (Z : Type 0) → AsksNothing {Z = Z} []
+no_words_ask_nothing Z = refl
+
+-- ---- files
+
+abbrev pub file : FileRole → List ℕ → NamedFile
+file role name = record { role = role; name = name }
+
+pub files_of_a_run :
+    files_of (simulate a_tree (plan_named (codes "p")) (record { bound = 22; workers = 2; priority = Some (codes "r") }))
+    ≡ file tree_file (codes "t") ∷ file plan_file (codes "p") ∷ file (priority_file a_tree) (codes "r") ∷ []
+files_of_a_run = refl
+
+pub files_of_others :
+    map files_of
+    (fronts (record { name = codes "m"; ordering = perm_named (codes "q") }) 4 2
+    ∷ replay a_workflow (order_named (codes "o"))
+    ∷ upgrade (plan_upgrade (codes "p") (Some (codes "r")))
+    ∷ reduce (codes "g")
+    ∷ demo (demos.Grid 2 3)
+    ∷ [])
+    ≡ (file (matrix_file (perm_named (codes "q"))) (codes "m") ∷ file perm_file (codes "q") ∷ [])
+    ∷ (file workflow_file (codes "w") ∷ file order_file (codes "o") ∷ [])
+    ∷ (file plan_file (codes "p") ∷ file plan_priority_file (codes "r") ∷ [])
+    ∷ (file graph_file (codes "g") ∷ [])
+    ∷ [] ∷ []
+files_of_others = refl

@@ -1,0 +1,245 @@
+//! Loads and writes that fail, files that are not held, and sinks that are full.
+
+use super::fronts::ABREAST;
+use super::reductions::{GRAPH, WORKFLOW};
+use super::segments::OF_FIVE;
+use super::simulations::TIGHT;
+use super::spills::BOTH;
+use super::{
+    ARROW, Case, FIVE, FOUR, ORDER, PLAN, TURNED, Texts, check_cases, check_run, files_of, run_into,
+};
+use mp_outside::MemSink;
+use reports::Status::{self, Done, Format, ReadFault, WriteFault};
+use std::alloc::{AllocError, Global};
+use std::process::Abort;
+use std::str;
+use std::test::Fail;
+use std::thread::Threads;
+
+#[rattlefmt::skip]
+const FILES: Texts = &[("t", FIVE), ("o", ORDER), ("p", "5 4 3 2 1\n"), ("m", ARROW), ("q", TURNED), ("g", GRAPH)];
+
+const REPLAY: &str = "replay --tree t --order o";
+
+const PLANNING: &str = "plan --tree t";
+
+const SIMULATE: &str = "simulate --tree t --order o --priority p --bound 11 --workers 2";
+
+const SPILL: &str = "spill --tree t --order o --bound 10";
+
+const SEGMENTS: &str = "segments --tree t";
+
+const FRONTS: &str = "fronts --matrix m --perm q --bound 4 --workers 2";
+
+const REDUCE: &str = "reduce --graph g";
+
+// Loads in pieces of 3 bytes: the tree has 59 bytes, the order and the priority 10 each, and each file ends with a load that gives nothing.
+const OF_TREE: u64 = 20 + 1;
+
+const OF_NUMBERS: u64 = 4 + 1;
+
+// Of the matrix there are 69 bytes, of its permutation 8, and of the graph 75.
+const OF_MATRIX: u64 = 23 + 1;
+
+const OF_PERM: u64 = 3 + 1;
+
+const OF_GRAPH: u64 = 25 + 1;
+
+// Runs, the loads of each, and all that it prints.
+#[rattlefmt::skip]
+const RUNS: &[(&str, u64, &str)] = &[
+    (REPLAY, OF_TREE + OF_NUMBERS, "peak 11\n"),
+    (SIMULATE, OF_TREE + OF_NUMBERS + OF_NUMBERS, TIGHT),
+    (SPILL, OF_TREE + OF_NUMBERS, BOTH),
+    (SEGMENTS, OF_TREE, OF_FIVE),
+    (FRONTS, OF_MATRIX + OF_PERM, ABREAST),
+    (REDUCE, OF_GRAPH, WORKFLOW),
+];
+
+// What a run without faults prints. A plan may be any of least peak: whether it is one is tested elsewhere.
+fn printed(
+    rt: &(impl Threads + Sync + Abort),
+    alloc: Global,
+    run: &str,
+) -> Result<MemSink, AllocError> {
+    let mut files = files_of(alloc, FILES)?;
+    let mut sink = MemSink::new(alloc, 1000)?;
+    let ended = run_into(rt, alloc, run, &mut files, &mut sink)?;
+    assert_eq!(rt; ended, Done, "{run}");
+    Ok(sink)
+}
+
+// ---- loads
+
+// Each load of so many, in pieces of 3 bytes, fails in turn; a load after them is never made.
+fn check_loads<R: Threads + Sync + Abort>(
+    rt: &R,
+    alloc: Global,
+    run: &str,
+    loads: u64,
+    text: &str,
+) -> Result<(), AllocError> {
+    for load in 1..=loads.saturating_add(1) {
+        let mut files = files_of(alloc, FILES)?;
+        files.piece(3);
+        files.fail_at(load)?;
+        let (status, said) = if load <= loads {
+            (ReadFault, "")
+        } else {
+            (Done, text)
+        };
+        check_run(rt, alloc, run, &mut files, status, said)?;
+    }
+    Ok(())
+}
+
+#[test]
+fn each_load_fails_in_turn(rt: HostRuntime) -> Result<(), Fail> {
+    for (run, loads, text) in RUNS {
+        check_loads(&rt, rt.alloc(), run, *loads, text)?;
+    }
+    Ok(())
+}
+
+#[test]
+fn each_load_for_a_plan_fails_in_turn(rt: HostRuntime) -> Result<(), Fail> {
+    let plan = printed(&rt, rt.alloc(), PLANNING)?;
+    let text = str::from_utf8(plan.written()).expect(&rt, "a plan is text");
+    check_loads(&rt, rt.alloc(), PLANNING, OF_TREE, text)?;
+    Ok(())
+}
+
+// A refused file ends a run before a later one is loaded, and one that is not held ends it before a later one is judged.
+#[rattlefmt::skip]
+const NOT_HELD: &[Case] = &[
+    (&["replay --tree t --order none"], &[("t", FIVE)], ReadFault, ""),
+    (&["replay --tree t --order none", "replay --tree t --plan none", "check --tree t --plan none",
+            "simulate --tree t --order none --priority none --bound 0 --workers 1", "spill --tree t --order none --bound 0"],
+        &[("t", "tree 1\nnodes 0\n")], Format, "refused format tree count 2\n"),
+    (&["replay --tree none --order o", "replay --tree none --plan o", "check --tree none --plan o", "replay --workflow none --order o",
+            "replay --matrix none --order o", "plan --tree none", "post --tree none", "tree --matrix none", "upgrade --tree none",
+            "upgrade --workflow none", "upgrade --plan none --priority o", "spill --tree none --order o --bound 0",
+            "spill --workflow none --plan o --bound 0", "segments --tree none", "segments --workflow none",
+            "segments --matrix none", "reduce --graph none",
+            "fronts --matrix none --perm o --bound 0 --workers 1"],
+        &[("o", "x")], ReadFault, ""),
+    (&["tree --matrix m --perm none", "plan --matrix m --perm none", "post --matrix m --perm none", "segments --matrix m --perm none",
+            "fronts --matrix m --perm none --bound 0 --workers 1"], &[("m", ARROW)], ReadFault, ""),
+    (&["tree --matrix m --perm none", "replay --matrix m --perm none --order none"], &[("m", "")], Format,
+        "refused format matrix banner 1\n"),
+    (&["replay --matrix m --perm p --order none", "plan --matrix m --perm p", "tree --matrix m --perm p"],
+        &[("m", ARROW), ("p", "0\n")], Format, "refused format perm range 1\n"),
+    (&["replay --matrix m --perm none --order o", "simulate --matrix m --perm none --order o --bound 0 --workers 1"],
+        &[("m", ARROW), ("o", "x")], ReadFault, ""),
+    (&["simulate --tree t --order o --priority none --bound 0 --workers 1"], &[("t", FOUR), ("o", "x\n")], Format,
+        "refused format order number 1\n"),
+    (&["simulate --tree t --order none --priority p --bound 0 --workers 1",
+            "simulate --tree t --order o --priority none --bound 0 --workers 1"],
+        &[("t", FOUR), ("o", "1 1\n"), ("p", "x")], ReadFault, ""),
+    (&["upgrade --plan p --priority none"], &[("p", "plan 3\n")], Format, "refused format plan header 1\n"),
+    (&["upgrade --plan p --priority none"], &[("p", PLAN)], ReadFault, ""),
+    (&["spill --tree t --order none --bound 11", "spill --tree t --plan none --bound 11"], &[("t", FIVE)], ReadFault, ""),
+];
+
+#[test]
+fn files_that_are_not_held(rt: HostRuntime) -> Result<(), Fail> {
+    check_cases(&rt, rt.alloc(), NOT_HELD)
+}
+
+// ---- writes
+
+// A sink takes so many bytes of what a run prints, which ends well where these are all of it.
+fn check_taken<R: Threads + Sync + Abort>(
+    rt: &R,
+    alloc: Global,
+    run: &str,
+    mut sink: MemSink,
+    text: &[u8],
+    taken: usize,
+) -> Result<(), AllocError> {
+    let mut files = files_of(alloc, FILES)?;
+    let status = if taken < text.len() { WriteFault } else { Done };
+    let ended = run_into(rt, alloc, run, &mut files, &mut sink)?;
+    assert_eq!(rt; ended, status, "{run}: {taken} bytes");
+    assert_eq!(rt;
+        Some(sink.written()),
+        text.get(..taken),
+        "{run}: {taken} bytes"
+    );
+    Ok(())
+}
+
+// A sink that takes pieces of so many bytes, and whose write of this number fails.
+fn failing(alloc: Global, piece: usize, write: usize) -> Result<MemSink, AllocError> {
+    let mut sink = MemSink::new(alloc, 1000)?;
+    sink.piece(piece.max(1) as u64);
+    sink.fail_at(write as u64)?;
+    Ok(sink)
+}
+
+// Each write of a text, in pieces of so many bytes, fails in turn; a write after them is never made.
+fn check_writes<R: Threads + Sync + Abort>(
+    rt: &R,
+    alloc: Global,
+    run: &str,
+    piece: usize,
+    text: &[u8],
+) -> Result<(), AllocError> {
+    let mut taken = 0usize;
+    for write in 1..=text.len().div_ceil(piece.max(1)).saturating_add(1) {
+        let sink = failing(alloc, piece, write)?;
+        check_taken(rt, alloc, run, sink, text, taken)?;
+        taken = taken.saturating_add(piece).min(text.len());
+    }
+    Ok(())
+}
+
+// Of a text a sink takes as much as it has room for, in pieces of so many bytes.
+fn check_rooms<R: Threads + Sync + Abort>(
+    rt: &R,
+    alloc: Global,
+    run: &str,
+    piece: u64,
+    text: &[u8],
+) -> Result<(), AllocError> {
+    for room in 0..=text.len() {
+        let mut sink = MemSink::new(alloc, room as u64)?;
+        sink.piece(piece.max(1));
+        check_taken(rt, alloc, run, sink, text, room)?;
+    }
+    Ok(())
+}
+
+#[test]
+fn sinks_that_fail(rt: HostRuntime) -> Result<(), Fail> {
+    for (run, _loads, text) in RUNS {
+        check_writes(&rt, rt.alloc(), run, 1, text.as_bytes())?;
+        check_writes(&rt, rt.alloc(), run, 5, text.as_bytes())?;
+    }
+    Ok(())
+}
+
+#[test]
+fn sinks_that_are_full(rt: HostRuntime) -> Result<(), Fail> {
+    for (run, _loads, text) in RUNS {
+        check_rooms(&rt, rt.alloc(), run, 1000, text.as_bytes())?;
+        check_rooms(&rt, rt.alloc(), run, 3, text.as_bytes())?;
+    }
+    Ok(())
+}
+
+#[test]
+fn sinks_of_a_plan_that_fail(rt: HostRuntime) -> Result<(), Fail> {
+    let plan = printed(&rt, rt.alloc(), PLANNING)?;
+    check_writes(&rt, rt.alloc(), PLANNING, 1, plan.written())?;
+    check_writes(&rt, rt.alloc(), PLANNING, 5, plan.written())?;
+    Ok(())
+}
+
+#[test]
+fn sinks_of_a_plan_that_are_full(rt: HostRuntime) -> Result<(), Fail> {
+    let plan = printed(&rt, rt.alloc(), PLANNING)?;
+    check_rooms(&rt, rt.alloc(), PLANNING, 1000, plan.written())?;
+    check_rooms(&rt, rt.alloc(), PLANNING, 3, plan.written())?;
+    Ok(())
+}

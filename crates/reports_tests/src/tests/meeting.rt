@@ -1,0 +1,99 @@
+//! The checker judges its chunks, and a round makes its fronts, on threads: two of them meet.
+
+use super::fronts::ABREAST;
+use super::{ARROW, FIVE, PLAN, TURNED, files_of, words_of};
+use mp_outside::{Gate, MemSink};
+use reports::{Status, run_words};
+use std::alloc::Global;
+use std::process::Abort;
+use std::sync::atomic::{AtomicBool, Ordering};
+use std::test::Fail;
+use std::thread::{Threads, yield_now};
+
+// Holds each of the first two tasks until the other has entered, for so many looks at most.
+#[derive(Drop)]
+struct Meeting {
+    first: AtomicBool,
+    second: AtomicBool,
+    gave_up: AtomicBool,
+}
+
+impl Gate for Meeting {
+    fn enter(&self, task: u32) {
+        let (mine, other) = match task {
+            0 => (&self.first, &self.second),
+            1 => (&self.second, &self.first),
+            _ => return,
+        };
+        mine.store(true, Ordering::SeqCst);
+        for _ in 0..10_000_000u32 {
+            if other.load(Ordering::SeqCst) {
+                return;
+            }
+            yield_now();
+        }
+        self.gave_up.store(true, Ordering::SeqCst);
+    }
+}
+
+// Where none has come yet.
+fn awaited() -> Meeting {
+    Meeting {
+        first: AtomicBool::new(false),
+        second: AtomicBool::new(false),
+        gave_up: AtomicBool::new(false),
+    }
+}
+
+// What a run prints that passes this gate.
+fn printed<R: Threads + Sync + Abort>(
+    rt: &R,
+    alloc: Global,
+    run: &str,
+    texts: &[(&str, &str)],
+    gate: &Meeting,
+) -> Result<MemSink, Fail> {
+    let mut files = files_of(alloc, texts)?;
+    let words = words_of(alloc, run)?;
+    let mut sink = MemSink::new(alloc, 100)?;
+    let status = run_words(rt, alloc, &words, &mut files, &mut sink, gate);
+    assert_eq!(rt; status, Status::Done);
+    Ok(sink)
+}
+
+// Both have come, and neither gave up.
+fn check_met(rt: &impl Abort, gate: &Meeting) {
+    assert!(rt; gate.first.load(Ordering::SeqCst));
+    assert!(rt; gate.second.load(Ordering::SeqCst));
+    assert!(rt; !gate.gave_up.load(Ordering::SeqCst));
+}
+
+// Both come, neither gives up, and the run prints this text.
+fn check_meeting<R: Threads + Sync + Abort>(
+    rt: &R,
+    alloc: Global,
+    run: &str,
+    texts: &[(&str, &str)],
+    text: &str,
+) -> Result<(), Fail> {
+    let gate = awaited();
+    let sink = printed(rt, alloc, run, texts, &gate)?;
+    assert_eq!(rt; sink.written(), text.as_bytes());
+    check_met(rt, &gate);
+    Ok(())
+}
+
+#[test]
+fn two_chunks_are_judged_at_once(rt: HostRuntime) -> Result<(), Fail> {
+    let run = "check --tree t --plan p --workers 2";
+    let texts = [("t", FIVE), ("p", PLAN)];
+    check_meeting(&rt, rt.alloc(), run, &texts, "yes 11\n")
+}
+
+// In the second round both have come, so its one front passes.
+#[test]
+fn two_fronts_are_made_at_once(rt: HostRuntime) -> Result<(), Fail> {
+    let run = "fronts --matrix m --perm p --bound 4 --workers 2";
+    let texts = [("m", ARROW), ("p", TURNED)];
+    check_meeting(&rt, rt.alloc(), run, &texts, ABREAST)
+}

@@ -1,0 +1,4 @@
+pub mod Table
+pub mod Request
+pub mod RequestViews
+pub mod Words

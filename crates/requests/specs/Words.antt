@@ -1,0 +1,169 @@
+-- The words that ask for each request: a command of the table, and options of it, each at most once.
+use Rattle.std.specs.Prelude.{◌≡◌, ℕ, List, [], ◌∷◌, Option, option_map, option_and_then}
+use Rattle.std.specs.Prelude.{codes, ◌*◌, nat_le, Some, None, if◌then◌else◌}
+use Rattle.std.specs.Prelude.{map}
+use Rattle.std.specs.Prelude.{String, string_bytes}
+use Rattle.requests.specs.Request.{Request, check, input_of, workers_or_one, demo, gives_any, number_given, number_up_to}
+use Rattle.requests.specs.Request.{fronts, ordering_of, planning, is_second, format_of}
+use Rattle.requests.specs.Request.{post, tree_input_of, reduce, replay, source_of, segments}
+use Rattle.requests.specs.Request.{simulate, spill, tree, matrix_of}
+use Rattle.requests.specs.Request.{upgrade, Upgrade, tree_upgrade, workflow_upgrade, plan_upgrade}
+use Rattle.std.specs.Str.{bytes_eq}
+use Rattle.command_line.specs.Words.{Given, value_of, Line, line_of}
+use Rattle.limits.specs.Limits.{most_tasks, most_mindeg, most_workers}
+use Rattle.requests.specs.declared.commands.demo.Demo.{Demo}
+use Rattle.requests.specs.Table.{commands}
+use Rattle.requests.specs.declared.commands.demo.Demo.TheVariants as demos
+
+-- `check`, one input, `--plan NAME`, and `--workers N` if it is given
+abbrev pub check_of : List Given → Option Request
+check_of options =
+    option_and_then (λ input.
+    option_and_then (λ plan.
+    option_map (check input plan) (workers_or_one (value_of (codes "workers") options)))
+    (value_of (codes "plan") options))
+    (input_of options)
+
+-- `--seed S` and `--tasks N`, of at most 10^6 tasks, without rows and columns
+abbrev pub seeded_of : List Given → Option (ℕ × ℕ)
+seeded_of options =
+    if gives_any (codes "rows" ∷ codes "cols" ∷ []) options then None
+    else option_and_then (λ seed.
+    option_map (λ tasks. (seed, tasks))
+    (number_up_to most_tasks (value_of (codes "tasks") options)))
+    (number_given (value_of (codes "seed") options))
+
+-- at most 50,000 vertices
+abbrev pub sides_within : ℕ → ℕ → Option (ℕ × ℕ)
+sides_within rows cols = if nat_le (rows * cols) most_mindeg then Some (rows, cols) else None
+
+-- `--rows R` and `--cols C`, without a seed and tasks
+abbrev pub sides_of : List Given → Option (ℕ × ℕ)
+sides_of options =
+    if gives_any (codes "seed" ∷ codes "tasks" ∷ []) options then None
+    else option_and_then (λ rows.
+    option_and_then (sides_within rows)
+    (number_up_to most_mindeg (value_of (codes "cols") options)))
+    (number_up_to most_mindeg (value_of (codes "rows") options))
+
+-- a tree, where no kind is given
+abbrev pub kind_or_tree : Option (List ℕ) → List ℕ
+kind_or_tree None = codes "tree"
+kind_or_tree (Some kind) = kind
+
+-- what is to be made
+abbrev pub made_of : List ℕ → List Given → Option Demo
+made_of kind options =
+    if bytes_eq kind (codes "tree") then option_map (λ p. demos.Tree p.0 p.1) (seeded_of options)
+    else if bytes_eq kind (codes "workflow") then option_map (λ p. demos.Workflow p.0 p.1) (seeded_of options)
+    else if bytes_eq kind (codes "grid") then option_map (λ p. demos.Grid p.0 p.1) (sides_of options)
+    else None
+
+-- `demo`, `--kind tree|workflow|grid` if it is given, and the numbers of what is to be made
+abbrev pub demo_of : List Given → Option Request
+demo_of options = option_map demo (made_of (kind_or_tree (value_of (codes "kind") options)) options)
+
+-- `fronts`, `--matrix NAME`, its `--perm NAME` or `--ordering natural|mindeg` if one is given, `--bound B` and `--workers N`
+abbrev pub fronts_of : List Given → Option Request
+fronts_of options =
+    option_and_then (λ name.
+    option_and_then (λ ordering.
+    option_and_then (λ bound.
+    option_map (fronts (record { name = name; ordering = ordering }) bound)
+    (number_up_to most_workers (value_of (codes "workers") options)))
+    (number_given (value_of (codes "bound") options)))
+    (ordering_of (value_of (codes "perm") options) (value_of (codes "ordering") options)))
+    (value_of (codes "matrix") options)
+
+-- `plan`, one input, and `--print text` or `--print json` if it is given
+abbrev pub plan_of : List Given → Option Request
+plan_of options =
+    option_and_then (λ input.
+    option_map (λ json. planning input (format_of json)) (is_second (codes "text") (codes "json") (value_of (codes "print") options)))
+    (input_of options)
+
+-- `post` and a tree or a matrix
+abbrev pub post_of : List Given → Option Request
+post_of options = option_map post (tree_input_of options)
+
+-- `reduce` and `--graph NAME`
+abbrev pub reduce_of : List Given → Option Request
+reduce_of options = option_map reduce (value_of (codes "graph") options)
+
+-- `replay`, one input, and `--order NAME` or `--plan NAME`
+abbrev pub replay_of : List Given → Option Request
+replay_of options =
+    option_and_then (λ input.
+    option_map (replay input) (source_of (value_of (codes "order") options) (value_of (codes "plan") options)))
+    (input_of options)
+
+-- `segments` and one input
+abbrev pub segments_of : List Given → Option Request
+segments_of options = option_map segments (input_of options)
+
+-- `simulate`, one input, `--order NAME` or `--plan NAME`, `--bound B` and `--workers N`, and `--priority NAME` if it is given
+abbrev pub simulate_of : List Given → Option Request
+simulate_of options =
+    option_and_then (λ input.
+    option_and_then (λ source.
+    option_and_then (λ bound.
+    option_map (λ workers.
+    simulate input source (record { bound = bound; workers = workers; priority = value_of (codes "priority") options }))
+    (number_up_to most_workers (value_of (codes "workers") options)))
+    (number_given (value_of (codes "bound") options)))
+    (source_of (value_of (codes "order") options) (value_of (codes "plan") options)))
+    (input_of options)
+
+-- `spill`, one input, `--order NAME` or `--plan NAME`, and `--bound B`
+abbrev pub spill_of : List Given → Option Request
+spill_of options =
+    option_and_then (λ input.
+    option_and_then (λ source.
+    option_map (spill input source) (number_given (value_of (codes "bound") options)))
+    (source_of (value_of (codes "order") options) (value_of (codes "plan") options)))
+    (input_of options)
+
+-- `tree` and a matrix
+abbrev pub tree_request_of : List Given → Option Request
+tree_request_of options = option_and_then (λ name. option_map tree (matrix_of name options)) (value_of (codes "matrix") options)
+
+-- exactly one of a tree, a workflow and a plan, and a priority with a plan alone; by the names that are given for them
+abbrev pub upgrade_named : Option (List ℕ) → Option (List ℕ) → Option (List ℕ) → Option (List ℕ) → Option Upgrade
+upgrade_named (Some name) None None None = Some (tree_upgrade name)
+upgrade_named None (Some name) None None = Some (workflow_upgrade name)
+upgrade_named None None (Some name) priority = Some (plan_upgrade name priority)
+upgrade_named of_tree of_workflow of_plan priority = None
+
+-- `upgrade` and `--tree NAME`, `--workflow NAME` or `--plan NAME`, with `--priority NAME` after a plan if it is given
+abbrev pub upgrade_of : List Given → Option Request
+upgrade_of options =
+    option_map upgrade
+    (upgrade_named (value_of (codes "tree") options) (value_of (codes "workflow") options) (value_of (codes "plan") options)
+    (value_of (codes "priority") options))
+
+abbrev pub command_of : Line → Option Request
+command_of line =
+    if bytes_eq line.command (codes "replay") then replay_of line.options
+    else if bytes_eq line.command (codes "tree") then tree_request_of line.options
+    else if bytes_eq line.command (codes "post") then post_of line.options
+    else if bytes_eq line.command (codes "check") then check_of line.options
+    else if bytes_eq line.command (codes "plan") then plan_of line.options
+    else if bytes_eq line.command (codes "simulate") then simulate_of line.options
+    else if bytes_eq line.command (codes "demo") then demo_of line.options
+    else if bytes_eq line.command (codes "upgrade") then upgrade_of line.options
+    else if bytes_eq line.command (codes "spill") then spill_of line.options
+    else if bytes_eq line.command (codes "segments") then segments_of line.options
+    else if bytes_eq line.command (codes "fronts") then fronts_of line.options
+    else if bytes_eq line.command (codes "reduce") then reduce_of line.options
+    else None
+
+-- the request of the words after the program's name: a command of the table, and options of it, each at most once
+abbrev pub request_of : List (List ℕ) → Option Request
+request_of words = option_and_then command_of (line_of commands words)
+
+-- the words ask for this, or for nothing that the program does
+abbrev pub Asks : {Z : Type 0} → List (String Z) → Request → Type 0
+Asks words request = request_of (map (λ w. string_bytes w) words) ≡ Some request
+
+abbrev pub AsksNothing : {Z : Type 0} → List (String Z) → Type 0
+AsksNothing words = request_of (map (λ w. string_bytes w) words) ≡ None

@@ -1,0 +1,20 @@
+//! Words to requests: what the words after the program's name ask for.
+//!
+//! The definitions stand in specs/: `Request`, what can be asked for, with the files that it names; `Words`, the words that ask for each; the
+//! table of commands in `Table`.
+#![tactic(auto)]
+
+mod commands;
+mod request;
+
+pub use commands::check::Check;
+pub use commands::demo::Demo;
+pub use commands::fronts::FrontRun;
+pub use commands::replay::Replay;
+pub use commands::request_of;
+pub use commands::simulate::Simulation;
+pub use commands::spill::Spilling;
+pub use commands::upgrade::Upgrade;
+pub use request::{
+    Input, Matrix, OrderSource, OrderedMatrix, Ordering, PlanFormat, Request, TreeInput,
+};

@@ -1,0 +1,278 @@
+ghost use Rattle.std.specs.Prelude.{◌≡◌, ◌<◌, ◌≤◌, ◌^◌, IfSome, option_map};
+ghost use Rattle.requests.specs.Request.{is_second, ordering_named, ordering_of, zeros_named, matrix_of, gives_any, tree_input_of, input_of};
+ghost use Rattle.requests.specs.Request.{source_of, number_given, number_up_to, workers_or_one, AreWorkers};
+ghost use Rattle.requests.specs.Table.{matrix_options, tree_names};
+ghost use Rattle.requests.specs.RequestViews.{ordering_view, matrix_view, tree_input_view, input_view, source_view};
+
+use crate::commands::check::Check;
+use crate::commands::demo::Demo;
+use crate::commands::fronts::FrontRun;
+use crate::commands::replay::Replay;
+use crate::commands::simulate::Simulation;
+use crate::commands::spill::Spilling;
+use crate::commands::upgrade::Upgrade;
+use assembly_tree::Shape;
+use command_line::Line;
+use limits::{MOST_WORKERS, MOST_ZEROS};
+use mp_text::number;
+use symbolic::FrontOptions;
+
+/// In which order the rows of a matrix are eliminated.
+#[derive(Clone, Copy, Debug)]
+pub enum Ordering<'a> {
+    /// 1, 2, ..
+    Natural,
+    /// By minimum degree, a matrix of at most 50,000 rows.
+    MinDegree,
+    /// Of a permutation file, by its name.
+    Perm(&'a str),
+}
+
+/// A matrix, by the name of its file, and how it becomes a tree of fronts.
+#[derive(Clone, Copy, Debug)]
+pub struct Matrix<'a> {
+    pub name: &'a str,
+    pub ordering: Ordering<'a>,
+    /// How the fronts are made, with at most 2^40 explicit zeros in a merge.
+    pub fronts: FrontOptions,
+}
+
+/// A matrix, by the name of its file, and in which order its rows are eliminated.
+#[derive(Clone, Copy, Debug)]
+pub struct OrderedMatrix<'a> {
+    pub name: &'a str,
+    pub ordering: Ordering<'a>,
+}
+
+/// What becomes a tree: a tree file, by its name, or a matrix.
+#[derive(Clone, Copy, Debug)]
+pub enum TreeInput<'a> {
+    Tree(&'a str),
+    Matrix(Matrix<'a>),
+}
+
+/// What becomes a system of tasks: a tree, or a workflow file, by its name.
+#[derive(Clone, Copy, Debug)]
+pub enum Input<'a> {
+    Tree(TreeInput<'a>),
+    Workflow(&'a str),
+}
+
+/// What an order of tasks is read from: an order file, or a plan file, by its name.
+#[derive(Clone, Copy, Debug)]
+pub enum OrderSource<'a> {
+    Order(&'a str),
+    Plan(&'a str),
+}
+
+/// How a plan is printed.
+#[derive(Clone, Copy, Debug, PartialEq, Eq)]
+pub enum PlanFormat {
+    /// As a plan file.
+    File,
+    /// As one line of JSON.
+    Json,
+}
+
+/// What the words ask for.
+#[derive(Clone, Copy, Debug)]
+pub enum Request<'a> {
+    /// The peak of the input's system in the order.
+    Replay(Replay<'a>),
+    /// The tree of a matrix.
+    Tree(Matrix<'a>),
+    /// The best postorder of a tree, and its peak.
+    Post(TreeInput<'a>),
+    /// Whether the plan is accepted for the input.
+    Check(Check<'a>),
+    /// A traversal of least peak, with its certificate.
+    Plan(Input<'a>, PlanFormat),
+    /// The run of the input's system on several workers within a bound, its tasks activated in the order.
+    Simulate(Simulation<'a>),
+    /// An input that is made, its plan, and whether the plan is accepted.
+    Demo(Demo),
+    /// A file, as version 2.
+    Upgrade(Upgrade<'a>),
+    /// What must go to disk where the order runs within the bound.
+    Spill(Spilling<'a>),
+    /// How low memory can come in each subtree of a tree, or at each position of a workflow.
+    Segments(Input<'a>),
+    /// The rows of every front of the matrix, made within the bound by the workers.
+    Fronts(FrontRun<'a>),
+    /// The term of a task graph, by the name of its file.
+    Reduce(&'a str),
+}
+
+// ---- the options of a matrix
+
+/// Whether a value is the second of two words; with no value it is the first.
+pub fn is_second(given: Option<&str>, first: &str, second: &str) -> Option<bool>
+    ensures { result ≡ is_second first.now second.now (option_map (λ s. s.now) given.entry) }
+{
+    match given {
+        None => Some(false),
+        Some(word) if word == first => Some(false),
+        Some(word) if word == second => Some(true),
+        Some(_) => None,
+    }
+}
+
+// The order of this name.
+fn ordering_named<'a>(word: &str) -> Option<Ordering<'a>>
+    ensures { option_map ordering_view result ≡ ordering_named word.now }
+{
+    match word {
+        "natural" => Some(Ordering::Natural),
+        "mindeg" => Some(Ordering::MinDegree),
+        _ => None,
+    }
+}
+
+/// A permutation file, or an order by its name, not both.
+pub fn ordering_of<'a>(perm: Option<&'a str>, ordering: Option<&'a str>) -> Option<Ordering<'a>>
+    ensures { option_map ordering_view result ≡ ordering_of (option_map (λ s. s.now) perm.entry) (option_map (λ s. s.now) ordering.entry) }
+{
+    match (perm, ordering) {
+        (None, None) => Some(Ordering::Natural),
+        (None, Some(word)) => ordering_named(word),
+        (Some(name), None) => Some(Ordering::Perm(name)),
+        (Some(_), Some(_)) => None,
+    }
+}
+
+// How many zeros a merge may add: at most 2^40.
+fn zeros_of(given: Option<&str>) -> Option<Option<u64>>
+    ensures { result ≡ zeros_named (option_map (λ s. s.now) given.entry) }
+{
+    let Some(word) = given else {
+        return Some(None);
+    };
+    let zeros = number(word.as_bytes())?;
+    if zeros <= MOST_ZEROS {
+        Some(Some(zeros))
+    } else {
+        None
+    }
+}
+
+/// The matrix of this name, with the options that are given for it.
+pub fn matrix_of<'a>(name: &'a str, line: &Line<'a>) -> Option<Matrix<'a>>
+    ensures { option_map matrix_view result ≡ matrix_of name.entry.now line.now.options }
+{
+    let square = is_second(line.value("shape"), "triangle", "square")?;
+    let zeros = zeros_of(line.value("amalgamate"))?;
+    let inplace = is_second(line.value("inplace"), "no", "yes")?;
+    let ordering = ordering_of(line.value("perm"), line.value("ordering"))?;
+    let shape = if square {
+        Shape::Square
+    } else {
+        Shape::Triangle
+    };
+    let fronts = FrontOptions {
+        shape,
+        zeros,
+        inplace,
+    };
+    Some(Matrix {
+        name,
+        ordering,
+        fronts,
+    })
+}
+
+// ---- inputs
+
+// Whether an option of a matrix is given.
+fn has_matrix_option(line: &Line<'_>) -> bool
+    ensures { result ≡ gives_any matrix_options line.now.options }
+{
+    line.value("perm").is_some()
+        || line.value("ordering").is_some()
+        || line.value("shape").is_some()
+        || line.value("amalgamate").is_some()
+        || line.value("inplace").is_some()
+}
+
+// Whether a tree, a matrix or an option of a matrix is given.
+fn has_tree_option(line: &Line<'_>) -> bool
+    ensures { result ≡ gives_any tree_names line.now.options }
+{
+    line.value("tree").is_some() || line.value("matrix").is_some() || has_matrix_option(line)
+}
+
+/// A tree, without the options of a matrix, or a matrix.
+pub fn tree_input_of<'a>(line: &Line<'a>) -> Option<TreeInput<'a>>
+    ensures { option_map tree_input_view result ≡ tree_input_of line.now.options }
+{
+    match (line.value("tree"), line.value("matrix")) {
+        (None, None) => None,
+        (None, Some(name)) => {
+            let matrix = matrix_of(name, line)?;
+            Some(TreeInput::Matrix(matrix))
+        }
+        (Some(_), None) if has_matrix_option(line) => None,
+        (Some(name), None) => Some(TreeInput::Tree(name)),
+        (Some(_), Some(_)) => None,
+    }
+}
+
+/// A tree, a matrix or a workflow.
+pub fn input_of<'a>(line: &Line<'a>) -> Option<Input<'a>>
+    ensures { option_map input_view result ≡ input_of line.now.options }
+{
+    let Some(name) = line.value("workflow") else {
+        let input = tree_input_of(line)?;
+        return Some(Input::Tree(input));
+    };
+    if has_tree_option(line) {
+        None
+    } else {
+        Some(Input::Workflow(name))
+    }
+}
+
+// ---- what several commands ask for
+
+/// An order file or a plan file, not both.
+pub fn source_of<'a>(order: Option<&'a str>, plan: Option<&'a str>) -> Option<OrderSource<'a>>
+    ensures { option_map source_view result ≡ source_of (option_map (λ s. s.now) order.entry) (option_map (λ s. s.now) plan.entry) }
+{
+    match (order, plan) {
+        (Some(order), None) => Some(OrderSource::Order(order)),
+        (None, Some(plan)) => Some(OrderSource::Plan(plan)),
+        (None, None) => None,
+        (Some(_), Some(_)) => None,
+    }
+}
+
+/// A number that is given.
+pub fn number_given(given: Option<&str>) -> Option<u64>
+    ensures { result ≡ number_given (option_map (λ s. s.now) given.entry) }
+{
+    number(given?.as_bytes())
+}
+
+/// A number that is given, from 1 to the greatest that passes.
+pub fn number_up_to(most: u64, given: Option<&str>) -> Option<u32>
+    requires { most < 2 ^ 32 }
+    ensures value { result ≡ number_up_to most (option_map (λ s. s.now) given.entry) }
+    ensures range { IfSome result (λ n. (1 ≤ n) × (n ≤ most)) }
+{
+    let number = number_given(given)?;
+    if 1 <= number && number <= most {
+        Some(number as u32)
+    } else {
+        None
+    }
+}
+
+/// One worker, where no number is given.
+pub fn workers_of(given: Option<&str>) -> Option<u32>
+    ensures value { result ≡ workers_or_one (option_map (λ s. s.now) given.entry) }
+    ensures range { IfSome result AreWorkers }
+{
+    if given.is_none() {
+        return Some(1);
+    }
+    number_up_to(u64::from(MOST_WORKERS), given)
+}

@@ -1,8 +1,0 @@
-use Rattle.std.proofs.Common.{◌≡◌, ◌≤◌, [], replicate}
-use Rattle.rounds_run.proofs.lists.empty_inboxes.Given as goal
-
-abbrev pub invariant-loop : goal.invariant-loop
-invariant-loop l = record {
-  within : l.counter ≤ l.count;
-  are : l.inboxes.items ≡ replicate l.counter [];
-}

@@ -1,0 +1,8 @@
+use Rattle.std.proofs.Common.{◌≡◌, ◌≤◌, [], replicate}
+use Rattle.rounds_run.proofs.number_lists.empty_inboxes.Given as goal
+
+abbrev pub invariant-loop : goal.invariant-loop
+invariant-loop l = record {
+  within : l.counter ≤ l.count;
+  are : l.inboxes.items ≡ replicate l.counter [];
+}

@@ -1,0 +1,5 @@
+//! Tests of `row_table`, over its public functions.
+#![tactic(auto)]
+
+#[cfg(test)]
+mod tests;

@@ -1,4 +1,0 @@
-use Rattle.sp_cuts.proofs.tests.planned.Given as goal
-
-abbrev pub ghosts-plan : goal.ghosts-plan
-ghosts-plan a = record { name = a.blank.name; parts = a.blank.parts }

@@ -1,6 +1,0 @@
-use Rattle.std.proofs.Common.{ℕ, ◌+◌, ◌<◌, ◌≤◌, length}
-use Rattle.system_input.specs.Judged.{ItemPasses}
-use Rattle.system_input.proofs.judged.judge_items.Given as goal
-
-abbrev pub invariant-loop-i : goal.invariant-loop-i
-invariant-loop-i l = (k : ℕ) → 1 ≤ k → k < l.i + 1 → ItemPasses (length l.tasks) l.items l.test k

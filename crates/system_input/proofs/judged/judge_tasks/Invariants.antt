@@ -1,6 +1,0 @@
-use Rattle.std.proofs.Common.{ℕ, ◌+◌, ◌<◌, ◌≤◌}
-use Rattle.system_input.specs.Judged.{TaskPasses}
-use Rattle.system_input.proofs.judged.judge_tasks.Given as goal
-
-abbrev pub invariant-loop-i : goal.invariant-loop-i
-invariant-loop-i l = (v : ℕ) → 1 ≤ v → v < l.i + 1 → TaskPasses l.tasks l.test v

@@ -1,6 +1,0 @@
-use Rattle.std.proofs.Common.{◌≡◌, ◌≤◌, ◌*◌, ◌^◌, take}
-use Rattle.std.specs.List.{sum_by}
-use Rattle.system_input.proofs.judged.sizes_of.Given as goal
-
-abbrev pub invariant-loop-i : goal.invariant-loop-i
-invariant-loop-i l = record { sum : l.total ≡ sum_by (λ item. item.size) (take l.i l.items); few : l.total ≤ l.i * 2 ^ 40 }

@@ -1,6 +1,0 @@
-use Rattle.std.proofs.Common.{ℕ, ◌+◌, ◌<◌, ◌≤◌}
-use Rattle.task_graph.specs.Graph.{ShareFits}
-use Rattle.task_graph.proofs.shares.first_unfit.Given as goal
-
-abbrev pub invariant-loop-i : goal.invariant-loop-i
-invariant-loop-i l = (v : ℕ) → 1 ≤ v → v < l.i + 1 → ShareFits l.tasks l.arcs v

@@ -1,0 +1,8 @@
+pub mod FileLemmas
+pub mod FormLemmas
+pub mod LengthLemmas
+pub mod NodeLines
+pub mod PrintedLemmas
+pub mod ReaderLaws
+pub mod RowsAhead
+pub mod StatedLemmas

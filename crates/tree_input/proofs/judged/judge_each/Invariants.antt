@@ -1,6 +1,0 @@
-use Rattle.std.proofs.Common.{ℕ, ◌+◌, ◌<◌, ◌≤◌}
-use Rattle.tree_input.specs.Judged.{Passes}
-use Rattle.tree_input.proofs.judged.judge_each.Given as goal
-
-abbrev pub invariant-loop-i : goal.invariant-loop-i
-invariant-loop-i l = (v : ℕ) → 1 ≤ v → v < l.i + 1 → Passes l.nodes l.test v

@@ -1,8 +1,0 @@
-use Rattle.tree_input.proofs.LimitLemmas.{tree-terms, tree-renamed}
-use Rattle.tree_input.proofs.laws.tree_term.Goals as goal
-
-pub returns-clause-terms : goal.returns-clause-terms
-returns-clause-terms c = λ nodes f is h. tree-terms nodes f is h c.terms_law.ensures.form
-
-pub returns-clause-system : goal.returns-clause-system
-returns-clause-system c = λ nodes f is h. tree-renamed nodes f is h c.terms_law.ensures.form

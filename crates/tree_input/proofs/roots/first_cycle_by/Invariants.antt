@@ -1,5 +1,0 @@
-use Rattle.tree_input.proofs.AscentLemmas.{LookedAt}
-use Rattle.tree_input.proofs.roots.first_cycle_by.Given as goal
-
-abbrev pub invariant-loop-i : goal.invariant-loop-i
-invariant-loop-i l = LookedAt l.nodes l.marks l.i

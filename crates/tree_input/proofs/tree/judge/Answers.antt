@@ -1,5 +1,0 @@
-use Rattle.tree_input.proofs.PlainLemmas.{plain_roots}
-use Rattle.tree_input.proofs.tree.judge.Goals as goal
-
-pub returns-then-is_plain-clause-roots : goal.returns-then-is_plain-clause-roots
-returns-then-is_plain-clause-roots c = plain_roots c.args.nodes.now (c.is_plain.ensures.0 c.if-is_plain.true) c.requires.each

@@ -1,0 +1,15 @@
+pub mod AscentLemmas
+pub mod ChildLemmas
+pub mod CountLemmas
+pub mod ForestLemmas
+pub mod ItemLemmas
+pub mod JudgedLemmas
+pub mod LimitLemmas
+pub mod OrderLemmas
+pub mod PlainLemmas
+pub mod PositionLemmas
+pub mod RangeLemmas
+pub mod RootLemmas
+pub mod ShareLemmas
+pub mod SystemLemmas
+pub mod TermLemmas

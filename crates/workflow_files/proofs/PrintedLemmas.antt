@@ -1,0 +1,288 @@
+-- A printed workflow is read as it was.
+use Rattle.std.proofs.Common.{◌≡◌, ℕ, ◌+◌, ◌^◌, ◌<◌, ◌≤◌, Bool, true, false, cond, List, [], ◌∷◌, ◌++◌, length, map, refl, sym, ap, subst, ◌∙◌, arith, Some, None, append_assoc, append-nil}
+use Rattle.std.specs.Bool.{IsTrue}
+use Rattle.std.specs.Option.{is_some}
+use Rattle.std.specs.Fmt.{decimal}
+use Rattle.std.specs.List.{All, sum_by, list_all, list_any}
+use Rattle.std.proofs.Math.Bool.{or-true}
+use Rattle.std.proofs.lemmas.Bool.{and_from, le-leb, eq-eqb, eqb-true, not-false, or_parts}
+use Rattle.std.proofs.lemmas.List.{map_push}
+use Rattle.std.proofs.lemmas.List.Elements.{All-nil, All-cons, All-head, All-tail}
+use Rattle.std.proofs.lemmas.List.Folds.{list_any-append}
+use Rattle.limits.specs.Limits.{most_tasks, most_total}
+use Rattle.mp_text.specs.declared.layout.Layout.{Layout}
+use Rattle.mp_text.specs.declared.layout.Layout.TheVariants.{Commented}
+use Rattle.mp_text.specs.declared.words.Version.{Version}
+use Rattle.mp_text.specs.declared.words.Version.TheVariants.{One, Two}
+use Rattle.mp_text.specs.Text.{Row, number_of, numbers_of}
+use Rattle.mp_text.specs.Words.{after_word, version_of}
+use Rattle.mp_text.specs.Ahead.{rows_of_bytes}
+use Rattle.mp_text.specs.Comments.{is_comment_line}
+use Rattle.mp_text.specs.Grammar.{first_failure, ArePassed}
+use Rattle.mp_text.specs.Report.{is_token, is_counted, numbered_from, text_of_lines}
+use Rattle.sp_terms.specs.declared.position.Position.{Position}
+use Rattle.sp_terms.specs.declared.position.Position.TheVariants.{Hold, Par}
+use Rattle.sp_terms.specs.declared.position.Position.TheVariants as at
+use Rattle.sp_terms.specs.Term.{Term, count}
+use Rattle.sp_terms.specs.Builder.{is_short, limit_of, is_overshared}
+use Rattle.sp_terms.specs.Postfix.{push_all}
+use Rattle.sp_terms.specs.Values.{stack_from, stack_of, added_size, added_tasks, IsTerms, IsWithinLimits, AllAllowed}
+use Rattle.workflow_files.specs.WorkflowFile.{workflow_format, workflow_line_tests, header_tests, version_stated, count_tests, count_stated, word_spelled, position_from, position_stated, stated_or, position_of, is_position, is_too_many, is_end, is_complete, positions_stated, ReadsWorkflow}
+use Rattle.workflow_files.specs.WorkflowText.{position_word, position_numbers, position_line, header_line, count_line, end_line, lines_in, text_in, is_sharing, version_for, text_of, text2_of}
+use Rattle.workflow_files.proofs.ReadLemmas.{stated_parts}
+use Rattle.sp_terms.proofs.Stacks.{onto, Pushed, held, ran, beside}
+use Rattle.sp_terms.proofs.Standing.{Standing, standing, not_over, small_share, onto-length, stack_few}
+
+-- what the laws of printed numbers and files say
+pub record AreLaws : Type 0 where
+  pub token : (n : ℕ) → n < 2 ^ 64 → IsTrue (is_token (decimal n))
+  pub value : (n : ℕ) → n < 2 ^ 64 → number_of (decimal n) ≡ Some n
+  pub values : (ns : List ℕ) → All (λ n. n < 2 ^ 64) ns → numbers_of (map decimal ns) ≡ Some ns
+  pub rows : (layout : Layout) (lines : List (List (List ℕ))) → IsTrue (list_all (is_counted layout) lines) → rows_of_bytes layout (text_of_lines lines) ≡ numbered_from 1 lines
+
+-- ---- one position
+
+abbrev IsSmall : ℕ → Type 0
+IsSmall n = n < 2 ^ 64
+
+abbrev AreSmall : List ℕ → Type 0
+AreSmall = All IsSmall
+
+-- what is printed of a position is the position
+record IsPrintable (version : Version) (p : Position) : Type 0 where
+  numbers : AreSmall (position_numbers version p)
+  unshared : version ≡ One → is_sharing p ≡ false
+
+position_row : Version → ℕ → Position → Row
+position_row version number p = record { number = number; tokens = position_line version p }
+
+from_numbers : (version : Version) (p : Position) → (version ≡ One → is_sharing p ≡ false) → position_from version (word_spelled (position_word p)) (Some (position_numbers version p)) ≡ Some p
+from_numbers version (Hold size) unshared = refl
+from_numbers One (at.Task extra share time) unshared = ap (λ (n : ℕ). Some (at.Task extra n time)) (sym (eqb-true share 0 (not-false _ (unshared refl))))
+from_numbers Two (at.Task extra share time) unshared = refl
+from_numbers version (Par parts) unshared = refl
+
+position_is : AreLaws → (version : Version) (number : ℕ) (p : Position) → IsPrintable version p → position_stated version (position_row version number p) ≡ Some p
+unfolding position_row
+position_is laws version number p fits = ap (position_from version (word_spelled (position_word p))) (laws.values (position_numbers version p) fits.numbers) ∙ from_numbers version p fits.unshared
+
+is_worded : (p : Position) → is_some (word_spelled (position_word p)) ≡ true
+is_worded (Hold size) = refl
+is_worded (at.Task extra share time) = refl
+is_worded (Par parts) = refl
+
+not_end : (version : Version) (number : ℕ) (p : Position) → is_end (position_row version number p) ≡ false
+unfolding position_row
+not_end version number (Hold size) = refl
+not_end version number (at.Task extra share time) = refl
+not_end version number (Par parts) = refl
+
+all_tokens : AreLaws → (ns : List ℕ) → AreSmall ns → list_all is_token (map decimal ns) ≡ true
+all_tokens laws [] small = refl
+all_tokens laws (n ∷ ns) small = and_from _ _ (laws.token n (All-head IsSmall n ns small)) (all_tokens laws ns (All-tail IsSmall n ns small))
+
+is_line : AreLaws → (version : Version) (p : Position) → AreSmall (position_numbers version p) → is_counted Commented (position_line version p) ≡ true
+is_line laws version (Hold size) small = and_from _ _ (all_tokens laws (position_numbers version (Hold size)) small) refl
+is_line laws version (at.Task extra share time) small = and_from _ _ (all_tokens laws (position_numbers version (at.Task extra share time)) small) refl
+is_line laws version (Par parts) small = and_from _ _ (all_tokens laws (position_numbers version (Par parts)) small) refl
+
+-- ---- a position within a list that denotes a term
+
+-- it passes the tests
+record IsFit (total : ℕ) (first : List Position) (p : Position) : Type 0 where
+  asked : is_position p ≡ true
+  high : is_short (length (stack_of first)) p ≡ false
+  few : is_too_many total (sum_by added_tasks first) p ≡ false
+  limit : limit_of first p ≡ None
+  share : is_overshared p (stack_of first) ≡ false
+
+module _ (ps first : List Position) (p : Position) (terms : IsTerms ps) (stands : Standing ps first p) where
+  is_fit : IsFit (sum_by added_tasks ps) first p
+  is_fit = go p stands.stack stands.after stands.step stands.before stands.allowed stands.within stands.total stands.tasks
+    where
+      go : (p : Position) (stack after : List Term) → Pushed p stack after → push_all first [] ≡ Some stack → AllAllowed after → IsWithinLimits p → sum_by added_size first + added_size p ≤ most_total
+          → sum_by added_tasks first + added_tasks p ≤ sum_by added_tasks ps → IsFit (sum_by added_tasks ps) first p
+      go p stack after (held size st) before allowed within total tasks = let few = stands.few in grind arith
+      go p stack after (ran v a b st) before allowed within total tasks =
+          let few = stands.few in let few_tasks = terms.few_tasks in
+          let two = ap length (ap stack_from before) in let share = not_over first v a b st before allowed.0 in grind arith
+      go p stack after (beside ts st e) before allowed within total tasks =
+          let few = stands.few in let all = ap length (ap stack_from before) in let parts = onto-length ts st in grind arith
+
+  pub small_numbers : (version : Version) → AreSmall (position_numbers version p)
+  small_numbers version = go version p stands.stack stands.after stands.step stands.before stands.allowed stands.within stands.total
+    where
+      go : (version : Version) (p : Position) (stack after : List Term) → Pushed p stack after → push_all first [] ≡ Some stack → AllAllowed after → IsWithinLimits p → sum_by added_size first + added_size p ≤ most_total → AreSmall (position_numbers version p)
+      go version p stack after (held size st) before allowed within total = All-cons IsSmall size [] (omega (arith, within)) (All-nil IsSmall)
+      go One p stack after (ran v a b st) before allowed within total = All-cons IsSmall v.extra (v.time ∷ []) (omega (arith, within.0)) (All-cons IsSmall v.time [] (omega (arith, within.2)) (All-nil IsSmall))
+      go Two p stack after (ran v a b st) before allowed within total =
+          All-cons IsSmall v.extra (v.share ∷ v.time ∷ []) (omega (arith, within.0)) (All-cons IsSmall v.share (v.time ∷ []) (small_share first v a b st before allowed.0 (omega (arith, total)))
+          (All-cons IsSmall v.time [] (omega (arith, within.2)) (All-nil IsSmall)))
+      go version p stack after (beside ts st e) before allowed within total = All-cons IsSmall (count ts) [] (omega (arith, stands.few, stack_few first (onto ts st) before, onto-length ts st)) (All-nil IsSmall)
+
+-- ---- the first two lines
+
+header_row : Version → Row
+header_row version = record { number = 1; tokens = header_line version }
+
+header_passes : (version : Version) → first_failure (header_tests (header_row version)) ≡ None
+unfolding header_row version_of after_word
+header_passes One = refl
+header_passes Two = refl
+
+header_is : (version : Version) → version_stated (header_row version) ≡ version
+unfolding header_row version_of after_word
+header_is One = refl
+header_is Two = refl
+
+header_counts : (version : Version) → is_counted Commented (header_line version) ≡ true
+header_counts One = refl
+header_counts Two = refl
+
+count_row : ℕ → Row
+count_row total = record { number = 2; tokens = count_line total }
+
+count_passes : AreLaws → (total : ℕ) → total ≤ most_tasks → first_failure (count_tests (count_row total)) ≡ None
+unfolding count_row after_word
+count_passes laws total few = rw (laws.value total (omega arith), le-leb total most_tasks few) refl
+
+count_is : AreLaws → (total : ℕ) → total ≤ most_tasks → count_stated (count_row total) ≡ total
+unfolding count_row after_word
+count_is laws total few = rw (laws.value total (omega arith)) refl
+
+-- ---- all lines
+
+Passes : List Row → Row → Type 0
+Passes before row = first_failure (workflow_line_tests before row) ≡ None
+
+-- rows that pass after others, one after another
+abbrev AllPass : List Row → List Row → Type 0
+AllPass before [] = Unit {0}
+AllPass before (row ∷ rows) = Passes before row × AllPass (before ++ row ∷ []) rows
+
+all_passed : (before rows : List Row) → AllPass before rows → (first rest : List Row) (row : Row) → rows ≡ first ++ row ∷ rest → Passes (before ++ first) row
+all_passed before [] pass [] rest row e = absurd cc
+all_passed before [] pass (f ∷ first) rest row e = absurd cc
+all_passed before (r ∷ rows) pass [] rest row e =
+    let same : r ≡ row = cc in
+    subst (λ (b : List Row). Passes b row) (sym (append-nil before)) (subst (Passes before) same pass.0)
+all_passed before (r ∷ rows) pass (f ∷ first) rest row e =
+    let same : r ≡ f = cc in
+    let tail : rows ≡ first ++ row ∷ rest = cc in
+    subst (λ (b : List Row). Passes b row) (append_assoc before (r ∷ []) first ∙ ap (λ (x : Row). before ++ x ∷ first) same) (all_passed (before ++ r ∷ []) rows pass.1 first rest row tail)
+
+module _ (laws : AreLaws) (version : Version) (ps : List Position) (terms : IsTerms ps) (unshared : version ≡ One → list_any is_sharing ps ≡ false) where
+  abbrev header : Row
+  header = header_row version
+
+  abbrev counted : Row
+  counted = count_row (sum_by added_tasks ps)
+
+  counted_is : count_stated counted ≡ sum_by added_tasks ps
+  counted_is = count_is laws (sum_by added_tasks ps) terms.few_tasks
+
+  printable : (first : List Position) (p : Position) (rest : List Position) → ps ≡ first ++ p ∷ rest → IsPrintable version p
+  printable first p rest e = record {
+    numbers = small_numbers ps first p terms (standing ps first p rest terms e) version;
+    unshared = λ one.
+        let none = sym (list_any-append is_sharing first (p ∷ rest)) ∙ ap (list_any is_sharing) (sym e) ∙ unshared one in
+        (or_parts _ _ (or_parts _ _ none).1).0;
+  }
+
+  -- the rows of the positions that are left and of the end, after those of the others
+  record ArePrinted (before : List Row) (number : ℕ) (rest : List Position) : Type 0 where
+    rows : List Row
+    last : Row
+    rows_are : numbered_from number (map (position_line version) rest ++ end_line ∷ []) ≡ rows ++ last ∷ []
+    state : map (position_of version) rows ≡ rest
+    ended : is_end last ≡ true
+    pass : AllPass (header ∷ counted ∷ before) (numbered_from number (map (position_line version) rest ++ end_line ∷ []))
+    lines : list_all (is_counted Commented) (map (position_line version) rest ++ end_line ∷ []) ≡ true
+
+  last_passes : (before : List Row) (number : ℕ) → map (position_of version) before ≡ ps → list_any is_end before ≡ false → Passes (header ∷ counted ∷ before) (record { number = number; tokens = end_line })
+  unfolding Passes
+  last_passes before number state unended =
+      rw (unended, header_is version, counted_is, state, eq-eqb _ _ (ap length (ap stack_from terms.is)), eq-eqb (sum_by added_tasks ps) _ refl) refl
+
+  position_passes : (before : List Row) (number : ℕ) (first : List Position) (p : Position) (rest : List Position) → ps ≡ first ++ p ∷ rest → map (position_of version) before ≡ first → list_any is_end before ≡ false
+      → Passes (header ∷ counted ∷ before) (position_row version number p)
+  unfolding Passes position_row
+  position_passes before number first p rest e state unended =
+      let fit = is_fit ps first p terms (standing ps first p rest terms e) in
+      let is = position_is laws version number p (printable first p rest e) in
+      rw (unended, not_end version number p, header_is version, counted_is, state, is, fit.asked, fit.high, fit.few, fit.limit, fit.share, is_worded p) refl
+
+  printed : (before : List Row) (number : ℕ) (first rest : List Position) → ps ≡ first ++ rest → map (position_of version) before ≡ first → list_any is_end before ≡ false → ArePrinted before number rest
+  unfolding position_row
+  printed before number first [] e state unended = record {
+    rows = [];
+    last = record { number = number; tokens = end_line };
+    rows_are = refl;
+    state = refl;
+    ended = refl;
+    pass = (last_passes before number (state ∙ sym (e ∙ append-nil first)) unended, tt);
+    lines = refl;
+  }
+  printed before number first (p ∷ rest) e state unended =
+      let row = position_row version number p in
+      let fits = printable first p rest e in
+      let is : position_of version row ≡ p = ap stated_or (position_is laws version number p fits) in
+      let more = printed (before ++ row ∷ []) (number + 1) (first ++ p ∷ []) rest (e ∙ sym (append_assoc first (p ∷ []) rest))
+      (map_push (position_of version) before row ∙ (λ i. state i ++ is i ∷ [])) (list_any-append is_end before (row ∷ []) ∙ rw (unended, not_end version number p) refl) in
+      record {
+        rows = row ∷ more.rows;
+        last = more.last;
+        rows_are = ap (λ (rs : List Row). row ∷ rs) more.rows_are;
+        state = λ i. is i ∷ more.state i;
+        ended = more.ended;
+        pass = (position_passes before number first p rest e state unended, more.pass);
+        lines = and_from _ _ (is_line laws version p fits.numbers) more.lines;
+      }
+
+  -- a text that has just the lines that are printed is read as the positions
+  pub printed-reads : (text : List ℕ)
+      → (list_all (is_counted Commented) (lines_in version ps) ≡ true → rows_of_bytes Commented text ≡ numbered_from 1 (lines_in version ps)) → ReadsWorkflow text ps
+  unfolding header_row count_row Passes
+  printed-reads text has =
+      let body = printed [] 3 [] ps refl refl refl in
+      let all = header ∷ counted ∷ (body.rows ++ body.last ∷ []) in
+      let count_counts : is_counted Commented (count_line (sum_by added_tasks ps)) ≡ true = rw (laws.token (sum_by added_tasks ps) (omega (arith, terms.few_tasks))) refl in
+      let read : rows_of_bytes Commented text ≡ all =
+      has (and_from _ _ (header_counts version) (and_from _ _ count_counts body.lines)) ∙ ap (λ (rs : List Row). header ∷ counted ∷ rs) body.rows_are in
+      let pass : AllPass [] all = (header_passes version, (count_passes laws (sum_by added_tasks ps) terms.few_tasks, subst (AllPass (header ∷ counted ∷ [])) body.rows_are body.pass)) in
+      let complete : is_complete all ≡ true = list_any-append is_end body.rows (body.last ∷ []) ∙ rw body.ended (or-true (list_any is_end body.rows)) in
+      record {
+        form = record {
+          lines = subst (ArePassed workflow_format) (sym read) (λ before after row. all_passed [] all pass before after row);
+          end = rw (ap is_complete read ∙ complete) refl;
+        };
+        stated = sym (ap positions_stated read ∙ stated_parts header counted body.last body.rows ∙ ap (λ (v : Version). map (position_of v) body.rows) (header_is version) ∙ body.state);
+      }
+
+-- ---- both versions
+
+-- version 1 is taken only where no task has a share
+one_unshared : (b : Bool) → cond b Two One ≡ One → b ≡ false
+one_unshared true is = absurd cc
+one_unshared false is = refl
+
+pub text_of-reads : AreLaws → (ps : List Position) → IsTerms ps → ReadsWorkflow (text_of ps) ps
+text_of-reads laws ps terms =
+    let version = version_for ps in
+    printed-reads laws version ps terms (one_unshared (list_any is_sharing ps)) (text_of ps) (laws.rows Commented (lines_in version ps))
+
+pub text2_of-reads : AreLaws → (ps : List Position) → IsTerms ps → ReadsWorkflow (text2_of ps) ps
+text2_of-reads laws ps terms = printed-reads laws Two ps terms (λ never. absurd cc) (text2_of ps) (laws.rows Commented (lines_in Two ps))
+
+-- ---- with comments after the last line
+
+pub commented-reads : AreLaws
+    → ((xs ys : List (List (List ℕ))) → text_of_lines (xs ++ ys) ≡ text_of_lines xs ++ text_of_lines ys)
+    → ((lines comments : List (List (List ℕ))) → IsTrue (list_all (is_counted Commented) lines) → IsTrue (list_all is_comment_line comments)
+    → rows_of_bytes Commented (text_of_lines (lines ++ comments)) ≡ numbered_from 1 lines)
+    → (ps : List Position) (comments : List (List (List ℕ))) → IsTerms ps → IsTrue (list_all is_comment_line comments)
+    → ReadsWorkflow (text_of ps ++ text_of_lines comments) ps
+commented-reads laws parts rows ps comments terms are =
+    let version = version_for ps in
+    printed-reads laws version ps terms (one_unshared (list_any is_sharing ps)) (text_of ps ++ text_of_lines comments)
+    (λ counted. ap (rows_of_bytes Commented) (sym (parts (lines_in version ps) comments)) ∙ rows (lines_in version ps) comments counted are)

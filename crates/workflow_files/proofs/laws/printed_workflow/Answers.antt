@@ -1,0 +1,18 @@
+use Rattle.workflow_files.proofs.PrintedLemmas.{text_of-reads, text2_of-reads}
+use Rattle.workflow_files.proofs.laws.printed_workflow.Goals as goal
+
+pub returns-clause-text : goal.returns-clause-text
+returns-clause-text c = text_of-reads (record {
+  token = c.printed_number.ensures.token;
+  value = c.printed_number.ensures.value;
+  values = c.printed_number.ensures.values;
+  rows = c.printed_file.ensures.rows;
+})
+
+pub returns-clause-text_2 : goal.returns-clause-text_2
+returns-clause-text_2 c = text2_of-reads (record {
+  token = c.printed_number.ensures.token;
+  value = c.printed_number.ensures.value;
+  values = c.printed_number.ensures.values;
+  rows = c.printed_file.ensures.rows;
+})

@@ -1,0 +1,5 @@
+pub mod Kinds
+pub mod Reader
+pub mod WorkflowFile
+pub mod WorkflowText
+pub mod NamedText
