@@ -5,12 +5,11 @@ usage: bench/first_build.py FOLDER [WORD ..]
 
 Runs the words (./memplan plan --tree examples/five.tree, if there are none) in FOLDER, a clean clone
 on a machine that has nothing proved yet, and looks every two seconds at the processes that prove a
-crate of it. Prints a line for each crate but those of tests, with the seconds that its proof took,
+crate of it. Prints a line for each crate of the program, with the seconds that its proof took,
 in the order of crates.txt, as tools/first_build.txt has them; and to standard error what all of them
 took, and the time by the clock. What proves tests or tries edits, as `rt ci` does too, is left out.
 """
 import os
-import re
 import subprocess
 import sys
 import time
@@ -21,9 +20,10 @@ TICKS = os.sysconf("SC_CLK_TCK")
 
 
 def crates_of(folder: Path) -> list[str]:
+    """The crates that the program is made of. Its line names libraries of the toolchain too."""
     lines = (folder / "crates.txt").read_text(encoding="ascii").splitlines()
-    names = [re.split(r"[ :]", line)[0] for line in lines if line and not line.startswith("#")]
-    return [name for name in names if not name.endswith("_tests")]
+    names = next(line for line in lines if line.startswith("memplan:")).split()[1:]
+    return [name for name in [*names, "memplan"] if (folder / "crates" / name).is_dir()]
 
 
 def is_proof(words: list[str], place: str, folder: Path) -> bool:

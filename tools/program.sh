@@ -7,7 +7,9 @@
 readonly FAILED=20  # the status where there is no program: the program itself ends with 0 to 10
 ready=$here/prebuilt/Linux-x86_64
 built=$here/crates/memplan/out/memplan
-# How many seconds of processor time each crate took where README's figure was measured.
+# Where only the crates stand that the program is made of, while it is built.
+room=$here/out/first-build
+# How many seconds of processor time each of them took where README's figure was measured.
 times=$here/tools/first_build.txt
 
 tell() {
@@ -114,6 +116,39 @@ has_toolchain() {
     fi
 }
 
+# Copies the crates that the program is made of, and takes along what was proved of them before: of the others, those of tests and the library
+# for C, nothing is proved. The names after the colon are libraries of the toolchain too.
+furnish() {
+    local crate part
+    local -a crates
+    give_back
+    mkdir -p "$room/crates" || return
+    [ ! -e "$here/HANDLES" ] || cp -p "$here/HANDLES" "$room" || return
+    read -ra crates < <(sed -n 's/^memplan://p' "$here/crates.txt")
+    for crate in "${crates[@]}" memplan; do
+        [ -d "$here/crates/$crate" ] || continue
+        grep "^$crate:" "$here/crates.txt" >>"$room/crates.txt"
+        mkdir "$room/crates/$crate" || return
+        for part in "$here/crates/$crate"/*; do
+            case ${part##*/} in
+            out) mv "$part" "$room/crates/$crate" ;;
+            must-fail) ;;
+            *) cp -Rp "$part" "$room/crates/$crate" ;;
+            esac || return
+        done
+    done
+}
+
+# Brings back what was proved and built there, also by a build that was killed.
+give_back() {
+    local kept crate
+    for kept in "$room"/crates/*/out; do
+        crate=${kept%/out}
+        [ ! -d "$kept" ] || [ -e "$here/crates/${crate##*/}/out" ] || mv "$kept" "$here/crates/${crate##*/}"
+    done
+    rm -rf "$room"
+}
+
 # In a shell of its own, so that what it sets up for its end is its own too.
 build() (
     has_toolchain || exit 1
@@ -125,20 +160,20 @@ build() (
     fi
     is_newest "$built" && exit 0
     tell "proving and building the program, once for these sources: this takes 20 to 60 minutes on four processors, where nothing is kept"
-    log=$(mktemp)
+    log=$(mktemp) before=$here/out/memplan.before
     watch "$log" &
-    trap 'kill $! 2>/dev/null; rm -f "$log"' EXIT
+    watcher=$!
+    trap 'kill "$watcher" 2>/dev/null; give_back; rm -f "$log" "$before"' EXIT
     trap 'exit 130' INT TERM
-    before=$built.before.$$
     [ ! -e "$built" ] || cp -p "$built" "$before"
     # the plan of a tree, so that the status says whether it was built
-    if (cd "$here/crates" && rt all check --jobs "$(lanes)" && cd memplan && rt run memplan -- post --tree "$here/examples/five.tree") \
-        >"$log" 2>&1 </dev/null; then
-        rm -f "$before"
-        exit 0
-    fi
+    furnish && (cd "$room/crates" && rt all check --jobs "$(lanes)" && cd memplan && rt run memplan -- post --tree "$here/examples/five.tree") \
+        >"$log" 2>&1 </dev/null
+    failed=$?
+    give_back
+    [ "$failed" -ne 0 ] || exit 0
     # a program that works is not lost
-    [ ! -e "$before" ] || mv -f "$before" "$built"
+    [ -e "$built" ] || [ ! -e "$before" ] || { mkdir -p "${built%/*}" && mv "$before" "$built"; }
     tell_failure "$log"
     exit 1
 )

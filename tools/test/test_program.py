@@ -25,12 +25,14 @@ TEST = "crates/limits_tests/src/tests.rt"
 
 # What stands in for rt: it says what the real one says, and its build takes so long, or fails so, as the folder's files tell.
 STAND_IN = """#!/bin/bash
+at=$PWD
 cd "$(dirname "$0")"
 echo "$*" >> calls
 case "$1" in
 version) cat version ;;
-all) echo "== limits"; echo "crate limits: modules loaded=1 checked=1"; sleep "$(cat seconds)"; cat failure 2>/dev/null && exit 1; exit 0 ;;
-run) mkdir -p "$(cat repository)/crates/memplan/out" && cp "$(cat program)" "$(cat repository)/crates/memplan/out/memplan" ;;
+all) ls "$at" > crates; cat "$at/../crates.txt" > lines; mkdir -p "$at/limits/out" && echo proved >> "$at/limits/out/kept"
+    echo "== limits"; echo "crate limits: modules loaded=1 checked=1"; sleep "$(cat seconds)"; cat failure 2>/dev/null && exit 1; exit 0 ;;
+run) mkdir -p "$at/out" && cp "$(cat program)" "$at/out/memplan" ;;
 esac
 """
 
@@ -43,13 +45,13 @@ class Repository:
         for name in SCRIPTS:
             (self.top / name).parent.mkdir(parents=True, exist_ok=True)
             shutil.copy(ROOT / name, self.top / name)
-        for crate in ("limits", "memplan", "limits_tests"):
+        for crate in ("limits", "memplan", "memplan_c", "limits_tests"):
             for part in ("src", "specs", "proofs"):
                 (self.top / "crates" / crate / part).mkdir(parents=True)
         (self.top / SOURCE).write_text("//! A source.\n")
         (self.top / "crates/memplan/src/main.rt").write_text("//! Another one.\n")
         (self.top / TEST).write_text("//! A test.\n")
-        (self.top / "crates.txt").write_text("limits:\nmemplan: limits\nlimits_tests: limits\n")
+        (self.top / "crates.txt").write_text("limits:\nmemplan: limits rand_core\nmemplan_c staticlib: limits\nlimits_tests: limits\n")
         self.scratch.mkdir()
         self.put_prebuilt()
         self.put_toolchain()
@@ -70,7 +72,6 @@ class Repository:
             "rt": STAND_IN,
             "version": (ROOT / "tools/toolchain.txt").read_text(),
             "seconds": "0",
-            "repository": str(self.top),
             "program": str(PROGRAM),
             "calls": "",
         }
@@ -230,6 +231,31 @@ class Built(ProgramTest):
         self.check_runs(self.repository.run(with_toolchain=True), "this takes 20 to 60 minutes")
         self.assertEqual(self.repository.builds(), 2)
         self.assertTrue(self.is_scratch_empty())
+
+    def test_only_what_the_program_needs_is_proved_and_it_is_kept(self) -> None:
+        self.check_runs(self.repository.run(with_toolchain=True), "this takes 20 to 60 minutes")
+        self.assertEqual((self.repository.toolchain / "crates").read_text().split(), ["limits", "memplan"])
+        self.assertEqual((self.repository.toolchain / "lines").read_text(), "limits:\nmemplan: limits rand_core\n")
+        kept = self.repository.top / "crates/limits/out/kept"
+        self.assertEqual(kept.read_text(), "proved\n")
+        self.source.write_text("//! A source, again.\n")
+        self.check_runs(self.repository.run(with_toolchain=True), "this takes 20 to 60 minutes")
+        self.assertEqual(kept.read_text(), "proved\nproved\n")
+        self.assertFalse((self.repository.top / "out/first-build").exists())
+
+    def test_what_a_killed_build_had_proved_is_kept(self) -> None:
+        (self.repository.toolchain / "seconds").write_text("30")
+        run = subprocess.Popen(
+            self.repository.words(), env=self.repository.environment(True), stdout=subprocess.DEVNULL, stderr=subprocess.DEVNULL, start_new_session=True
+        )
+        while not self.repository.builds():
+            time.sleep(0.05)
+        time.sleep(0.3)
+        os.killpg(run.pid, signal.SIGKILL)
+        run.wait(timeout=10)
+        (self.repository.toolchain / "seconds").write_text("0")
+        self.check_runs(self.repository.run(with_toolchain=True), "this takes 20 to 60 minutes")
+        self.assertEqual((self.repository.top / "crates/limits/out/kept").read_text(), "proved\nproved\n")
 
     def test_it_is_not_built_again_where_a_test_is_another(self) -> None:
         self.check_runs(self.repository.run(with_toolchain=True), "this takes 20 to 60 minutes")
