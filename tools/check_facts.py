@@ -153,7 +153,7 @@ class Facts:
         sys.path.insert(0, str(top / "tools"))
         self.said = {as_constant(name): number for name, number in numbers_in(self.code_of_statuses(), r"Status::(\w+) => (\d+)").items()}
         self.most = short(numbers_in(self.text(LIMIT_CODE), r"^pub const (MOST_\w+): u\d+ = (.+);"))
-        self.fault_kinds = numbers_in(self.text("crates/memplan_c/src/kinds.rt"), r"^pub const (\w+): u32 = (\d+);")
+        self.fault_kinds = numbers_in(self.text("crates/c_calls/src/kinds.rt"), r"^pub const (\w+): u32 = (\d+);")
 
     def text(self, name: str) -> str:
         return (self.top / name).read_text(encoding="utf-8")
@@ -179,9 +179,9 @@ class Facts:
         said = self.said
         specified = numbers_in(self.text(STATUS_SPECS), r"^exit_code_of (\w+) = (\d+)")
         yield STATUS_SPECS, {as_constant(name): number for name, number in specified.items()}, said
-        calls = numbers_in(self.text("crates/memplan_c/src/statuses.rt"), r"^pub const (\w+): u32 = (\d+);")
-        yield "crates/memplan_c/src/statuses.rt", calls, {name: said[name] for name in calls if name in said}
-        yield "crates/memplan_c/specs/Statuses.antt", upper(numbers_in(self.text("crates/memplan_c/specs/Statuses.antt"), r"^(\w+) = (\d+)$")), calls
+        calls = numbers_in(self.text("crates/c_calls/src/statuses.rt"), r"^pub const (\w+): u32 = (\d+);")
+        yield "crates/c_calls/src/statuses.rt", calls, {name: said[name] for name in calls if name in said}
+        yield "crates/c_calls/specs/Statuses.antt", upper(numbers_in(self.text("crates/c_calls/specs/Statuses.antt"), r"^(\w+) = (\d+)$")), calls
         header = numbers_in(part_of(self.text(HEADER), "enum memplan_status {", "}"), r"MEMPLAN_(\w+) = (\d+)")
         # the library has those of its calls alone
         yield HEADER, header, {"DONE": said["DONE"], **calls}
@@ -200,11 +200,11 @@ class Facts:
         yield HEADER, numbers_in(part_of(self.text(HEADER), "enum memplan_kind {", "};"), r"MEMPLAN_KIND_(\w+) = (\d+)"), kinds
         plain = {number: number for number in kinds.values()}
         yield PACKAGE, {number: number for number in self.literal(PACKAGE, "_KINDS")}, plain
-        specs = "crates/memplan_c/specs/FaultKinds.antt"
+        specs = "crates/c_calls/specs/FaultKinds.antt"
         yield specs, upper(numbers_in(self.text(specs), r"^(\w+) = (\d+)$")), kinds
         # each kind is that of some refusal
-        used = re.findall(r"\bkinds\.(\w+)", self.text("crates/memplan_c/specs/Faults.antt"))
-        yield "crates/memplan_c/specs/Faults.antt", {name.upper(): "there" for name in used}, {name: "there" for name in kinds}
+        used = re.findall(r"\bkinds\.(\w+)", self.text("crates/c_calls/specs/Faults.antt"))
+        yield "crates/c_calls/specs/Faults.antt", {name.upper(): "there" for name in used}, {name: "there" for name in kinds}
 
     # ---- kinds of refusals
 

@@ -10,11 +10,11 @@ from pathlib import Path
 
 ROOT = Path(__file__).resolve().parents[2]
 SCRIPT = ROOT / "tools/check_facts.py"
-FOLDERS = ["tools", "python/memplan", *(f"crates/{it}" for it in ("judging", "requests", "limits", "memplan_c"))]
+FOLDERS = ["tools", "python/memplan", *(f"crates/{it}" for it in ("judging", "requests", "limits", "c_calls"))]
 FOLDERS += [f"crates/{it}_files" for it in ("tree", "workflow", "graph", "matrix", "plan")]
 FILES = ["c/memplan.h", "fortran/memplan.f90", "docs/FORMATS.md"]
 
-JUDGING, CALLS, REQUESTS, LIMITS = "crates/judging", "crates/memplan_c", "crates/requests/src", "crates/limits"
+JUDGING, CALLS, REQUESTS, LIMITS = "crates/judging", "crates/c_calls", "crates/requests/src", "crates/limits"
 HEADER, PAGE, ADMISSION, FUZZ = "c/memplan.h", "docs/FORMATS.md", "python/memplan/admission.py", "tools/fuzz/formats.py"
 # A file, what is changed in it, and what is then said.
 STATUSES = [

@@ -105,7 +105,7 @@ class Installing(unittest.TestCase):
         self.assertNotIn(" -c support.c", self.make(where="c"))
         os.utime(self.top / "c/support.c")
         self.assertIn(" -c support.c", self.make(where="c"))
-        source = self.top / "crates/memplan_c/src/orders.rt"
+        source = self.top / "crates/memplan_c/src/arrays.rt"
         source.write_text(source.read_text() + "// changed\n")
         self.assertIn("there is no rt on PATH", self.make(where="c", status=2))
 

@@ -7,15 +7,15 @@ ghost use Rattle.activation.specs.declared.events.EventKind.TheVariants.{Start, 
 ghost use Rattle.mp_system.specs.System.{IsSystem};
 ghost use Rattle.mp_system.specs.Given.{system_given};
 ghost use Rattle.trees.specs.Tree.{IsTree, system_of_nodes};
-ghost use Rattle.memplan_c.specs.Refusals.{IsBeginRefusal, IsSystemBeginRefusal};
-ghost use Rattle.memplan_c.specs.Slots.{SlotValue, empty, core_setting, begun, IsCoreBegun, activated, IsActivated, stepped, IsStarted};
-ghost use Rattle.memplan_c.specs.Slots.{IsFinished, IsDone, used_in, booked_in};
-ghost use Rattle.memplan_c.specs.contracts.slot.Slot.{the_row};
+ghost use Rattle.c_calls.specs.Refusals.{IsBeginRefusal, IsSystemBeginRefusal};
+ghost use Rattle.c_calls.specs.Slots.{SlotValue, empty, core_setting, begun, IsCoreBegun, activated, IsActivated, stepped, IsStarted};
+ghost use Rattle.c_calls.specs.Slots.{IsFinished, IsDone, used_in, booked_in};
+ghost use Rattle.c_calls.specs.contracts.slot.Slot.{the_row};
 ghost use prog.Memory.{size, capped};
 ghost use denote.Param.{layout};
 
-use crate::faults::Fault;
-use crate::slot::{
+use c_calls::Fault;
+use c_calls::slot::{
     Slot, activate, begin, begin_system, booked, end, finish, is_done, is_startable, make, start,
     used,
 };

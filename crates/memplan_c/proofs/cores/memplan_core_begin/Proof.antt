@@ -4,16 +4,16 @@ use denote.Triple.Walked.{gave_ref, Goes-gave_ref}
 use denote.Signature.{shr_slice_of}
 use Rattle.trees.specs.Tree.{IsTree, system_of_nodes}
 use Rattle.trees.specs.contracts.node.Node.{the_row as NodeRow}
-use Rattle.memplan_c.specs.Refusals.{IsBeginRefusal}
-use Rattle.memplan_c.specs.declared.faults.Fault.{Fault}
-use Rattle.memplan_c.specs.contracts.faults.Fault.{the_row as FaultRow}
-use Rattle.memplan_c.specs.Slots.{SlotValue, core_setting, begun, IsCoreBegun}
-use Rattle.memplan_c.specs.contracts.slot.Slot.{the_row as R}
+use Rattle.c_calls.specs.Refusals.{IsBeginRefusal}
+use Rattle.c_calls.specs.declared.faults.Fault.{Fault}
+use Rattle.c_calls.specs.contracts.faults.Fault.{the_row as FaultRow}
+use Rattle.c_calls.specs.Slots.{SlotValue, core_setting, begun, IsCoreBegun}
+use Rattle.c_calls.specs.contracts.slot.Slot.{the_row as R}
 use Rattle.memplan_c.specs.contracts.cores.memplan_core_begin as f
 use Rattle.memplan_c.proofs.cores.memplan_core_begin.Statement.{statement}
 use Rattle.memplan_c.proofs.cores.memplan_core_begin.Code as code
-use Rattle.memplan_c.specs.contracts.slot.begin as g
-use Rattle.memplan_c.proofs.slot.begin.Met.{met}
+use Rattle.c_calls.specs.contracts.slot.begin as g
+use Rattle.c_calls.proofs.slot.begin.Met.{met}
 
 abbrev stayed : Stays f.ended.signature.params f.ended.kept
 stayed = (stay_dropped _ yes, (stay_dropped (shr_slice_of (0 ∷ []) tt (plain (λ _. NodeRow))) yes, (stay_dropped (shr_slice_of (1 ∷ []) tt (plain (λ _. u32))) yes, (stay_dropped _ yes, (stay_dropped _ yes, (gave_ref (2 ∷ []) tt (plain (λ _. FaultRow)), tt))))))
@@ -49,7 +49,7 @@ memplan_core_begin_spec 𝓤 𝓛 𝓜 𝓡 wired =
     let z : G.Ghost = (((α ∷ [], (κs.0, (κs.1.0, (κs.1.1.0, tt)))), (full_share, (qs.0, (qs.1.0, (qs.1.1.0, tt)))), tt, (r, (p0, (p1, (p2, (p3, (p4, tt)))))), (mut_vals r, (shr_slice_vals p0, (shr_slice_vals p1, (uint_vals w64 p2, (uint_vals w32 p3, (mut_vals p4, tt))))))), tt) in
     move ! (0 ∷ 3 ∷ []) $ join ! $ move ! (2 ∷ 3 ∷ []) $ join ! $ join ! $
     nothing ! $ move ! (1 ∷ 0 ∷ []) $ use2 𝓛 (raw (G.pre z)) (id⊢ 𝓤 _) $
-    calls_at ! (framed 𝓤 𝓛.H 𝓜 (tables 𝓤 𝓛.H 𝓜 𝓡 𝓡.env)) G (met 𝓤 𝓛 𝓜 𝓡 (code.calls-memplan_c::slot::begin 𝓡.env wired)) z
+    calls_at ! (framed 𝓤 𝓛.H 𝓜 (tables 𝓤 𝓛.H 𝓜 𝓡 𝓡.env)) G (met 𝓤 𝓛 𝓜 𝓡 (code.calls-c_calls::slot::begin 𝓡.env wired)) z
     (and_then ! (get ! refl) (and_then ! (get ! refl) (and_then ! (get ! refl) (and_then ! (get ! refl) (and_then ! (get ! refl) (and_then ! (get ! refl) (no_more !))))))) (λ v.
     use1 𝓛 (later (some (λ (u : ℕ). ((‵ (flft (α ∷ []) full_share) ⊛ toks) ⊛ ‵ (u32.own_val u (v ∷ []))) ⊛
     some (λ (ws : SlotValue × (Unit {0} × (Unit {0} × (Unit {0} × (Unit {0} × (Fault × Unit {0})))))). ‵ (lasts g.ended z.0.0 z.0.3 ws) ⊛ raw (fact 𝓤 ((ws.0 ≡ begun held (core_setting (system_of_nodes p0.now) p1.now p2 p3) u) × (IsCoreBegun (IsTree p0.now) (IsBeginRefusal p0.now p1.now p2 p3) (core_setting (system_of_nodes p0.now) p1.now p2 p3) u p4.now ws.1.1.1.1.1.0))))))) (id⊢ 𝓤 _) $

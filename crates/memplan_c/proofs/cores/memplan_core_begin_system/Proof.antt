@@ -6,16 +6,16 @@ use Rattle.mp_system.specs.System.{IsSystem}
 use Rattle.mp_system.specs.Given.{system_given}
 use Rattle.mp_system.specs.contracts.given.GivenTask.{the_row as TaskRow}
 use Rattle.mp_system.specs.contracts.given.GivenItem.{the_row as ItemRow}
-use Rattle.memplan_c.specs.Refusals.{IsSystemBeginRefusal}
-use Rattle.memplan_c.specs.declared.faults.Fault.{Fault}
-use Rattle.memplan_c.specs.contracts.faults.Fault.{the_row as FaultRow}
-use Rattle.memplan_c.specs.Slots.{SlotValue, core_setting, begun, IsCoreBegun}
-use Rattle.memplan_c.specs.contracts.slot.Slot.{the_row as R}
+use Rattle.c_calls.specs.Refusals.{IsSystemBeginRefusal}
+use Rattle.c_calls.specs.declared.faults.Fault.{Fault}
+use Rattle.c_calls.specs.contracts.faults.Fault.{the_row as FaultRow}
+use Rattle.c_calls.specs.Slots.{SlotValue, core_setting, begun, IsCoreBegun}
+use Rattle.c_calls.specs.contracts.slot.Slot.{the_row as R}
 use Rattle.memplan_c.specs.contracts.cores.memplan_core_begin_system as f
 use Rattle.memplan_c.proofs.cores.memplan_core_begin_system.Statement.{statement}
 use Rattle.memplan_c.proofs.cores.memplan_core_begin_system.Code as code
-use Rattle.memplan_c.specs.contracts.slot.begin_system as g
-use Rattle.memplan_c.proofs.slot.begin_system.Met.{met}
+use Rattle.c_calls.specs.contracts.slot.begin_system as g
+use Rattle.c_calls.proofs.slot.begin_system.Met.{met}
 
 abbrev stayed : Stays f.ended.signature.params f.ended.kept
 stayed = (stay_dropped _ yes, (stay_dropped (shr_slice_of (0 ∷ []) tt (plain (λ _. TaskRow))) yes, (stay_dropped (shr_slice_of (1 ∷ []) tt (plain (λ _. ItemRow))) yes, (stay_dropped (shr_slice_of (2 ∷ []) tt (plain (λ _. u32))) yes, (stay_dropped _ yes, (stay_dropped _ yes, (gave_ref (3 ∷ []) tt (plain (λ _. FaultRow)), tt)))))))
@@ -52,7 +52,7 @@ memplan_core_begin_system_spec 𝓤 𝓛 𝓜 𝓡 wired =
     let z : G.Ghost = (((α ∷ [], (κs.0, (κs.1.0, (κs.1.1.0, (κs.1.1.1.0, tt))))), (full_share, (qs.0, (qs.1.0, (qs.1.1.0, (qs.1.1.1.0, tt))))), tt, (r, (p0, (p1, (p2, (p3, (p4, (p5, tt))))))), (mut_vals r, (shr_slice_vals p0, (shr_slice_vals p1, (shr_slice_vals p2, (uint_vals w64 p3, (uint_vals w32 p4, (mut_vals p5, tt)))))))), tt) in
     move ! (0 ∷ 3 ∷ []) $ join ! $ move ! (2 ∷ 3 ∷ []) $ join ! $ join ! $
     nothing ! $ move ! (1 ∷ 0 ∷ []) $ use2 𝓛 (raw (G.pre z)) (id⊢ 𝓤 _) $
-    calls_at ! (framed 𝓤 𝓛.H 𝓜 (tables 𝓤 𝓛.H 𝓜 𝓡 𝓡.env)) G (met 𝓤 𝓛 𝓜 𝓡 (code.calls-memplan_c::slot::begin_system 𝓡.env wired)) z
+    calls_at ! (framed 𝓤 𝓛.H 𝓜 (tables 𝓤 𝓛.H 𝓜 𝓡 𝓡.env)) G (met 𝓤 𝓛 𝓜 𝓡 (code.calls-c_calls::slot::begin_system 𝓡.env wired)) z
     (and_then ! (get ! refl) (and_then ! (get ! refl) (and_then ! (get ! refl) (and_then ! (get ! refl) (and_then ! (get ! refl) (and_then ! (get ! refl) (and_then ! (get ! refl) (no_more !)))))))) (λ v.
     use1 𝓛 (later (some (λ (u : ℕ). ((‵ (flft (α ∷ []) full_share) ⊛ toks) ⊛ ‵ (u32.own_val u (v ∷ []))) ⊛
     some (λ (ws : SlotValue × (Unit {0} × (Unit {0} × (Unit {0} × (Unit {0} × (Unit {0} × (Fault × Unit {0}))))))). ‵ (lasts g.ended z.0.0 z.0.3 ws) ⊛ raw (fact 𝓤 ((ws.0 ≡ begun held (core_setting (system_given p0.now p1.now) p2.now p3 p4) u) × (IsCoreBegun (IsSystem (system_given p0.now p1.now)) (IsSystemBeginRefusal p0.now p1.now p2.now p3 p4) (core_setting (system_given p0.now p1.now) p2.now p3 p4) u p5.now ws.1.1.1.1.1.1.0))))))) (id⊢ 𝓤 _) $

@@ -2,13 +2,13 @@ use Rattle.memplan_c.proofs.Steps.{[], ◌∷◌, refl, ap, proved, full_share, 
 use base.Fml.{froom}
 use borrow.Table.OneValue.{part_out}
 use denote.Memory.{lone}
-use Rattle.memplan_c.specs.contracts.slot.Slot.{the_row as R}
-use Rattle.memplan_c.proofs.slot.Slot.TheLaws.{the_row_laws as laws}
+use Rattle.c_calls.specs.contracts.slot.Slot.{the_row as R}
+use Rattle.c_calls.proofs.slot.Slot.TheLaws.{the_row_laws as laws}
 use Rattle.memplan_c.specs.contracts.cores.memplan_core_end as f
 use Rattle.memplan_c.proofs.cores.memplan_core_end.Statement.{statement}
 use Rattle.memplan_c.proofs.cores.memplan_core_end.Code as code
-use Rattle.memplan_c.specs.contracts.slot.end as g
-use Rattle.memplan_c.proofs.slot.end.Met.{met}
+use Rattle.c_calls.specs.contracts.slot.end as g
+use Rattle.c_calls.proofs.slot.end.Met.{met}
 
 abbrev stayed : Stays f.ended.signature.params f.ended.kept
 stayed = (stay_dropped _ yes, tt)
@@ -35,7 +35,7 @@ memplan_core_end_spec 𝓤 𝓛 𝓜 𝓡 wired =
     let G = triple_of 𝓛 g.signature (g.spec 𝓛 𝓜.mem 𝓡.returns) in
     let z : G.Ghost = ((κs, qs, bounds, (held, tt), (w ∷ [], tt)), tt) in
     nothing ! $ move ! (2 ∷ 0 ∷ []) $ join ! $ nothing ! $ join ! $ nothing ! $ move ! (1 ∷ 0 ∷ []) $ use2 𝓛 (raw (G.pre z)) (id⊢ 𝓤 _) $
-    calls_at ! (framed 𝓤 𝓛.H 𝓜 (tables 𝓤 𝓛.H 𝓜 𝓡 𝓡.env)) G (met 𝓤 𝓛 𝓜 𝓡 (code.calls-memplan_c::slot::end 𝓡.env wired)) z
+    calls_at ! (framed 𝓤 𝓛.H 𝓜 (tables 𝓤 𝓛.H 𝓜 𝓡 𝓡.env)) G (met 𝓤 𝓛 𝓜 𝓡 (code.calls-c_calls::slot::end 𝓡.env wired)) z
     (and_then ! (get ! refl) (no_more !)) (λ v.
     use1 𝓛 (later (some (λ (u : Unit {0}). (‵ ftrue ⊛ ‵ (unit.own_val u (v ∷ []))) ⊛
     some (λ (ws : Unit {0} × Unit {0}). ‵ (lasts g.ended z.0.0 z.0.3 ws) ⊛ ‵ ftrue)))) (id⊢ 𝓤 _) $

@@ -5,14 +5,14 @@ use borrow.Table.OneValue.{part_in}
 use Rattle.std_heap.proofs.Handle.{heap_val, heap_Tells}
 use Rattle.std_heap.specs.contracts.Global.{the_row as Heap}
 use Rattle.std_heap.proofs.Global.TheLaws.{the_row_laws as heap_laws}
-use Rattle.memplan_c.specs.Slots.{SlotValue, empty}
-use Rattle.memplan_c.specs.contracts.slot.Slot.{the_row as R}
-use Rattle.memplan_c.proofs.slot.Slot.TheLaws.{the_row_laws as laws}
+use Rattle.c_calls.specs.Slots.{SlotValue, empty}
+use Rattle.c_calls.specs.contracts.slot.Slot.{the_row as R}
+use Rattle.c_calls.proofs.slot.Slot.TheLaws.{the_row_laws as laws}
 use Rattle.memplan_c.specs.contracts.cores.memplan_core_new as f
 use Rattle.memplan_c.proofs.cores.memplan_core_new.Statement.{statement}
 use Rattle.memplan_c.proofs.cores.memplan_core_new.Code as code
-use Rattle.memplan_c.specs.contracts.slot.make as g
-use Rattle.memplan_c.proofs.slot.make.Met.{met}
+use Rattle.c_calls.specs.contracts.slot.make as g
+use Rattle.c_calls.proofs.slot.make.Met.{met}
 
 abbrev stayed : Stays f.ended.signature.params f.ended.kept
 stayed = (stay_dropped _ yes, (stay_dropped _ yes, tt))
@@ -34,7 +34,7 @@ memplan_core_new_spec 𝓤 𝓛 𝓜 𝓡 wired =
     let G = triple_of 𝓛 g.signature (g.spec 𝓛 𝓜.mem 𝓡.returns) in
     let z : G.Ghost = ((κs, qs, bounds, (a.0, tt), (heap_val ∷ [], tt)), tt) in
     nothing ! $ move ! (2 ∷ 0 ∷ []) $ use2 𝓛 (raw (G.pre z)) (id⊢ 𝓤 _) $
-    calls_at ! (framed 𝓤 𝓛.H 𝓜 (tables 𝓤 𝓛.H 𝓜 𝓡 𝓡.env)) G (met 𝓤 𝓛 𝓜 𝓡 (code.calls-memplan_c::slot::make 𝓡.env wired)) z
+    calls_at ! (framed 𝓤 𝓛.H 𝓜 (tables 𝓤 𝓛.H 𝓜 𝓡 𝓡.env)) G (met 𝓤 𝓛 𝓜 𝓡 (code.calls-c_calls::slot::make 𝓡.env wired)) z
     (and_then ! (get ! refl) (no_more !)) (λ v.
     use1 𝓛 (later (some (λ (u : SlotValue). (‵ ftrue ⊛ ‵ (R.own_val u (v ∷ []))) ⊛
     some (λ (ws : Unit {0} × Unit {0}). ‵ (lasts g.ended z.0.0 z.0.3 ws) ⊛ raw (fact 𝓤 (u ≡ empty)))))) (id⊢ 𝓤 _) $

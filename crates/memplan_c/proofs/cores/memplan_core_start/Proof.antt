@@ -1,12 +1,12 @@
 use Rattle.memplan_c.proofs.Steps.{◌≡◌, ℕ, [], ◌∷◌, ◌++◌, refl, w32, MutBor, proved, full_share, id⊢, ftrue, flft, fres, flent, named, fact, tables, ‵, raw, prop, ◌⊛◌, some, later, ◌$◌, ◌∵◌, !, qed, done, move, keep, drop, use1, use2, use3, split, join, fsplit, pick, await, rewrite, regoal, suffices, frame, group, enter, of_opd, addr, stop, no_more, and_then, returns, alloc_all, pass_all, free_all, look_at, get, through, sets, lands_as, lft_new, lft_end, u32, yes, shows, Is, lends_ref, ref_back, mem, uint_Lawful, uint_Makes, uint_vals, uint_Tells, Ptr, RawPtr, block_ptr, lies_at, in_a_block, rawptr_vals, rawptr_Tells, MutRef, mut_vals, plain, nothing, owned, heard, peeks, calls_at, lasts, on_entry, triple_of, Stays, walk_of, says, stay_dropped, Goes-dropped, ends_at, framed, WpFn, Body}
 use Rattle.activation.specs.declared.events.EventKind.TheVariants.{Start}
-use Rattle.memplan_c.specs.Slots.{SlotValue, stepped, IsStarted}
-use Rattle.memplan_c.specs.contracts.slot.Slot.{the_row as R}
+use Rattle.c_calls.specs.Slots.{SlotValue, stepped, IsStarted}
+use Rattle.c_calls.specs.contracts.slot.Slot.{the_row as R}
 use Rattle.memplan_c.specs.contracts.cores.memplan_core_start as f
 use Rattle.memplan_c.proofs.cores.memplan_core_start.Statement.{statement}
 use Rattle.memplan_c.proofs.cores.memplan_core_start.Code as code
-use Rattle.memplan_c.specs.contracts.slot.start as g
-use Rattle.memplan_c.proofs.slot.start.Met.{met}
+use Rattle.c_calls.specs.contracts.slot.start as g
+use Rattle.c_calls.proofs.slot.start.Met.{met}
 
 abbrev stayed : Stays f.ended.signature.params f.ended.kept
 stayed = (stay_dropped _ yes, (stay_dropped _ yes, tt))
@@ -35,7 +35,7 @@ memplan_core_start_spec 𝓤 𝓛 𝓜 𝓡 wired =
     let z : G.Ghost = (((α ∷ [], tt), (full_share, tt), tt, (r, (p0, tt)), (mut_vals r, (uint_vals w32 p0, tt))), tt) in
     nothing ! $ owned ! u32 (Is u32) (uint_Makes 𝓛 w32) p0 _ (refl, are.1.0.1) $ join ! $ move ! (1 ∷ 0 ∷ []) $ join ! $ nothing ! $ move ! (3 ∷ 0 ∷ []) $ join ! $ join ! $
     nothing ! $ move ! (1 ∷ 0 ∷ []) $ use2 𝓛 (raw (G.pre z)) (id⊢ 𝓤 _) $
-    calls_at ! (framed 𝓤 𝓛.H 𝓜 (tables 𝓤 𝓛.H 𝓜 𝓡 𝓡.env)) G (met 𝓤 𝓛 𝓜 𝓡 (code.calls-memplan_c::slot::start 𝓡.env wired)) z
+    calls_at ! (framed 𝓤 𝓛.H 𝓜 (tables 𝓤 𝓛.H 𝓜 𝓡 𝓡.env)) G (met 𝓤 𝓛 𝓜 𝓡 (code.calls-c_calls::slot::start 𝓡.env wired)) z
     (and_then ! (get ! refl) (and_then ! (get ! refl) (no_more !))) (λ v.
     use1 𝓛 (later (some (λ (u : ℕ). ((‵ (flft (α ∷ []) full_share) ⊛ ‵ ftrue) ⊛ ‵ (u32.own_val u (v ∷ []))) ⊛
     some (λ (ws : SlotValue × (Unit {0} × Unit {0})). ‵ (lasts g.ended z.0.0 z.0.3 ws) ⊛ raw (fact 𝓤 ((ws.0 ≡ stepped Start held p0 u) × (IsStarted held p0 u))))))) (id⊢ 𝓤 _) $

@@ -1,11 +1,11 @@
 use Rattle.memplan_c.proofs.Steps.{◌≡◌, ℕ, [], ◌∷◌, refl, w64, MutBor, proved, full_share, id⊢, ftrue, flft, fres, flent, named, fact, tables, ‵, raw, prop, ◌⊛◌, some, later, ◌$◌, ◌∵◌, !, qed, done, move, keep, drop, use1, use2, use3, split, join, fsplit, pick, await, rewrite, regoal, suffices, frame, group, enter, of_opd, addr, stop, no_more, and_then, returns, alloc_all, pass_all, free_all, look_at, get, through, sets, lands_as, lft_new, lft_end, u64, yes, shows, Is, lends_ref, ref_back, mem, uint_Lawful, Ptr, RawPtr, block_ptr, lies_at, in_a_block, rawptr_vals, rawptr_Tells, MutRef, mut_vals, plain, nothing, heard, peeks, calls_at, lasts, on_entry, triple_of, Stays, walk_of, says, stay_dropped, Goes-dropped, ends_at, framed, WpFn, Body}
-use Rattle.memplan_c.specs.Slots.{SlotValue, used_in}
-use Rattle.memplan_c.specs.contracts.slot.Slot.{the_row as R}
+use Rattle.c_calls.specs.Slots.{SlotValue, used_in}
+use Rattle.c_calls.specs.contracts.slot.Slot.{the_row as R}
 use Rattle.memplan_c.specs.contracts.cores.memplan_core_used as f
 use Rattle.memplan_c.proofs.cores.memplan_core_used.Statement.{statement}
 use Rattle.memplan_c.proofs.cores.memplan_core_used.Code as code
-use Rattle.memplan_c.specs.contracts.slot.used as g
-use Rattle.memplan_c.proofs.slot.used.Met.{met}
+use Rattle.c_calls.specs.contracts.slot.used as g
+use Rattle.c_calls.proofs.slot.used.Met.{met}
 
 abbrev stayed : Stays f.ended.signature.params f.ended.kept
 stayed = (stay_dropped _ yes, tt)
@@ -33,7 +33,7 @@ memplan_core_used_spec 𝓤 𝓛 𝓜 𝓡 wired =
     let z : G.Ghost = (((α ∷ [], tt), (full_share, tt), tt, (r, tt), (mut_vals r, tt)), tt) in
     nothing ! $ move ! (1 ∷ 0 ∷ []) $ join ! $ nothing ! $ move ! (3 ∷ 0 ∷ []) $ join ! $ join ! $
     nothing ! $ move ! (1 ∷ 0 ∷ []) $ use2 𝓛 (raw (G.pre z)) (id⊢ 𝓤 _) $
-    calls_at ! (framed 𝓤 𝓛.H 𝓜 (tables 𝓤 𝓛.H 𝓜 𝓡 𝓡.env)) G (met 𝓤 𝓛 𝓜 𝓡 (code.calls-memplan_c::slot::used 𝓡.env wired)) z
+    calls_at ! (framed 𝓤 𝓛.H 𝓜 (tables 𝓤 𝓛.H 𝓜 𝓡 𝓡.env)) G (met 𝓤 𝓛 𝓜 𝓡 (code.calls-c_calls::slot::used 𝓡.env wired)) z
     (and_then ! (get ! refl) (no_more !)) (λ v.
     use1 𝓛 (later (some (λ (u : ℕ). ((‵ (flft (α ∷ []) full_share) ⊛ ‵ ftrue) ⊛ ‵ (u64.own_val u (v ∷ []))) ⊛
     some (λ (ws : SlotValue × Unit {0}). ‵ (lasts g.ended z.0.0 z.0.3 ws) ⊛ raw (fact 𝓤 ((ws.0 ≡ held) × (u ≡ used_in held))))))) (id⊢ 𝓤 _) $

@@ -1,0 +1,4 @@
+pub mod RisingClaims
+pub mod Lengths
+pub mod FrontsMade
+pub mod RoomForClaims
