@@ -36,8 +36,7 @@ pub const REPLAY: &str = "replay --tree t --order o";
 
 pub const PLANNING: &str = "plan --tree t";
 
-pub const SIMULATE: &str =
-    "simulate --tree t --order o --priority p --bound 11 --workers 2";
+pub const SIMULATE: &str = "simulate --tree t --order o --priority p --bound 11 --workers 2";
 
 pub const SPILL: &str = "spill --tree t --order o --bound 10";
 
