@@ -38,7 +38,7 @@ from commands import COMMANDS  # noqa: E402
 
 FOLDER = Path(__file__).resolve().parent / "reports"
 SHARED = FOLDER / "shared.toml"
-SECONDS = 60
+SECONDS = 120
 
 
 # A file's text, or the pieces that it is made of when it is wanted: some are long.
