@@ -14,6 +14,8 @@ A file of rows says in its first line what they show. It has tables of these kin
 
 A file's text is a string, or a list of strings and of tables of so many `lines`, made by `of`: the first braces of a line stand for the first
 number of `from`, which is greater by its `step`, or by 1, from line to line.
+
+The program is that of the environment's MEMPLAN_PROGRAM, or else of prebuilt/.
 """
 
 import subprocess
@@ -39,7 +41,6 @@ from commands import COMMANDS  # noqa: E402
 FOLDER = Path(__file__).resolve().parent / "reports"
 SHARED = FOLDER / "shared.toml"
 SECONDS = 120
-
 
 # A file's text, or the pieces that it is made of when it is wanted: some are long.
 File = str | list[Any]
