@@ -41,6 +41,18 @@ fn first_least_after_each_change(rt: HostRuntime) -> Result<(), Fail> {
     Ok(())
 }
 
+// A bound, and the first place whose number is at most it; the last number is still the greatest.
+const FIRST_WITHIN: &[(u64, Option<usize>)] = &[
+    (0, None),
+    (4, None),
+    (5, Some(4)),
+    (19, Some(4)),
+    (20, Some(1)),
+    (29, Some(1)),
+    (30, Some(0)),
+    (u64::MAX, Some(0)),
+];
+
 #[test]
 fn the_first_place_within_a_bound(rt: HostRuntime) -> Result<(), Fail> {
     let mut tree = MinTree::new(rt.alloc(), 6)?;
@@ -49,20 +61,9 @@ fn the_first_place_within_a_bound(rt: HostRuntime) -> Result<(), Fail> {
             tree.put(place, number);
         }
     }
-    // a bound, and the first place whose number is at most it; the last number is still the greatest
-    let rows = [
-        (0, None),
-        (4, None),
-        (5, Some(4)),
-        (19, Some(4)),
-        (20, Some(1)),
-        (29, Some(1)),
-        (30, Some(0)),
-        (u64::MAX, Some(0)),
-    ];
-    for (bound, first) in rows {
+    for (bound, first) in FIRST_WITHIN {
         if tree.len() > 0 {
-            assert_eq!(rt; tree.first_at_most(bound), first);
+            assert_eq!(rt; tree.first_at_most(*bound), *first);
         }
     }
     Ok(())

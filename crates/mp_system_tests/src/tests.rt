@@ -87,6 +87,18 @@ fn peaks_and_first_faults(rt: HostRuntime) -> Result<(), Fail> {
     Ok(())
 }
 
+// A task, the memory while it runs or why it does not, and the memory after that.
+const STEPS: &[(u32, Result<u64, OrderKind>, u64)] = &[
+    (1, Ok(10), 1),
+    (1, Err(OrderKind::Repeated), 1),
+    (3, Ok(11), 2),
+    (5, Err(OrderKind::TooEarly), 2),
+    (6, Err(OrderKind::Unknown), 2),
+    (2, Ok(7), 6),
+    (4, Ok(11), 10),
+    (5, Ok(10), 0),
+];
+
 #[test]
 fn memory_step_by_step(rt: HostRuntime) -> Result<(), Fail> {
     let system = tree(rt.alloc())?;
@@ -94,19 +106,9 @@ fn memory_step_by_step(rt: HostRuntime) -> Result<(), Fail> {
     assert_eq!(rt; system.items().len(), 5);
     let mut replay = Replay::new(rt.alloc(), &system)?;
     assert_eq!(rt; replay.memory(), 0);
-    let rows = [
-        (1, Ok(10), 1),
-        (1, Err(OrderKind::Repeated), 1),
-        (3, Ok(11), 2),
-        (5, Err(OrderKind::TooEarly), 2),
-        (6, Err(OrderKind::Unknown), 2),
-        (2, Ok(7), 6),
-        (4, Ok(11), 10),
-        (5, Ok(10), 0),
-    ];
-    for (task, answer, memory) in rows {
-        assert_eq!(rt; replay.step(&system, task), answer);
-        assert_eq!(rt; replay.memory(), memory);
+    for (task, answer, memory) in STEPS {
+        assert_eq!(rt; replay.step(&system, *task), *answer);
+        assert_eq!(rt; replay.memory(), *memory);
     }
     Ok(())
 }
@@ -128,7 +130,7 @@ fn items_that_no_task_produces(rt: HostRuntime) -> Result<(), Fail> {
 }
 
 // A kind of fault, its word, and a fault of it at place 3 in words.
-const WORDS: [(OrderKind, &str, &str); 4] = [
+const WORDS: &[(OrderKind, &str, &str)] = &[
     (OrderKind::Unknown, "unknown", "unknown at place 3"),
     (OrderKind::Repeated, "repeated", "repeated at place 3"),
     (OrderKind::TooEarly, "too-early", "too-early at place 3"),
@@ -138,8 +140,8 @@ const WORDS: [(OrderKind, &str, &str); 4] = [
 #[test]
 fn words_of_kinds(rt: HostRuntime) -> Result<(), Fail> {
     for (kind, word, _) in WORDS {
-        assert_eq!(rt; kind.word(), word);
-        assert_eq!(rt; format!(in rt.alloc(); "{kind}")?.as_str(), word);
+        assert_eq!(rt; kind.word(), *word);
+        assert_eq!(rt; format!(in rt.alloc(); "{kind}")?.as_str(), *word);
     }
     Ok(())
 }
@@ -147,8 +149,9 @@ fn words_of_kinds(rt: HostRuntime) -> Result<(), Fail> {
 #[test]
 fn words_of_faults(rt: HostRuntime) -> Result<(), Fail> {
     for (kind, _, text) in WORDS {
+        let kind = *kind;
         let fault = OrderFault { place: 3, kind };
-        assert_eq!(rt; format!(in rt.alloc(); "{fault}")?.as_str(), text);
+        assert_eq!(rt; format!(in rt.alloc(); "{fault}")?.as_str(), *text);
     }
     Ok(())
 }
@@ -156,8 +159,9 @@ fn words_of_faults(rt: HostRuntime) -> Result<(), Fail> {
 #[test]
 fn words_of_refusals(rt: HostRuntime) -> Result<(), Fail> {
     for (kind, _, text) in WORDS {
+        let kind = *kind;
         let refusal = ReplayRefusal::Order(OrderFault { place: 3, kind });
-        assert_eq!(rt; format!(in rt.alloc(); "{refusal}")?.as_str(), text);
+        assert_eq!(rt; format!(in rt.alloc(); "{refusal}")?.as_str(), *text);
     }
     Ok(())
 }

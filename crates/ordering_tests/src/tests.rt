@@ -25,18 +25,19 @@ fn pattern_of(alloc: Global, entries: &str) -> Result<Pattern, Fail> {
     Ok(read_pattern(alloc, text.as_bytes())?)
 }
 
+// The arrow, the grid of 2 by 2, and no pairs: the vertices by place, and the places.
+const ORDERS: &[(&str, &[u32], &[u32])] = &[
+    ("4 4 3\n2 1\n3 1\n4 1\n", &[2, 3, 1, 4], &[3, 1, 2, 4]),
+    ("4 4 4\n2 1\n3 1\n4 2\n4 3\n", &[1, 2, 3, 4], &[1, 2, 3, 4]),
+    ("4 4 0\n", &[1, 2, 3, 4], &[1, 2, 3, 4]),
+];
+
 #[test]
 fn minimum_degree_orders(rt: HostRuntime) -> Result<(), Fail> {
-    // the arrow, the grid of 2 by 2, and no pairs: the vertices by place, and the places
-    let rows: [(&str, [u32; 4], [u32; 4]); 3] = [
-        ("4 4 3\n2 1\n3 1\n4 1\n", [2, 3, 1, 4], [3, 1, 2, 4]),
-        ("4 4 4\n2 1\n3 1\n4 2\n4 3\n", [1, 2, 3, 4], [1, 2, 3, 4]),
-        ("4 4 0\n", [1, 2, 3, 4], [1, 2, 3, 4]),
-    ];
-    for (entries, vertices, places) in rows {
+    for (entries, vertices, places) in ORDERS {
         let pattern = pattern_of(rt.alloc(), entries)?;
         let order = min_degree(rt.alloc(), &pattern)?;
-        check_perm(&rt, &order, &vertices, &places, entries);
+        check_perm(&rt, &order, vertices, places, entries);
     }
     Ok(())
 }

@@ -85,7 +85,7 @@ const HILLS: &[u8] =
     b"workflow 1\ntasks 3\ndata 0\ndata 1\ntask 9 1\ndata 0\ndata 8\ntask 4 1\npar 2\ndata 0\ntask 0 1\nend\n";
 
 // Workflows, and their least peaks.
-const PEAKS: [(&[u8], u64); 9] = [
+const PEAKS: &[(&[u8], u64)] = &[
     (FIVE, 11),
     (ONE_NODE, 9),
     (NOTHING, 0),
@@ -102,7 +102,7 @@ fn the_peaks_of_the_worked_rows_are_certified(rt: HostRuntime) -> Result<(), Fai
     let alloc = rt.alloc();
     for (text, peak) in PEAKS {
         let terms = read_workflow(alloc, text)?;
-        assert_eq!(rt; assert_accepted(&rt, alloc, &terms)?, peak);
+        assert_eq!(rt; assert_accepted(&rt, alloc, &terms)?, *peak);
     }
     Ok(())
 }

@@ -139,21 +139,22 @@ fn three_two_one(alloc: Global) -> Result<Vec<Vec<One>>, NoMemory> {
     Ok(lists)
 }
 
+const MERGED: &[(u64, u64, &[u32])] = &[
+    (1, 0, &[4]),
+    (2, 1, &[1]),
+    (5, 5, &[2, 5]),
+    (9, 10, &[3, 6]),
+];
+
 #[test]
 fn sides_are_merged_in_rising_order(rt: HostRuntime) -> Result<(), Fail> {
     let alloc = rt.alloc();
     let lists = three_two_one(alloc)?;
     let rows = merged_rows::<Brand>(alloc, Blank::new(1), &lists)?;
-    let expected: [(u64, u64, &[u32]); 4] = [
-        (1, 0, &[4]),
-        (2, 1, &[1]),
-        (5, 5, &[2, 5]),
-        (9, 10, &[3, 6]),
-    ];
-    assert_eq!(rt; rows.len(), expected.len());
-    for (row, (up, net, tasks)) in rows.iter().zip(expected) {
-        assert_eq!(rt; (row.up, row.net), (up, net));
-        assert_eq!(rt; row.tasks.as_slice(), tasks);
+    assert_eq!(rt; rows.len(), MERGED.len());
+    for (row, (up, net, tasks)) in rows.iter().zip(MERGED) {
+        assert_eq!(rt; (row.up, row.net), (*up, *net));
+        assert_eq!(rt; row.tasks.as_slice(), *tasks);
     }
     let none = Vec::new(alloc);
     assert!(rt; merged_rows::<Brand>(alloc, Blank::new(1), &none)?.is_empty());

@@ -40,7 +40,7 @@ const TWO_CHAINS: &[u8] =
 
 // Workflows, each with its least peak.
 #[rattlefmt::skip]
-const ROWS: [(&[u8], u64); 10] = [
+const ROWS: &[(&[u8], u64)] = &[
     // two nodes that need 10 and leave 1, each below one that leaves 5, below a root
     (b"workflow 1\ntasks 5\ndata 0\ndata 1\ntask 9 1\ndata 5\ntask 0 1\n\
        data 0\ndata 1\ntask 9 1\ndata 5\ntask 0 1\npar 2\ndata 0\ntask 0 1\nend\n", 11),
@@ -138,7 +138,7 @@ fn plans_have_the_peaks_of_the_worked_rows(rt: HostRuntime) -> Result<(), Fail> 
     let alloc = rt.alloc();
     for (text, peak) in ROWS {
         let terms = read_workflow(alloc, text)?;
-        assert_eq!(rt; checked_peak(&rt, alloc, &terms)?, peak);
+        assert_eq!(rt; checked_peak(&rt, alloc, &terms)?, *peak);
     }
     Ok(())
 }

@@ -10,6 +10,7 @@ use mp_system::{Item, System, Task, replay};
 use rand_core::utils::NextWord;
 use rand_pcg::Pcg32;
 use std::alloc::Global;
+use std::process::Abort;
 use std::rt::HostRuntime;
 use std::test::Fail;
 
@@ -82,27 +83,37 @@ fn shuffled(dice: &mut Pcg32) -> [u32; 5] {
     numbers
 }
 
+// This order, where it is a traversal, or the one that always is.
+fn traversal(alloc: Global, system: &System, order: [u32; 5]) -> [u32; 5] {
+    if replay(alloc, system, &order).is_ok() {
+        order
+    } else {
+        [1, 2, 3, 4, 5]
+    }
+}
+
+// A random system along a random order, by a random priority, within a bound of its peak or more.
+fn compare_one(rt: &impl Abort, alloc: Global, dice: &mut Pcg32) -> Result<(), Fail> {
+    let system = random_system(alloc, dice)?;
+    let order = traversal(alloc, &system, shuffled(dice));
+    let priority = shuffled(dice);
+    let peak = replay(alloc, &system, &order)?;
+    let given = Given {
+        system: &system,
+        order: &order,
+        bound: peak.saturating_add(u64::from(below(dice, 20))),
+        workers: 1 + below(dice, 3),
+        priority: &priority,
+    };
+    compare(rt, alloc, given)?;
+    Ok(())
+}
+
 #[test]
 fn random_systems_run_as_the_rule_says(rt: HostRuntime) -> Result<(), Fail> {
-    let alloc = rt.alloc();
     let mut dice = Pcg32::new(7, 11);
     for _ in 0..400u32 {
-        let system = random_system(alloc, &mut dice)?;
-        let (other, priority) = (shuffled(&mut dice), shuffled(&mut dice));
-        let order = if replay(alloc, &system, &other).is_ok() {
-            other
-        } else {
-            [1, 2, 3, 4, 5]
-        };
-        let peak = replay(alloc, &system, &order)?;
-        let given = Given {
-            system: &system,
-            order: &order,
-            bound: peak.saturating_add(u64::from(below(&mut dice, 20))),
-            workers: 1 + below(&mut dice, 3),
-            priority: &priority,
-        };
-        compare(&rt, alloc, given)?;
+        compare_one(&rt, rt.alloc(), &mut dice)?;
     }
     Ok(())
 }

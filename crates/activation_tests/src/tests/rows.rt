@@ -80,15 +80,16 @@ const WIDE: &str = "3 20 20 0a1 0a3 0s1 0s3 1f1 1f3 1a2 1a4 1a5 1s2 1s4 2f2 2f4 
 const ENDLESS: &str = "3 20 30 0a1 0a3 0a2 0a4 0a5 0s1 0s3 1f1 1f3 1s2 1s4 2f2 2f4 2s5 3f5";
 
 // Bounds for the tree, and its runs.
-const BOUNDED: [(u64, &str); 3] = [(11, TIGHT), (22, WIDE), (u64::MAX, ENDLESS)];
+const BOUNDED: &[(u64, &str)] = &[(11, TIGHT), (22, WIDE), (u64::MAX, ENDLESS)];
+
+const ORDER: &[u32] = &[1, 3, 2, 4, 5];
 
 #[test]
 fn runs_of_a_tree(rt: HostRuntime) -> Result<(), Fail> {
     let alloc = rt.alloc();
     let tree = tree(alloc)?;
-    let order = [1, 3, 2, 4, 5];
     for (bound, wanted) in BOUNDED {
-        check_run(&rt, alloc, along(&tree, &order, bound, 2), wanted)?;
+        check_run(&rt, alloc, along(&tree, ORDER, *bound, 2), wanted)?;
     }
     Ok(())
 }
@@ -97,7 +98,7 @@ fn runs_of_a_tree(rt: HostRuntime) -> Result<(), Fail> {
 fn a_tree_on_one_worker(rt: HostRuntime) -> Result<(), Fail> {
     let alloc = rt.alloc();
     let tree = tree(alloc)?;
-    let alone = compare(&rt, alloc, along(&tree, &[1, 3, 2, 4, 5], 22, 1))?;
+    let alone = compare(&rt, alloc, along(&tree, ORDER, 22, 1))?;
     assert_eq!(rt; alone.makespan, 5);
     Ok(())
 }
@@ -106,7 +107,7 @@ fn a_tree_on_one_worker(rt: HostRuntime) -> Result<(), Fail> {
 fn a_tree_on_as_many_workers_as_there_may_be(rt: HostRuntime) -> Result<(), Fail> {
     let alloc = rt.alloc();
     let tree = tree(alloc)?;
-    let crowded = compare(&rt, alloc, along(&tree, &[1, 3, 2, 4, 5], 22, 4096))?;
+    let crowded = compare(&rt, alloc, along(&tree, ORDER, 22, 4096))?;
     assert_eq!(rt; crowded.makespan, 3);
     Ok(())
 }
@@ -194,7 +195,7 @@ fn orders_that_are_refused(rt: HostRuntime) -> Result<(), Fail> {
 }
 
 // Refusals, and their words.
-const TOLD: [(CoreRefusal, &str); 3] = [
+const TOLD: &[(CoreRefusal, &str)] = &[
     (
         CoreRefusal::Order(OrderFault {
             place: 3,
@@ -209,14 +210,14 @@ const TOLD: [(CoreRefusal, &str); 3] = [
 #[test]
 fn refusals_are_told(rt: HostRuntime) -> Result<(), Fail> {
     for (refusal, words) in TOLD {
-        assert_eq!(rt; format!(in rt.alloc(); "{refusal}")?.as_str(), words);
+        assert_eq!(rt; format!(in rt.alloc(); "{refusal}")?.as_str(), *words);
     }
     Ok(())
 }
 
 // The tree along an order, in the least memory for it.
 fn tree_core(alloc: Global) -> Result<Core, Fail> {
-    Ok(Core::new(alloc, &tree(alloc)?, &[1, 3, 2, 4, 5], 11, 1)?)
+    Ok(Core::new(alloc, &tree(alloc)?, ORDER, 11, 1)?)
 }
 
 // Used and booked memory, and how many tasks are activated.
@@ -246,7 +247,7 @@ fn check_event(rt: &impl Abort, core: &mut Core, (task, runs, memory): Tried) {
     assert_eq!(rt; sums(core), memory);
 }
 
-const EVENTS: [Tried; 6] = [
+const EVENTS: &[Tried] = &[
     (0, false, (0, 10, 1)),
     (6, false, (0, 10, 1)),
     (3, false, (0, 10, 1)),
@@ -260,13 +261,13 @@ fn a_core_event_by_event(rt: HostRuntime) -> Result<(), Fail> {
     let mut core = tree_core(rt.alloc())?;
     activate_one(&rt, &mut core);
     for event in EVENTS {
-        check_event(&rt, &mut core, event);
+        check_event(&rt, &mut core, *event);
     }
     Ok(())
 }
 
 // Priorities, and whether each holds each of five tasks once.
-const PRIORITIES: [(&[u32], bool); 6] = [
+const PRIORITIES: &[(&[u32], bool)] = &[
     (&[1, 2, 3, 4, 5], true),
     (&[5, 3, 1, 4, 2], true),
     (&[1, 2, 3, 4], false),
@@ -280,7 +281,7 @@ fn priorities_that_hold_each_task_once(rt: HostRuntime) -> Result<(), Fail> {
     let alloc = rt.alloc();
     let tree = tree(alloc)?;
     for (priority, holds) in PRIORITIES {
-        assert_eq!(rt; holds_each(alloc, &tree, priority)?, holds);
+        assert_eq!(rt; holds_each(alloc, &tree, priority)?, *holds);
     }
     Ok(())
 }

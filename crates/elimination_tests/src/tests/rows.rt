@@ -65,10 +65,11 @@ fn a_square(rt: HostRuntime) -> Result<(), Fail> {
     )
 }
 
+const ALL_JOINED: [(u32, u32); 6] = [(2, 1), (3, 1), (4, 1), (3, 2), (4, 2), (4, 3)];
+
 #[test]
 fn all_joined(rt: HostRuntime) -> Result<(), Fail> {
-    let pairs = [(2, 1), (3, 1), (4, 1), (3, 2), (4, 2), (4, 3)];
-    check_order(&rt, rt.alloc(), &pairs, &[1, 2, 3, 4])
+    check_order(&rt, rt.alloc(), &ALL_JOINED, &[1, 2, 3, 4])
 }
 
 #[test]
@@ -81,67 +82,41 @@ fn a_grid_of_2_by_2(rt: HostRuntime) -> Result<(), Fail> {
     )
 }
 
+#[rattlefmt::skip]
+const GRID_OF_3_BY_3: [(u32, u32); 12] = [
+    (2, 1), (3, 2), (4, 1), (5, 2), (5, 4), (6, 3), (6, 5), (7, 4), (8, 5), (8, 7), (9, 6), (9, 8),
+];
+
 #[test]
 fn a_grid_of_3_by_3(rt: HostRuntime) -> Result<(), Fail> {
-    let pairs = [
-        (2, 1),
-        (3, 2),
-        (4, 1),
-        (5, 2),
-        (5, 4),
-        (6, 3),
-        (6, 5),
-        (7, 4),
-        (8, 5),
-        (8, 7),
-        (9, 6),
-        (9, 8),
-    ];
-    check_order(&rt, rt.alloc(), &pairs, &[1, 3, 7, 9, 2, 4, 5, 6, 8])
+    check_order(
+        &rt,
+        rt.alloc(),
+        &GRID_OF_3_BY_3,
+        &[1, 3, 7, 9, 2, 4, 5, 6, 8],
+    )
 }
 
 // 1, 2 and 3 are twins, and so are 4 and 5.
+#[rattlefmt::skip]
+const TWO_GROUPS: [(u32, u32); 13] = [
+    (2, 1), (3, 1), (3, 2), (5, 4), (6, 4), (6, 5), (7, 1), (7, 2), (7, 3), (7, 4), (7, 5), (8, 6), (8, 7),
+];
+
 #[test]
 fn two_groups_of_twins(rt: HostRuntime) -> Result<(), Fail> {
-    let pairs = [
-        (2, 1),
-        (3, 1),
-        (3, 2),
-        (5, 4),
-        (6, 4),
-        (6, 5),
-        (7, 1),
-        (7, 2),
-        (7, 3),
-        (7, 4),
-        (7, 5),
-        (8, 6),
-        (8, 7),
-    ];
-    check_order(&rt, rt.alloc(), &pairs, &[8, 1, 2, 3, 4, 5, 6, 7])
+    check_order(&rt, rt.alloc(), &TWO_GROUPS, &[8, 1, 2, 3, 4, 5, 6, 7])
 }
 
 // Parts meet.
+#[rattlefmt::skip]
+const TWELVE: [(u32, u32); 16] = [
+    (3, 1), (4, 2), (4, 3), (5, 1), (5, 2), (6, 1), (6, 5), (7, 2), (7, 4), (7, 6), (8, 2), (8, 7), (10, 3), (11, 3), (11, 4), (11, 9),
+];
+
+const WANTED: [u32; 12] = [12, 9, 10, 8, 11, 3, 1, 2, 4, 5, 6, 7];
+
 #[test]
 fn twelve_vertices(rt: HostRuntime) -> Result<(), Fail> {
-    let pairs = [
-        (3, 1),
-        (4, 2),
-        (4, 3),
-        (5, 1),
-        (5, 2),
-        (6, 1),
-        (6, 5),
-        (7, 2),
-        (7, 4),
-        (7, 6),
-        (8, 2),
-        (8, 7),
-        (10, 3),
-        (11, 3),
-        (11, 4),
-        (11, 9),
-    ];
-    let wanted = [12, 9, 10, 8, 11, 3, 1, 2, 4, 5, 6, 7];
-    check_order(&rt, rt.alloc(), &pairs, &wanted)
+    check_order(&rt, rt.alloc(), &TWELVE, &WANTED)
 }

@@ -36,19 +36,19 @@ fn a_new_side_has_no_segment(rt: HostRuntime) -> Result<(), Fail> {
 }
 
 // The first three make one segment.
-const APPENDED: [One; 4] = [(5, 2, 1), (3, 1, 2), (5, 0, 3), (9, 4, 4)];
+const APPENDED: &[One] = &[(5, 2, 1), (3, 1, 2), (5, 0, 3), (9, 4, 4)];
 
 // Two segments.
 fn two_segments(alloc: Global) -> Result<RopedSide, NoMemory> {
     let mut side = RopedSide::new(alloc);
     for (up, net, task) in APPENDED {
-        side.append(up, net, task)?;
+        side.append(*up, *net, *task)?;
     }
     Ok(side)
 }
 
 // Bounds, and the lowest level within each: from level 10 over 15 down to 7, and over 16 down to 3.
-const LOWEST: [(i64, u64); 6] = [(-1, 10), (9, 10), (14, 10), (15, 7), (16, 3), (100, 3)];
+const LOWEST: &[(i64, u64)] = &[(-1, 10), (9, 10), (14, 10), (15, 7), (16, 3), (100, 3)];
 
 #[test]
 fn a_side_of_two_segments(rt: HostRuntime) -> Result<(), Fail> {
@@ -57,7 +57,7 @@ fn a_side_of_two_segments(rt: HostRuntime) -> Result<(), Fail> {
     assert_eq!(rt; side.len(), 2);
     assert_eq!(rt; side.top(3), 16);
     for (bound, level) in LOWEST {
-        assert_eq!(rt; side.lowest(3, bound), level);
+        assert_eq!(rt; side.lowest(3, *bound), *level);
     }
     Ok(())
 }
@@ -104,7 +104,7 @@ fn a_side_of_three_segments(rt: HostRuntime) -> Result<(), Fail> {
 }
 
 // Levels, and how many of the first segments start at or above each: they start at 10, 7 and 6.
-const ABOVE: [(u64, usize); 5] = [(6, 3), (7, 2), (8, 1), (10, 1), (11, 0)];
+const ABOVE: &[(u64, usize)] = &[(6, 3), (7, 2), (8, 1), (10, 1), (11, 0)];
 
 #[test]
 fn the_first_segments_are_those_above_a_level(rt: HostRuntime) -> Result<(), Fail> {
@@ -113,8 +113,8 @@ fn the_first_segments_are_those_above_a_level(rt: HostRuntime) -> Result<(), Fai
     let all = side.numbers(alloc, 2, 0)?;
     assert_eq!(rt; all.as_slice(), [(5, 3), (7, 1), (9, 4)].as_slice());
     for (stop, many) in ABOVE {
-        let numbers = side.numbers(alloc, 2, stop)?;
-        assert_eq!(rt; numbers.len(), many);
+        let numbers = side.numbers(alloc, 2, *stop)?;
+        assert_eq!(rt; numbers.len(), *many);
     }
     Ok(())
 }
@@ -154,12 +154,12 @@ fn append(
 }
 
 // Three segments inside a long side and one at each end, and whether each goes before its equals.
-const PUT_IN: [(u64, u64, u32, bool); 5] = [
-    (601, 1, 601, true),
-    (600, 2, 7, true),
-    (602, 2, 8, false),
-    (1, 1, 1, true),
-    (1201, 1, 1201, false),
+const PUT_IN: &[(One, bool)] = &[
+    ((601, 1, 601), true),
+    ((600, 2, 7), true),
+    ((602, 2, 8), false),
+    ((1, 1, 1), true),
+    ((1201, 1, 1201), false),
 ];
 
 // A segment at each even `up` to 1,200, of the task of the same number, and then those that are put in.
@@ -174,8 +174,8 @@ fn long_sides(alloc: Global) -> Result<(RopedSide, PlainSide), NoMemory> {
             &mut plain,
         )?;
     }
-    for (up, net, task, before) in PUT_IN {
-        put(alloc, (up, net, task), before, &mut side, &mut plain)?;
+    for (one, before) in PUT_IN {
+        put(alloc, *one, *before, &mut side, &mut plain)?;
     }
     Ok((side, plain))
 }

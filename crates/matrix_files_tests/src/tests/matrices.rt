@@ -14,38 +14,39 @@ fn check_rows(rt: &impl Abort, pattern: &Pattern, rows: &[&[u32]]) {
     }
 }
 
+const READ: &[(&str, &[&[u32]])] = &[
+    (
+        "%%MatrixMarket matrix coordinate pattern symmetric\n4 4 3\n2 1\n3 1\n4 1\n",
+        &STAR,
+    ),
+    // the same as a general matrix: comments, blank lines, diagonal entries, repeats, both triangles, values that are no numbers
+    (
+        "%%MatrixMarket MATRIX Coordinate Real General\r\n% arrow\r\n\r\n4 4 8\r\n1 1 1e400\r\n1 2 1.0\r\n\
+        2 1 1.0\r\n1 3 x\r\n3 3 -2\r\n 4\t1 7\r\n1 2 5.5\r\n4 4 0",
+        &STAR,
+    ),
+    (
+        "%%MatrixMarket matrix coordinate pattern skew-symmetric\n1 1 1\n1 1\n",
+        &[&[]],
+    ),
+    (
+        "%%MatrixMarket matrix coordinate pattern general\n2 2 0\n",
+        &[&[], &[]],
+    ),
+    (
+        "%%matrixmarket Matrix COORDINATE Complex Hermitian of 1996\n%\n3 3 2\n3 1 0 -1\n\n% x\n1 2 i j\n\n",
+        &[&[2, 3], &[1], &[1]],
+    ),
+    (
+        "%%MatrixMarket matrix coordinate unsigned-integer general\n002 2 1\n1 2 #",
+        &[&[2], &[1]],
+    ),
+];
+
 #[test]
 fn reads(rt: HostRuntime) -> Result<(), Fail> {
     let alloc = rt.alloc();
-    let rows: [(&str, &[&[u32]]); 6] = [
-        (
-            "%%MatrixMarket matrix coordinate pattern symmetric\n4 4 3\n2 1\n3 1\n4 1\n",
-            &STAR,
-        ),
-        // the same as a general matrix: comments, blank lines, diagonal entries, repeats, both triangles, values that are no numbers
-        (
-            "%%MatrixMarket MATRIX Coordinate Real General\r\n% arrow\r\n\r\n4 4 8\r\n1 1 1e400\r\n1 2 1.0\r\n\
-            2 1 1.0\r\n1 3 x\r\n3 3 -2\r\n 4\t1 7\r\n1 2 5.5\r\n4 4 0",
-            &STAR,
-        ),
-        (
-            "%%MatrixMarket matrix coordinate pattern skew-symmetric\n1 1 1\n1 1\n",
-            &[&[]],
-        ),
-        (
-            "%%MatrixMarket matrix coordinate pattern general\n2 2 0\n",
-            &[&[], &[]],
-        ),
-        (
-            "%%matrixmarket Matrix COORDINATE Complex Hermitian of 1996\n%\n3 3 2\n3 1 0 -1\n\n% x\n1 2 i j\n\n",
-            &[&[2, 3], &[1], &[1]],
-        ),
-        (
-            "%%MatrixMarket matrix coordinate unsigned-integer general\n002 2 1\n1 2 #",
-            &[&[2], &[1]],
-        ),
-    ];
-    for (text, wanted) in rows {
+    for (text, wanted) in READ {
         check_rows(&rt, &read_pattern(alloc, text.as_bytes())?, wanted);
         let owned = Vec::from_slice(alloc, text.as_bytes())?;
         check_rows(&rt, &read_pattern_owned(alloc, owned)?, wanted);

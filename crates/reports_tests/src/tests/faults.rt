@@ -1,37 +1,17 @@
-//! Loads and writes that fail, files that are not held, and sinks that are full.
+//! Loads and writes that fail, and sinks that are full.
 
-use super::fronts::ABREAST;
-use super::reductions::{GRAPH, WORKFLOW};
-use super::segments::OF_FIVE;
-use super::simulations::TIGHT;
-use super::spills::BOTH;
-use super::{
-    ARROW, Case, FIVE, FOUR, ORDER, PLAN, TURNED, Texts, check_cases, check_run, files_of, run_into,
+use super::commands::{
+    ABREAST, BOTH, FILES, FRONTS, OF_FIVE, PLANNING, REDUCE, REPLAY, SEGMENTS, SIMULATE, SPILL,
+    TIGHT, WORKFLOW,
 };
+use super::{check_run, files_of, run_into};
 use mp_outside::MemSink;
-use reports::Status::{self, Done, Format, ReadFault, WriteFault};
+use reports::Status::{self, Done, ReadFault, WriteFault};
 use std::alloc::{AllocError, Global};
 use std::process::Abort;
 use std::str;
 use std::test::Fail;
 use std::thread::Threads;
-
-#[rattlefmt::skip]
-const FILES: Texts = &[("t", FIVE), ("o", ORDER), ("p", "5 4 3 2 1\n"), ("m", ARROW), ("q", TURNED), ("g", GRAPH)];
-
-const REPLAY: &str = "replay --tree t --order o";
-
-const PLANNING: &str = "plan --tree t";
-
-const SIMULATE: &str = "simulate --tree t --order o --priority p --bound 11 --workers 2";
-
-const SPILL: &str = "spill --tree t --order o --bound 10";
-
-const SEGMENTS: &str = "segments --tree t";
-
-const FRONTS: &str = "fronts --matrix m --perm q --bound 4 --workers 2";
-
-const REDUCE: &str = "reduce --graph g";
 
 // Loads in pieces of 3 bytes: the tree has 59 bytes, the order and the priority 10 each, and each file ends with a load that gives nothing.
 const OF_TREE: u64 = 20 + 1;
@@ -107,43 +87,6 @@ fn each_load_for_a_plan_fails_in_turn(rt: HostRuntime) -> Result<(), Fail> {
     let text = str::from_utf8(plan.written()).expect(&rt, "a plan is text");
     check_loads(&rt, rt.alloc(), PLANNING, OF_TREE, text)?;
     Ok(())
-}
-
-// A refused file ends a run before a later one is loaded, and one that is not held ends it before a later one is judged.
-#[rattlefmt::skip]
-const NOT_HELD: &[Case] = &[
-    (&["replay --tree t --order none"], &[("t", FIVE)], ReadFault, ""),
-    (&["replay --tree t --order none", "replay --tree t --plan none", "check --tree t --plan none",
-            "simulate --tree t --order none --priority none --bound 0 --workers 1", "spill --tree t --order none --bound 0"],
-        &[("t", "tree 1\nnodes 0\n")], Format, "refused format tree count 2\n"),
-    (&["replay --tree none --order o", "replay --tree none --plan o", "check --tree none --plan o", "replay --workflow none --order o",
-            "replay --matrix none --order o", "plan --tree none", "post --tree none", "tree --matrix none", "upgrade --tree none",
-            "upgrade --workflow none", "upgrade --plan none --priority o", "spill --tree none --order o --bound 0",
-            "spill --workflow none --plan o --bound 0", "segments --tree none", "segments --workflow none",
-            "segments --matrix none", "reduce --graph none",
-            "fronts --matrix none --perm o --bound 0 --workers 1"],
-        &[("o", "x")], ReadFault, ""),
-    (&["tree --matrix m --perm none", "plan --matrix m --perm none", "post --matrix m --perm none", "segments --matrix m --perm none",
-            "fronts --matrix m --perm none --bound 0 --workers 1"], &[("m", ARROW)], ReadFault, ""),
-    (&["tree --matrix m --perm none", "replay --matrix m --perm none --order none"], &[("m", "")], Format,
-        "refused format matrix banner 1\n"),
-    (&["replay --matrix m --perm p --order none", "plan --matrix m --perm p", "tree --matrix m --perm p"],
-        &[("m", ARROW), ("p", "0\n")], Format, "refused format perm range 1\n"),
-    (&["replay --matrix m --perm none --order o", "simulate --matrix m --perm none --order o --bound 0 --workers 1"],
-        &[("m", ARROW), ("o", "x")], ReadFault, ""),
-    (&["simulate --tree t --order o --priority none --bound 0 --workers 1"], &[("t", FOUR), ("o", "x\n")], Format,
-        "refused format order number 1\n"),
-    (&["simulate --tree t --order none --priority p --bound 0 --workers 1",
-            "simulate --tree t --order o --priority none --bound 0 --workers 1"],
-        &[("t", FOUR), ("o", "1 1\n"), ("p", "x")], ReadFault, ""),
-    (&["upgrade --plan p --priority none"], &[("p", "plan 3\n")], Format, "refused format plan header 1\n"),
-    (&["upgrade --plan p --priority none"], &[("p", PLAN)], ReadFault, ""),
-    (&["spill --tree t --order none --bound 11", "spill --tree t --plan none --bound 11"], &[("t", FIVE)], ReadFault, ""),
-];
-
-#[test]
-fn files_that_are_not_held(rt: HostRuntime) -> Result<(), Fail> {
-    check_cases(&rt, rt.alloc(), NOT_HELD)
 }
 
 // ---- writes

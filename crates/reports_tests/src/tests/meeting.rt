@@ -1,7 +1,7 @@
 //! The checker judges its chunks, and a round makes its fronts, on threads: two of them meet.
 
-use super::fronts::ABREAST;
-use super::{ARROW, FIVE, PLAN, TURNED, files_of, words_of};
+use super::commands::{ABREAST, ARROW, FIVE, PLAN, TURNED};
+use super::{Texts, files_of, words_of};
 use mp_outside::{Gate, MemSink};
 use reports::{Status, run_words};
 use std::alloc::Global;
@@ -83,17 +83,19 @@ fn check_meeting<R: Threads + Sync + Abort>(
     Ok(())
 }
 
+const TREE_AND_PLAN: Texts = &[("t", FIVE), ("p", PLAN)];
+
+const MATRIX_AND_ORDER: Texts = &[("m", ARROW), ("p", TURNED)];
+
 #[test]
 fn two_chunks_are_judged_at_once(rt: HostRuntime) -> Result<(), Fail> {
     let run = "check --tree t --plan p --workers 2";
-    let texts = [("t", FIVE), ("p", PLAN)];
-    check_meeting(&rt, rt.alloc(), run, &texts, "yes 11\n")
+    check_meeting(&rt, rt.alloc(), run, TREE_AND_PLAN, "yes 11\n")
 }
 
 // In the second round both have come, so its one front passes.
 #[test]
 fn two_fronts_are_made_at_once(rt: HostRuntime) -> Result<(), Fail> {
     let run = "fronts --matrix m --perm p --bound 4 --workers 2";
-    let texts = [("m", ARROW), ("p", TURNED)];
-    check_meeting(&rt, rt.alloc(), run, &texts, ABREAST)
+    check_meeting(&rt, rt.alloc(), run, MATRIX_AND_ORDER, ABREAST)
 }

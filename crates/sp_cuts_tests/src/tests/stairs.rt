@@ -54,7 +54,7 @@ const FOREST: &[u8] =
 
 // A workflow, one of its positions, and the steps of both lists there.
 #[rattlefmt::skip]
-const ROWS: [(&[u8], usize, Pairs, Pairs); 14] = [
+const ROWS: &[(&[u8], usize, Pairs, Pairs)] = &[
     (FIVE_NODES, 3, &[], &[(10, 0)]),
     (FIVE_NODES, 5, &[], &[(6, 1), (10, 0)]),
     (FIVE_NODES, 8, &[], &[(10, 0)]),
@@ -132,7 +132,7 @@ fn too_many_steps_pass_the_limit(rt: HostRuntime) -> Result<(), Fail> {
 }
 
 // Refusals, and their words.
-const TOLD: [(StairsRefusal, &str); 2] = [
+const TOLD: &[(StairsRefusal, &str)] = &[
     (StairsRefusal::Limit, "limit steps"),
     (StairsRefusal::NoMemory, "no memory"),
 ];
@@ -140,7 +140,7 @@ const TOLD: [(StairsRefusal, &str); 2] = [
 #[test]
 fn refusals_are_told(rt: HostRuntime) -> Result<(), Fail> {
     for (refusal, words) in TOLD {
-        assert_eq!(rt; format!(in rt.alloc(); "{refusal}")?.as_str(), words);
+        assert_eq!(rt; format!(in rt.alloc(); "{refusal}")?.as_str(), *words);
     }
     Ok(())
 }

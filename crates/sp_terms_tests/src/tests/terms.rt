@@ -181,17 +181,19 @@ fn fill(builder: &mut TermBuilder, times: u32, size: u64) -> Result<(), Fail> {
 }
 
 // So many data items of one size reach a limit, which the next one passes.
+const FULL: &[(u32, u64, u64, LimitName)] = &[
+    (1_048_576, MOST_SIZE, 1, LimitName::Total),
+    (4_000_001, 0, 0, LimitName::Positions),
+];
+
 #[test]
 fn a_builder_keeps_to_positions_and_the_total(rt: HostRuntime) -> Result<(), Fail> {
-    for (times, size, next, name) in [
-        (1_048_576, MOST_SIZE, 1, LimitName::Total),
-        (4_000_001, 0, 0, LimitName::Positions),
-    ] {
-        let refused = Err(PushRefusal::Limit(name));
+    for (times, size, next, name) in FULL {
+        let refused = Err(PushRefusal::Limit(*name));
         let mut builder = TermBuilder::new(rt.alloc());
-        fill(&mut builder, times, size)?;
-        assert_eq!(rt; builder.push(Position::Hold(next)), refused);
-        assert_eq!(rt; builder.push(task(next, 0)), refused);
+        fill(&mut builder, *times, *size)?;
+        assert_eq!(rt; builder.push(Position::Hold(*next)), refused);
+        assert_eq!(rt; builder.push(task(*next, 0)), refused);
     }
     Ok(())
 }
@@ -223,16 +225,18 @@ fn a_builder_keeps_to_a_million_tasks(rt: HostRuntime) -> Result<(), Fail> {
     Ok(())
 }
 
+const WORDS: &[(PushRefusal, &str)] = &[
+    (PushRefusal::Short, "stack-short"),
+    (PushRefusal::Limit(LimitName::Total), "limit total"),
+    (PushRefusal::Share, "share"),
+    (PushRefusal::NoMemory, "no memory"),
+];
+
 #[test]
 fn refusals_have_their_words(rt: HostRuntime) -> Result<(), Fail> {
-    for (refusal, words) in [
-        (PushRefusal::Short, "stack-short"),
-        (PushRefusal::Limit(LimitName::Total), "limit total"),
-        (PushRefusal::Share, "share"),
-        (PushRefusal::NoMemory, "no memory"),
-    ] {
+    for (refusal, words) in WORDS {
         let text = format!(in rt.alloc(); "{refusal}")?;
-        assert_eq!(rt; text.as_str(), words);
+        assert_eq!(rt; text.as_str(), *words);
     }
     Ok(())
 }

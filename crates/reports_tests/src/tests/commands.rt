@@ -1,0 +1,95 @@
+//! Each command once, over files that it answers.
+
+use super::{Texts, check_run, files_of};
+use reports::Status::Done;
+use std::test::Fail;
+
+// ---- inputs
+
+pub const FIVE: &str = "tree 1\nnodes 5\n2 1 9 1\n5 5 0 1\n4 1 9 1\n5 5 0 1\n0 0 0 1\nend\n";
+
+pub const PLAN: &str =
+    "plan 1\norder 5\n1\n3\n2\n4\n5\npeak 11\nclaims 4\n5 R 5 5\n10 R 5 5\n11 R 10 10\n13 R 10 0\nend\n";
+
+// Vertex 1 is joined to 2, 3 and 4.
+pub const ARROW: &str =
+    "%%MatrixMarket matrix coordinate pattern symmetric\n4 4 3\n2 1\n3 1\n4 1\n";
+
+// An order of elimination that puts the middle of the arrow after two of its ends.
+pub const TURNED: &str = "2 3 1 4\n";
+
+// Two tasks between a first and a last one.
+const GRAPH: &str =
+    "graph 1\ntasks 4\n0 0 1\n2 0 1\n3 0 1\n0 0 1\narcs 4\n1 2 5\n1 3 6\n2 4 1\n3 4 2\nend\n";
+
+// One task with a block of its own.
+const ONE: &str = "tree 1\nnodes 1\n0 7 2 1\nend\n";
+
+#[rattlefmt::skip]
+pub const FILES: Texts = &[
+    ("t", FIVE), ("o", "1 3 2 4 5\n"), ("p", "5 4 3 2 1\n"), ("m", ARROW), ("q", TURNED), ("g", GRAPH), ("s", PLAN), ("u", ONE),
+];
+
+// ---- runs
+
+pub const REPLAY: &str = "replay --tree t --order o";
+
+pub const PLANNING: &str = "plan --tree t";
+
+pub const SIMULATE: &str = "simulate --tree t --order o --priority p --bound 11 --workers 2";
+
+pub const SPILL: &str = "spill --tree t --order o --bound 10";
+
+pub const SEGMENTS: &str = "segments --tree t";
+
+pub const FRONTS: &str = "fronts --matrix m --perm q --bound 4 --workers 2";
+
+pub const REDUCE: &str = "reduce --graph g";
+
+// ---- what they print
+
+// The tree of five nodes within its peak: one leaf after the other.
+pub const TIGHT: &str =
+    "makespan 5\nused 11\nbooked 11\nevents 15\n0 activate 1\n0 start 1\n1 finish 1\n1 activate 3\n1 start 3\n2 finish 3\n\
+        2 activate 2\n2 start 2\n3 finish 2\n3 activate 4\n3 activate 5\n3 start 4\n4 finish 4\n4 start 5\n5 finish 5\nend\n";
+
+// A unit of each of its first two blocks.
+pub const BOTH: &str = "volume 2\nitems 2\n1 1\n2 1\nend\n";
+
+// How low memory can come in its subtrees.
+pub const OF_FIVE: &str =
+    "segments 5\n1 F 0\n1 R 1 10 0\n2 F 0\n2 R 5 6 1 10 0\n3 F 0\n3 R 1 10 0\n4 F 0\n4 R 5 6 1 10 0\n5 F 0\n5 R 0\nend\n";
+
+// Both ends of the arrow at once, then its middle.
+pub const ABREAST: &str = "fronts 3\nrounds 2\nused 4\n1 2\n3\n1 3\n2 3\n3 4\nend\n";
+
+// Tasks with one arc in and one out are taken out from the last one on: here 3, then 2, beside it, then 4 and 1.
+pub const WORKFLOW: &str =
+    "workflow 1\ntasks 4\ndata 0\ndata 6\ndata 2\ntask 3 1\ndata 5\ndata 1\ntask 2 1\npar 2\ndata 0\ntask 0 1\ntask 0 1\nend\n\
+    # 1 3\n# 2 2\n# 3 4\n# 4 1\n";
+
+#[rattlefmt::skip]
+const ANSWERS: &[(&str, &str)] = &[
+    (REPLAY, "peak 11\n"),
+    ("tree --matrix m --perm q", "tree 1\nnodes 3\n3 1 2 1\n3 1 2 1\n0 0 3 2\nend\n"),
+    ("post --tree t", "peak 15\norder 5\n1\n2\n3\n4\n5\nend\n"),
+    ("plan --tree u", "plan 1\norder 1\n1\npeak 9\nclaims 1\n3 R 8 7\nend\n"),
+    ("check --tree t --plan s", "yes 11\n"),
+    (SIMULATE, TIGHT),
+    (SPILL, BOTH),
+    (SEGMENTS, OF_FIVE),
+    (FRONTS, ABREAST),
+    (REDUCE, WORKFLOW),
+    ("upgrade --tree t", "tree 2\nnodes 5\n2 1 9 0 1\n5 5 0 0 1\n4 1 9 0 1\n5 5 0 0 1\n0 0 0 0 1\nend\n"),
+    // a root alone, with a block of 850 and an extra of 764
+    ("demo --seed 1 --tasks 1", "demo tree\ntasks 1\npositions 3\npeak 1614\npostorder 1614\ncheck yes\nend\n"),
+];
+
+#[test]
+fn each_command_answers(rt: HostRuntime) -> Result<(), Fail> {
+    for (run, text) in ANSWERS {
+        let mut files = files_of(rt.alloc(), FILES)?;
+        check_run(&rt, rt.alloc(), run, &mut files, Done, text)?;
+    }
+    Ok(())
+}
