@@ -1,10 +1,8 @@
 -- What an elimination does to the pairs of a pattern, and where the pairs that stand as a column is eliminated come from.
-use Rattle.std.proofs.Common.{sym, ◌-◌, add-zero, add-suc, ◌+◌, ◌≡◌, ◌≢◌, ◌⊎◌, inl, inr, ℕ, zero, suc, ◌<◌, ◌≤◌, Bool, true, not, ◌==◌, arith}
-use Rattle.std.proofs.lemmas.Bool.{and_parts, or_cases, and_from, or_left, or_right, eqb-false, ne_eqb, not-true, not_from_false}
-use Rattle.ordering.specs.Fill.{eliminate, graph_at, IsAdjacency}
+use Rattle.std.proofs.Common.{sym, ◌-◌, add-zero, add-suc, ◌+◌, ◌≡◌, ◌≢◌, ◌⊎◌, inl, inr, ℕ, zero, suc, ◌<◌, ◌≤◌, Bool, true, arith}
+use Rattle.ordering.specs.Fill.{graph_at, IsAdjacency}
 use Rattle.elim_tree.specs.Reaches.{Reaches}
 use Rattle.ordering.proofs.FillLemmas.{to_suc_new, to_suc_old, at_suc, later}
-use Rattle.elimination.proofs.Eliminations.{keep_new, keep_old, kept, Kept}
 
 -- ---- one elimination
 

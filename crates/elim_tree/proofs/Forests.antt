@@ -1,11 +1,10 @@
-use Rattle.std.proofs.Common.{List, length, get_or-set_other, get_or-set_same, set, sym, ◌∙◌, subst, ap, ◌≡◌, ◌≢◌, inl, inr, ℕ, zero, suc, ◌<◌, Bool, IsTrue, arith, refl, cond, ◌==◌, slice_index}
+use Rattle.std.proofs.Common.{sym, ◌∙◌, subst, ap, ◌≡◌, ◌≢◌, inl, inr, ℕ, zero, suc, ◌<◌, Bool, IsTrue, arith, refl, cond, ◌==◌}
 use Rattle.std.proofs.lemmas.Bool.{cases_eq, cases_order, cond-true, cond-false, eq-eqb, ne_eqb}
 use Rattle.ordering.specs.Fill.{IsAdjacency}
 use Rattle.elim_tree.specs.Reaches.{Reaches, IsFirstReached}
 use Rattle.elim_tree.specs.Forests.{IsGrown, IsOnWay, Covers}
 use Rattle.elim_tree.proofs.Fills.{clique}
 use Rattle.elim_tree.proofs.Children.{reaches_later, reaches_by_children}
-use Rattle.lists.proofs.Lists.{at_here, at_other}
 
 -- the new roots: the tree of c goes under k
 pub put_under : (ℕ → ℕ) → ℕ → ℕ → ℕ → ℕ

@@ -1,7 +1,6 @@
 -- The places that the two passes give are a postorder: spans are nested or apart, and fill all places.
-use Rattle.std.proofs.Common.{sym, ◌∙◌, subst, ap, ◌+◌, ◌-◌, ◌≡◌, ◌≢◌, inl, inr, ℕ, zero, suc, ◌<◌, ◌≤◌, List, ◌++◌, length, take, arith, refl, cond, ◌==◌, slice_index}
+use Rattle.std.proofs.Common.{sym, ◌∙◌, subst, ap, ◌+◌, ◌-◌, ◌≡◌, ◌≢◌, inl, inr, ℕ, zero, suc, ◌<◌, ◌≤◌, List, length, arith, refl, cond, ◌==◌, slice_index}
 use Rattle.std.proofs.lemmas.Bool.{cases_eq, cases_lt, cond-true, cond-false, eq-eqb, ne_eqb}
-use Rattle.std.proofs.Math.Seq.{take-append_seam}
 use Rattle.limits.specs.Limits.{most_order}
 use Rattle.permutations.specs.Perm.{IsVertex, IsPerm, place_of}
 use Rattle.elim_tree.specs.ParentTables.{parents_in, IsParentTable}
@@ -12,7 +11,6 @@ use Rattle.elim_tree.proofs.Columns.{in_table, length_of_table, parent_within}
 use Rattle.elim_tree.proofs.SpanLemmas.{IsPlaced, IsPlacedFrom, placed_all}
 use Rattle.elim_tree.proofs.CountLemmas.{IsRising, children_yes, children_to, children_all}
 use Rattle.elim_tree.proofs.Postorderings.{place_one}
-use Rattle.lists.proofs.Lists.{written}
 
 -- the child in whose span k falls
 locate : (parent many : ℕ → ℕ) (p m k : ℕ) → 0 < k → k ≤ in_children parent many p m
@@ -136,6 +134,10 @@ module _ (parents : List ℕ) (forest : IsForest parents) (n : ℕ) (len : n ≡
             omega arith
       ]
 
+  -- a place is the end of its span
+  ended : (x k : ℕ) → 0 < x → x < n → start x + many x + 1 ≡ k → place x ≡ k
+  ended x k pos lt e = placed.ends x pos lt ∙ e
+
   taken : (k : ℕ) → 0 < k → k < n → (x : ℕ) × (x < n) × (place x ≡ k)
   taken k pos lt =
       let whole = all_in in
@@ -145,7 +147,7 @@ module _ (parents : List ℕ) (forest : IsForest parents) (n : ℕ) (len : n ≡
       let s : start f.0 ≡ start 0 + in_children (parent_at parents) many 0 f.0 = subst (λ v. start f.0 ≡ start v + in_children (parent_at parents) many v f.0) f.3 (placed.begins f.0 f.1 f.2) in
       let zero_start = placed.first in
       let there = taken_in (suc f.0) f.0 k (omega arith) f.1 f.2 (omega arith) (omega arith) in
-      (there.0, there.2, placed.ends there.0 there.1 there.2 ∙ there.3)
+      (there.0, there.2, ended there.0 k there.1 there.2 there.3)
 
   some_place : (x : ℕ) → 0 < x → x < n → 0 < place x
   some_place x pos lt = let e = placed.ends x pos lt in omega arith

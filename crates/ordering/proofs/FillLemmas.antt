@@ -1,9 +1,9 @@
 -- Elimination and filling: the pairs that each gives are the same, and the parent of a column.
-use Rattle.std.proofs.Common.{◌≡◌, ◌≢◌, ℕ, zero, suc, ◌+◌, ◌-◌, ◌<◌, ◌≤◌, Bool, true, false, not, nat_lt, ◌==◌, ◌⊎◌, inl, inr, refl, sym, arith}
+use Rattle.std.proofs.Common.{◌≡◌, ◌≢◌, ℕ, zero, suc, ◌+◌, ◌-◌, ◌<◌, ◌≤◌, Bool, true, false, not, nat_lt, ◌==◌, inl, inr, refl, arith}
 use Rattle.std.specs.Prelude.{find, unwrap_or}
 use Rattle.std.specs.List.{range_with_len}
-use Rattle.std.proofs.lemmas.Bool.{cases_Bool, cases_eq, and_parts, or_cases, and_from, or_left, or_right, eqb-false, ne_eqb, not-true, not_from_false, lt-ltb}
-use Rattle.ordering.specs.Fill.{IsAdjacency, eliminate, graph_at, filled, structure_of, parent_of, IsParent}
+use Rattle.std.proofs.lemmas.Bool.{cases_Bool, cases_eq, and_parts, or_cases, and_from, or_left, or_right, ne_eqb, not_from_false, lt-ltb}
+use Rattle.ordering.specs.Fill.{IsAdjacency, graph_at, filled, structure_of, parent_of, IsParent}
 use Rattle.lists.proofs.Bools.{same_bool, ne_from_not}
 use Rattle.elimination.proofs.Eliminations.{keep_new, keep_old, kept, Kept}
 

@@ -16,7 +16,7 @@ further-after : (m n : ℕ) → place_after (cond (ltb (1 + m) (suc n)) (Some (1
 unfolding further
 further-after m n =
     elim (cases_Bool (ltb m n)) [
-      | inl e ↦ rw (e, lt-ltb (1 + m) (suc n) (omega (arith, ltb-true m n e))) (let same : 1 + m + 1 ≡ further (m + 1) = rw (add-one, add-one) (omega arith) in same)
+      | inl e ↦ rw (e, lt-ltb (1 + m) (suc n) (omega (arith, ltb-true m n e))) (let same : 1 + m + 1 ≡ further (m + 1) = rw (add-one m) (omega arith) in same)
       | inr e ↦ rw (e, le-ltb (1 + m) (suc n) (omega (arith, ltb-false m n e))) refl
     ]
 

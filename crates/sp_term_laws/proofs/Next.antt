@@ -1,6 +1,6 @@
 -- The next task of a system is a step of the term.
-use Rattle.std.proofs.Common.{◌≡◌, ℕ, suc, ◌+◌, ◌<◌, ◌≤◌, inl, inr, Bool, true, false, refl, arith, ◌∙◌, List, [], ◌∷◌, ◌++◌, length, Option, Some, eq-eqb, length-append}
-use Rattle.std.specs.Prelude.{◌==◌, ◌||◌}
+use Rattle.std.proofs.Common.{◌≡◌, ℕ, suc, ◌+◌, ◌<◌, ◌≤◌, inl, inr, true, false, refl, arith, ◌∙◌, List, [], ◌∷◌, ◌++◌, length, Option, Some, length-append}
+use Rattle.std.specs.Prelude.{◌==◌}
 use Rattle.std.proofs.lemmas.List.Folds.{list_any-append}
 use Rattle.std.proofs.Math.Seq.{get_or-append_seam}
 use Rattle.std.proofs.lemmas.List.{get_or_append_left, get_or-append-add}
@@ -12,7 +12,7 @@ use Rattle.sp_terms.specs.SystemOfTerm.{own_number, task_count, task_count_of_pa
 use Rattle.sp_terms.specs.Term.{Term, hold, series, par, Parts, no_parts, part, forward, backward, first_memory, first_memory_of_parts}
 use Rattle.sp_term_laws.proofs.Words.{made, done_or, need_with, no_task, need_in}
 use Rattle.sp_term_laws.specs.Moves.{State, States, first_state, first_states}
-use Rattle.sp_term_laws.proofs.At.{Fresh, Ended, At, AllAt, held-append, held_one}
+use Rattle.sp_term_laws.proofs.At.{Fresh, Ended, At, AllAt, held_one}
 use Rattle.sp_term_laws.proofs.Ends.{split_own, In, split2}
 use Rattle.lists.proofs.Bools.{or_false, or_true, eqb_same}
 use Rattle.std.proofs.lemmas.Bool.{ne_eqb}

@@ -104,6 +104,23 @@ pub record SeriesAt (ps : List Position) (values : List Values) (at : ℕ) : Typ
   }
       ≡ values_of (term_at ps at)
 
+-- the values of a series are those of its two parts, put together
+series_own : (left right : Values) (a b : Term) (v : Task) (whole : Term) → left ≡ values_of a → right ≡ values_of b → whole ≡ series a v b
+    → record { initial = left.initial; fin = right.fin; least = min left.least right.least; width = left.width + right.width + 1 } ≡ values_of whole
+series_own left right a b v whole is_left is_right is_whole =
+    (λ i. record {
+      initial = (is_left i).initial;
+      fin = (is_right i).fin;
+      least = min (is_left i).least (is_right i).least;
+      width = (is_left i).width + (is_right i).width + 1;
+    })
+    ∙ ap (λ n. record { initial = first_memory forward a; fin = first_memory backward b; least = min (least_of a) (least_of b); width = n })
+    (more (width_of a) (width_of b))
+    ∙ sym (ap values_of is_whole)
+  where
+    more : (m n : ℕ) → m + n + 1 ≡ suc (m + n)
+    more m n = omega arith
+
 pub series_at : (ps : List Position) (values : List Values) (at : ℕ) → IsTerms ps → at < length ps → AreValues ps values at → ((d : Position) → IsTaskPosition (get_or ps at d)) → SeriesAt ps values at
 series_at ps values at h lt known task =
     let p = place ps _ at (Par 0) h.is lt in
@@ -122,12 +139,8 @@ series_at ps values at h lt known task =
       some = omega (arith, u.room, u.some);
       room = omega (arith, wide, u.room, w.room, w.some);
       few = omega (arith, wide, long, u.room, w.room);
-      own = (λ i. record { initial = (left i).initial; fin = (right i).fin; least = min (left i).least (right i).least; width = (left i).width + (right i).width + 1 })
-          ∙ ap (λ n. record { initial = first_memory forward a; fin = first_memory backward b; least = min (least_of a) (least_of b); width = n }) (more (width_of a) (width_of b)) ∙ sym (ap values_of own_is);
+      own = series_own _ _ a b v _ left right own_is;
     }
-  where
-    more : (m n : ℕ) → m + n + 1 ≡ suc (m + n)
-    more m n = omega arith
 
 -- a parallel composition: parts that were taken, from the last one on
 
