@@ -2,7 +2,7 @@ ghost use Rattle.std.specs.Prelude.{◌≡◌, ◌<◌, ◌≤◌, ◌^◌, IfSo
 ghost use Rattle.requests.specs.Request.{is_second, ordering_named, ordering_of, zeros_named, matrix_of, gives_any, tree_input_of, input_of};
 ghost use Rattle.requests.specs.Request.{source_of, number_given, number_up_to, workers_or_one, AreWorkers};
 ghost use Rattle.command_line.specs.Views.{texts};
-ghost use Rattle.requests.specs.Table.{matrix_options, tree_names};
+ghost use Rattle.requests.specs.Options.{matrix_options, tree_names};
 ghost use Rattle.requests.specs.RequestViews.{ordering_view, matrix_view, tree_input_view, input_view, source_view};
 
 use crate::commands::check::Check;
