@@ -1,6 +1,6 @@
 -- What each command promises of what it prints, beside that it is an answer.
 use Rattle.std.specs.Prelude.{◌≡◌, ◌≤◌, ℕ, List}
-use Rattle.requests.specs.Request.{Request, replay, tree, post, check, planning, simulate, demo, upgrade, spill, segments, fronts, reduce}
+use Rattle.requests.specs.Request.{Request, check, planning, simulate, demo, upgrade, spill, segments, fronts, reduce}
 use Rattle.requests.specs.Request.{IsMakeable}
 use Rattle.judging.specs.Files.{Answer}
 use Rattle.reports.specs.Reports.{IsReport}
@@ -22,12 +22,6 @@ done_answer printed = record { status = status.Done; text = printed }
 
 -- what a request says by what it printed, over the texts of its files and with the status with which it ended
 abbrev pub Says : Request → List (List ℕ) → Status → List ℕ → Type 0
--- where a peak was printed, the order is a traversal of the input's system, and the peak is its
-Says (replay input source) texts ended printed = ended ≡ status.Done → IsReport (replay input source) texts (done_answer printed)
--- where a tree was printed, it is the tree of the fronts of the matrix
-Says (tree matrix) texts ended printed = ended ≡ status.Done → IsReport (tree matrix) texts (done_answer printed)
--- where a postorder was printed, it is the best postorder of the tree, and the printed peak is its
-Says (post input) texts ended printed = ended ≡ status.Done → IsReport (post input) texts (done_answer printed)
 -- where a plan was checked and accepted, its order is a traversal of the input's system, its peak is the one that it states and that
 -- was printed, and no traversal has a lower one
 Says (check input plan workers) texts ended printed = ended ≡ status.Done → IsCertified input texts printed
@@ -58,6 +52,10 @@ Says (fronts matrix bound workers) texts ended printed = ended ≡ status.Done �
 -- irreducible rest of it were printed
 Says (reduce name) texts ended printed =
     (ended ≡ status.Done → IsReduced texts printed) × (ended ≡ status.NotSeriesParallel → HasIrreducibleRest texts printed)
+-- any other command says what its report is: where a peak was printed, the order is a traversal of the input's system, and the peak is
+-- its; where a tree was printed, it is the tree of the fronts of the matrix; where a postorder was printed, it is the best postorder of
+-- the tree, and the printed peak is its
+Says request texts ended printed = ended ≡ status.Done → IsReport request texts (done_answer printed)
 
 -- what is asked of a request for that: a run has a worker, and an input that is to be made can be
 abbrev pub IsPossible : Request → Type 0

@@ -32,7 +32,7 @@ pub fn run_words<R: Threads + Sync, F: Files, S: Sink, G: Gate>(
     ensures answered { HasText result → (request : Request) × Asks words.now request
         × IsAnswered (F.bytes_of files.old) request result (S.written sink.old) (S.written sink.new) }
 
-    // and what was appended says what the request promises: `Says` has a line for each command
+    // and what was appended says what the request promises: `Says` speaks of each command
     ensures says { HasText result → (request : Request) → Asks words.now request
         → (texts : List (List ℕ)) → AreTold (F.bytes_of files.old) (files_of request) texts
         → (printed : List ℕ) × Says request texts result printed × Appended (S.written sink.old) (S.written sink.new) printed }

@@ -3,7 +3,7 @@ use Rattle.sp_terms.specs.Values.{term_of}
 use Rattle.reports.specs.Reports.{IsReport}
 use Rattle.judging.specs.Files.{Answer}
 use Rattle.reports.specs.Promises.{done_answer}
-use Rattle.requests.specs.Request.{Request, replay, tree, post, check, planning, simulate, demo, upgrade, spill, segments, fronts, reduce}
+use Rattle.requests.specs.Request.{Request, check, planning, simulate, demo, upgrade, spill, segments, fronts, reduce}
 use Rattle.judging.specs.declared.status.Status.TheVariants.{Done}
 use Rattle.reports.proofs.RunLemmas.{report_when_done, report_of_rest}
 use Rattle.reports.proofs.SoundAnswer.{certified, best, simulated}
@@ -19,10 +19,6 @@ done_report : (request : Request) (texts : List (List ℕ)) (answer : Answer) �
 done_report request texts answer report done = subst (IsReport request texts) (ap (λ s. record { status = s; text = answer.text }) done) report
 
 pub returns : goal.returns
-returns c (replay input source) texts answer possible is = λ done.
-    done_report (replay input source) texts answer (report_when_done (replay input source) texts answer is done) done
-returns c (tree matrix) texts answer possible is = λ done. done_report (tree matrix) texts answer (report_when_done (tree matrix) texts answer is done) done
-returns c (post input) texts answer possible is = λ done. done_report (post input) texts answer (report_when_done (post input) texts answer is done) done
 returns c (check input plan workers) texts answer possible is = λ done.
     certified (λ i ts nodes of_tree. (c.one_input.ensures.tree i ts nodes nodes of_tree of_tree).1) c.tree_term.ensures.terms c.tree_term.ensures.system
     c.read_law.ensures c.terms_law.ensures.denotes c.accepted_law.ensures.own c.accepted_law.ensures.renamed
@@ -58,3 +54,4 @@ returns c (reduce name) texts answer possible is = (
   }) texts answer (report_when_done (reduce name) texts answer is done) done,
   λ of_rest. irreducible texts answer (report_of_rest (reduce name) texts answer is of_rest) of_rest,
 )
+returns c request texts answer possible is = λ done. done_report request texts answer (report_when_done request texts answer is done) done
