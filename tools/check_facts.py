@@ -305,7 +305,10 @@ class Facts:
 
     def commands(self) -> Iterator[Finding]:
         place, table = "tools/commands.py", self.module("commands")
-        shapes = re.findall(r'name: "(\w+)",\s*options: &\[([^\]]*)\]', part_of(self.text("crates/requests/src/commands.rt"), "static COMMANDS", "];"))
+        listed = part_of(self.text("crates/requests/src/commands.rt"), "static COMMANDS", "];")
+        for shared, options in re.findall(r"const (\w+): &\[&str\] = &\[([^\]]*)\];", self.text("crates/requests/src/request.rt")):
+            listed = re.sub(rf"\b{shared}\b", options, listed)
+        shapes = re.findall(r'name: "(\w+)",\s*options: ([^}]*)\}', listed)
         wanted = {name: " ".join(sorted(re.findall(r'"(\w+)"', options))) for name, options in shapes}
         yield place, {command.name: " ".join(sorted(option.name for option in command.options)) for command in table.COMMANDS}, wanted
         options = [option for command in table.COMMANDS for option in command.options if option.value != table.FILE]

@@ -101,6 +101,8 @@ OF_LIMITS = [
 ]
 COMMANDS = [
     (f"{REQUESTS}/commands.rt", r'"bound", "workers", "matrix"', '"bound", "threads", "matrix"', "fronts is bound matrix ordering perm workers and not bound matrix ordering perm threads"),
+    (f"{REQUESTS}/commands.rt", r"TREE, MATRIX_OPTIONS", "MATRIX, MATRIX_OPTIONS", "shape tree and not amalgamate inplace matrix ordering perm shape"),
+    (f"{REQUESTS}/request.rt", r'"amalgamate", "inplace"\]', '"merge", "inplace"]', "tree is amalgamate inplace matrix ordering perm shape and not inplace matrix merge ordering perm shape"),
     (f"{REQUESTS}/commands.rt", r'name: "spill"', 'name: "disk"', "disk is missing and not"),
     (f"{REQUESTS}/commands/plan.rt", r'"text", "json"', '"text", "yaml"', "print is text|json and not text|yaml"),
     (f"{REQUESTS}/commands/demo.rt", r'"workflow" =>', '"flow" =>', "kind is tree|workflow|grid and not tree|flow|grid"),

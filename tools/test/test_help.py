@@ -1,5 +1,6 @@
 """What tools/make_help.py makes of the table of commands: that it is up to date, that a change is found, and that bash, zsh and roff take it."""
 
+import re
 import shutil
 import subprocess
 import sys
@@ -13,7 +14,7 @@ MADE = ["docs/COMMANDS.md", "docs/memplan.1", "tools/completion/memplan.bash", "
 TABLE = "tools/commands.py"
 # What was typed, the word at the cursor the last one, and what bash offers.
 COMPLETED = [
-    (["memplan", ""], ["plan", "check", "replay", "post", "tree", "fronts", "simulate", "spill", "segments", "reduce", "upgrade", "demo"]),
+    (["memplan", ""], re.findall(r'\n        name="(\w+)"', (ROOT / TABLE).read_text())),
     (["memplan", "re"], ["replay", "reduce"]),
     (["memplan", "fronts", "--"], ["--matrix", "--perm", "--ordering", "--bound", "--workers"]),
     (["memplan", "upgrade", "--plan", "my.plan", "--p"], ["--priority"]),

@@ -5,9 +5,12 @@ use Rattle.std.proofs.lemmas.Bool.Decides.{same_from_decides}
 use Rattle.std.proofs.lemmas.List.Folds.{list_any-append}
 use Rattle.std.proofs.lemmas.Option.{some_pair_parts}
 use Rattle.std.proofs.lemmas.Slice.Eq.{bytes_eq-Decides}
-use Rattle.std.specs.List.{list_all}
+use Rattle.std.specs.List.{list_all, list_any}
+use Rattle.std.specs.Borrow.{Bor}
+use Rattle.clap.proofs.WalkLemmas.{list_any-map}
 use Rattle.command_line.specs.Words.{Text, Given, Shape, Line, line_of, options_among, gives, are_among, are_distinct, if_allowed}
 use Rattle.command_line.specs.Forms.{options_in, first_option, with_rest, is_among, is_new}
+use Rattle.command_line.specs.Views.{texts, names_of}
 use Rattle.command_line.proofs.FormLemmas.{options_first}
 
 -- no option has one of the names seen before, nor that of an earlier option
@@ -158,3 +161,13 @@ line_found shapes command words shape is =
 pub line_there : (found : Option Line) → is_some found ≡ true → (line : Line) × (found ≡ Some line)
 line_there None e = absurd cc
 line_there (Some line) e = (line, refl)
+
+-- ---- groups of names
+
+-- a name stands among those of all groups where one of the groups has it
+pub any_group : (name : Text) (groups : List (Bor (List (Bor Text))))
+    → list_any (λ group. list_any (λ listed. bytes_eq listed.now name) group.now) groups ≡ is_among (names_of groups) name
+any_group name [] = refl
+any_group name (group ∷ groups) =
+    ap₂ (λ a b. a || b) (list_any-map (λ listed. bytes_eq listed name) (λ (s : Bor Text). s.now) group.now) (any_group name groups)
+    ∙ sym (list_any-append (λ listed. bytes_eq listed name) (texts group.now) (names_of groups))

@@ -1,20 +1,27 @@
 -- The table's command of clap, one more at a time, and how clap builds it.
-use Rattle.std.proofs.Common.{◌≡◌, ◌∙◌, ℕ, ◌+◌, ◌<◌, Bool, true, false, List, [], ◌∷◌, ◌++◌, length, map, take, Some, refl, sym, ap, ap₂, arith, get_or}
-use Rattle.std.specs.List.{list_all, list_any}
+use Rattle.std.proofs.Common.{◌≡◌, ◌∙◌, ℕ, ◌+◌, ◌<◌, Bool, true, false, List, [], ◌∷◌, ◌++◌, length, map, take, fold, append-nil, append_assoc, Some, refl, sym, ap, ap₂, arith, get_or}
+use Rattle.std.specs.List.{list_all, list_any, flat_map}
 use Rattle.std.proofs.lemmas.List.{take_more, map-append}
+use Rattle.std.proofs.lemmas.Grind.{flat_map-append}
 use Rattle.clap.specs.Simple as clap
 use Rattle.clap.specs.Simple.{App, with_rule, with_subcommand}
 use Rattle.clap.specs.Walk.{Rule, is_early_multiple}
 use Rattle.clap.specs.declared.builder.action.ArgAction.TheVariants.{Set}
 use Rattle.clap.specs.declared.builder.value_parser.ValueParser.TheVariants as parser
 use Rattle.command_line.specs.Words.{Text, Shape, Given}
-use Rattle.command_line.specs.Table.{app_for, leaf_for, rule_for, row_for, given_of, AreGiven}
+use Rattle.command_line.specs.Table.{app_for, leaf_for, rule_for, with_option, row_for, given_of, AreGiven}
 
 -- ---- one more option, and one more command
 
 pub map_more : {X Y : Type 0} (f : X → Y) (xs : List X) (i : ℕ) (d : X) → i < length xs
     → map f (take (i + 1) xs) ≡ map f (take i xs) ++ f (get_or xs i d) ∷ []
 map_more f xs i d lt = ap (map f) (take_more xs i d lt) ∙ map-append f (take i xs) (get_or xs i d ∷ [])
+
+pub flat_map_one_more : {X Y : Type 0} (f : X → List Y) (xs : List X) (i : ℕ) (d : X) → i < length xs
+    → flat_map f (take (i + 1) xs) ≡ flat_map f (take i xs) ++ f (get_or xs i d)
+flat_map_one_more f xs i d lt =
+    ap (flat_map f) (take_more xs i d lt) ∙ flat_map-append f (take i xs) (get_or xs i d ∷ [])
+    ∙ ap (λ last. flat_map f (take i xs) ++ last) (append-nil (f (get_or xs i d)))
 
 abbrev pub leaf_app : Text → List Text → App
 leaf_app name options = record { top = leaf_for (record { name = name; options = options }); subs = [] }
@@ -24,6 +31,13 @@ pub one_option : (name : Text) (options : List Text) (option : Text)
 one_option name options option =
     let rules = map-append rule_for options (option ∷ []) in
     ap (λ rules. record { top = record (clap.new_shape name) { rules = rules }; subs = [] }) (sym rules)
+
+pub more_options : (name : Text) (before names : List Text)
+    → fold with_option (leaf_app name before) names ≡ leaf_app name (before ++ names)
+more_options name before [] = ap (leaf_app name) (sym (append-nil before))
+more_options name before (option ∷ names) =
+    ap (λ app. fold with_option app names) (one_option name before option) ∙ more_options name (before ++ option ∷ []) names
+    ∙ ap (leaf_app name) (append_assoc before (option ∷ []) names)
 
 abbrev is_empty : List Shape → Bool
 is_empty [] = true

@@ -1,7 +1,7 @@
 -- No public clause names this.
 -- A table as a command of clap, and the words of a line as clap finds them.
 use Rattle.std.specs.Prelude.{◌≡◌, true, false, List, [], ◌∷◌, Some, None, map, slice_get, unwrap_or}
-use Rattle.clap.specs.Simple.{App, new_app, new_rule, new_shape}
+use Rattle.clap.specs.Simple.{App, new_app, new_rule, new_shape, with_rule}
 use Rattle.clap.specs.Simple as clap
 use Rattle.clap.specs.Walk.{Rule, Row}
 use Rattle.clap.specs.Values.{reading_of}
@@ -12,6 +12,10 @@ use Rattle.command_line.specs.Words.{Text, Shape, Given}
 -- an option as clap is told of it
 abbrev pub rule_for : Text → Rule
 rule_for name = record (new_rule name) { long = Some name }
+
+-- a command that is told of one more option
+abbrev pub with_option : App → Text → App
+with_option app name = with_rule app (rule_for name)
 
 abbrev pub leaf_for : Shape → clap.Shape
 leaf_for shape = record (new_shape shape.name) { rules = map rule_for shape.options }

@@ -3,8 +3,8 @@
 ghost use Rattle.std.specs.Prelude.{◌≡◌, ◌<◌, List, IfOk, IfSome, map, length, is_some, option_map, string_bytes};
 ghost use Rattle.clap.specs.Lexer.{name_and_value};
 ghost use Rattle.command_line.specs.Words.{Text, is_value, options_among, line_of};
-ghost use Rattle.command_line.specs.Forms.{option_in, first_option, is_new};
-ghost use Rattle.command_line.specs.Views.{texts, shapes_view};
+ghost use Rattle.command_line.specs.Forms.{option_in, first_option, is_among, is_new};
+ghost use Rattle.command_line.specs.Views.{texts, names_of, shapes_view};
 
 use crate::NoMemory;
 use crate::shape::{Shape, shape_of};
@@ -64,22 +64,29 @@ fn first_option(words: &[String]) -> Option<(&str, &[String])>
     }
 }
 
-// Whether a name is listed and not given yet.
-fn is_new(names: &[&str], given: &[&str], name: &str) -> bool
-    ensures { result ≡ is_new (texts names.now) (texts given.now) name.now }
+// Whether a name stands in one of the groups.
+fn is_listed(groups: &[&[&str]], name: &str) -> bool
+    ensures { result ≡ is_among (names_of groups.now) name.now }
 {
-    names.contains(&name) && !given.contains(&name)
+    groups.iter().any(|group| group.contains(&name))
+}
+
+// Whether a name is listed and not given yet.
+fn is_new(groups: &[&[&str]], given: &[&str], name: &str) -> bool
+    ensures { result ≡ is_new (names_of groups.now) (texts given.now) name.now }
+{
+    is_listed(groups, name) && !given.contains(&name)
 }
 
 // Whether words are options of these names, each at most once. A name is looked up as soon as it is read, so no more names
 // are held than are listed.
-fn are_options(alloc: Global, names: &[&str], words: &[String]) -> Result<bool, NoMemory>
-    ensures { IfOk result (λ are. are ≡ is_some (options_among (texts names.now) (map (λ w. string_bytes w) words.now))) }
+fn are_options(alloc: Global, groups: &[&[&str]], words: &[String]) -> Result<bool, NoMemory>
+    ensures { IfOk result (λ are. are ≡ is_some (options_among (names_of groups.now) (map (λ w. string_bytes w) words.now))) }
 {
     let mut given = Vec::new(alloc);
     let mut rest = words;
     while let Some((name, after)) = first_option(rest) {
-        if !is_new(names, &given, name) {
+        if !is_new(groups, &given, name) {
             return Ok(false);
         }
         given.push(name)?;

@@ -1,11 +1,11 @@
 //! The table as a command of clap.
 
-ghost use Rattle.std.specs.Prelude.{◌≡◌, ◌<◌, IsTrue, IfOk, IfErr, [], Some, map, length, false, is_some, string_bytes};
+ghost use Rattle.std.specs.Prelude.{◌≡◌, ◌<◌, IsTrue, IfOk, IfErr, [], Some, map, length, fold, false, is_some, string_bytes};
 ghost use Rattle.clap.specs.Words.{app_of, kind_of, subcommand_rows_of};
 ghost use Rattle.clap.specs.declared.builder.command.Command.TheViews.{out-Command as fields_of};
 ghost use Rattle.command_line.specs.Words.{Line, line_of};
-ghost use Rattle.command_line.specs.Table.{leaf_for, app_for, row_for};
-ghost use Rattle.command_line.specs.Views.{shape_view, shapes_view};
+ghost use Rattle.command_line.specs.Table.{leaf_for, app_for, row_for, with_option};
+ghost use Rattle.command_line.specs.Views.{texts, shape_view, shapes_view};
 
 use crate::NoMemory;
 use crate::shape::Shape;
@@ -13,13 +13,29 @@ use clap::error::ErrorKind;
 use clap::{Arg, ArgMatches, Command, Error};
 use std::alloc::Global;
 
+// The command, with options of these names.
+fn with_options<'a>(
+    alloc: Global,
+    command: Command<'a>,
+    names: &[&'static str],
+) -> Result<Command<'a>, NoMemory>
+    ensures app { IfOk result (λ made. app_of made ≡ fold with_option (app_of command.entry) (texts names.now)) }
+    ensures local { IfOk result (λ made. (fields_of made).has_globals ≡ (fields_of command.entry).has_globals) }
+{
+    let mut command = command;
+    for option in names {
+        command = command.arg(Arg::new(alloc, option).long(option))?;
+    }
+    Ok(command)
+}
+
 fn subcommand_of<'a>(alloc: Global, shape: Shape) -> Result<Command<'a>, NoMemory>
     ensures app { IfOk result (λ made. app_of made ≡ record { top = leaf_for (shape_view shape); subs = [] }) }
     ensures local { IfOk result (λ made. (fields_of made).has_globals ≡ false) }
 {
     let mut command = Command::new(alloc, shape.name);
-    for option in shape.options {
-        command = command.arg(Arg::new(alloc, option).long(option))?;
+    for group in shape.options {
+        command = with_options(alloc, command, group)?;
     }
     Ok(command)
 }

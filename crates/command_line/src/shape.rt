@@ -4,11 +4,11 @@ ghost use Rattle.std.specs.Prelude.{◌≡◌, MatchOption, find, None, Some};
 ghost use Rattle.std.specs.Str.{bytes_eq};
 ghost use Rattle.command_line.specs.Views.{shape_view, shapes_view};
 
-/// A command, and the names of its options, without hyphens.
+/// A command, and the names of its options, without hyphens. They stand in groups, so that commands may share some.
 #[derive(Clone, Copy, Debug)]
 pub struct Shape {
     pub name: &'static str,
-    pub options: &'static [&'static str],
+    pub options: &'static [&'static [&'static str]],
 }
 
 // The command of this name.

@@ -5,11 +5,11 @@ use std::test::Fail;
 static SHAPES: [Shape; 2] = [
     Shape {
         name: "post",
-        options: &["tree", "matrix"],
+        options: &[&["tree"], &["matrix"]],
     },
     Shape {
         name: "demo",
-        options: &["seed"],
+        options: &[&["seed"]],
     },
 ];
 

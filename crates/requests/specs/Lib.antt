@@ -1,4 +1,4 @@
-pub mod Table
+pub mod Options
 pub mod Request
 pub mod RequestViews
 pub mod Words

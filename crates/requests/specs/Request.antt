@@ -9,7 +9,7 @@ use Rattle.assembly_tree.specs.declared.front.Shape.{Shape}
 use Rattle.assembly_tree.specs.declared.front.Shape.TheVariants as shapes
 use Rattle.symbolic.specs.declared.options.FrontOptions.{FrontOptions}
 use Rattle.command_line.specs.Words.{Given, value_of}
-use Rattle.requests.specs.Table.{matrix_options, tree_names}
+use Rattle.requests.specs.Options.{matrix_options, tree_names}
 use Rattle.requests.specs.declared.commands.demo.Demo.{Demo}
 use Rattle.requests.specs.declared.commands.demo.Demo.TheVariants as demos
 

@@ -1,7 +1,7 @@
 -- The words that ask for each request: a command of the table, and options of it, each at most once.
 use Rattle.std.specs.Prelude.{◌≡◌, ℕ, List, [], ◌∷◌, Option, option_map, option_and_then}
 use Rattle.std.specs.Prelude.{codes, ◌*◌, nat_le, Some, None, if◌then◌else◌}
-use Rattle.std.specs.Prelude.{map}
+use Rattle.std.specs.Prelude.{find, map}
 use Rattle.std.specs.Prelude.{String, string_bytes}
 use Rattle.requests.specs.Request.{Request, check, input_of, workers_or_one, demo, gives_any, number_given, number_up_to}
 use Rattle.requests.specs.Request.{fronts, ordering_of, planning, is_second, format_of}
@@ -9,10 +9,10 @@ use Rattle.requests.specs.Request.{post, tree_input_of, reduce, replay, source_o
 use Rattle.requests.specs.Request.{simulate, spill, tree, matrix_of}
 use Rattle.requests.specs.Request.{upgrade, Upgrade, tree_upgrade, workflow_upgrade, plan_upgrade}
 use Rattle.std.specs.Str.{bytes_eq}
-use Rattle.command_line.specs.Words.{Given, value_of, Line, line_of}
+use Rattle.command_line.specs.Words.{Given, Shape, value_of, Line, line_of}
 use Rattle.limits.specs.Limits.{most_tasks, most_mindeg, most_workers}
 use Rattle.requests.specs.declared.commands.demo.Demo.{Demo}
-use Rattle.requests.specs.Table.{commands}
+use Rattle.requests.specs.Options.{matrix_names, tree_names, input_names}
 use Rattle.requests.specs.declared.commands.demo.Demo.TheVariants as demos
 
 -- `check`, one input, `--plan NAME`, and `--workers N` if it is given
@@ -141,25 +141,60 @@ upgrade_of options =
     (upgrade_named (value_of (codes "tree") options) (value_of (codes "workflow") options) (value_of (codes "plan") options)
     (value_of (codes "priority") options))
 
+-- ---- the table
+
+-- a command: its name, the names of its options, and what options of these names ask for
+pub record Command : Type 0 where
+  pub name : List ℕ
+  pub options : List (List ℕ)
+  pub asks : List Given → Option Request
+
+abbrev pub commands : List Command
+commands =
+    record { name = codes "replay"; options = codes "order" ∷ codes "plan" ∷ input_names; asks = replay_of }
+    ∷ record { name = codes "tree"; options = matrix_names; asks = tree_request_of }
+    ∷ record { name = codes "post"; options = tree_names; asks = post_of }
+    ∷ record { name = codes "check"; options = codes "plan" ∷ codes "workers" ∷ input_names; asks = check_of }
+    ∷ record { name = codes "plan"; options = codes "print" ∷ input_names; asks = plan_of }
+    ∷ record {
+      name = codes "simulate";
+      options = codes "order" ∷ codes "plan" ∷ codes "bound" ∷ codes "workers" ∷ codes "priority" ∷ input_names;
+      asks = simulate_of;
+    }
+    ∷ record {
+      name = codes "demo";
+      options = codes "kind" ∷ codes "seed" ∷ codes "tasks" ∷ codes "rows" ∷ codes "cols" ∷ [];
+      asks = demo_of;
+    }
+    ∷ record {
+      name = codes "upgrade";
+      options = codes "tree" ∷ codes "workflow" ∷ codes "plan" ∷ codes "priority" ∷ [];
+      asks = upgrade_of;
+    }
+    ∷ record { name = codes "spill"; options = codes "order" ∷ codes "plan" ∷ codes "bound" ∷ input_names; asks = spill_of }
+    ∷ record { name = codes "segments"; options = input_names; asks = segments_of }
+    ∷ record {
+      name = codes "fronts";
+      options = codes "bound" ∷ codes "workers" ∷ codes "matrix" ∷ codes "perm" ∷ codes "ordering" ∷ [];
+      asks = fronts_of;
+    }
+    ∷ record { name = codes "reduce"; options = codes "graph" ∷ []; asks = reduce_of }
+    ∷ []
+
+abbrev pub shape_of : Command → Shape
+shape_of command = record { name = command.name; options = command.options }
+
+-- the command of this name
+abbrev pub named : List ℕ → List Command → Option Command
+named name = find (λ command. bytes_eq command.name name)
+
+-- what a line asks for
 abbrev pub command_of : Line → Option Request
-command_of line =
-    if bytes_eq line.command (codes "replay") then replay_of line.options
-    else if bytes_eq line.command (codes "tree") then tree_request_of line.options
-    else if bytes_eq line.command (codes "post") then post_of line.options
-    else if bytes_eq line.command (codes "check") then check_of line.options
-    else if bytes_eq line.command (codes "plan") then plan_of line.options
-    else if bytes_eq line.command (codes "simulate") then simulate_of line.options
-    else if bytes_eq line.command (codes "demo") then demo_of line.options
-    else if bytes_eq line.command (codes "upgrade") then upgrade_of line.options
-    else if bytes_eq line.command (codes "spill") then spill_of line.options
-    else if bytes_eq line.command (codes "segments") then segments_of line.options
-    else if bytes_eq line.command (codes "fronts") then fronts_of line.options
-    else if bytes_eq line.command (codes "reduce") then reduce_of line.options
-    else None
+command_of line = option_and_then (λ command. command.asks line.options) (named line.command commands)
 
 -- the request of the words after the program's name: a command of the table, and options of it, each at most once
 abbrev pub request_of : List (List ℕ) → Option Request
-request_of words = option_and_then command_of (line_of commands words)
+request_of words = option_and_then command_of (line_of (map shape_of commands) words)
 
 -- the words ask for this, or for nothing that the program does
 abbrev pub Asks : {Z : Type 0} → List (String Z) → Request → Type 0

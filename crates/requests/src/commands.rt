@@ -18,63 +18,63 @@ ghost use Rattle.requests.specs.Words.{command_of, request_of};
 ghost use Rattle.requests.specs.Request.{IsInRange};
 ghost use Rattle.requests.specs.RequestViews.{request_view};
 
-use crate::request::Request;
+use crate::request::{INPUT, MATRIX, MATRIX_OPTIONS, Request, TREE};
 use command_line::{Line, Shape, read_words};
 use std::alloc::{AllocError, Global};
 
 // Each command, with the names of its options.
-#[rattlefmt::skip]
 static COMMANDS: [Shape; 12] = [
     Shape {
         name: "replay",
-        options: &["order", "plan", "workflow", "tree", "matrix", "perm", "ordering", "shape", "amalgamate", "inplace"],
+        options: &[&["order", "plan"], INPUT, MATRIX_OPTIONS],
     },
     Shape {
         name: "tree",
-        options: &["matrix", "perm", "ordering", "shape", "amalgamate", "inplace"],
+        options: &[MATRIX, MATRIX_OPTIONS],
     },
     Shape {
         name: "post",
-        options: &["tree", "matrix", "perm", "ordering", "shape", "amalgamate", "inplace"],
+        options: &[TREE, MATRIX_OPTIONS],
     },
     Shape {
         name: "check",
-        options: &["plan", "workers", "workflow", "tree", "matrix", "perm", "ordering", "shape", "amalgamate", "inplace"],
+        options: &[&["plan", "workers"], INPUT, MATRIX_OPTIONS],
     },
     Shape {
         name: "plan",
-        options: &["print", "workflow", "tree", "matrix", "perm", "ordering", "shape", "amalgamate", "inplace"],
+        options: &[&["print"], INPUT, MATRIX_OPTIONS],
     },
     Shape {
         name: "simulate",
         options: &[
-            "order", "plan", "bound", "workers", "priority", "workflow", "tree", "matrix", "perm", "ordering", "shape", "amalgamate",
-            "inplace",
+            &["order", "plan", "bound", "workers", "priority"],
+            INPUT,
+            MATRIX_OPTIONS,
         ],
     },
     Shape {
         name: "demo",
-        options: &["kind", "seed", "tasks", "rows", "cols"],
+        options: &[&["kind", "seed", "tasks", "rows", "cols"]],
     },
     Shape {
         name: "upgrade",
-        options: &["tree", "workflow", "plan", "priority"],
+        options: &[&["tree", "workflow", "plan", "priority"]],
     },
     Shape {
         name: "spill",
-        options: &["order", "plan", "bound", "workflow", "tree", "matrix", "perm", "ordering", "shape", "amalgamate", "inplace"],
+        options: &[&["order", "plan", "bound"], INPUT, MATRIX_OPTIONS],
     },
     Shape {
         name: "segments",
-        options: &["workflow", "tree", "matrix", "perm", "ordering", "shape", "amalgamate", "inplace"],
+        options: &[INPUT, MATRIX_OPTIONS],
     },
     Shape {
         name: "fronts",
-        options: &["bound", "workers", "matrix", "perm", "ordering"],
+        options: &[&["bound", "workers", "matrix", "perm", "ordering"]],
     },
     Shape {
         name: "reduce",
-        options: &["graph"],
+        options: &[&["graph"]],
     },
 ];
 

@@ -1,7 +1,8 @@
 ghost use Rattle.std.specs.Prelude.{◌≡◌, ◌<◌, ◌≤◌, ◌^◌, IfSome, option_map};
 ghost use Rattle.requests.specs.Request.{is_second, ordering_named, ordering_of, zeros_named, matrix_of, gives_any, tree_input_of, input_of};
 ghost use Rattle.requests.specs.Request.{source_of, number_given, number_up_to, workers_or_one, AreWorkers};
-ghost use Rattle.requests.specs.Table.{matrix_options, tree_names};
+ghost use Rattle.command_line.specs.Views.{texts};
+ghost use Rattle.requests.specs.Options.{matrix_options, tree_names};
 ghost use Rattle.requests.specs.RequestViews.{ordering_view, matrix_view, tree_input_view, input_view, source_view};
 
 use crate::commands::check::Check;
@@ -103,6 +104,18 @@ pub enum Request<'a> {
     Reduce(&'a str),
 }
 
+// ---- the options that commands share
+
+/// What a matrix takes besides its name.
+pub(crate) const MATRIX_OPTIONS: &[&str] = &["perm", "ordering", "shape", "amalgamate", "inplace"];
+
+/// The names of files: of a matrix; of a tree or a matrix; of any input. Each goes with the options of a matrix.
+pub(crate) const MATRIX: &[&str] = &["matrix"];
+
+pub(crate) const TREE: &[&str] = &["tree", "matrix"];
+
+pub(crate) const INPUT: &[&str] = &["workflow", "tree", "matrix"];
+
 // ---- the options of a matrix
 
 /// Whether a value is the second of two words; with no value it is the first.
@@ -182,22 +195,25 @@ pub fn matrix_of<'a>(name: &'a str, line: &Line<'a>) -> Option<Matrix<'a>>
 
 // ---- inputs
 
+// Whether an option of one of these names is given.
+fn gives_any(names: &[&str], line: &Line<'_>) -> bool
+    ensures { result ≡ gives_any (texts names.now) line.now.options }
+{
+    names.iter().any(|name| line.value(name).is_some())
+}
+
 // Whether an option of a matrix is given.
 fn has_matrix_option(line: &Line<'_>) -> bool
     ensures { result ≡ gives_any matrix_options line.now.options }
 {
-    line.value("perm").is_some()
-        || line.value("ordering").is_some()
-        || line.value("shape").is_some()
-        || line.value("amalgamate").is_some()
-        || line.value("inplace").is_some()
+    gives_any(MATRIX_OPTIONS, line)
 }
 
 // Whether a tree, a matrix or an option of a matrix is given.
 fn has_tree_option(line: &Line<'_>) -> bool
     ensures { result ≡ gives_any tree_names line.now.options }
 {
-    line.value("tree").is_some() || line.value("matrix").is_some() || has_matrix_option(line)
+    gives_any(TREE, line) || has_matrix_option(line)
 }
 
 /// A tree, without the options of a matrix, or a matrix.

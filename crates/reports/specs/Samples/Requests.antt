@@ -3,25 +3,13 @@
 use Rattle.std.specs.Prelude.{◌≡◌, ℕ, true, false, Option, Some, None, List, [], ◌∷◌, map, codes, refl}
 use Rattle.mp_text.specs.Text.{tokens_of, number_of, number_from}
 use Rattle.assembly_tree.specs.declared.front.Shape.TheVariants.{Triangle, Square}
-use Rattle.command_line.specs.Words.{Shape}
 use Rattle.requests.specs.declared.commands.demo.Demo.TheVariants as demos
-use Rattle.requests.specs.Table.{commands}
 use Rattle.requests.specs.Request.{Request, Input, tree_input, tree_named, matrix_named, workflow_named, Matrix, natural, min_degree}
 use Rattle.requests.specs.Request.{perm_named, order_named, plan_named, replay, tree, post, check, planning, as_file, as_json, simulate}
 use Rattle.requests.specs.Request.{demo, upgrade, tree_upgrade, plan_upgrade, spill, segments, fronts, reduce, files_of, FileRole, tree_file}
 use Rattle.requests.specs.Request.{workflow_file, graph_file, matrix_file, perm_file, order_file, plan_file, priority_file}
 use Rattle.requests.specs.Request.{plan_priority_file, NamedFile}
 use Rattle.requests.specs.Words.{request_of, AsksNothing}
-
--- the commands of the table
-abbrev pub name_of : Shape → List ℕ
-name_of shape = shape.name
-
-pub names_of_commands :
-    map name_of commands
-    ≡ codes "replay" ∷ codes "tree" ∷ codes "post" ∷ codes "check" ∷ codes "plan" ∷ codes "simulate" ∷ codes "demo" ∷ codes "upgrade"
-    ∷ codes "spill" ∷ codes "segments" ∷ codes "fronts" ∷ codes "reduce" ∷ []
-names_of_commands = refl
 
 -- what the words of a line ask for
 abbrev pub asked : List ℕ → Option Request
