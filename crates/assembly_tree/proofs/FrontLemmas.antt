@@ -7,7 +7,7 @@ use Rattle.std.proofs.lemmas.List.Sums.{sum_by-cons, sum_by_more, sum-map}
 use Rattle.std.proofs.lemmas.List.FromFn.{length-map-range_with_len, get_or-map-range_with_len}
 use Rattle.std.proofs.lemmas.Nat.{mul-le}
 use Rattle.std.proofs.Math.Nat.{max-le}
-use Rattle.std.proofs.lemmas.Bool.{cases_eq, cases_lt, eqb-true}
+use Rattle.std.proofs.lemmas.Bool.{cases_eq, eqb-true}
 use Rattle.limits.specs.Limits.{most_order, most_size, most_total}
 use Rattle.trees.specs.declared.node.Node.{Node}
 use Rattle.trees.specs.Tree.{IsNode, IsTree, IsNodeWithin, node_at, node_size, ancestor, out_below, children_out}
@@ -145,33 +145,47 @@ module _ (shape : Shape) (inplace : Bool) (assembly : AssemblyTree) (is : IsAsse
   number : (i : ℕ) → i < length assembly.supers → IsSuper assembly.supers (1 + i)
   number i lt = (omega arith, omega (arith, lt))
 
-  -- the columns of a front and of those before it are no more than all columns less its further rows, since these stand in fronts above
+  -- a front and the columns before it are no more than all columns together: its further rows stand in the front of its parent, whose
+  -- columns come later
+  rows_root : (s : ℕ) → IsSuper assembly.supers s → (super_at assembly.supers s).parent ≡ 0
+      → front_of (super_at assembly.supers s) + last_of assembly.supers (s - 1) ≤ length assembly.nodes
+  rows_root s h root =
+      omega (arith, last-more assembly.supers s h.0 h.1, (is.each s h).root root, last-within assembly.supers s, last-all assembly.supers, is.total)
+
+  rows_below : (s p : ℕ) → IsSuper assembly.supers s → s < p → (super_at assembly.supers s).rest ≤ front_of (super_at assembly.supers p)
+      → front_of (super_at assembly.supers p) + last_of assembly.supers (p - 1) ≤ length assembly.nodes
+      → front_of (super_at assembly.supers s) + last_of assembly.supers (s - 1) ≤ length assembly.nodes
+  rows_below s p h up rest above =
+      omega (arith, above, rest, last-more assembly.supers s h.0 h.1, last-le assembly.supers s (p - 1) (omega (arith, up)))
+
   rows_left : (steps s : ℕ) → IsSuper assembly.supers s → length assembly.supers ≤ s + steps
       → front_of (super_at assembly.supers s) + last_of assembly.supers (s - 1) ≤ length assembly.nodes
-  rows_left steps s h far =
+  rows_left zero s h far =
       elim (cases_eq (super_at assembly.supers s).parent 0) [
-        | inl root ↦ omega (arith, here, (is.each s h).root root, last-within assembly.supers s, last-all assembly.supers, is.total)
-        | inr child ↦ above steps far ((is.each s h).parent (omega (arith, child))) ((is.each s h).rest (omega (arith, child)))
+        | inl root ↦ rows_root s h root
+        | inr child ↦ (let up = (is.each s h).parent (omega (arith, child)) in absurd (omega (arith, far, up.0, up.1)))
       ]
-    where
-      here : last_of assembly.supers s ≡ last_of assembly.supers (s - 1) + (super_at assembly.supers s).columns
-      here = last-more assembly.supers s h.0 h.1
-
-      above : (k : ℕ) → length assembly.supers ≤ s + k → (s < (super_at assembly.supers s).parent) × ((super_at assembly.supers s).parent ≤ length assembly.supers)
-          → (super_at assembly.supers s).rest ≤ front_of (super_at assembly.supers ((super_at assembly.supers s).parent))
-          → front_of (super_at assembly.supers s) + last_of assembly.supers (s - 1) ≤ length assembly.nodes
-      above zero near up rest = absurd (omega (arith, near, up.0, up.1))
-      above (suc k) near up rest =
-          let p = (super_at assembly.supers s).parent in
-          let before = rows_left k p (omega (arith, up.0), up.1) (omega (arith, near, up.0)) in
-          omega (arith, before, rest, here, last-le assembly.supers s (p - 1) (omega (arith, up.0)))
+  rows_left (suc steps) s h far =
+      elim (cases_eq (super_at assembly.supers s).parent 0) [
+        | inl root ↦ rows_root s h root
+        | inr child ↦ (
+            let p = (super_at assembly.supers s).parent in
+            let up = (is.each s h).parent (omega (arith, child)) in
+            rows_below s p h up.0 ((is.each s h).rest (omega (arith, child)))
+            (rows_left steps p (omega (arith, up.0), up.1) (omega (arith, far, up.0)))
+            )
+      ]
 
   -- the front of the supernode after k others has at most as many rows as there are columns left
   front_left : (k : ℕ) → k < length assembly.supers → front_of (super_at assembly.supers (1 + k)) ≤ length assembly.nodes - k
   front_left k lt =
       let back : 1 + k - 1 ≡ k = omega arith in
-      omega (arith, rows_left (length assembly.supers) (1 + k) (number k lt) (omega arith), ap (last_of assembly.supers) back,
-      supers-le assembly.supers k (λ s h. (is.each s h).some) (omega (arith, lt)))
+      omega (
+        arith,
+        rows_left (length assembly.supers) (1 + k) (number k lt) (omega arith),
+        ap (last_of assembly.supers) back,
+        supers-le assembly.supers k (λ s h. (is.each s h).some) (omega (arith, lt)),
+      )
 
   size_left : (k : ℕ) → k < length assembly.supers
       → node_size (front_at shape inplace assembly.supers (1 + k)) ≤ (length assembly.nodes - k) * (length assembly.nodes - k)
@@ -181,7 +195,7 @@ module _ (shape : Shape) (inplace : Bool) (assembly : AssemblyTree) (is : IsAsse
   -- the first k fronts, and what those of one column each would take from there on
   sum_left : (k : ℕ) → k ≤ length assembly.supers
       → sum_by node_size (take k (nodes_of_fronts shape inplace assembly.supers)) + squares (length assembly.nodes - k) ≤ squares (length assembly.nodes)
-  sum_left zero le = omega arith
+  sum_left zero le = let all : length assembly.nodes - 0 ≡ length assembly.nodes = omega arith in omega (arith, ap squares all)
   sum_left (suc k) le =
       let nodes = nodes_of_fronts shape inplace assembly.supers in
       let d : Node = record { parent = 0; out = 0; extra = 0; share = 0; time = 0 } in
