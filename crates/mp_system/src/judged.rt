@@ -43,9 +43,9 @@ pub enum ItemTest {
 /// Why tasks and items are no system.
 #[derive(Clone, Copy, Debug, PartialEq, Eq)]
 pub enum SystemRefusal {
-    /// There are more than 10^6 tasks.
+    /// There are more tasks than the limit `tasks`.
     ManyTasks,
-    /// There are more than 4,000,001 items.
+    /// There are more items than the limit `positions`.
     ManyItems,
     /// The lowest task that fails a test, of which it is the first.
     Task { test: TaskTest, task: u32 },
