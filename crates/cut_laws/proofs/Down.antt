@@ -1,9 +1,9 @@
 -- Sides that are run: each segment's tasks lead from its level to the next.
-use Rattle.std.proofs.Common.{◌≡◌, ℕ, ◌+◌, ◌-◌, ◌<◌, ◌≤◌, inl, inr, max, refl, sym, subst, ap, arith, ◌∙◌, false, List, [], ◌∷◌, ◌++◌}
+use Rattle.std.proofs.Common.{◌≡◌, ℕ, ◌+◌, ◌-◌, ◌<◌, ◌≤◌, inl, inr, max, refl, sym, subst, ap, arith, ◌∙◌, List, [], ◌∷◌, ◌++◌}
 use Rattle.std.proofs.lemmas.Bool.Decides.{nat_tests}
 use Rattle.mp_system.specs.declared.system.Task.{Task}
 use Rattle.side_laws.specs.Segments.{net_sum, top}
-use Rattle.hill_valley.specs.Side.{Run, run_profile, tasks_of, append_run, join_runs}
+use Rattle.hill_valley.specs.Side.{Run, run_profile, tasks_of, append_run}
 use Rattle.segment_merge.specs.Crossing.{append_runs, hill_run, cross_hill_runs}
 use Rattle.sp_terms.specs.Term.{Term, series, Direction, forward, backward, hill_of, first_memory}
 use Rattle.sp_term_laws.specs.Moves.{State, memory_of, first_state}

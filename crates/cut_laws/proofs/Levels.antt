@@ -1,9 +1,8 @@
 -- Levels and tops of a side, as the laws of sides give them.
-use Rattle.std.proofs.Common.{◌≡◌, ℕ, ◌-◌, ◌<◌, ◌≤◌, ◌⊎◌, refl, arith, List, [], ◌∷◌}
+use Rattle.std.proofs.Common.{◌≡◌, ℕ, ◌-◌, ◌<◌, ◌≤◌, refl, arith, List, [], ◌∷◌}
 use Rattle.std.proofs.lemmas.Bool.Decides.{nat_tests}
 use Rattle.side_laws.specs.Segments.{Segment, net_sum, lowest, top, Passes}
 use Rattle.segment_merge.specs.Laws.{SideLaws}
-use Rattle.lists.proofs.Orders.{lt_or_le}
 
 -- at its start a side that the limit does not allow is stuck
 pub lowest_stuck : (limit level : ℕ) (ss : List Segment) → limit ≤ level → lowest limit level ss ≡ level

@@ -1,5 +1,5 @@
 -- Sides of parts side by side, merged: the runs of all parts lead down through the states of all of them.
-use Rattle.std.proofs.Common.{◌≡◌, ℕ, ◌+◌, ◌<◌, ◌⊎◌, inl, inr, refl, sym, subst, ap, arith, ◌∙◌, true, List, [], ◌∷◌, ◌++◌}
+use Rattle.std.proofs.Common.{◌≡◌, ℕ, ◌+◌, ◌<◌, inl, inr, refl, sym, subst, ap, arith, ◌∙◌, true, List, [], ◌∷◌, ◌++◌}
 use Rattle.std.proofs.lemmas.Bool.Decides.{nat_tests}
 use Rattle.side_laws.specs.Segments.{IsRising, StartsAbove}
 use Rattle.hill_valley.specs.Side.{Run, run_profile, insert_run}

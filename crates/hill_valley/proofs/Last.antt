@@ -1,5 +1,5 @@
 -- The last segment, and a run put behind it.
-use Rattle.std.proofs.Common.{◌≡◌, ℕ, suc, ◌-◌, ◌<◌, ◌≤◌, ◌^◌, max, List, [], ◌∷◌, refl, ap, sym, ◌∙◌, arith, subst, Some, ◌⊎◌, inl, inr, false, length}
+use Rattle.std.proofs.Common.{◌≡◌, ℕ, suc, ◌-◌, ◌<◌, ◌≤◌, max, List, [], ◌∷◌, refl, ap, sym, ◌∙◌, arith, subst, Some, inl, inr, false, length}
 use Rattle.std.specs.List.{slice_get}
 use Rattle.std.proofs.lemmas.Bool.Decides.{nat_tests}
 use Rattle.std.proofs.lemmas.Grind.{common_steps}

@@ -1,5 +1,5 @@
 -- What holds while segments are moved from one side into another, one after another.
-use Rattle.std.proofs.Common.{◌≡◌, ℕ, ◌+◌, ◌≤◌, ◌^◌, List, ◌∷◌, refl, ap, sym, ◌∙◌, arith, Bool}
+use Rattle.std.proofs.Common.{◌≡◌, ℕ, ◌+◌, ◌≤◌, List, ◌∷◌, refl, ap, sym, ◌∙◌, arith, Bool}
 use Rattle.limits.specs.Limits.{most_total}
 use Rattle.side_laws.specs.Segments.{net_sum}
 use Rattle.hill_valley.specs.declared.side.Seg.{Seg}

@@ -1,15 +1,14 @@
 -- What a task consumes and produces, as sums over the items that were given.
-use Rattle.std.proofs.Common.{◌≡◌, ◌≢◌, ℕ, zero, suc, ◌+◌, ◌-◌, ◌<◌, ◌≤◌, cond, true, false, List, [], ◌∷◌, length, take, map, get_or, refl, sym, ap, ◌∙◌, arith}
+use Rattle.std.proofs.Common.{◌≡◌, ◌≢◌, ℕ, zero, suc, ◌+◌, ◌-◌, ◌<◌, ◌≤◌, cond, true, false, List, length, take, get_or, refl, ap, ◌∙◌, arith}
 use Rattle.std.specs.Prelude.{◌==◌, Some}
 use Rattle.std.specs.List.{sum_by}
 use Rattle.std.proofs.lemmas.List.{take_all}
-use Rattle.std.proofs.lemmas.List.Sums.{sum_by-cons, sum_by_more, sum_by_more_le_part, sum_by-le-sum_by}
+use Rattle.std.proofs.lemmas.List.Sums.{sum_by_more, sum_by_more_le_part, sum_by-le-sum_by}
 use Rattle.std.proofs.lemmas.Bool.{ne_eqb}
 use Rattle.mp_system.specs.System.{inputs_of, outputs_of, is_input, is_output, size_if}
 use Rattle.mp_system.specs.declared.given.GivenTask.{GivenTask}
 use Rattle.mp_system.specs.declared.given.GivenItem.{GivenItem}
 use Rattle.mp_system.specs.Given.{end_given, item_given, system_given}
-use Rattle.mp_system.specs.Judged.{given_item}
 use Rattle.lists.specs.Numbers.{IsPlace}
 use Rattle.lists.proofs.Lists.{sum-same, sum_by-map}
 

@@ -1,18 +1,17 @@
 -- Tasks and items that pass all tests are a system.
-use Rattle.std.proofs.Common.{◌≡◌, ◌↔◌, ℕ, zero, suc, ◌+◌, ◌-◌, ◌<◌, ◌≤◌, List, length, map, get_or, refl, sym, ap, subst, ◌∙◌, arith}
+use Rattle.std.proofs.Common.{◌≡◌, ◌↔◌, ℕ, zero, suc, ◌+◌, ◌-◌, ◌<◌, ◌≤◌, List, length, get_or, sym, ap, subst, ◌∙◌, arith}
 use Rattle.std.specs.Prelude.{Option, Some, None}
 use Rattle.std.specs.Option.{ForSome}
-use Rattle.std.specs.List.{All, sum_by}
 use Rattle.std.proofs.lemmas.List.{length-map, get_or-map, get_or_default}
 use Rattle.std.proofs.lemmas.List.Elements.{All-from_get_or, All-map}
 use Rattle.limits.specs.Limits.{most_size, most_time, most_total}
-use Rattle.mp_system.specs.System.{IsSystem, IsTaskWithin, IsItemWithin, IsTask, HasShare, task_at, inputs_of, outputs_of, extra_size, item_size}
+use Rattle.mp_system.specs.System.{IsSystem, IsTaskWithin, IsItemWithin, HasShare, task_at, inputs_of, outputs_of, extra_size, item_size}
 use Rattle.mp_system.specs.declared.given.GivenTask.{GivenTask}
 use Rattle.mp_system.specs.declared.given.GivenItem.{GivenItem}
 use Rattle.mp_system.specs.declared.judged.TaskTest.TheVariants as task_tests
 use Rattle.mp_system.specs.declared.judged.ItemTest.TheVariants as item_tests
 use Rattle.mp_system.specs.Given.{end_given, item_given, system_given, task_given}
-use Rattle.mp_system.specs.Judged.{ArePlain, ItemPasses, TaskPasses, given_item, given_task, total_given}
+use Rattle.mp_system.specs.Judged.{ArePlain, ItemPasses, TaskPasses, given_task, total_given}
 use Rattle.lists.specs.Numbers.{Each, IsPlace}
 use Rattle.mp_system.proofs.GivenSums.{end-some}
 use Rattle.lists.proofs.Lists.{sum_by-map as sum-mapped}

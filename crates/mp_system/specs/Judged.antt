@@ -1,6 +1,6 @@
 -- What tasks and items of a caller are refused with, where they are no system: the first test that fails, with the lowest task or the
 -- first item that fails it.
-use Rattle.std.specs.Prelude.{◌≡◌, ℕ, ◌-◌, ◌+◌, ◌<◌, ◌≤◌, List, length, slice_index_or}
+use Rattle.std.specs.Prelude.{ℕ, ◌-◌, ◌+◌, ◌<◌, ◌≤◌, List, length, slice_index_or}
 use Rattle.std.specs.List.{sum_by}
 use Rattle.limits.specs.Limits.{most_tasks, most_positions, most_size, most_time, most_total}
 use Rattle.lists.specs.Numbers.{Each, IsFirstWithout}

@@ -1,4 +1,4 @@
-use Rattle.std.proofs.Common.{◌+◌, arith}
+use Rattle.std.proofs.Common.{arith}
 use Rattle.std.proofs.lemmas.List.Sums.{sum_by_more}
 use Rattle.mp_system.proofs.Within.{extra_fits, no_task}
 use Rattle.mp_system.proofs.judged.extras_of.Goals as goal

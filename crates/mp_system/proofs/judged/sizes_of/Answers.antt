@@ -1,4 +1,4 @@
-use Rattle.std.proofs.Common.{◌+◌, arith}
+use Rattle.std.proofs.Common.{arith}
 use Rattle.std.proofs.lemmas.List.Sums.{sum_by_more}
 use Rattle.mp_system.proofs.Within.{size_fits, no_item}
 use Rattle.mp_system.proofs.judged.sizes_of.Goals as goal

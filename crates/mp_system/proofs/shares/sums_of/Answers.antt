@@ -1,4 +1,4 @@
-use Rattle.std.proofs.Common.{◌≡◌, ◌∙◌, sym, arith, length}
+use Rattle.std.proofs.Common.{◌∙◌, sym, arith, length}
 use Rattle.mp_system.specs.declared.judged.ItemTest.TheVariants as item_tests
 use Rattle.mp_system.proofs.GivenSums.{consumer, producer, inputs-are, one_fits, outputs-are, part-small, whole}
 use Rattle.mp_system.proofs.Within.{ends_fit, no_item}
