@@ -73,7 +73,7 @@ task-within One extra share time fits small ends =
       first-token (decimal extra) (decimal time) [],
       last-token (decimal time),
       short-decimal extra fits,
-      short-decimal time ends,
+      short-decimal time (omega (arith, ends)),
     )
 task-within Two extra share time fits small ends =
     omega (
@@ -84,7 +84,7 @@ task-within Two extra share time fits small ends =
       last-token (decimal time),
       short-decimal extra fits,
       small-decimal share small,
-      short-decimal time ends,
+      short-decimal time (omega (arith, ends)),
     )
 
 -- how many bytes the line of a position has at most: that of a task has more numbers than others
