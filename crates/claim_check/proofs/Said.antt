@@ -33,8 +33,8 @@ root_at ps plan cs last o c peak answer peak_is claims is_last at is judged =
     same : {x y : RuleClaim} → Some x ≡ Some y → x ≡ y
     same e = cc
 
-pub settled : (system : TaskSystem) (ps : List Position) (plan : PlanValue) (order : List ℕ) (replayed printed : ℕ) (claims : List Claim) (view : Claimed)
-    → order ≡ plan.order → IsTraversal system order × (replayed ≡ peak_of system order) → printed ≡ plan.peak → replayed ≡ printed
+pub settled : (system : TaskSystem) (ps : List Position) (plan : PlanValue) (order : List ℕ) (replayed printed : ℕ)
+    → (claims : List Claim) (view : Claimed) → order ≡ plan.order → IsTraversal system order × (replayed ≡ peak_of system order) → printed ≡ plan.peak → replayed ≡ printed
     → view ≡ record { positions = ps; claims = claims } → HasRoot view.positions plan → IsSettled system ps plan
 settled system ps plan order replayed printed claims view order_is walked printed_is same view_is root = record {
   traversal = subst (IsTraversal system) order_is walked.0;
