@@ -102,7 +102,10 @@ def factor_of(text: str, known: Numbers) -> int:
 
 
 def number_of(text: str, known: Numbers = {}) -> int:
-    """A number, or a sum of products, as `4 * MOST_TASKS + 1`."""
+    """A number, a sum of products, as `4 * MOST_TASKS + 1`, or the greater of two: `if A < B { B } else { A }`, `max (A) (B)`."""
+    choice = re.fullmatch(r"if ([^<{]+) < ([^{]+) \{\s*\2\s*\} else \{\s*\1\s*\}|max \(([^()]+)\) \(([^()]+)\)", text.strip())
+    if choice:
+        return max(number_of(part, known) for part in choice.groups() if part)
     terms = text.replace("**", "^").split("+")
     return sum(math.prod(factor_of(factor, known) for factor in term.split("*")) for term in terms)
 
@@ -152,7 +155,8 @@ class Facts:
         sys.dont_write_bytecode = True
         sys.path.insert(0, str(top / "tools"))
         self.said = {as_constant(name): number for name, number in numbers_in(self.code_of_statuses(), r"Status::(\w+) => (\d+)").items()}
-        self.most = short(numbers_in(self.text(LIMIT_CODE), r"^pub const (MOST_\w+): u\d+ = (.+);"))
+        constants = numbers_in(self.text(LIMIT_CODE), r"^(?:pub )?const (\w+): u\d+ = ([^;]+);")
+        self.most = short({name: number for name, number in constants.items() if name.startswith("MOST_")})
         self.fault_kinds = numbers_in(self.text("crates/c_calls/src/kinds.rt"), r"^pub const (\w+): u32 = (\d+);")
 
     def text(self, name: str) -> str:

@@ -6,7 +6,6 @@ use Rattle.std.proofs.lemmas.List.FromFn.{length-range_with_len, length-map-rang
 use Rattle.std.proofs.lemmas.Bool.{cases_eq, cases_Bool, eq-eqb}
 use Rattle.permutations.specs.Perm.{IsVertex}
 use Rattle.ordering.specs.Fill.{IsAdjacency, IsParent, structure_of, parent_of, count_of, parents_of, counts_of}
-use Rattle.elim_tree.specs.Trees.{parent_at}
 use Rattle.elim_tree.specs.Paths.{IsWithin, IsInherited}
 use Rattle.assembly_tree.specs.Supernodes.{count_at, AreColumnCounts}
 use Rattle.assembly_tree.proofs.ListLemmas.{count_next}

@@ -1,14 +1,14 @@
 -- The fronts of an assembly tree are a tree within the limits.
-use Rattle.std.proofs.Common.{◌*◌, ◌≡◌, ℕ, zero, suc, ◌+◌, ◌-◌, ◌<◌, ◌≤◌, Bool, true, false, cond, eqb, max, List, [], ◌∷◌, length, get_or, map, filter, fold, refl, sym, ap, ◌∙◌, subst, inl, inr, arith, All}
+use Rattle.std.proofs.Common.{◌*◌, ◌≡◌, ℕ, zero, suc, ◌+◌, ◌-◌, ◌<◌, ◌≤◌, Bool, true, false, cond, eqb, max, List, [], ◌∷◌, length, get_or, take, map, filter, fold, refl, sym, ap, ◌∙◌, subst, inl, inr, arith, All}
 use Rattle.std.specs.List.{sum_by, range_with_len}
-use Rattle.std.proofs.lemmas.List.{get_or_default, same_lists}
+use Rattle.std.proofs.lemmas.List.{get_or_default, same_lists, take_all}
 use Rattle.std.proofs.lemmas.List.Elements.{All-filter, All-map, filter_passes}
-use Rattle.std.proofs.lemmas.List.Sums.{sum_by-cons, sum_by-le, sum-map}
+use Rattle.std.proofs.lemmas.List.Sums.{sum_by-cons, sum_by_more, sum-map}
 use Rattle.std.proofs.lemmas.List.FromFn.{length-map-range_with_len, get_or-map-range_with_len}
 use Rattle.std.proofs.lemmas.Nat.{mul-le}
 use Rattle.std.proofs.Math.Nat.{max-le}
 use Rattle.std.proofs.lemmas.Bool.{cases_eq, eqb-true}
-use Rattle.limits.specs.Limits.{most_order}
+use Rattle.limits.specs.Limits.{most_order, most_size, most_total}
 use Rattle.trees.specs.declared.node.Node.{Node}
 use Rattle.trees.specs.Tree.{IsNode, IsTree, IsNodeWithin, node_at, node_size, ancestor, out_below, children_out}
 use Rattle.assembly_tree.specs.declared.assembly.Super.{Super}
@@ -18,7 +18,8 @@ use Rattle.assembly_tree.specs.Assembly.{AssemblyTree, IsSuper, IsAssembly, no_s
 use Rattle.assembly_tree.specs.Fronts.{kept_entries, block_of, share_of, front_node, front_at, nodes_of_fronts}
 use Rattle.assembly_tree.proofs.ListLemmas.{sum_by-filter}
 use Rattle.lists.proofs.Lists.{sum_by-map}
-use Rattle.assembly_tree.proofs.RunLemmas.{supers-le, last-all}
+use Rattle.assembly_tree.specs.Supernodes.{last_of}
+use Rattle.assembly_tree.proofs.RunLemmas.{supers-le, last-all, last-le, last-more, last-within}
 use Rattle.assembly_tree.proofs.SupernodeLemmas.{supers-range}
 
 -- ---- sizes
@@ -27,9 +28,39 @@ pub size-le : (shape : Shape) (r t : ℕ) → r ≤ t → kept_entries shape r �
 size-le Triangle r t le = omega (arith, mul-le r (r + 1) t (t + 1) le (omega arith))
 size-le Square r t le = mul-le r r t t le le
 
-pub size-small : (shape : Shape) (r : ℕ) → r ≤ most_order → kept_entries shape r ≤ (most_order * most_order)
+-- a front of all rows of a matrix is within the limit of one size
+pub size-small : (shape : Shape) (r : ℕ) → r ≤ most_order → kept_entries shape r ≤ most_size
 size-small Triangle r le = omega (arith, mul-le r (r + 1) most_order (most_order + 1) le (omega arith))
-size-small Square r le = mul-le r r most_order most_order le le
+size-small Square r le = omega (arith, mul-le r r most_order most_order le le)
+
+square-self : (n : ℕ) → n ≤ n * n
+square-self zero = omega arith
+square-self (suc n) = omega arith
+
+size-square : (shape : Shape) (r t : ℕ) → r ≤ t → kept_entries shape r ≤ t * t
+size-square Triangle r t le = omega (arith, mul-le r (r + 1) t (t + 1) le (omega arith), square-self t)
+size-square Square r t le = mul-le r r t t le le
+
+-- ---- sums of squares
+
+-- 1 * 1 + 2 * 2 + .. + n * n
+squares : ℕ → ℕ
+squares zero = 0
+squares (suc n) = squares n + suc n * suc n
+
+squares-step : (m n : ℕ) → m ≡ suc n → squares m ≡ squares n + m * m
+unfolding squares
+squares-step m n e = ap squares e ∙ omega (arith, e, ap (λ (i : ℕ). i * i) e)
+
+squares-third : (n : ℕ) → 3 * squares n ≤ n * n * (n + 2)
+unfolding squares
+squares-third zero = omega arith
+squares-third (suc n) = omega (arith, squares-third n)
+
+-- the fronts of a matrix are within the limit of all sizes together
+squares-small : (n : ℕ) → n ≤ most_order → squares n ≤ most_total
+squares-small n le =
+    omega (arith, squares-third n, mul-le (n * n) (n + 2) (most_order * most_order) (most_order + 2) (mul-le n n most_order most_order le le) (omega arith))
 
 -- ---- lists by number
 
@@ -93,8 +124,11 @@ module _ (shape : Shape) (inplace : Bool) (assembly : AssemblyTree) (is : IsAsse
   at_node : (v : ℕ) → IsSuper assembly.supers v → node_at (nodes_of_fronts shape inplace assembly.supers) v ≡ front_at shape inplace assembly.supers v
   at_node v h = (let back : 1 + (v - 1) ≡ v = omega (arith, h.0) in at (v - 1) _ (omega (arith, h.0, h.1)) ∙ ap (front_at shape inplace assembly.supers) back)
 
+  supers-few : length assembly.supers ≤ length assembly.nodes
+  supers-few = omega (arith, supers-le assembly.supers (length assembly.supers) (λ k h. (is.each k h).some) (omega arith), last-all assembly.supers, is.total)
+
   few : length assembly.supers ≤ most_order
-  few = omega (arith, supers-le assembly.supers (length assembly.supers) (λ k h. (is.each k h).some) (omega arith), last-all assembly.supers, is.total, is.few)
+  few = omega (arith, supers-few, is.few)
 
   some : 1 ≤ length assembly.supers
   some = (let first = is.nodes 1 (omega arith, is.some) in omega (arith, first.0, first.1))
@@ -102,17 +136,82 @@ module _ (shape : Shape) (inplace : Bool) (assembly : AssemblyTree) (is : IsAsse
   inside : (s : ℕ) → IsSuper assembly.supers s → (super_at assembly.supers s).parent ≤ length assembly.supers
   inside s h = elim (cases_eq (super_at assembly.supers s).parent 0) [ inl root ↦ omega (arith, root) | inr child ↦ ((is.each s h).parent (omega (arith, child))).1 ]
 
-  small : (s : ℕ) → IsSuper assembly.supers s → kept_entries shape (front_of (super_at assembly.supers s)) ≤ (most_order * most_order)
+  small : (s : ℕ) → IsSuper assembly.supers s → kept_entries shape (front_of (super_at assembly.supers s)) ≤ most_size
   small s h = size-small shape (front_of (super_at assembly.supers s)) (omega (arith, is.fits s h, is.few))
 
   below : (s : ℕ) → block_of shape (super_at assembly.supers s) ≤ kept_entries shape (front_of (super_at assembly.supers s))
   below s = size-le shape (super_at assembly.supers s).rest (front_of (super_at assembly.supers s)) (omega arith)
 
-  sizes : (s : ℕ) → IsSuper assembly.supers s → node_size (front_at shape inplace assembly.supers s) ≤ (most_order * most_order)
-  sizes s h = omega (arith, small s h, below s)
-
   number : (i : ℕ) → i < length assembly.supers → IsSuper assembly.supers (1 + i)
   number i lt = (omega arith, omega (arith, lt))
+
+  -- a front and the columns before it are no more than all columns together: its further rows stand in the front of its parent, whose
+  -- columns come later
+  rows_root : (s : ℕ) → IsSuper assembly.supers s → (super_at assembly.supers s).parent ≡ 0
+      → front_of (super_at assembly.supers s) + last_of assembly.supers (s - 1) ≤ length assembly.nodes
+  rows_root s h root =
+      omega (arith, last-more assembly.supers s h.0 h.1, (is.each s h).root root, last-within assembly.supers s, last-all assembly.supers, is.total)
+
+  rows_below : (s p : ℕ) → IsSuper assembly.supers s → s < p → (super_at assembly.supers s).rest ≤ front_of (super_at assembly.supers p)
+      → front_of (super_at assembly.supers p) + last_of assembly.supers (p - 1) ≤ length assembly.nodes
+      → front_of (super_at assembly.supers s) + last_of assembly.supers (s - 1) ≤ length assembly.nodes
+  rows_below s p h up rest above =
+      omega (arith, above, rest, last-more assembly.supers s h.0 h.1, last-le assembly.supers s (p - 1) (omega (arith, up)))
+
+  rows_left : (steps s : ℕ) → IsSuper assembly.supers s → length assembly.supers ≤ s + steps
+      → front_of (super_at assembly.supers s) + last_of assembly.supers (s - 1) ≤ length assembly.nodes
+  rows_left zero s h far =
+      elim (cases_eq (super_at assembly.supers s).parent 0) [
+        | inl root ↦ rows_root s h root
+        | inr child ↦ (let up = (is.each s h).parent (omega (arith, child)) in absurd (omega (arith, far, up.0, up.1)))
+      ]
+  rows_left (suc steps) s h far =
+      elim (cases_eq (super_at assembly.supers s).parent 0) [
+        | inl root ↦ rows_root s h root
+        | inr child ↦ (
+            let p = (super_at assembly.supers s).parent in
+            let up = (is.each s h).parent (omega (arith, child)) in
+            rows_below s p h up.0 ((is.each s h).rest (omega (arith, child)))
+            (rows_left steps p (omega (arith, up.0), up.1) (omega (arith, far, up.0)))
+            )
+      ]
+
+  -- the front of the supernode after k others has at most as many rows as there are columns left
+  front_left : (k : ℕ) → k < length assembly.supers → front_of (super_at assembly.supers (1 + k)) ≤ length assembly.nodes - k
+  front_left k lt =
+      let back : 1 + k - 1 ≡ k = omega arith in
+      omega (
+        arith,
+        rows_left (length assembly.supers) (1 + k) (number k lt) (omega arith),
+        ap (last_of assembly.supers) back,
+        supers-le assembly.supers k (λ s h. (is.each s h).some) (omega (arith, lt)),
+      )
+
+  size_left : (k : ℕ) → k < length assembly.supers
+      → node_size (front_at shape inplace assembly.supers (1 + k)) ≤ (length assembly.nodes - k) * (length assembly.nodes - k)
+  size_left k lt =
+      omega (arith, size-square shape (front_of (super_at assembly.supers (1 + k))) (length assembly.nodes - k) (front_left k lt), below (1 + k))
+
+  -- the first k fronts, and what those of one column each would take from there on
+  sum_left : (k : ℕ) → k ≤ length assembly.supers
+      → sum_by node_size (take k (nodes_of_fronts shape inplace assembly.supers)) + squares (length assembly.nodes - k) ≤ squares (length assembly.nodes)
+  sum_left zero le = let all : length assembly.nodes - 0 ≡ length assembly.nodes = omega arith in omega (arith, ap squares all)
+  sum_left (suc k) le =
+      let nodes = nodes_of_fronts shape inplace assembly.supers in
+      let d : Node = record { parent = 0; out = 0; extra = 0; share = 0; time = 0 } in
+      let lt : k < length assembly.supers = omega (arith, le) in
+      let one : k + 1 ≡ suc k = omega arith in
+      let more = sum_by_more node_size nodes k d (omega (arith, lt, len)) in
+      let left : length assembly.nodes - k ≡ suc (length assembly.nodes - suc k) = omega (arith, supers-few, le) in
+      omega (
+        arith,
+        sum_left k (omega (arith, le)),
+        more,
+        ap (λ (i : ℕ). sum_by node_size (take i nodes)) one,
+        ap node_size (at k d lt),
+        size_left k lt,
+        squares-step (length assembly.nodes - k) (length assembly.nodes - suc k) left,
+      )
 
   outs : (s : ℕ) → children_out (nodes_of_fronts shape inplace assembly.supers) s ≡ sum_by (λ x. cond (eqb x.parent s) (block_of shape x) 0) assembly.supers
   outs s =
@@ -152,10 +251,12 @@ module _ (shape : Shape) (inplace : Bool) (assembly : AssemblyTree) (is : IsAsse
           time = ((is.each s h).some, omega (arith, is.fits s h, is.few));
         })
         );
-    total = (
-        let each : All (λ (x : Node). node_size x ≤ (most_order * most_order)) (nodes_of_fronts shape inplace assembly.supers) = λ k d lt. (let in_range : k < length assembly.supers = omega (arith, lt, len) in omega (arith, ap node_size (at k d in_range), sizes (1 + k) (number k in_range))) in
-        omega (arith, sum_by-le node_size (most_order * most_order) (nodes_of_fronts shape inplace assembly.supers) each, len, few)
-        );
+    total = omega (
+      arith,
+      ap (sum_by node_size) (take_all (length assembly.supers) (nodes_of_fronts shape inplace assembly.supers) (omega (arith, len))),
+      sum_left (length assembly.supers) (omega arith),
+      squares-small (length assembly.nodes) is.few,
+    );
     roots = λ v h. (
         let in_range : IsSuper assembly.supers v = (h.0, omega (arith, h.1, len)) in
         rising_leads (nodes_of_fronts shape inplace assembly.supers) (λ w node some.

@@ -52,7 +52,7 @@ pub record IsSuperWithin (supers : List Super) (s : ℕ) : Type 0 where
   -- a root has none
   pub root : (super_at supers s).parent ≡ 0 → (super_at supers s).rest ≡ 0
 
--- an assembly tree of 1 to 10^6 columns, each of which has its supernode
+-- an assembly tree of 1 column up to the limit of rows, each of which has its supernode
 pub record IsAssembly (assembly : AssemblyTree) : Type 0 where
   pub some : 1 ≤ length assembly.nodes
   pub few : length assembly.nodes ≤ most_order

@@ -14,7 +14,7 @@ pub struct Super {
     pub parent: u32,
 }
 
-/// An assembly tree: its supernodes, each numbered before its parent, and the supernode of each of the 1 to 10^6 columns.
+/// An assembly tree: its supernodes, each numbered before its parent, and the supernode of each column; there are from 1 to the limit `order`.
 #[derive(Drop)]
 pub struct Assembly {
     supers: Vec<Super>,
@@ -51,7 +51,7 @@ impl Assembly {
         Assembly { supers, nodes }
     }
 
-    /// How many columns there are, 1 to 10^6.
+    /// How many columns there are, from 1 to the limit `order`.
     pub fn columns(&self) -> u32
         ensures { result ≡ length self.now.nodes }
     {

@@ -3,7 +3,6 @@
 ghost use Rattle.std.specs.Prelude.{◌≡◌, ◌≢◌, ◌≤◌, ◌<◌, length, take, drop, IfOk, IfErr, OnOk};
 ghost use Rattle.limits.specs.Limits.{most_order};
 ghost use Rattle.permutations.specs.Perm.{IsPerm};
-ghost use Rattle.symbolic.specs.FrontTree.{relaxed};
 ghost use Rattle.c_calls.specs.declared.refusal.Refusal.TheVariants as refusals;
 ghost use Rattle.c_calls.specs.Faults.{IsRefusedFor};
 ghost use Rattle.c_calls.specs.Fronts.{AreFronts, HaveFronts, IsMatrixFrontsRefusal, IsMatrixOrder, IsMatrixOrderRefusal};
@@ -13,13 +12,13 @@ use crate::faults::{Fault, refuse};
 use crate::orders::check_room;
 use crate::refusal::Refusal;
 use assembly_tree::laws::{amalgamation_is_assembly, amalgamation_is_relaxed};
-use assembly_tree::{Assembly, Shape, amalgamate, fronts};
+use assembly_tree::{Assembly, Shape, fronts};
 use ordering::min_degree;
 use patterns::{Pattern, pattern_of_columns};
 use permutations::{Perm, perm_of_numbers};
 use std::alloc::{AllocError, Global};
 use symbolic::laws::one_analysis;
-use symbolic::{Analysis, FrontOptions, analyse};
+use symbolic::{Analysis, FrontOptions, analyse, relaxed};
 use trees::{Node, Tree};
 
 /// How the fronts of a matrix are made.
@@ -75,16 +74,6 @@ fn order_of(alloc: Global, base: u32, numbers: &[u32], pattern: &Pattern) -> Res
     Ok(order)
 }
 
-// Merged where that adds at most so many explicit zeros.
-fn merged(alloc: Global, assembly: Assembly, zeros: Option<u64>) -> Result<Assembly, AllocError>
-    ensures { IfOk result (λ merged. merged ≡ relaxed zeros assembly) }
-{
-    match zeros {
-        Some(zeros) => amalgamate(alloc, &assembly, zeros),
-        None => Ok(assembly),
-    }
-}
-
 // The supernode in which each vertex lies.
 fn supernodes_of(alloc: Global, assembly: &Assembly, perm: &Perm) -> Result<Vec<u32>, AllocError>
     requires len { length perm.now ≡ length assembly.now.nodes }
@@ -119,7 +108,7 @@ fn fronts_of_matrix(
     one_analysis();
     pattern.keeps();
     let Analysis { numbered, assembly } = analyse(alloc, pattern, order)?;
-    let merged = merged(alloc, assembly, options.zeros)?;
+    let merged = relaxed(alloc, assembly, options.zeros)?;
     let of_columns = supernodes_of(alloc, &merged, &numbered.perm)?;
     let tree = fronts(alloc, &merged, options.shape, options.inplace)?;
     Ok(Fronts { tree, of_columns })

@@ -5,3 +5,4 @@ pub mod Judged
 pub mod Lowest
 pub mod Accepted
 pub mod Verdicts
+pub mod Opening

@@ -6,12 +6,11 @@ ghost use Rattle.claim_check.specs.Lowest.{IsLowestFrom};
 ghost use Rattle.claim_check.specs.Verdicts.{IsVerdict};
 
 use crate::NoMemory;
-use crate::checking::has_root;
 use crate::chunks::lowest_in;
-use crate::objection::Objection;
+use crate::opening::{Early, opened, verdict_by};
 use crate::verdict::Verdict;
 use crate::view::View;
-use mp_system::{ReplayRefusal, System, replay};
+use mp_system::System;
 use plans::Plan;
 use sp_terms::TermList;
 use std::alloc::{AllocError, Global};
@@ -37,24 +36,11 @@ pub fn check_alone(
 ) -> Result<Verdict, NoMemory>
     ensures verdict { IfOk result (λ verdict. IsVerdict system.now terms.now plan.now verdict) }
 {
-    let replayed = match replay(alloc, system, plan.order()) {
-        Ok(replayed) => replayed,
-        Err(ReplayRefusal::NoMemory) => return Err(AllocError),
-        Err(ReplayRefusal::Order(fault)) => return Ok(Verdict::No(Objection::Order(fault))),
+    let view = match opened(alloc, system, terms, plan) {
+        Ok(view) => view,
+        Err(Early::NoMemory) => return Err(AllocError),
+        Err(Early::Objection(objection)) => return Ok(Verdict::No(objection)),
     };
-    let printed = plan.peak();
-    if replayed != printed {
-        return Ok(Verdict::No(Objection::Peak { replayed, printed }));
-    }
-    let view = View::new(alloc, terms, plan.claims())?;
-    if !has_root(&view, plan) {
-        return Ok(Verdict::No(Objection::Root { last: view.len() }));
-    }
-    match lowest_alone(&view) {
-        None => Ok(Verdict::Yes(replayed)),
-        Some(position) => Ok(Verdict::No(Objection::Claim {
-            position,
-            shape: view.shape(position),
-        })),
-    }
+    let lowest = lowest_alone(&view);
+    Ok(verdict_by(&view, plan, lowest))
 }

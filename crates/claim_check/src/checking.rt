@@ -1,16 +1,14 @@
-ghost use Rattle.std.specs.Prelude.{◌≡◌, ◌≤◌, pos, ◌≤ℤ◌, ◌+ℤ◌, IsTrue, ◌↔◌, IfOk};
+ghost use Rattle.std.specs.Prelude.{◌≤◌, IfOk};
 ghost use Rattle.limits.specs.Limits.{most_workers};
-ghost use Rattle.claim_check.specs.Accepted.{HasRoot};
 ghost use Rattle.claim_check.specs.Verdicts.{IsVerdict};
 
 use crate::NoMemory;
 use crate::chunks::lowest;
-use crate::objection::Objection;
+use crate::opening::{Early, opened, verdict_by};
 use crate::verdict::Verdict;
-use crate::view::View;
 use mp_outside::Gate;
-use mp_system::{ReplayRefusal, System, replay};
-use plans::{Claim, Plan};
+use mp_system::System;
+use plans::Plan;
 use sp_terms::TermList;
 use std::alloc::{AllocError, Global};
 use std::thread::Threads;
@@ -31,42 +29,11 @@ pub fn check<R: Threads + Sync, G: Gate>(
     requires workers { (1 ≤ workers) × (workers ≤ most_workers) }
     ensures verdict { IfOk result (λ verdict. IsVerdict system.now terms.now plan.now verdict) }
 {
-    let replayed = match replay(alloc, system, plan.order()) {
-        Ok(replayed) => replayed,
-        Err(ReplayRefusal::NoMemory) => return Err(AllocError),
-        Err(ReplayRefusal::Order(fault)) => return Ok(Verdict::No(Objection::Order(fault))),
+    let view = match opened(alloc, system, terms, plan) {
+        Ok(view) => view,
+        Err(Early::NoMemory) => return Err(AllocError),
+        Err(Early::Objection(objection)) => return Ok(Verdict::No(objection)),
     };
-    let printed = plan.peak();
-    if replayed != printed {
-        return Ok(Verdict::No(Objection::Peak { replayed, printed }));
-    }
-    let view = View::new(alloc, terms, plan.claims())?;
-    if !has_root(&view, plan) {
-        return Ok(Verdict::No(Objection::Root { last: view.len() }));
-    }
-    match lowest(rt, alloc, &view, workers, gate)? {
-        None => Ok(Verdict::Yes(replayed)),
-        Some(position) => Ok(Verdict::No(Objection::Claim {
-            position,
-            shape: view.shape(position),
-        })),
-    }
-}
-
-// Whether the last position has a claim with a bound of at least the plan's peak less 1.
-pub(crate) fn has_root(view: &View<'_>, plan: &Plan) -> bool
-    requires { view.now.claims ≡ plan.now.claims }
-    ensures { IsTrue result ↔ HasRoot view.now.positions plan.now }
-{
-    let Some(claim) = view.part(view.len()).claim else {
-        return false;
-    };
-    reaches(&claim, plan.peak())
-}
-
-// Whether the bound of a claim is at least a peak less 1.
-fn reaches(claim: &Claim, peak: u64) -> bool
-    ensures { IsTrue result ↔ pos peak ≤ℤ (claim.now.bound +ℤ pos 1) }
-{
-    i128::from(peak) <= i128::from(claim.bound) + 1
+    let lowest = lowest(rt, alloc, &view, workers, gate)?;
+    Ok(verdict_by(&view, plan, lowest))
 }

@@ -80,10 +80,5 @@ pub(crate) fn lowest_in(view: &View<'_>, from: u32, to: u32) -> Option<u32>
 fn first_of(numbers: &[Option<u32>]) -> Option<u32>
     ensures { IsFirstOf numbers.now result }
 {
-    for number in numbers {
-        if number.is_some() {
-            return *number;
-        }
-    }
-    None
+    numbers.iter().find_map(|number| *number)
 }

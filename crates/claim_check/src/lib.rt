@@ -9,6 +9,7 @@ mod chunks;
 mod judge;
 pub mod laws;
 mod objection;
+mod opening;
 mod par;
 mod rules;
 mod shape;

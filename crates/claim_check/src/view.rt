@@ -139,7 +139,7 @@ impl<'a> View<'a> {
     }
 }
 
-/// Whether these can be the claims on a term: at most 4,000,001 of them, and by rising positions, from 1. Linear.
+/// Whether these can be the claims on a term: at most as many as the limit `positions`, and by rising positions, from 1. Linear.
 pub fn are_claims(claims: &[Claim]) -> bool
     ensures { IsTrue result ↔ AreClaims claims.now }
 {

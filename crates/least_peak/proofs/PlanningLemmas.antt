@@ -1,5 +1,5 @@
 -- The plan of a system, from the plan of its term.
-use Rattle.std.proofs.Common.{◌≡◌, ◌∙◌, ℕ, ◌≤◌, ◌^◌, List, [], All, Option, Some, None, refl, sym, ap, subst, inl, length, map, arith}
+use Rattle.std.proofs.Common.{◌≡◌, ◌∙◌, ℕ, ◌≤◌, List, [], All, Option, Some, None, refl, sym, ap, subst, inl, length, map, arith}
 use Rattle.std.specs.Prelude.{◌↔◌}
 use Rattle.std.proofs.lemmas.List.Elements.{All-weaker}
 use Rattle.limits.specs.Limits.{most_tasks, most_total, most_positions}

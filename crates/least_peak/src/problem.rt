@@ -100,7 +100,7 @@ impl Problem {
         }
     }
 
-    /// The number of tasks, from 0 to 10^6. It takes no memory. Linear in the positions of a workflow.
+    /// The number of tasks, from 0 to the limit `tasks`. It takes no memory. Linear in the positions of a workflow.
     pub fn task_count(&self) -> u32
         ensures { result ≡ length (system_of self.now).tasks }
     {

@@ -1,5 +1,5 @@
 -- The limits, each once.
-use Rattle.std.specs.Prelude.{ℕ, ◌+◌, ◌*◌, ◌^◌, List, codes}
+use Rattle.std.specs.Prelude.{ℕ, ◌+◌, ◌*◌, ◌^◌, List, codes, max}
 use Rattle.limits.specs.declared.name.LimitName.{LimitName}
 use Rattle.limits.specs.declared.name.LimitName.TheVariants.{Bytes, Order, Entries, Mindeg, Tasks, Positions, Size, Total, Time, Arcs}
 use Rattle.limits.specs.declared.name.LimitName.TheVariants.{Steps}
@@ -26,9 +26,9 @@ most_tasks = most_order
 abbrev pub most_positions : ℕ
 most_positions = 4 * most_tasks + 1
 
--- one extra or one data size, the sum of all of them, and one duration
+-- one extra or one data size, which may be a front of all rows of a matrix; the sum of all of them; and one duration
 abbrev pub most_size : ℕ
-most_size = 2 ^ 40
+most_size = max (2 ^ 40) (most_order * most_order)
 
 abbrev pub most_total : ℕ
 most_total = 2 ^ 60

@@ -11,7 +11,8 @@ pub use name::LimitName;
 /// Bytes of one file.
 pub const MOST_BYTES: u64 = 268_435_456;
 
-/// Rows of a matrix.
+/// Rows of a matrix. A change of it is a change of this number and of that in specs/, up to 1,127,000: past that a plan's text could be longer
+/// than [`MOST_BYTES`], and past 1,512,000 the fronts of a matrix together greater than [`MOST_TOTAL`], and a proof that names these fails.
 pub const MOST_ORDER: u64 = 1_000_000;
 
 /// Entries that a matrix file states.
@@ -27,8 +28,18 @@ pub const MOST_TASKS: u64 = MOST_ORDER;
 /// Positions of a term, claims of a plan, or data items of a system: four for a task, and one.
 pub const MOST_POSITIONS: u64 = 4 * MOST_TASKS + 1;
 
-/// One extra or one data size: 2^40.
-pub const MOST_SIZE: u64 = 1_099_511_627_776;
+/// Entries of a front that has all rows of a matrix.
+const WHOLE_FRONT: u64 = MOST_ORDER * MOST_ORDER;
+
+/// What one extra or one data size may always be: 2^40.
+const EACH_SIZE: u64 = 1_099_511_627_776;
+
+/// One extra or one data size: 2^40, or as much as a whole front, if that is more, since a front is one of them.
+pub const MOST_SIZE: u64 = if EACH_SIZE < WHOLE_FRONT {
+    WHOLE_FRONT
+} else {
+    EACH_SIZE
+};
 
 /// The sum of all extras and data sizes, and so every memory: 2^60.
 pub const MOST_TOTAL: u64 = 1_152_921_504_606_846_976;

@@ -1,8 +1,8 @@
 //! Whether tasks and items that a caller gives are a system.
 
-ghost use Rattle.std.specs.Prelude.{◌≡◌, ◌≤◌, ◌^◌, ◌↔◌, ℕ, List, length, IfOk, IfErr, IsTrue, MatchResult};
+ghost use Rattle.std.specs.Prelude.{◌≡◌, ◌≤◌, ◌*◌, ◌↔◌, ℕ, List, length, IfOk, IfErr, IsTrue, MatchResult};
 ghost use Rattle.std.specs.List.{sum_by};
-ghost use Rattle.limits.specs.Limits.{most_tasks, most_positions, most_total};
+ghost use Rattle.limits.specs.Limits.{most_tasks, most_positions, most_size};
 ghost use Rattle.mp_system.specs.System.{IsSystem};
 ghost use Rattle.mp_system.specs.declared.given.GivenTask.{GivenTask};
 ghost use Rattle.mp_system.specs.declared.given.GivenItem.{GivenItem};
@@ -43,9 +43,9 @@ pub enum ItemTest {
 /// Why tasks and items are no system.
 #[derive(Clone, Copy, Debug, PartialEq, Eq)]
 pub enum SystemRefusal {
-    /// There are more than 10^6 tasks.
+    /// There are more tasks than the limit `tasks`.
     ManyTasks,
-    /// There are more than 4,000,001 items.
+    /// There are more items than the limit `positions`.
     ManyItems,
     /// The lowest task that fails a test, of which it is the first.
     Task { test: TaskTest, task: u32 },
@@ -152,7 +152,7 @@ fn extras_of(tasks: &[GivenTask]) -> u64
     requires few { length tasks.now ≤ most_tasks }
     requires sizes { Each (length tasks.now) (TaskPasses tasks.now task_tests.Size) }
     ensures value { result ≡ sum_by (λ task. task.extra) tasks.now }
-    ensures small { result ≤ most_total }
+    ensures small { result ≤ most_tasks * most_size }
 {
     let mut total: u64 = 0;
     for i in 0..tasks.len() {
@@ -166,7 +166,7 @@ fn sizes_of(items: &[GivenItem], count: usize) -> u64
     requires few { length items.now ≤ most_positions }
     requires sizes { Each (length items.now) (ItemPasses count items.now item_tests.Size) }
     ensures value { result ≡ sum_by (λ item. item.size) items.now }
-    ensures small { result ≤ 2 ^ 62 }
+    ensures small { result ≤ most_positions * most_size }
 {
     let mut total: u64 = 0;
     for i in 0..items.len() {

@@ -60,7 +60,7 @@ impl Display for OrderKind {
     }
 }
 
-/// Tasks and the items between them: at most 10^6 tasks and 4,000,001 items, and at most 2^60 of sizes in all.
+/// Tasks and the items between them: no more tasks, items, and sizes in all than the limits `tasks`, `positions` and `total`.
 #[derive(Drop)]
 pub struct System {
     tasks: Vec<Task>,

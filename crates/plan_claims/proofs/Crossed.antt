@@ -1,17 +1,15 @@
 -- A series in numbers: one side is a part's, and the other goes over the near part and the hill.
-use Rattle.std.proofs.Common.{◌≡◌, ℕ, ◌+◌, ◌-◌, ◌<◌, ◌≤◌, max, min, true, false, nat_le, refl, subst, ap, arith, ◌∙◌, List}
+use Rattle.std.proofs.Common.{◌≡◌, ℕ, ◌+◌, ◌-◌, ◌<◌, ◌≤◌, max, min, refl, subst, ap, arith, ◌∙◌, List}
 use Rattle.std.specs.Prelude.{if◌then◌else◌, nat_lt}
-use Rattle.std.proofs.lemmas.Bool.Decides.{nat_tests}
 use Rattle.side_laws.specs.Appending.{cross_hill}
 use Rattle.side_laws.specs.Segments.{Segment, net_sum, lowest, top}
 use Rattle.hill_valley.specs.Side.{run_profile}
 use Rattle.sp_terms.specs.Term.{forward, backward}
-use Rattle.cut_laws.specs.Cuts.{Cut, cut_first, cut_second, series_cut, over_task, front_peak, back_peak}
+use Rattle.cut_laws.specs.Cuts.{Cut, cut_first, cut_second, over_task, front_peak, back_peak}
 use Rattle.cut_laws.specs.Tops.{MeetsAtLeast, BothRise}
 use Rattle.plan_claims.specs.Below.{LawsBelow}
 use Rattle.plan_claims.specs.Crossings.{LeadsOver}
 use Rattle.plan_claims.proofs.Sides.{lowest_end}
-use Rattle.cut_laws.proofs.Composed.{is_first, is_second}
 
 module _ (laws : LawsBelow) (start mid hill next low : ℕ) (near between far : List Segment)
     (room : net_sum near + low ≡ start) (wide : low ≤ mid) (enough : next ≤ hill) (falls : next ≤ low + net_sum far) (room' : net_sum far ≤ next) where

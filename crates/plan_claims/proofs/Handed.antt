@@ -1,5 +1,5 @@
 -- What is wanted of the two parts of a series meets the rules of a series.
-use Rattle.std.proofs.Common.{◌≡◌, ℕ, ◌+◌, ◌-◌, ◌≤◌, ◌^◌, ◌⊎◌, inl, inr, Bool, true, false, refl, sym, subst, ap, arith, ◌∙◌, List, [], ◌∷◌, ◌++◌, append-nil, take, drop, length, length-append, Option, Some, None}
+use Rattle.std.proofs.Common.{◌≡◌, ℕ, ◌+◌, ◌-◌, ◌≤◌, ◌⊎◌, inl, inr, Bool, true, false, refl, sym, subst, ap, arith, ◌∙◌, List, [], ◌∷◌, ◌++◌, append-nil, take, drop, length, length-append, Option, Some, None}
 use Rattle.std.specs.Prelude.{pos, ◌-ℤ◌, if◌then◌else◌}
 use Rattle.std.proofs.lemmas.Int.{ints}
 use Rattle.std.proofs.lemmas.List.{take_at, drop_at}

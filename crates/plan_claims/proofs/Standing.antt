@@ -1,19 +1,17 @@
 -- The rows of terms that the first positions leave.
 use Rattle.std.proofs.Common.{◌≡◌, ℕ, zero, suc, ◌+◌, ◌<◌, ◌≤◌, refl, sym, subst, ap, arith, ◌∙◌, List, [], ◌∷◌, ◌++◌, take, length, reverse, get_or, Option, Some, None}
 use Rattle.std.specs.Prelude.{option_and_then}
-use Rattle.std.specs.List.{sum_by}
 use Rattle.std.proofs.lemmas.Grind.{common_steps}
-use Rattle.std.proofs.lemmas.List.Sums.{sum_by-cons}
 use Rattle.sp_terms.specs.declared.position.Position.{Position}
 use Rattle.sp_terms.specs.declared.position.Position.TheVariants.{Hold, Par}
 use Rattle.sp_terms.specs.declared.position.Position.TheVariants as at
 use Rattle.sp_terms.specs.Places.{parts_of, list_of_parts, IsTermAt, positions_after}
 use Rattle.sp_terms.specs.Postfix.{gather, push, push_all}
-use Rattle.sp_terms.specs.Term.{Term, hold, series, par, Parts, no_parts, part, count, width_of, width_of_parts, IsAllowed, AreAllowed}
+use Rattle.sp_terms.specs.Term.{Term, hold, series, par, Parts, no_parts, part, count, width_of, width_of_parts}
 use Rattle.sp_terms.specs.Values.{IsTerms, AllAllowed, added_size, last_term, stack_from, stack_of, term_of, term_at}
 use Rattle.sp_cuts.specs.Stacks.{total_of, total_of_parts}
 use Rattle.plan_claims.specs.Rows.{row_of, IsNextRow}
-use Rattle.sp_cuts.proofs.Pushed.{Adds, AllAdd, pushed_pick, split_at, take_more, adds, all_add, push_all_append}
+use Rattle.sp_cuts.proofs.Pushed.{pushed_pick, split_at, take_more, all_add, push_all_append}
 use Rattle.lists.proofs.Options.{none_some, some_same}
 
 -- ---- sums over a stack

@@ -108,7 +108,7 @@ claim-within c within =
 -- ---- sections
 
 tasks-within : (word : List ℕ) (tasks : List ℕ) → length word ≤ 8 → length tasks ≤ most_tasks → All IsSmall tasks
-    → length (text_of_lines (task_lines word tasks)) ≤ 11000029
+    → length (text_of_lines (task_lines word tasks)) ≤ 29 + 11 * most_tasks
 tasks-within word tasks short few small =
     let section = section_line word (length tasks) in
     omega (
@@ -119,7 +119,7 @@ tasks-within word tasks short few small =
     )
 
 claims-within : (claims : List Claim) → length claims ≤ most_positions → All IsClaimWithin claims
-    → length (text_of_lines (claim_lines claims)) ≤ 216000083
+    → length (text_of_lines (claim_lines claims)) ≤ 29 + 54 * most_positions
 claims-within claims few within =
     let section = section_line (codes "claims") (length claims) in
     omega (
@@ -130,7 +130,7 @@ claims-within claims few within =
     )
 
 priority-within : (v : Version) (n : ℕ) (priority : List ℕ) → n ≤ most_tasks → IsPriority n priority
-    → length (text_of_lines (priority_lines v priority)) ≤ 11000029
+    → length (text_of_lines (priority_lines v priority)) ≤ 29 + 11 * most_tasks
 priority-within One n priority few is = omega arith
 priority-within Two n priority few (inl none) =
     tasks-within (codes "priority") priority (omega arith) (omega (arith, ap length none)) (All-same IsSmall priority [] none (All-nil IsSmall))
@@ -141,7 +141,7 @@ priority-within Two n priority few (inr ranks) =
 
 -- ---- all lines
 
--- the bounds above add up to 238000181
+-- for a million tasks the bounds above add up to 238000181
 pub printed-within : (v : Version) (plan : PlanValue) → IsPlan plan → length (text_in v plan) ≤ most_bytes
 printed-within v plan is =
     let order = task_lines (codes "order") plan.order in

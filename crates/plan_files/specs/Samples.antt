@@ -1,7 +1,8 @@
 -- No public clause names this.
 -- Worked examples: texts of the plan of a tree of five nodes and of a plan with a priority, and files that are refused.
-use Rattle.std.specs.Prelude.{◌≡◌, ℕ, List, [], ◌∷◌, ◌++◌, map, Option, Some, None, codes, refl}
-use Rattle.std.specs.Fmt.{digits}
+use Rattle.std.specs.Prelude.{◌≡◌, ℕ, ◌+◌, List, [], ◌∷◌, ◌++◌, map, Option, Some, None, codes, refl}
+use Rattle.std.specs.Fmt.{decimal, digits}
+use Rattle.limits.specs.Limits.{most_positions}
 use Rattle.mp_text.specs.declared.layout.Layout.TheVariants.{Commented}
 use Rattle.mp_text.specs.declared.refusals.Refusal.{Refusal}
 use Rattle.mp_text.specs.declared.refusals.Refusal.TheVariants as refusals
@@ -53,8 +54,8 @@ pub refusals_of : map refusal_of (
     ∷ codes "plan 1\norder 1\n1\npeak 3\nclaims 0\n"
     ∷ codes "plan 1\norder 0\npeak 3\nclaims 1\n3 R 2\nend\n"
     ∷ codes "plan 2\norder 2\n1\n2\npriority 2\n2\n2\n"
-    ∷ codes "plan 1\norder 0\npeak 0\nclaims 4000002\n"
+    ∷ (codes "plan 1\norder 0\npeak 0\nclaims " ++ decimal (most_positions + 1) ++ codes "\n")
     ∷ []) ≡ None ∷ Some (fault_at 6 kinds.NoEnd) ∷ Some (fault_at 5 kinds.Claim) ∷ Some (fault_at 7 kinds.Priority)
     ∷ Some (refusals.Limit limits.Positions) ∷ []
-unfolding lines_of tokens_of number_of number_from signed_of rows_from after_word version_of dir_named stated
+unfolding digits lines_of tokens_of number_of number_from signed_of rows_from after_word version_of dir_named stated
 refusals_of = refl

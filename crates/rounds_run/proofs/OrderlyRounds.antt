@@ -1,9 +1,10 @@
 -- The rounds of a schedule have each supernode once, after its children.
-use Rattle.std.proofs.Common.{◌≡◌, ◌≢◌, ℕ, zero, suc, ◌+◌, ◌-◌, ◌*◌, ◌<◌, ◌≤◌, inl, inr, Bool, true, false, eqb, List, [], ◌∷◌, length, get_or, take, map, refl, sym, ap, subst, ◌∙◌, arith}
+use Rattle.std.proofs.Common.{◌≡◌, ◌≢◌, ℕ, zero, suc, ◌+◌, ◌-◌, ◌*◌, ◌^◌, ◌<◌, ◌≤◌, inl, inr, Bool, true, false, eqb, List, [], ◌∷◌, length, get_or, take, map, refl, sym, ap, subst, ◌∙◌, arith}
 use Rattle.std.specs.List.{list_any, IsDistinct}
 use Rattle.std.proofs.lemmas.Bool.{cases_lt, cases_Bool, both_ways, false_from_ne_true}
 use Rattle.std.proofs.lemmas.List.{get_or_past, get_or-take, length-take, length-map, get_or-map}
 use Rattle.std.proofs.lemmas.List.Folds.{list_any_at}
+use Rattle.limits.specs.Limits.{most_order}
 use Rattle.patterns.specs.Pattern.{has}
 use Rattle.mp_system.specs.System.{TaskSystem, IsTask, task_at}
 use Rattle.trees.specs.declared.node.Node.{Node}
@@ -108,5 +109,5 @@ module _ (assembly : AssemblyTree) (is : IsAssembly assembly) (bound workers : �
       }
 
   -- there are no more than events, and one
-  pub rounds_few : length events ≤ 3000000 → length rounds < 4294967296
+  pub rounds_few : length events ≤ 3 * most_order → length rounds < 2 ^ 32
   rounds_few few = omega (arith, starts.many, end_is.1.counted, few)

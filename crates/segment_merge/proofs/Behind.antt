@@ -7,7 +7,7 @@ use Rattle.segment_merge.specs.Crossing.{append_runs}
 use Rattle.hill_valley.specs.Laws.{RunLaws}
 use Rattle.segment_merge.proofs.Order.{rising_put, moved_behind}
 use Rattle.std.proofs.lemmas.Bool.Decides.{nat_tests}
-use Rattle.hill_valley.proofs.Last.{lift_self, lift}
+use Rattle.hill_valley.proofs.Last.{lift_self}
 
 last_behind_step : (s e : Run) → e.up < s.up → last_up (run_profile (insert_run false s (e ∷ []))) ≡ s.up
 last_behind_step s e h = grind (arith, nat_tests)

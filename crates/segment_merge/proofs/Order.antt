@@ -1,5 +1,5 @@
 -- Whichever side the others are move_runs into, the merge_segments side is the same.
-use Rattle.std.proofs.Common.{◌≡◌, ◌≢◌, ℕ, ◌+◌, ◌<◌, List, [], ◌∷◌, ◌++◌, refl, ap, sym, ◌∙◌, arith, subst, Bool, true, false, append_assoc, ◌⊎◌, inl, inr}
+use Rattle.std.proofs.Common.{◌≡◌, ◌≢◌, ℕ, ◌+◌, ◌<◌, List, [], ◌∷◌, ◌++◌, refl, ap, sym, ◌∙◌, arith, subst, Bool, true, false, append_assoc, inl, inr}
 use Rattle.side_laws.specs.Segments.{IsRising, StartsAbove}
 use Rattle.hill_valley.specs.Side.{Run, run_profile, join_runs, insert_run}
 use Rattle.segment_merge.specs.Merging.{insert_runs, merge_runs, move_runs}

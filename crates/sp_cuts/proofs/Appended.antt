@@ -1,5 +1,5 @@
 -- What holds while the segments of a side are put behind another.
-use Rattle.std.proofs.Common.{◌≡◌, ℕ, ◌+◌, ◌<◌, ◌≤◌, ◌^◌, ◌-◌, max, min, Bool, List, [], ◌∷◌, refl, ap, sym, subst, ◌∙◌, arith, length, true, false}
+use Rattle.std.proofs.Common.{◌≡◌, ℕ, ◌+◌, ◌<◌, ◌≤◌, ◌-◌, max, min, Bool, List, [], ◌∷◌, refl, ap, sym, subst, ◌∙◌, arith, length, true, false}
 use Rattle.std.specs.Prelude.{nat_le, Result, Ok, Err, IfOk, OnOk}
 use Rattle.std.specs.Bool.{MatchBool}
 use Rattle.std.proofs.lemmas.Bool.Decides.{nat_tests}

@@ -1,6 +1,6 @@
 -- No public clause names this.
 -- The staircases of a part, read off its sides.
-use Rattle.std.specs.Prelude.{◌≡◌, ℕ, ◌≤◌, ◌-◌, List, length, Some, slice_get}
+use Rattle.std.specs.Prelude.{◌≡◌, ◌≤◌, ◌-◌, List, length, Some, slice_get}
 use Rattle.limits.specs.Limits.{most_total}
 use Rattle.side_laws.specs.Segments.{net_sum}
 use Rattle.hill_valley.specs.Side.{profile}

@@ -84,18 +84,12 @@ fn note_parts(parts: &[Part], notes: &mut Notes) -> Result<(), NoMemory>
     Ok(())
 }
 
-// Where the part with the longest side stands.
+// Where the first part with a longest side stands: the last one from behind. It says only whose notes are not needed.
 fn longest(parts: &[Part]) -> usize {
-    let mut place = 0;
-    let mut most = 0;
-    for (i, part) in parts.iter().enumerate() {
-        let len = part.front.len().max(part.back.len());
-        if most < len {
-            place = i;
-            most = len;
-        }
-    }
-    place
+    let from_behind = parts.iter().enumerate().rev();
+    from_behind
+        .max_by_key(|(_, part)| part.front.len().max(part.back.len()))
+        .map_or(0, |(place, _)| place)
 }
 
 // One of them. Its segments are noted if it is read.

@@ -5,8 +5,8 @@ ghost use Rattle.sp_terms.specs.declared.position.Position.{Position};
 use crate::position::Position;
 use std::marker::Model;
 
-/// A list of positions in postfix order that denotes one term by the stack rule: at most 4,000,001 positions, 10^6 tasks, sizes and
-/// times of at most 2^40, and at most 2^60 of sizes in all. The tasks are numbered from 1 in the order of their positions.
+/// A list of positions in postfix order that denotes one term by the stack rule, with no more positions, tasks, and sizes in all than the
+/// limits, and no size or time greater. The tasks are numbered from 1 in the order of their positions.
 #[derive(Drop)]
 pub struct TermList {
     positions: Vec<Position>,

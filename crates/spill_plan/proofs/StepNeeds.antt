@@ -1,14 +1,11 @@
 -- What a step of a traversal needs for itself, and that it is little.
-use Rattle.std.proofs.Common.{◌≡◌, ℕ, ◌+◌, ◌-◌, ◌^◌, ◌<◌, ◌≤◌, Bool, true, false, cond, List, [], ◌∷◌, ◌++◌, length, get_or, sym, ap, subst, arith, ◌∙◌}
-use Rattle.std.specs.List.{sum_by}
+use Rattle.std.proofs.Common.{◌≡◌, ℕ, ◌+◌, ◌-◌, ◌^◌, ◌<◌, ◌≤◌, List, [], ◌∷◌, ◌++◌, length, get_or, sym, ap, subst, arith, ◌∙◌}
 use Rattle.std.proofs.lemmas.List.{get_or_default, get_or_append_left}
 use Rattle.std.proofs.Math.Seq.{get_or-append_seam}
 use Rattle.std.proofs.lemmas.List.Elements.{All-get_or}
-use Rattle.std.proofs.lemmas.List.Sums.{sum_by-le-sum_by}
 use Rattle.limits.specs.Limits.{most_size, most_total}
-use Rattle.mp_system.specs.declared.system.Item.{Item}
 use Rattle.mp_system.specs.declared.system.Task.{Task}
-use Rattle.mp_system.specs.System.{TaskSystem, IsSystem, IsTask, IsTaskWithin, HasShare, task_at, is_input, is_output, inputs_of, outputs_of, size_if, size_where, item_size}
+use Rattle.mp_system.specs.System.{TaskSystem, IsSystem, IsTask, IsTaskWithin, HasShare, task_at, is_input, is_output, inputs_of, outputs_of}
 use Rattle.mp_system.specs.Traversal.{IsTraversal}
 use Rattle.spill_plan.specs.SpillPlans.{own_need}
 use Rattle.spill_plan.proofs.SpanSums.{split}

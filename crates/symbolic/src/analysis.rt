@@ -44,8 +44,9 @@ pub fn analyse(alloc: Global, pattern: &Pattern, perm: &Perm) -> Result<Analysis
     Ok(Analysis { numbered, assembly })
 }
 
-// Merged where that adds at most so many explicit zeros.
-fn relaxed(alloc: Global, assembly: Assembly, zeros: Option<u64>) -> Result<Assembly, NoMemory>
+/// An assembly tree whose supernodes are merged where that adds at most so many explicit zeros; without a number it stays as it is.
+/// `NoMemory` says nothing of the tree. Ashcraft and Grimes 1989.
+pub fn relaxed(alloc: Global, assembly: Assembly, zeros: Option<u64>) -> Result<Assembly, NoMemory>
     ensures { IfOk result (λ merged. merged ≡ relaxed zeros assembly) }
 {
     match zeros {

@@ -15,7 +15,7 @@ mod analysis;
 pub mod laws;
 mod options;
 
-pub use analysis::{Analysis, analyse, front_tree};
+pub use analysis::{Analysis, analyse, front_tree, relaxed};
 pub use options::FrontOptions;
 use std::alloc::AllocError;
 

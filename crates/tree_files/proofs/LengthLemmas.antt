@@ -116,7 +116,7 @@ nodes-within version nodes tree = All-map (IsLineWithin 70) (node_line version) 
         let share : IsShort (get_or nodes i d).share = omega (arith, fitting-share nodes tree i d lt, within.out, within.extra) in
         node-within version nodes (get_or nodes i d) tree.few within share
 
--- the bounds above add up to 70000031
+-- for a million nodes the bounds above add up to 70000031
 pub printed-within : (version : Version) (nodes : List Node) → IsTree nodes → length (text_in version nodes) ≤ most_bytes
 printed-within version nodes tree =
     let lines = map (node_line version) nodes in

@@ -1,6 +1,7 @@
 -- Worked examples: the texts of two trees, what a file states, and files that are refused.
-use Rattle.std.specs.Prelude.{◌≡◌, ℕ, List, [], ◌++◌, Option, Some, None, codes, refl}
-use Rattle.std.specs.Fmt.{digits}
+use Rattle.std.specs.Prelude.{◌≡◌, ℕ, ◌+◌, List, [], ◌++◌, Option, Some, None, codes, refl}
+use Rattle.std.specs.Fmt.{decimal, digits}
+use Rattle.limits.specs.Limits.{most_tasks}
 use Rattle.mp_text.specs.declared.layout.Layout.TheVariants.{Commented}
 use Rattle.mp_text.specs.declared.refusals.Refusal.{Refusal}
 use Rattle.mp_text.specs.declared.refusals.Refusal.TheVariants as refusals
@@ -61,6 +62,7 @@ pub parent_past_all : refusal_of (codes "tree 1\nnodes 1\n2 3 2 1\nend\n") ≡ S
 unfolding lines_of tokens_of number_of number_from rows_from numbers_of version_of after_word
 parent_past_all = refl
 
-pub too_many : refusal_of (codes "tree 1\nnodes 1000001\n") ≡ Some (refusals.Limit limits.Tasks)
-unfolding lines_of tokens_of number_of number_from rows_from version_of after_word
+-- one more than there may be
+pub too_many : refusal_of (codes "tree 1\nnodes " ++ decimal (most_tasks + 1) ++ codes "\n") ≡ Some (refusals.Limit limits.Tasks)
+unfolding digits lines_of tokens_of number_of number_from rows_from version_of after_word
 too_many = refl

@@ -5,10 +5,8 @@ use Rattle.std.specs.List.{All, sum_by, join_with_byte}
 use Rattle.std.specs.Prelude.{codes}
 use Rattle.std.proofs.lemmas.Fmt.{length-decimal-le}
 use Rattle.std.proofs.lemmas.Grind.{flat_map-append}
-use Rattle.std.proofs.lemmas.List.{length-map}
-use Rattle.std.proofs.lemmas.List.Concat.{length-flat_map}
-use Rattle.std.proofs.lemmas.List.Elements.{All-nil, All-cons, All-head, All-tail, All-map}
-use Rattle.std.proofs.lemmas.List.Sums.{sum_by-le}
+use Rattle.std.proofs.lemmas.List.Elements.{All-nil, All-cons, All-head, All-tail}
+use Rattle.std.proofs.lemmas.List.Sums.{sum_by-cons}
 use Rattle.limits.specs.Limits.{most_bytes, most_tasks, most_size, most_time}
 use Rattle.mp_text.specs.declared.words.Version.{Version}
 use Rattle.mp_text.specs.declared.words.Version.TheVariants.{One, Two}
@@ -26,11 +24,6 @@ use Rattle.sp_terms.proofs.Standing.{standing}
 -- the line has at most this many bytes
 abbrev IsLineWithin : ℕ → List (List ℕ) → Type 0
 IsLineWithin most line = length (line_text line) ≤ most
-
-text-within : (most : ℕ) (lines : List (List (List ℕ))) → All (IsLineWithin most) lines
-    → length (text_of_lines lines) ≤ length lines * most
-text-within most lines within =
-    omega (arith, length-flat_map line_text lines, sum_by-le (λ (line : List (List ℕ)). length (line_text line)) most lines within)
 
 text-append : (one two : List (List (List ℕ)))
     → length (text_of_lines (one ++ two)) ≡ length (text_of_lines one) + length (text_of_lines two)
@@ -80,7 +73,7 @@ task-within One extra share time fits small ends =
       first-token (decimal extra) (decimal time) [],
       last-token (decimal time),
       short-decimal extra fits,
-      short-decimal time ends,
+      short-decimal time (omega (arith, ends)),
     )
 task-within Two extra share time fits small ends =
     omega (
@@ -91,16 +84,22 @@ task-within Two extra share time fits small ends =
       last-token (decimal time),
       short-decimal extra fits,
       small-decimal share small,
-      short-decimal time ends,
+      short-decimal time (omega (arith, ends)),
     )
 
-position-within : (version : Version) (p : Position) → IsWithinLimits p → All IsSmall (position_numbers Two p)
-    → IsLineWithin 54 (position_line version p)
+-- how many bytes the line of a position has at most: that of a task has more numbers than others
+abbrev width_of : Position → ℕ
+width_of p = 25 + 29 * added_tasks p
+
+abbrev HasWidth : Version → Position → Type 0
+HasWidth version p = IsLineWithin (width_of p) (position_line version p)
+
+position-within : (version : Version) (p : Position) → IsWithinLimits p → All IsSmall (position_numbers Two p) → HasWidth version p
 position-within version (Hold size) within small =
     omega (arith, first-token (codes "data") (decimal size) [], last-token (decimal size), short-decimal size within)
 position-within version (at.Task extra share time) within small =
     let rest = All-tail IsSmall extra (share ∷ time ∷ []) small in
-    task-within version extra share time within.0 (All-head IsSmall share (time ∷ []) rest) within.2
+    omega (arith, task-within version extra share time within.0 (All-head IsSmall share (time ∷ []) rest) within.2)
 position-within version (Par parts) within small =
     omega (arith, first-token (codes "par") (decimal parts) [], last-token (decimal parts), small-decimal parts (All-head IsSmall parts [] small))
 
@@ -112,16 +111,27 @@ each-split P [] at = All-nil P
 each-split P (x ∷ xs) at =
     All-cons P x xs (at [] x xs refl) (each-split P xs (λ first y rest e. at (x ∷ first) y rest (ap (λ zs. x ∷ zs) e)))
 
-positions-within : (version : Version) (ps : List Position) → IsTerms ps → All (IsLineWithin 54) (map (position_line version) ps)
-positions-within version ps terms =
-    All-map (IsLineWithin 54) (position_line version) ps (each-split (λ p. IsLineWithin 54 (position_line version p)) ps at)
+have-widths : (version : Version) (ps : List Position) → IsTerms ps → All (HasWidth version) ps
+have-widths version ps terms = each-split (HasWidth version) ps at
   where
-    at : (first : List Position) (p : Position) (rest : List Position) → ps ≡ first ++ p ∷ rest → IsLineWithin 54 (position_line version p)
+    at : (first : List Position) (p : Position) (rest : List Position) → ps ≡ first ++ p ∷ rest → HasWidth version p
     at first p rest e =
         let stands = standing ps first p rest terms e in
         position-within version p stands.within (small_numbers ps first p terms stands Two)
 
--- the bounds above add up to 216000089, and so leave room for more
+positions-within : (version : Version) (ps : List Position) → All (HasWidth version) ps
+    → length (text_of_lines (map (position_line version) ps)) ≤ 25 * length ps + 29 * sum_by added_tasks ps
+positions-within version [] widths = omega arith
+positions-within version (p ∷ ps) widths =
+    omega (
+      arith,
+      text-cons (position_line version p) (map (position_line version) ps),
+      All-head (HasWidth version) p ps widths,
+      positions-within version ps (All-tail (HasWidth version) p ps widths),
+      sum_by-cons added_tasks p ps,
+    )
+
+-- for a million tasks the bounds above add up to 129000060, and so leave room for more
 pub printed-room : (version : Version) (ps : List Position) → IsTerms ps → length (text_in version ps) + 50 * most_tasks ≤ most_bytes
 printed-room version ps terms =
     let count = sum_by added_tasks ps in
@@ -133,9 +143,9 @@ printed-room version ps terms =
       text-cons (count_line count) (lines ++ end_line ∷ []),
       count-within count terms.few_tasks,
       text-append lines (end_line ∷ []),
-      text-within 54 lines (positions-within version ps terms),
-      length-map ps (position_line version),
+      positions-within version ps (have-widths version ps terms),
       terms.few,
+      terms.few_tasks,
     )
 
 pub printed-within : (version : Version) (ps : List Position) → IsTerms ps → length (text_in version ps) ≤ most_bytes

@@ -1,8 +1,9 @@
 -- No public clause names this.
 -- Small texts of workflows, task graphs, matrices, permutations and orders: what they state, and with which line and kind others are
 -- refused. The tests that are made here are those of single lines and of the end.
-use Rattle.std.specs.Prelude.{◌≡◌, ℕ, true, false, List, [], ◌∷◌, ◌++◌, map, Option, Some, None, codes, refl}
-use Rattle.std.specs.Fmt.{digits}
+use Rattle.std.specs.Prelude.{◌≡◌, ℕ, ◌+◌, true, false, List, [], ◌∷◌, ◌++◌, map, Option, Some, None, codes, refl}
+use Rattle.std.specs.Fmt.{decimal, digits}
+use Rattle.limits.specs.Limits.{most_size, most_arcs}
 use Rattle.limits.specs.declared.name.LimitName.TheVariants as limits
 use Rattle.mp_text.specs.declared.layout.Layout.{Layout}
 use Rattle.mp_text.specs.declared.layout.Layout.TheVariants.{Commented, Banner}
@@ -60,7 +61,7 @@ unfolding lines_of tokens_of number_of number_from numbers_of rows_from after_wo
 workflow_positions = refl
 
 -- the smallest; a task fewer than stated; one term for two parts; two terms at the end; a share above what the task takes up; a size above
--- 2^40; no end
+-- the limit; no end
 pub workflow_refusals :
     map (refusal_of Commented workflow_format)
     (codes "workflow 1\ntasks 0\ndata 3\nend\n"
@@ -68,12 +69,12 @@ pub workflow_refusals :
     ∷ codes "workflow 1\ntasks 0\ndata 3\npar 2\n"
     ∷ codes "workflow 1\ntasks 0\ndata 3\ndata 4\nend\n"
     ∷ codes "workflow 2\ntasks 1\ndata 1\ndata 7\ntask 2 2 1\n"
-    ∷ codes "workflow 1\ntasks 0\ndata 1099511627777\n"
+    ∷ (codes "workflow 1\ntasks 0\ndata " ++ decimal (most_size + 1) ++ codes "\n")
     ∷ codes "workflow 1\ntasks 0\ndata 3\n"
     ∷ [])
     ≡ None ∷ Some (fault_at 4 workflows.TaskCount) ∷ Some (fault_at 4 workflows.StackShort) ∷ Some (fault_at 5 workflows.NotOneTerm)
     ∷ Some (fault_at 5 workflows.Share) ∷ Some (refusals.Limit limits.Size) ∷ Some (fault_at 4 workflows.NoEnd) ∷ []
-unfolding lines_of tokens_of number_of number_from numbers_of rows_from after_word version_of
+unfolding digits lines_of tokens_of number_of number_from numbers_of rows_from after_word version_of
 workflow_refusals = refl
 
 -- a task wants two terms, two parts side by side want two, and data none
@@ -82,7 +83,7 @@ pub too_few_terms :
     ≡ true ∷ false ∷ true ∷ false ∷ []
 too_few_terms = refl
 
-pub size_limit : limit_of [] (Hold 1099511627776) ∷ limit_of [] (Hold 1099511627777) ∷ [] ≡ None ∷ Some limits.Size ∷ []
+pub size_limit : limit_of [] (Hold most_size) ∷ limit_of [] (Hold (most_size + 1)) ∷ [] ≡ None ∷ Some limits.Size ∷ []
 size_limit = refl
 
 -- between 4 that are taken up and 5 that are left, a task may take over 4
@@ -117,12 +118,12 @@ pub graph_refusals :
     ∷ codes "graph 2\n"
     ∷ codes "graph 1\ntasks 1\n0 0 0\n"
     ∷ codes "graph 1\ntasks 1\n0 0 1\narcs 1\n1 1 5\n"
-    ∷ codes "graph 1\ntasks 0\narcs 2000002\n"
+    ∷ (codes "graph 1\ntasks 0\narcs " ++ decimal (most_arcs + 1) ++ codes "\n")
     ∷ codes "graph 1\ntasks 0\narcs 0\n"
     ∷ [])
     ≡ None ∷ Some (fault_at 1 graphs.Header) ∷ Some (fault_at 3 graphs.Number) ∷ Some (fault_at 5 graphs.Arc)
     ∷ Some (refusals.Limit limits.Arcs) ∷ Some (fault_at 4 graphs.NoEnd) ∷ []
-unfolding lines_of tokens_of number_of number_from numbers_of rows_from after_word
+unfolding digits lines_of tokens_of number_of number_from numbers_of rows_from after_word
 graph_refusals = refl
 
 -- ---- matrices

@@ -1,8 +1,6 @@
 -- No public clause names this.
 -- The words that reports print, as docs/FORMATS.md has them: of limits, and of what is wrong with a file or with an order.
 use Rattle.std.specs.Prelude.{◌≡◌, [], ◌∷◌, map, codes, refl}
-use Rattle.limits.specs.Limits.{most_bytes, most_order, most_entries, most_tasks, most_arcs, most_positions, most_size, most_total}
-use Rattle.limits.specs.Limits.{most_time, most_mindeg, most_steps, most_workers}
 use Rattle.limits.specs.Limits.{word_of as limit_word}
 use Rattle.limits.specs.declared.name.LimitName.TheVariants as limits
 use Rattle.mp_system.specs.Refusal.{word_of as order_word}
@@ -21,7 +19,7 @@ use Rattle.matrix_files.specs.OrderKinds.{perm_word, order_file_word}
 use Rattle.matrix_files.specs.declared.perm_file.PermKind.TheVariants as perms
 use Rattle.matrix_files.specs.declared.order_file.OrderFileKind.TheVariants as order_files
 
--- the table of limits: words, and then numbers, in the same order
+-- the words of the table of limits; its numbers stand in the crate of the limits alone
 pub limit_words :
     map limit_word
     (limits.Bytes ∷ limits.Order ∷ limits.Entries ∷ limits.Tasks ∷ limits.Arcs ∷ limits.Positions ∷ limits.Size ∷ limits.Total
@@ -29,16 +27,6 @@ pub limit_words :
     ≡ codes "bytes" ∷ codes "order" ∷ codes "entries" ∷ codes "tasks" ∷ codes "arcs" ∷ codes "positions" ∷ codes "size" ∷ codes "total"
     ∷ codes "time" ∷ codes "mindeg" ∷ codes "steps" ∷ []
 limit_words = refl
-
-pub limit_numbers :
-    most_bytes ∷ most_order ∷ most_entries ∷ most_tasks ∷ most_arcs ∷ most_positions ∷ most_size ∷ most_total ∷ most_time ∷ most_mindeg
-    ∷ most_steps ∷ []
-    ≡ 268435456 ∷ 1000000 ∷ 10000000 ∷ 1000000 ∷ 2000001 ∷ 4000001 ∷ 1099511627776 ∷ 1152921504606846976 ∷ 1099511627776 ∷ 50000
-    ∷ 10000000 ∷ []
-limit_numbers = refl
-
-pub worker_limit : most_workers ≡ 4096
-worker_limit = refl
 
 -- an order that is no traversal
 pub order_words :

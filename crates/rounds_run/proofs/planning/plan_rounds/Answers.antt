@@ -1,5 +1,6 @@
 use Rattle.std.proofs.Common.{◌≡◌, ℕ, ◌<◌, ◌≤◌, ◌*◌, [], length, get_or, ap, sym, subst, ◌∙◌, arith}
 use Rattle.std.proofs.lemmas.List.{get_or_default}
+use Rattle.limits.specs.Limits.{most_order}
 use Rattle.mp_system.specs.Traversal.{IsTraversal}
 use Rattle.activation.specs.Machine.{Setting, IsSetting, start_state}
 use Rattle.rounds_run.specs.RowSystem.{row_system, row_order, row_setting}
@@ -41,7 +42,7 @@ rounds_are c =
     c.deref-3.ensures.value c.run-trace.ensures.schedule c.run-trace.ensures.used c.run-trace.ensures.legal
     c.run-trace.ensures.stays_within c.in_ok-rounds.ensures
 
-events_few : (c : After-drop-order-2) → length (rounds_are c).events ≤ 3000000
+events_few : (c : After-drop-order-2) → length (rounds_are c).events ≤ 3 * most_order
 events_few c =
     let setting = row_setting c.args.assembly.now.supers c.args.bound c.args.workers in
     let is : IsSetting setting = subst IsSetting c.in_ok-core.ensures.setting c.in_ok-core.ensures.within in

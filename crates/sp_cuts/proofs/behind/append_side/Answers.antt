@@ -1,4 +1,4 @@
-use Rattle.std.proofs.Common.{◌≡◌, ◌+◌, max, min, length, arith}
+use Rattle.std.proofs.Common.{length, arith}
 use Rattle.sp_cuts.proofs.Appended.{appending_starts, appending_first, appending_on, both_ok, counted_joined}
 use Rattle.sp_cuts.proofs.behind.append_side.Goals as goal
 

@@ -1,4 +1,4 @@
-use Rattle.std.proofs.Common.{◌+◌, [], ◌∷◌, ap, sym, length, length-append, subst, arith}
+use Rattle.std.proofs.Common.{[], ◌∷◌, ap, sym, length, length-append, subst, arith}
 use Rattle.sp_cuts.specs.Reaching.{IsLast}
 use Rattle.sp_cuts.specs.Stairs.{both_of}
 use Rattle.sp_cuts.proofs.OneStaircase.{allowed_at}

@@ -1,5 +1,5 @@
 use Rattle.claim_check.proofs.Said.{root_at}
-use Rattle.claim_check.proofs.checking.has_root.Goals as goal
+use Rattle.claim_check.proofs.opening.has_root.Goals as goal
 
 pub returns : goal.returns
 returns c = root_at c.args.view.now.positions c.args.plan.now c.args.view.now.claims c.len.result c.part.result.claim c.in-Some.claim c.peak.result c.reaches.result
