@@ -1,7 +1,7 @@
-use Rattle.std.proofs.Common.{◌≡◌, ℕ, true, false, ◌==◌, List, [], ◌∷◌, length, Some, None, refl, sym, ◌∙◌}
+use Rattle.std.proofs.Common.{◌≡◌, ℕ, true, false, ◌==◌, List, [], ◌∷◌, length, Some, None, refl, sym}
 use Rattle.std.specs.Str.{bytes_eq}
-use Rattle.mp_text.specs.Words.{after_word}
-use Rattle.mp_text.proofs.words.after_word.Goals as goal
+use Rattle.file_frame.specs.Words.{after_word}
+use Rattle.file_frame.proofs.words.after_word.Goals as goal
 
 -- tokens that are not two
 none_after : (word : List ℕ) (tokens : List (List ℕ)) → (length tokens == 2) ≡ false → after_word word tokens ≡ None
@@ -20,10 +20,10 @@ unfolding after_word
 another_after word first second tokens are other = rw (are, other) refl
 
 pub returns-in_err-first : goal.returns-in_err-first
-returns-in_err-first c = rw (c.from_residual.ensures, ← c.tokens.ensures) (sym (none_after c.args.word.now c.tokens.result c.in_err-first.ensures))
+returns-in_err-first c = rw c.from_residual.ensures (sym (none_after c.args.word.now _ c.in_err-first.ensures))
 
 pub returns-then-eq : goal.returns-then-eq
-returns-then-eq c = sym (one_after c.args.word.now c.in_ok-first.first.now c.in_ok-first.second.now _ (sym c.tokens.ensures ∙ c.in_ok-first.ensures) (sym c.if-eq.ensures))
+returns-then-eq c = sym (one_after c.args.word.now c.in_ok-first.first.now c.in_ok-first.second.now _ c.in_ok-first.ensures (sym c.if-eq.ensures))
 
 pub returns-else-eq : goal.returns-else-eq
-returns-else-eq c = sym (another_after c.args.word.now c.in_ok-first.first.now c.in_ok-first.second.now _ (sym c.tokens.ensures ∙ c.in_ok-first.ensures) (sym c.if-eq.ensures))
+returns-else-eq c = sym (another_after c.args.word.now c.in_ok-first.first.now c.in_ok-first.second.now _ c.in_ok-first.ensures (sym c.if-eq.ensures))

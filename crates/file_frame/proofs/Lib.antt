@@ -1,0 +1,6 @@
+pub mod Places
+pub mod TestLemmas
+pub mod LineLemmas
+pub mod PrintedLaws
+pub mod RowsAhead
+pub mod LengthLemmas
