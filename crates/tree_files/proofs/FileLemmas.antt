@@ -1,11 +1,10 @@
 -- Of a tree file: it is read or refused, never both, as one tree or with one refusal.
-use Rattle.std.proofs.Common.{◌≡◌, ℕ, zero, suc, ◌+◌, ◌<◌, ◌≤◌, leb, List, ◌⊎◌, inl, inr, length, refl, sym, ap, subst, ◌∙◌, arith}
+use Rattle.std.proofs.Common.{◌≡◌, ℕ, ◌+◌, List, ◌⊎◌, inl, inr, length, refl, sym, ap, subst, ◌∙◌, arith}
 use Rattle.std.proofs.lemmas.Bool.{cases_eq, cases_lt}
 use Rattle.mp_text.specs.declared.layout.Layout.TheVariants.{Commented}
 use Rattle.mp_text.specs.declared.refusals.Refusal.{Refusal}
-use Rattle.mp_text.specs.Text.{Row}
 use Rattle.mp_text.specs.Ahead.{rows_of_bytes, past_of_bytes}
-use Rattle.mp_text.specs.Grammar.{Format, IsWellFormed, Refuses, fault_at}
+use Rattle.mp_text.specs.Grammar.{fault_at}
 use Rattle.trees.specs.Tree.{IsNode, LeadsToRoot, NodeShareFits, IsTree, ancestor, node_at, children_out}
 use Rattle.trees.specs.Judged.{AreNodesWithin}
 use Rattle.tree_files.specs.TreeFile.{tree_format, nodes_stated, ReadsTree, RefusesCycle, RefusesShare, RefusesTree}

@@ -1,12 +1,11 @@
 -- What well-formed lines of a tree file say of the nodes that they state.
-use Rattle.std.proofs.Common.{◌≡◌, ℕ, ◌+◌, ◌-◌, ◌<◌, ◌≤◌, Bool, true, false, cond, not, ◌&&◌, eqb, ltb, List, [], ◌∷◌, ◌++◌, length, get_or, take, drop, map, refl, sym, ap, subst, ◌∙◌, arith, Option, Some, None, append_assoc}
+use Rattle.std.proofs.Common.{◌≡◌, ℕ, ◌+◌, ◌-◌, ◌<◌, ◌≤◌, true, ltb, List, [], ◌∷◌, ◌++◌, length, get_or, take, drop, map, refl, sym, ap, subst, ◌∙◌, arith, None, append_assoc}
 use Rattle.std.specs.List.{sum_by, All}
 use Rattle.std.proofs.lemmas.List.{length-map, get_or-map, take_all, drop_more, take-append-drop, length-take-le}
 use Rattle.std.proofs.Math.Seq.{take-append_seam}
-use Rattle.std.proofs.lemmas.List.Sums.{sum_by-cons, sum_by_more}
-use Rattle.std.proofs.lemmas.Bool.{leb-true, eqb-true, eqb-false, lt-ltb}
+use Rattle.std.proofs.lemmas.List.Sums.{sum_by_more}
+use Rattle.std.proofs.lemmas.Bool.{leb-true, eqb-true, lt-ltb}
 use Rattle.limits.specs.Limits.{most_tasks, most_size, most_time, most_total}
-use Rattle.mp_text.specs.declared.refusals.Refusal.{Refusal}
 use Rattle.file_frame.specs.declared.version.Version.{Version}
 use Rattle.mp_text.specs.Text.{Row}
 use Rattle.mp_text.specs.Grammar.{first_failure, ArePassed, IsWellFormed}

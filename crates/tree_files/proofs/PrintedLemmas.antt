@@ -1,7 +1,5 @@
 -- A printed tree is read as it was.
-use Rattle.std.proofs.Common.{◌≡◌, ℕ, zero, suc, ◌+◌, ◌-◌, ◌^◌, ◌<◌, ◌≤◌, Bool, true, false, not, eqb, ltb, cond, List, [], ◌∷◌, ◌++◌, ◌⊎◌, inl, inr, length, get_or, take, drop, map, refl, sym, ap, subst, ◌∙◌, arith, Some, None}
-use Rattle.std.specs.Bool.{IsTrue}
-use Rattle.std.specs.Fmt.{decimal}
+use Rattle.std.proofs.Common.{◌≡◌, ℕ, zero, suc, ◌+◌, ◌-◌, ◌^◌, ◌<◌, ◌≤◌, Bool, true, false, not, eqb, ltb, cond, List, [], ◌∷◌, ◌++◌, inl, inr, length, get_or, take, drop, map, refl, sym, ap, subst, ◌∙◌, arith, Some, None}
 use Rattle.std.specs.List.{All, sum_by, list_all}
 use Rattle.std.proofs.lemmas.Bool.{and_from, and_right, le-leb, lt-ltb, le-ltb, ne_eqb, eq-eqb, eqb-true, not-false, or_parts}
 use Rattle.std.proofs.lemmas.List.{length-map, length_push, get_or_default, drop_all}
@@ -11,15 +9,14 @@ use Rattle.std.proofs.lemmas.List.Folds.{list_all-append}
 use Rattle.std.proofs.lemmas.List.Sums.{sum_by-cons, sum_by-append}
 use Rattle.std.proofs.Math.Seq.{take-append_seam}
 use Rattle.limits.specs.Limits.{most_tasks, most_size, most_time, most_total}
-use Rattle.mp_text.specs.declared.layout.Layout.{Layout}
 use Rattle.mp_text.specs.declared.layout.Layout.TheVariants.{Commented}
 use Rattle.file_frame.specs.declared.version.Version.{Version}
 use Rattle.file_frame.specs.declared.version.Version.TheVariants.{One, Two}
-use Rattle.mp_text.specs.Text.{Row, number_of, numbers_of}
+use Rattle.mp_text.specs.Text.{Row, numbers_of}
 use Rattle.file_frame.specs.Words.{after_word}
 use Rattle.mp_text.specs.Ahead.{rows_of_bytes}
 use Rattle.mp_text.specs.Grammar.{first_failure, ArePassed}
-use Rattle.mp_text.specs.Report.{is_token, is_counted, numbered_from, text_of_lines}
+use Rattle.mp_text.specs.Report.{is_counted, numbered_from}
 use Rattle.trees.specs.Tree.{IsTree, IsNodeWithin, node_size, node_at}
 use Rattle.tree_files.specs.TreeFile.{tree_format, tree_header_tests, tree_version, node_count_tests, node_count, fields_of, node_tests, node_of, total_of, is_tree_complete, nodes_stated, tree_line_tests, ReadsTree}
 use Rattle.tree_files.specs.TreeText.{node_numbers, node_line, tree_lines, tree_text_in, has_share, tree_version_for, tree_text, tree_text_2}
