@@ -1,16 +1,13 @@
 -- Graph files: what a file reads as, and what it is refused with. They are this project's own format.
-use Rattle.std.specs.Prelude.{◌≡◌, ◌==◌, ℕ, ◌+◌, Bool, false, ◌&&◌, ◌||◌, not, nat_lt, nat_le, is_some, unwrap_or, Option, Some}
-use Rattle.std.specs.Prelude.{None, List, [], ◌∷◌, length, map, take, drop, codes, if◌then◌else◌, slice_index_or, ◌⊎◌}
+use Rattle.std.specs.Prelude.{◌≡◌, ◌==◌, ℕ, ◌+◌, Bool, ◌&&◌, ◌||◌, not, nat_le, is_some, unwrap_or, Option, Some}
+use Rattle.std.specs.Prelude.{None, List, [], ◌∷◌, length, map, take, drop, codes, ◌⊎◌}
 use Rattle.std.specs.List.{sum_by}
-use Rattle.std.specs.Option.{option_and_then}
-use Rattle.std.specs.Str.{bytes_eq}
-use Rattle.std.specs.Cmp.Lexicographic.{pointwise}
 use Rattle.limits.specs.Limits.{most_tasks, most_arcs, most_size, most_time, most_total}
 use Rattle.limits.specs.declared.name.LimitName.TheVariants as limits
 use Rattle.mp_text.specs.declared.layout.Layout.TheVariants.{Commented}
 use Rattle.mp_text.specs.declared.refusals.Refusal.{Refusal}
 use Rattle.mp_text.specs.declared.refusals.Refusal.TheVariants as refusals
-use Rattle.mp_text.specs.Text.{Row, number_of, numbers_of}
+use Rattle.mp_text.specs.Text.{Row, numbers_of}
 use Rattle.file_frame.specs.declared.version.Version.TheVariants.{One}
 use Rattle.mp_text.specs.Ahead.{rows_of_bytes, past_of_bytes}
 use Rattle.mp_text.specs.Grammar.{Test, test, Format, IsWellFormed, Refuses, fault, fault_at}

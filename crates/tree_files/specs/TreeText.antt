@@ -18,7 +18,9 @@ node_line version node = map decimal (node_numbers version node)
 
 -- the lines of a file of this version
 abbrev pub tree_lines : Version → List Node → List (List (List ℕ))
-tree_lines version nodes = header_line (codes "tree") version ∷ section_line (codes "nodes") (length nodes) ∷ (map (node_line version) nodes ++ end_line ∷ [])
+tree_lines version nodes =
+    header_line (codes "tree") version ∷ section_line (codes "nodes") (length nodes)
+    ∷ (map (node_line version) nodes ++ end_line ∷ [])
 
 abbrev pub tree_text_in : Version → List Node → List ℕ
 tree_text_in version nodes = text_of_lines (tree_lines version nodes)

@@ -1,6 +1,5 @@
 -- Lines after the second: what the word that they begin with makes of them.
-use Rattle.std.specs.Prelude.{◌≡◌, Bool, true, false, Option, Some, None, List, [], codes, drop, slice_index_or, refl}
-use Rattle.std.specs.Str.{bytes_eq}
+use Rattle.std.specs.Prelude.{◌≡◌, false, Some, None, drop, refl}
 use Rattle.std.proofs.Common.{inl, inr}
 use Rattle.std.proofs.lemmas.Bool.{cases_Bool}
 use Rattle.mp_text.specs.Text.{Row, numbers_of}

@@ -1,25 +1,23 @@
 -- A printed workflow is read as it was.
-use Rattle.std.proofs.Common.{◌≡◌, ℕ, ◌+◌, ◌^◌, ◌<◌, ◌≤◌, Bool, true, false, cond, List, [], ◌∷◌, ◌++◌, length, map, refl, sym, ap, subst, ◌∙◌, arith, Some, None, append_assoc, append-nil}
+use Rattle.std.proofs.Common.{◌≡◌, ℕ, ◌+◌, ◌≤◌, Bool, true, false, cond, List, [], ◌∷◌, ◌++◌, length, map, refl, sym, ap, subst, ◌∙◌, arith, Some, None, append_assoc, append-nil}
 use Rattle.std.specs.Bool.{IsTrue}
 use Rattle.std.specs.Option.{is_some}
-use Rattle.std.specs.Fmt.{decimal}
-use Rattle.std.specs.List.{All, sum_by, list_all, list_any}
+use Rattle.std.specs.List.{sum_by, list_all, list_any}
 use Rattle.std.proofs.Math.Bool.{or-true}
 use Rattle.std.proofs.lemmas.Bool.{and_from, le-leb, eq-eqb, eqb-true, not-false, or_parts}
 use Rattle.std.proofs.lemmas.List.{map_push}
-use Rattle.std.proofs.lemmas.List.Elements.{All-nil, All-cons, All-head, All-tail}
+use Rattle.std.proofs.lemmas.List.Elements.{All-nil, All-cons}
 use Rattle.std.proofs.lemmas.List.Folds.{list_any-append}
 use Rattle.limits.specs.Limits.{most_tasks, most_total}
-use Rattle.mp_text.specs.declared.layout.Layout.{Layout}
 use Rattle.mp_text.specs.declared.layout.Layout.TheVariants.{Commented}
 use Rattle.file_frame.specs.declared.version.Version.{Version}
 use Rattle.file_frame.specs.declared.version.Version.TheVariants.{One, Two}
-use Rattle.mp_text.specs.Text.{Row, number_of, numbers_of}
+use Rattle.mp_text.specs.Text.{Row}
 use Rattle.file_frame.specs.Words.{after_word}
 use Rattle.mp_text.specs.Ahead.{rows_of_bytes}
 use Rattle.mp_text.specs.Comments.{is_comment_line}
 use Rattle.mp_text.specs.Grammar.{first_failure, ArePassed}
-use Rattle.mp_text.specs.Report.{is_token, is_counted, numbered_from, text_of_lines}
+use Rattle.mp_text.specs.Report.{is_counted, numbered_from, text_of_lines}
 use Rattle.sp_terms.specs.declared.position.Position.{Position}
 use Rattle.sp_terms.specs.declared.position.Position.TheVariants.{Hold, Par}
 use Rattle.sp_terms.specs.declared.position.Position.TheVariants as at
@@ -27,8 +25,8 @@ use Rattle.sp_terms.specs.Term.{Term, count}
 use Rattle.sp_terms.specs.Builder.{is_short, limit_of, is_overshared}
 use Rattle.sp_terms.specs.Postfix.{push_all}
 use Rattle.sp_terms.specs.Values.{stack_from, stack_of, added_size, added_tasks, IsTerms, IsWithinLimits, AllAllowed}
-use Rattle.workflow_files.specs.WorkflowFile.{workflow_format, workflow_line_tests, workflow_header_tests, workflow_version, workflow_count_tests, workflow_count, word_spelled, position_from, position_stated, stated_or, position_of, is_position, is_too_many, begins_end, is_workflow_complete, positions_stated, ReadsWorkflow}
-use Rattle.workflow_files.specs.WorkflowText.{position_word, position_numbers, position_line, workflow_lines, workflow_text_in, is_sharing, workflow_version_for, workflow_text, workflow_text_2}
+use Rattle.workflow_files.specs.WorkflowFile.{workflow_format, workflow_line_tests, workflow_count_tests, workflow_count, word_spelled, position_from, position_stated, stated_or, position_of, is_position, is_too_many, begins_end, is_workflow_complete, positions_stated, ReadsWorkflow}
+use Rattle.workflow_files.specs.WorkflowText.{position_word, position_numbers, position_line, workflow_lines, is_sharing, workflow_version_for, workflow_text, workflow_text_2}
 use Rattle.workflow_files.proofs.ReadLemmas.{stated_parts}
 use Rattle.sp_terms.proofs.Stacks.{onto, Pushed, held, ran, beside}
 use Rattle.sp_terms.proofs.Standing.{Standing, standing, not_over, small_share, onto-length, stack_few}

@@ -13,7 +13,7 @@ use Rattle.mp_text.specs.declared.refusals.Refusal.{Refusal}
 use Rattle.file_frame.specs.declared.version.Version.{Version}
 use Rattle.mp_text.specs.Text.{Row}
 use Rattle.mp_text.specs.Ahead.{rows_of_bytes, past_of_bytes}
-use Rattle.mp_text.specs.Grammar.{Format, ArePassed, IsWellFormed, Refuses, first_failure}
+use Rattle.mp_text.specs.Grammar.{ArePassed, first_failure}
 use Rattle.workflow_files.specs.declared.kind.WorkflowKind.{WorkflowKind}
 use Rattle.sp_terms.specs.declared.position.Position.{Position}
 use Rattle.sp_terms.specs.Values.{stack_of, added_tasks, added_size, Leaves, IsTerms, IsWithinLimits}

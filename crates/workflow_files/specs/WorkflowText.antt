@@ -4,7 +4,6 @@ use Rattle.std.specs.Fmt.{decimal}
 use Rattle.std.specs.List.{list_any, sum_by}
 use Rattle.file_frame.specs.declared.version.Version.{Version}
 use Rattle.file_frame.specs.declared.version.Version.TheVariants.{One, Two}
-use Rattle.file_frame.specs.Words.{version_word}
 use Rattle.mp_text.specs.Report.{text_of_lines}
 use Rattle.sp_terms.specs.declared.position.Position.{Position}
 use Rattle.sp_terms.specs.declared.position.Position.TheVariants.{Hold, Par}
@@ -33,7 +32,8 @@ position_line version p = position_word p ∷ map decimal (position_numbers vers
 -- the lines of a file of this version
 abbrev pub workflow_lines : Version → List Position → List (List (List ℕ))
 workflow_lines version positions =
-    header_line (codes "workflow") version ∷ section_line (codes "tasks") (sum_by added_tasks positions) ∷ (map (position_line version) positions ++ end_line ∷ [])
+    header_line (codes "workflow") version ∷ section_line (codes "tasks") (sum_by added_tasks positions)
+    ∷ (map (position_line version) positions ++ end_line ∷ [])
 
 abbrev pub workflow_text_in : Version → List Position → List ℕ
 workflow_text_in version positions = text_of_lines (workflow_lines version positions)

@@ -5,7 +5,8 @@ ghost use Rattle.std.specs.List.{list_any, sum_by};
 ghost use Rattle.limits.specs.Limits.{most_tasks};
 ghost use Rattle.mp_text.specs.Report.{is_line_start, line_text, text_of_lines};
 ghost use Rattle.sp_terms.specs.Values.{added_tasks};
-ghost use Rattle.workflow_files.specs.WorkflowText.{position_line, workflow_text_in, is_sharing, workflow_version_for, workflow_text, workflow_text_2};
+ghost use Rattle.workflow_files.specs.WorkflowText.{position_line, workflow_text_in, is_sharing, workflow_version_for};
+ghost use Rattle.workflow_files.specs.WorkflowText.{workflow_text, workflow_text_2};
 
 use crate::NoMemory;
 use file_frame::{Version, print_end, print_header, print_section};

@@ -11,11 +11,13 @@ none_after word (first ∷ []) other = refl
 none_after word (first ∷ second ∷ []) other = cc
 none_after word (first ∷ second ∷ third ∷ tokens) other = refl
 
-one_after : (word first second : List ℕ) (tokens : List (List ℕ)) → tokens ≡ first ∷ second ∷ [] → bytes_eq first word ≡ true → after_word word tokens ≡ Some second
+one_after : (word first second : List ℕ) (tokens : List (List ℕ)) → tokens ≡ first ∷ second ∷ []
+    → bytes_eq first word ≡ true → after_word word tokens ≡ Some second
 unfolding after_word
 one_after word first second tokens are same = rw (are, same) refl
 
-another_after : (word first second : List ℕ) (tokens : List (List ℕ)) → tokens ≡ first ∷ second ∷ [] → bytes_eq first word ≡ false → after_word word tokens ≡ None
+another_after : (word first second : List ℕ) (tokens : List (List ℕ)) → tokens ≡ first ∷ second ∷ []
+    → bytes_eq first word ≡ false → after_word word tokens ≡ None
 unfolding after_word
 another_after word first second tokens are other = rw (are, other) refl
 
