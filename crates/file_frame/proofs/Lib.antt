@@ -1,4 +1,3 @@
-pub mod Places
 pub mod TestLemmas
 pub mod LineLemmas
 pub mod PrintedLaws

@@ -13,7 +13,7 @@ use Rattle.graph_files.specs.declared.kind.GraphKind.{GraphKind}
 use Rattle.graph_files.specs.declared.kind.GraphKind.TheVariants as kinds
 use Rattle.graphs.specs.Graph.{TaskGraph, IsAmong, CanBeOrdered, TaskShareFits, IsGraph, completed_arcs, size_into, size_out_of, listed_task}
 use Rattle.graph_files.specs.GraphFile.{graph_format, stated_by, ReadsGraph, RefusesCycle, RefusesShare, RefusesGraph}
-use Rattle.file_frame.proofs.Places.{IsEither, first_without, one_first_without}
+use Rattle.lists.proofs.Places.{IsEither, first_without, one_first_without}
 use Rattle.graphs.specs.Judged.{HasFewArcs, IsOrdered, IsPlain}
 use Rattle.graph_files.proofs.FormLemmas.{well_formed_within}
 use Rattle.graphs.proofs.OrderLemmas.{ordered_or_not}

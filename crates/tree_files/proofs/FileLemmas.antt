@@ -8,7 +8,7 @@ use Rattle.mp_text.specs.Grammar.{fault_at}
 use Rattle.trees.specs.Tree.{IsNode, LeadsToRoot, NodeShareFits, IsTree, ancestor, node_at, children_out}
 use Rattle.trees.specs.Judged.{AreNodesWithin}
 use Rattle.tree_files.specs.TreeFile.{tree_format, nodes_stated, ReadsTree, RefusesCycle, RefusesShare, RefusesTree}
-use Rattle.file_frame.proofs.Places.{IsEither, first_without, one_first_without}
+use Rattle.lists.proofs.Places.{IsEither, first_without, one_first_without}
 use Rattle.trees.specs.declared.node.Node.{Node}
 use Rattle.tree_files.specs.declared.kind.TreeKind.{TreeKind}
 use Rattle.tree_files.specs.declared.kind.TreeKind.TheVariants as kinds
