@@ -1,50 +1,26 @@
 -- Of a graph file: it is read or refused, never both, as one graph or with one refusal.
-use Rattle.std.proofs.Common.{◌≡◌, ℕ, zero, suc, ◌+◌, List, ◌⊎◌, inl, inr, length, refl, sym, ap, subst, ◌∙◌, arith}
+use Rattle.std.proofs.Common.{◌≡◌, ℕ, ◌+◌, List, ◌⊎◌, inl, inr, length, refl, sym, ap, subst, ◌∙◌, arith}
 use Rattle.std.specs.List.{sum_by}
-use Rattle.std.proofs.lemmas.Bool.{cases_eq, cases_lt, cases_order}
+use Rattle.std.proofs.lemmas.Bool.{cases_lt}
 use Rattle.limits.specs.Limits.{most_arcs}
 use Rattle.limits.specs.declared.name.LimitName.TheVariants as limits
 use Rattle.mp_text.specs.declared.layout.Layout.TheVariants.{Commented}
 use Rattle.mp_text.specs.declared.refusals.Refusal.{Refusal}
 use Rattle.mp_text.specs.declared.refusals.Refusal.TheVariants as refusals
-use Rattle.mp_text.specs.Text.{Row}
 use Rattle.mp_text.specs.Ahead.{rows_of_bytes, past_of_bytes}
-use Rattle.mp_text.specs.Grammar.{Format, IsWellFormed, Refuses, fault_at}
+use Rattle.mp_text.specs.Grammar.{fault_at}
 use Rattle.graph_files.specs.declared.kind.GraphKind.{GraphKind}
 use Rattle.graph_files.specs.declared.kind.GraphKind.TheVariants as kinds
 use Rattle.graphs.specs.Graph.{TaskGraph, IsAmong, CanBeOrdered, TaskShareFits, IsGraph, completed_arcs, size_into, size_out_of, listed_task}
-use Rattle.graph_files.specs.GraphFile.{graph_format, stated_by, ReadsGraph, RefusesCycle, RefusesShare, RefusesGraph, line_stating}
-use Rattle.lists.specs.Numbers.{IsFirstWithout}
+use Rattle.graph_files.specs.GraphFile.{graph_format, stated_by, ReadsGraph, RefusesCycle, RefusesShare, RefusesGraph}
+use Rattle.lists.proofs.Places.{IsEither, first_without, one_first_without}
 use Rattle.graphs.specs.Judged.{HasFewArcs, IsOrdered, IsPlain}
 use Rattle.graph_files.proofs.FormLemmas.{well_formed_within}
 use Rattle.graphs.proofs.OrderLemmas.{ordered_or_not}
+use Rattle.file_frame.specs.Frame.{line_stating}
+use Rattle.file_frame.proofs.TestLemmas.{SomeOutcome, NotBoth, OneRefusal}
 
--- ---- the lowest task of which a fact does not hold
-
--- of each of so many tasks, a fact that holds or not
-abbrev IsEither : (ℕ → Type 0) → ℕ → Type 0
-IsEither fact n = (v : ℕ) → IsAmong n v → fact v ⊎ (fact v → ⊥)
-
-lowest : (fact : ℕ → Type 0) (n : ℕ) → IsEither fact n → ((v : ℕ) → IsAmong n v → fact v) ⊎ ((v : ℕ) × IsFirstWithout n fact v)
-lowest fact zero either = inl (λ v among. absurd (omega (arith, among.0, among.1)))
-lowest fact (suc n) either =
-    elim (lowest fact n (λ v among. either v (among.0, omega (arith, among.1)))) [
-      | inr first ↦ inr (first.0, record { is_place = (first.1.is_place.0, omega (arith, first.1.is_place.1)); fails = first.1.fails; before = first.1.before })
-      | inl before ↦ elim (either (suc n) (omega arith, omega arith)) [
-        | inr fails ↦ inr (suc n, record { is_place = (omega arith, omega arith); fails = fails; before = λ w some less. before w (some, omega arith) })
-        | inl holds ↦ inl (λ v among. elim (cases_eq v (suc n)) [
-          | inl last ↦ subst fact (sym last) holds
-          | inr other ↦ before v (among.0, omega (arith, among.1, other))
-        ])
-      ]
-    ]
-
-one_lowest : (fact : ℕ → Type 0) (n v w : ℕ) → IsFirstWithout n fact v → IsFirstWithout n fact w → v ≡ w
-one_lowest fact n v w one two = elim (cases_order v w) [
-  | inl same ↦ same
-  | inr (inl lt) ↦ absurd (one.fails (two.before v one.is_place.0 lt))
-  | inr (inr gt) ↦ absurd (two.fails (one.before w two.is_place.0 gt))
-]
+-- ---- facts that hold or not
 
 few_or_not : (graph : TaskGraph) → HasFewArcs graph ⊎ (HasFewArcs graph → ⊥)
 few_or_not graph = elim (cases_lt most_arcs (length (completed_arcs (length graph.tasks) graph.arcs))) [
@@ -52,7 +28,7 @@ few_or_not graph = elim (cases_lt most_arcs (length (completed_arcs (length grap
   | inr few ↦ inl few
 ]
 
-fits_or_not : (graph : TaskGraph) → IsEither (TaskShareFits graph.tasks graph.arcs) (length graph.tasks)
+fits_or_not : (graph : TaskGraph) → IsEither (length graph.tasks) (TaskShareFits graph.tasks graph.arcs)
 fits_or_not graph v among =
     let task = listed_task graph.tasks v in
     elim (cases_lt (sum_by (size_into v) graph.arcs) task.share) [
@@ -65,17 +41,7 @@ fits_or_not graph v among =
 
 -- ---- a file is read or refused
 
--- what the law of formats says
-abbrev pub SomeOutcome : Type 0
-SomeOutcome = (format : Format GraphKind) (rows : List Row) (past : ℕ) → IsWellFormed format rows past ⊎ ((refusal : Refusal GraphKind) × Refuses format rows past refusal)
-
-abbrev pub NotBoth : Type 0
-NotBoth = (format : Format GraphKind) (rows : List Row) (past : ℕ) (refusal : Refusal GraphKind) → IsWellFormed format rows past → Refuses format rows past refusal → ⊥
-
-abbrev pub OneRefusal : Type 0
-OneRefusal = (format : Format GraphKind) (rows : List Row) (past : ℕ) (one two : Refusal GraphKind) → Refuses format rows past one → Refuses format rows past two → one ≡ two
-
-pub read_or_refused : SomeOutcome → (bytes : List ℕ) → ((graph : TaskGraph) × ReadsGraph bytes graph) ⊎ ((refusal : Refusal GraphKind) × RefusesGraph bytes refusal)
+pub read_or_refused : SomeOutcome GraphKind → (bytes : List ℕ) → ((graph : TaskGraph) × ReadsGraph bytes graph) ⊎ ((refusal : Refusal GraphKind) × RefusesGraph bytes refusal)
 read_or_refused outcome bytes =
     let rows = rows_of_bytes Commented bytes in
     let graph = stated_by bytes in
@@ -84,9 +50,9 @@ read_or_refused outcome bytes =
       | inr refused ↦ inr (refused.0, inl refused.1)
       | inl form ↦ elim (few_or_not graph) [
         | inr many ↦ inr (refusals.Limit limits.Arcs, inr (inl (record { form = form; many = many; refusal_is = refl })))
-        | inl few ↦ elim (lowest (CanBeOrdered graph.arcs) n (ordered_or_not n graph.arcs (well_formed_within rows (past_of_bytes bytes) form).arcs)) [
+        | inl few ↦ elim (first_without n (CanBeOrdered graph.arcs) (ordered_or_not n graph.arcs (well_formed_within rows (past_of_bytes bytes) form).arcs)) [
           | inr first ↦ inr (fault_at (line_stating rows first.0) kinds.Cycle, inr (inr (inl (record { form = form; few = few; task = first.0; first = first.1; refusal_is = refl }))))
-          | inl ordered ↦ elim (lowest (TaskShareFits graph.tasks graph.arcs) n (fits_or_not graph)) [
+          | inl ordered ↦ elim (first_without n (TaskShareFits graph.tasks graph.arcs) (fits_or_not graph)) [
             | inr first ↦ inr (fault_at (line_stating rows first.0) kinds.Share, inr (inr (inr (record { form = form; few = few; ordered = ordered; task = first.0; first = first.1; refusal_is = refl }))))
             | inl shares ↦ inl (graph, record { form = form; stated = refl; few = few; ordered = ordered; shares = shares })
           ]
@@ -105,7 +71,7 @@ module _ (bytes : List ℕ) (graph : TaskGraph) (reads : ReadsGraph bytes graph)
   shares_stated : (v : ℕ) → IsAmong (length (stated_by bytes).tasks) v → TaskShareFits (stated_by bytes).tasks (stated_by bytes).arcs v
   shares_stated = subst (λ (g : TaskGraph). (v : ℕ) → IsAmong (length g.tasks) v → TaskShareFits g.tasks g.arcs v) reads.stated reads.shares
 
-pub not_both : NotBoth → (bytes : List ℕ) (graph : TaskGraph) (refusal : Refusal GraphKind) → ReadsGraph bytes graph → RefusesGraph bytes refusal → ⊥
+pub not_both : NotBoth GraphKind → (bytes : List ℕ) (graph : TaskGraph) (refusal : Refusal GraphKind) → ReadsGraph bytes graph → RefusesGraph bytes refusal → ⊥
 not_both apart bytes graph refusal reads (inl refused) = apart graph_format (rows_of_bytes Commented bytes) (past_of_bytes bytes) refusal reads.form refused
 not_both apart bytes graph refusal reads (inr (inl arcs)) = arcs.many (few_stated bytes graph reads)
 not_both apart bytes graph refusal reads (inr (inr (inl cycle))) = cycle.first.fails (ordered_stated bytes graph reads cycle.task cycle.first.is_place)
@@ -113,15 +79,15 @@ not_both apart bytes graph refusal reads (inr (inr (inr share))) = share.first.f
 
 one_cycle : (bytes : List ℕ) (one two : Refusal GraphKind) → RefusesCycle bytes one → RefusesCycle bytes two → one ≡ two
 one_cycle bytes one two this that =
-    let same = one_lowest _ _ this.task that.task this.first that.first in
+    let same = one_first_without _ _ this.task that.task this.first that.first in
     this.refusal_is ∙ ap (λ (v : ℕ). fault_at (line_stating (rows_of_bytes Commented bytes) v) kinds.Cycle) same ∙ sym that.refusal_is
 
 one_share : (bytes : List ℕ) (one two : Refusal GraphKind) → RefusesShare bytes one → RefusesShare bytes two → one ≡ two
 one_share bytes one two this that =
-    let same = one_lowest _ _ this.task that.task this.first that.first in
+    let same = one_first_without _ _ this.task that.task this.first that.first in
     this.refusal_is ∙ ap (λ (v : ℕ). fault_at (line_stating (rows_of_bytes Commented bytes) v) kinds.Share) same ∙ sym that.refusal_is
 
-pub one_refusal : NotBoth → OneRefusal → (bytes : List ℕ) (one two : Refusal GraphKind) → RefusesGraph bytes one → RefusesGraph bytes two → one ≡ two
+pub one_refusal : NotBoth GraphKind → OneRefusal GraphKind → (bytes : List ℕ) (one two : Refusal GraphKind) → RefusesGraph bytes one → RefusesGraph bytes two → one ≡ two
 one_refusal apart only bytes one two (inl this) (inl that) = only graph_format (rows_of_bytes Commented bytes) (past_of_bytes bytes) one two this that
 one_refusal apart only bytes one two (inl this) (inr (inl that)) = absurd (apart _ _ _ one that.form this)
 one_refusal apart only bytes one two (inl this) (inr (inr (inl that))) = absurd (apart _ _ _ one that.form this)

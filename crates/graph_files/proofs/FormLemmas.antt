@@ -1,30 +1,25 @@
 -- What well-formed lines of a graph file say of the graph that they state.
-use Rattle.std.proofs.Common.{◌≡◌, ℕ, ◌+◌, ◌-◌, ◌<◌, ◌≤◌, Bool, true, false, cond, not, ◌&&◌, eqb, ltb, leb, List, [], ◌∷◌, ◌++◌, length, get_or, take, drop, map, refl, sym, ap, subst, ◌∙◌, arith, Option, Some, None, append_assoc, inl, inr}
+use Rattle.std.proofs.Common.{◌≡◌, ℕ, ◌+◌, ◌-◌, ◌<◌, ◌≤◌, true, false, not, ◌&&◌, eqb, ltb, leb, List, [], ◌∷◌, ◌++◌, length, get_or, take, drop, map, refl, sym, ap, subst, ◌∙◌, arith, None, append_assoc, inl, inr}
 use Rattle.std.specs.Prelude.{◌||◌}
-use Rattle.std.specs.List.{sum_by, All}
+use Rattle.std.specs.List.{All}
 use Rattle.std.proofs.lemmas.List.{length-map, get_or-map, take_all, drop_more, take-append-drop, length-take-le, take_at, drop_at, length-drop}
-use Rattle.std.proofs.lemmas.List.Sums.{sum_by-cons, sum_by_more}
+use Rattle.std.proofs.lemmas.List.Sums.{sum_by_more}
 use Rattle.std.proofs.lemmas.Bool.{leb-true, eqb-true, eqb-false, lt-ltb, or_cases, cases_lt}
 use Rattle.limits.specs.Limits.{most_tasks, most_arcs, most_total}
-use Rattle.mp_text.specs.declared.refusals.Refusal.{Refusal}
 use Rattle.mp_text.specs.Text.{Row}
 use Rattle.mp_text.specs.Grammar.{first_failure, ArePassed, IsWellFormed}
 use Rattle.mp_system.specs.declared.system.Task.{Task}
 use Rattle.mp_system.specs.System.{IsTaskWithin, extra_size}
 use Rattle.graphs.specs.declared.arc.Arc.{Arc}
 use Rattle.graphs.specs.Graph.{TaskGraph, IsArcWithin, arc_size}
-use Rattle.graph_files.specs.GraphFile.{graph_format, tasks_stated, arcs_stated, task_tests, task_on_row, extras_of, arc_tests, arc_of, sizes_of, is_whole, is_complete, arc_part_tests, graph_stated}
+use Rattle.graph_files.specs.GraphFile.{graph_format, tasks_stated, arcs_stated, task_tests, task_on_row, extras_of, arc_tests, arc_of, sizes_of, are_arcs_complete, is_graph_complete, arc_part_tests, graph_stated}
 use Rattle.graphs.specs.Judged.{IsPlain}
 use Rattle.graph_files.proofs.ReaderLaws.{past_tasks}
 use Rattle.lists.proofs.Bools.{false_of_not, both_true, positive}
 use Rattle.lists.proofs.Lists.{ends, sum_by-map}
+use Rattle.file_frame.proofs.TestLemmas.{passes}
 
 -- ---- tests that all hold
-
-pub passes : {K : Type 0} (holds : Bool) (rest : Option (Refusal K)) (refusal : Refusal K) → cond holds rest (Some refusal) ≡ None
-    → (holds ≡ true) × (rest ≡ None)
-passes true rest refusal none = (refl, none)
-passes false rest refusal none = absurd cc
 
 -- what the tests of a task line say of its task
 record IsTaskOn (total : ℕ) (task : Task) : Type 0 where
@@ -87,9 +82,7 @@ pub record AreParts (all : List Row) : Type 0 where
   pub whole : length rows ≡ tasks_stated counted
   pub complete : length arcs ≡ arcs_stated arcs_counted
 
--- a list with one element at least ends with one
-
-pub complete_form : (rows : List Row) (past : ℕ) → IsWellFormed graph_format rows past → is_complete rows ≡ true
+pub complete_form : (rows : List Row) (past : ℕ) → IsWellFormed graph_format rows past → is_graph_complete rows ≡ true
 complete_form rows past form = (passes _ _ _ form.end).0
 
 -- the lines after the tasks
@@ -100,13 +93,13 @@ record AreArcs (left : List Row) : Type 0 where
   left_are : left ≡ counted ∷ (arcs ++ last ∷ [])
   complete : length arcs ≡ arcs_stated counted
 
-arcs_of : (left : List Row) → is_whole left ≡ true → AreArcs left
+arcs_of : (left : List Row) → are_arcs_complete left ≡ true → AreArcs left
 arcs_of [] e = absurd cc
 arcs_of (counted ∷ rows) e =
     let split = ends (arcs_stated counted) rows (eqb-true _ _ e) in
     record { counted = counted; arcs = split.0; last = split.1; left_are = ap (λ (zs : List Row). counted ∷ zs) split.2.0; complete = split.2.1 }
 
-pub parts_of : (all : List Row) → is_complete all ≡ true → AreParts all
+pub parts_of : (all : List Row) → is_graph_complete all ≡ true → AreParts all
 parts_of [] e = absurd cc
 parts_of (header ∷ []) e = absurd cc
 parts_of (header ∷ counted ∷ rows) e =

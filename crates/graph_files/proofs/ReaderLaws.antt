@@ -10,12 +10,13 @@ use Rattle.mp_text.specs.Reading.{Follows, tested}
 use Rattle.mp_text.specs.ReadingLaws.{tested-follows}
 use Rattle.mp_system.specs.System.{extra_size}
 use Rattle.graphs.specs.Graph.{arc_size}
-use Rattle.graph_files.specs.GraphFile.{graph_format, graph_line_tests, graph_end_tests, header_tests, task_count_tests, tasks_stated, arc_count_tests, arcs_stated, task_tests, task_on_row, extras_of, arc_tests, arc_of, sizes_of, last_tests, arc_part_tests, body_tests, is_complete}
+use Rattle.graph_files.specs.GraphFile.{graph_format, graph_line_tests, graph_end_tests, graph_header_tests, task_count_tests, tasks_stated, arc_count_tests, arcs_stated, task_tests, task_on_row, extras_of, arc_tests, arc_of, sizes_of, arc_part_tests, graph_body_tests, is_graph_complete}
 use Rattle.graph_files.specs.Reader.{ReaderState, IsFresh, TookTasks, TookArcs, staged_step, staged_end, staged_took, tasks_step, arcs_step, with_task, with_arc, graph_step, graph_end, took}
 use Rattle.graph_files.specs.declared.kind.GraphKind.{GraphKind}
 use Rattle.graph_files.specs.declared.kind.GraphKind.TheVariants as kinds
 use Rattle.graph_files.specs.declared.stage.Stage.{Stage}
 use Rattle.graph_files.specs.declared.stage.Stage.TheVariants as stages
+use Rattle.file_frame.specs.Frame.{last_tests}
 
 -- ---- lines
 
@@ -23,9 +24,9 @@ IsNext : (rows : List Row) (next : ReaderState) → Type 0
 IsNext rows next = took next rows × (graph_format ≡ graph_format)
 
 at_header : (s : ReaderState) (row : Row) → IsFresh s →
-    Follows (header_tests row) (IsNext (row ∷ [])) (tested (header_tests row) (record s { stage = stages.TaskCount }))
+    Follows (graph_header_tests row) (IsNext (row ∷ [])) (tested (graph_header_tests row) (record s { stage = stages.TaskCount }))
 unfolding IsNext
-at_header s row fresh = tested-follows (header_tests row) _ _ (λ _. (
+at_header s row fresh = tested-follows (graph_header_tests row) _ _ (λ _. (
   record { header = row; rows_are = refl; fresh = record { tasks = fresh.tasks; lines = fresh.lines; arcs = fresh.arcs; total = fresh.total } },
   refl,
 ))
@@ -108,7 +109,7 @@ at_arc_count s header counted row rows taken total none whole = tested-follows (
 
 at_tasks : (s : ReaderState) (header counted row : Row) (rows : List Row) → s.stage ≡ stages.Tasks → TookTasks s counted rows
     → s.total ≡ extras_of rows → s.arcs ≡ [] →
-    Follows (body_tests (tasks_stated counted) rows row) (IsNext (header ∷ counted ∷ (rows ++ row ∷ []))) (tasks_step s row)
+    Follows (graph_body_tests (tasks_stated counted) rows row) (IsNext (header ∷ counted ∷ (rows ++ row ∷ []))) (tasks_step s row)
 at_tasks s header counted row rows stage taken total none = go (nat_lt (length rows) (tasks_stated counted)) refl where
   long : length s.tasks ≡ length rows
   long = ap length taken.tasks ∙ length-map rows task_on_row
@@ -117,7 +118,7 @@ at_tasks s header counted row rows stage taken total none = go (nat_lt (length r
   same = rw (long, taken.count) refl
 
   go : (b : Bool) → nat_lt (length rows) (tasks_stated counted) ≡ b →
-      Follows (body_tests (tasks_stated counted) rows row) (IsNext (header ∷ counted ∷ (rows ++ row ∷ []))) (tasks_step s row)
+      Follows (graph_body_tests (tasks_stated counted) rows row) (IsNext (header ∷ counted ∷ (rows ++ row ∷ []))) (tasks_step s row)
   go true e = rw (same, e) (at_task s header counted row rows stage taken total none (ltb-true _ _ e))
   go false e =
       let whole : length rows ≡ tasks_stated counted = omega (arith, ltb-false (length rows) (tasks_stated counted) e, taken.within) in
@@ -162,10 +163,10 @@ at_arc s header counted arcs_counted row rows arcs stage taken lt =
 
 at_last : (s : ReaderState) (header counted arcs_counted row : Row) (rows arcs : List Row) → TookArcs s counted rows arcs_counted arcs
     → length arcs ≡ arcs_stated arcs_counted →
-    Follows (last_tests row) (IsNext (header ∷ counted ∷ (rows ++ arcs_counted ∷ (arcs ++ row ∷ []))))
-    (tested (last_tests row) (record s { stage = stages.Ended }))
+    Follows (last_tests kinds.Section row) (IsNext (header ∷ counted ∷ (rows ++ arcs_counted ∷ (arcs ++ row ∷ []))))
+    (tested (last_tests kinds.Section row) (record s { stage = stages.Ended }))
 unfolding IsNext
-at_last s header counted arcs_counted row rows arcs taken complete = tested-follows (last_tests row) _ _ (λ _. (
+at_last s header counted arcs_counted row rows arcs taken complete = tested-follows (last_tests kinds.Section row) _ _ (λ _. (
   record {
     header = header;
     counted = counted;
@@ -189,7 +190,7 @@ at_last s header counted arcs_counted row rows arcs taken complete = tested-foll
 
 -- past the tasks, the tests are those of the lines since then
 pub past_tasks : (n : ℕ) (rows : List Row) (counted : Row) (arcs : List Row) (row : Row) → length rows ≡ n
-    → body_tests n (rows ++ counted ∷ arcs) row ≡ arc_part_tests n (extras_of rows) (counted ∷ arcs) row
+    → graph_body_tests n (rows ++ counted ∷ arcs) row ≡ arc_part_tests n (extras_of rows) (counted ∷ arcs) row
 past_tasks n rows counted arcs row whole =
     let past : nat_lt (length (rows ++ counted ∷ arcs)) n ≡ false = le-ltb _ _ (omega (arith, length-append rows (counted ∷ arcs))) in
     rw (past, take_at rows (counted ∷ arcs) n whole, drop_at rows (counted ∷ arcs) n whole) refl
@@ -211,17 +212,17 @@ at_arcs s header counted arcs_counted row rows arcs stage taken = go (nat_lt (le
   go true e = rw (same, e) (at_arc s header counted arcs_counted row rows arcs stage taken (ltb-true _ _ e))
   go false e =
       let complete : length arcs ≡ arcs_stated arcs_counted = omega (arith, ltb-false (length arcs) (arcs_stated arcs_counted) e, taken.few) in
-      let test : (length arcs == arcs_stated arcs_counted) ≡ true = eq-eqb _ _ complete in
-      rw (same, e, test) (at_last s header counted arcs_counted row rows arcs taken complete)
+      let none_left : drop (arcs_stated arcs_counted) arcs ≡ [] = drop_all (arcs_stated arcs_counted) arcs (omega arith) in
+      rw (same, e, none_left) (at_last s header counted arcs_counted row rows arcs taken complete)
 
 -- after the last line
 at_end : (counted arcs_counted last row : Row) (rows arcs : List Row) → length rows ≡ tasks_stated counted
     → length arcs ≡ arcs_stated arcs_counted → (P : ReaderState → Type 0) →
-    Follows (body_tests (tasks_stated counted) (rows ++ arcs_counted ∷ (arcs ++ last ∷ [])) row) P (Err (fault kinds.Section row))
+    Follows (graph_body_tests (tasks_stated counted) (rows ++ arcs_counted ∷ (arcs ++ last ∷ [])) row) P (Err (fault kinds.Section row))
 at_end counted arcs_counted last row rows arcs whole complete P =
     let past : nat_lt (length (arcs ++ last ∷ [])) (arcs_stated arcs_counted) ≡ false = le-ltb _ _ (omega (arith, length_push arcs last)) in
-    let other : (length (arcs ++ last ∷ []) == arcs_stated arcs_counted) ≡ false = ne_eqb _ _ (omega (arith, length_push arcs last)) in
-    rw (past_tasks (tasks_stated counted) rows arcs_counted (arcs ++ last ∷ []) row whole, past, other) refl
+    let left = drop_at arcs (last ∷ []) (arcs_stated arcs_counted) complete in
+    rw (past_tasks (tasks_stated counted) rows arcs_counted (arcs ++ last ∷ []) row whole, past, left) refl
 
 -- the lines before with one line more at their end
 one_more : (header counted arcs_counted row : Row) (rows arcs : List Row)
@@ -283,7 +284,7 @@ staged_end_follows stages.Ended s rows past e taken =
     let left = drop_at taken.task_rows (taken.arcs_counted ∷ (taken.arc_rows ++ taken.last ∷ [])) (tasks_stated taken.counted) taken.taken.whole in
     let all : (length (taken.arc_rows ++ taken.last ∷ []) == arcs_stated taken.arcs_counted + 1) ≡ true =
     eq-eqb _ _ (let w = taken.complete in omega (arith, length_push taken.arc_rows taken.last)) in
-    let complete : is_complete rows ≡ true = rw (taken.rows_are, left, all) refl in
+    let complete : is_graph_complete rows ≡ true = rw (taken.rows_are, left, all) refl in
     (rw complete refl, subst (λ (st : Stage). staged_took st s rows) (sym e) taken)
 
 pub end_follows : (s : ReaderState) (rows : List Row) (past : ℕ) → took s rows → ArePassed graph_format rows →

@@ -6,13 +6,14 @@ use Rattle.mp_text.specs.declared.layout.Layout.TheVariants.{Commented}
 use Rattle.mp_text.specs.Text.{Row}
 use Rattle.mp_text.specs.Ahead.{rows_of_bytes, past_of_bytes}
 use Rattle.graphs.specs.Graph.{TaskGraph}
-use Rattle.graph_files.specs.GraphFile.{HasForm, tasks_stated, arcs_stated, task_on_row, arc_of, graph_stated, line_stating, is_whole, is_complete}
+use Rattle.graph_files.specs.GraphFile.{HasForm, tasks_stated, arcs_stated, task_on_row, arc_of, graph_stated, are_arcs_complete, is_graph_complete}
 use Rattle.graph_files.specs.Reader.{ReaderState, TookArcs, staged_took, took}
 use Rattle.graph_files.specs.Stated.{IsStated}
 use Rattle.graphs.specs.Judged.{IsPlain}
 use Rattle.graph_files.specs.declared.stage.Stage.{Stage}
 use Rattle.graph_files.specs.declared.stage.Stage.TheVariants as stages
 use Rattle.graph_files.proofs.FormLemmas.{complete_form, well_formed_within}
+use Rattle.file_frame.specs.Frame.{line_stating}
 
 abbrev pub held : ReaderState → TaskGraph
 held s = record { tasks = s.tasks; arcs = s.arcs }
@@ -54,15 +55,15 @@ module _ (header counted arcs_counted last : Row) (rows arcs : List Row) (whole 
 
 staged_stated : (bytes : List ℕ) (stage : Stage) (s : ReaderState) → HasForm bytes → staged_took stage s (rows_of_bytes Commented bytes)
     → IsStated bytes (held s) s.lines
-staged_stated bytes stages.Header s form taken = absurd (cc (sym (ap is_complete taken.0) ∙ complete_form _ _ form))
-staged_stated bytes stages.TaskCount s form taken = absurd (cc (sym (ap is_complete taken.rows_are) ∙ complete_form _ _ form))
+staged_stated bytes stages.Header s form taken = absurd (cc (sym (ap is_graph_complete taken.0) ∙ complete_form _ _ form))
+staged_stated bytes stages.TaskCount s form taken = absurd (cc (sym (ap is_graph_complete taken.rows_are) ∙ complete_form _ _ form))
 staged_stated bytes stages.Tasks s form taken =
     let none = drop_all (tasks_stated taken.counted) taken.task_rows taken.taken.within in
-    absurd (cc (sym (ap is_complete taken.rows_are ∙ ap is_whole none) ∙ complete_form _ _ form))
+    absurd (cc (sym (ap is_graph_complete taken.rows_are ∙ ap are_arcs_complete none) ∙ complete_form _ _ form))
 staged_stated bytes stages.Arcs s form taken =
     let left = drop_at taken.task_rows (taken.arcs_counted ∷ taken.arc_rows) (tasks_stated taken.counted) taken.taken.whole in
     let whole : eqb (length taken.arc_rows) (arcs_stated taken.arcs_counted + 1) ≡ true =
-    sym (ap is_complete taken.rows_are ∙ ap is_whole left) ∙ complete_form _ _ form in
+    sym (ap is_graph_complete taken.rows_are ∙ ap are_arcs_complete left) ∙ complete_form _ _ form in
     absurd (let w = taken.taken.few in omega (arith, eqb-true _ _ whole, w))
 staged_stated bytes stages.Ended s form taken =
     whole_stated taken.header taken.counted taken.arcs_counted taken.last taken.task_rows taken.arc_rows taken.taken.whole taken.complete

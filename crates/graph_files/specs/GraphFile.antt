@@ -1,17 +1,14 @@
 -- Graph files: what a file reads as, and what it is refused with. They are this project's own format.
-use Rattle.std.specs.Prelude.{◌≡◌, ◌==◌, ℕ, ◌+◌, Bool, false, ◌&&◌, ◌||◌, not, nat_lt, nat_le, is_some, unwrap_or, Option, Some}
-use Rattle.std.specs.Prelude.{None, List, [], ◌∷◌, length, map, take, drop, codes, if◌then◌else◌, slice_index_or, ◌⊎◌}
+use Rattle.std.specs.Prelude.{◌≡◌, ◌==◌, ℕ, ◌+◌, Bool, ◌&&◌, ◌||◌, not, nat_le, is_some, unwrap_or, Option, Some}
+use Rattle.std.specs.Prelude.{None, List, [], ◌∷◌, length, map, take, drop, codes, ◌⊎◌}
 use Rattle.std.specs.List.{sum_by}
-use Rattle.std.specs.Option.{option_and_then}
-use Rattle.std.specs.Str.{bytes_eq}
-use Rattle.std.specs.Cmp.Lexicographic.{pointwise}
 use Rattle.limits.specs.Limits.{most_tasks, most_arcs, most_size, most_time, most_total}
 use Rattle.limits.specs.declared.name.LimitName.TheVariants as limits
 use Rattle.mp_text.specs.declared.layout.Layout.TheVariants.{Commented}
 use Rattle.mp_text.specs.declared.refusals.Refusal.{Refusal}
 use Rattle.mp_text.specs.declared.refusals.Refusal.TheVariants as refusals
-use Rattle.mp_text.specs.Text.{Row, number_of, numbers_of}
-use Rattle.mp_text.specs.Words.{after_word}
+use Rattle.mp_text.specs.Text.{Row, numbers_of}
+use Rattle.file_frame.specs.declared.version.Version.TheVariants.{One}
 use Rattle.mp_text.specs.Ahead.{rows_of_bytes, past_of_bytes}
 use Rattle.mp_text.specs.Grammar.{Test, test, Format, IsWellFormed, Refuses, fault, fault_at}
 use Rattle.mp_system.specs.declared.system.Task.{Task}
@@ -23,43 +20,27 @@ use Rattle.graph_files.specs.declared.kind.GraphKind.TheVariants as kinds
 use Rattle.lists.specs.Numbers.{IsFirstWithout}
 use Rattle.graphs.specs.Graph.{TaskGraph, IsAmong, CanBeOrdered, TaskShareFits, arc_size}
 use Rattle.graphs.specs.Judged.{HasFewArcs, IsOrdered}
+use Rattle.file_frame.specs.Frame.{header_tests, stated_on, count_tests, end_tests, first_then, lines_then, end_then_none, has_first}
+use Rattle.file_frame.specs.Frame.{line_stating}
 
 -- ---- line 1: `graph 1`
 
-abbrev pub is_header : Row → Bool
-is_header row = pointwise bytes_eq row.tokens (codes "graph" ∷ codes "1" ∷ [])
-
-abbrev pub header_tests : Row → List (Test GraphKind)
-header_tests row = test (is_header row) (fault kinds.Header row) ∷ []
+abbrev pub graph_header_tests : Row → List (Test GraphKind)
+graph_header_tests row = header_tests (codes "graph") One kinds.Header row
 
 -- ---- `tasks N` and `arcs M`
 
--- the number after a word
-abbrev pub count_number : List ℕ → Row → Option ℕ
-count_number word row = option_and_then number_of (after_word word row.tokens)
-
-abbrev pub count_stated : List ℕ → Row → ℕ
-count_stated word row = unwrap_or (count_number word row) 0
-
--- the word and a number within a limit
-abbrev pub count_tests : List ℕ → ℕ → Refusal GraphKind → Row → List (Test GraphKind)
-count_tests word most refusal row =
-    test (is_some (after_word word row.tokens)) (fault kinds.Section row)
-    ∷ test (is_some (count_number word row)) (fault kinds.Number row)
-    ∷ test (nat_le (count_stated word row) most) refusal
-    ∷ []
-
 abbrev pub task_count_tests : Row → List (Test GraphKind)
-task_count_tests row = count_tests (codes "tasks") most_tasks (refusals.Limit limits.Tasks) row
+task_count_tests row = count_tests (codes "tasks") kinds.Section kinds.Number most_tasks limits.Tasks row
 
 abbrev pub tasks_stated : Row → ℕ
-tasks_stated row = count_stated (codes "tasks") row
+tasks_stated row = stated_on (codes "tasks") row
 
 abbrev pub arc_count_tests : Row → List (Test GraphKind)
-arc_count_tests row = count_tests (codes "arcs") most_arcs (refusals.Limit limits.Arcs) row
+arc_count_tests row = count_tests (codes "arcs") kinds.Section kinds.Number most_arcs limits.Arcs row
 
 abbrev pub arcs_stated : Row → ℕ
-arcs_stated row = count_stated (codes "arcs") row
+arcs_stated row = stated_on (codes "arcs") row
 
 -- ---- a task line: `extra share time`
 
@@ -116,50 +97,34 @@ arc_tests n total row =
 abbrev pub sizes_of : List Row → ℕ
 sizes_of rows = sum_by (λ row. arc_size (arc_of row)) rows
 
--- ---- the last line, `end`, and then none
-
-abbrev pub is_end : Row → Bool
-is_end row = pointwise bytes_eq row.tokens (codes "end" ∷ [])
-
-abbrev pub last_tests : Row → List (Test GraphKind)
-last_tests row = test (is_end row) (fault kinds.Section row) ∷ []
-
-abbrev pub further_tests : Row → List (Test GraphKind)
-further_tests row = test false (fault kinds.Section row) ∷ []
-
 -- ---- all lines
 
--- a line after the tasks of a graph of so many, whose extras sum to the total; after the lines since then
+-- the lines after the tasks of a graph of so many, whose extras sum to the total
 abbrev pub arc_part_tests : ℕ → ℕ → List Row → Row → List (Test GraphKind)
-arc_part_tests n total [] row = arc_count_tests row
-arc_part_tests n total (counted ∷ arcs) row =
-    if nat_lt (length arcs) (arcs_stated counted) then arc_tests n (total + sizes_of arcs) row
-    else (if length arcs == arcs_stated counted then last_tests row
-    else further_tests row)
+arc_part_tests n total =
+    first_then arc_count_tests (λ counted.
+    lines_then (arcs_stated counted) (λ before row. arc_tests n (total + sizes_of before) row) (λ arcs.
+    end_then_none kinds.Section kinds.Section))
 
--- a line after the second
-abbrev pub body_tests : ℕ → List Row → Row → List (Test GraphKind)
-body_tests n rows row =
-    if nat_lt (length rows) n then task_tests (extras_of rows) row
-    else arc_part_tests n (extras_of (take n rows)) (drop n rows) row
+-- the lines after the second
+abbrev pub graph_body_tests : ℕ → List Row → Row → List (Test GraphKind)
+graph_body_tests n = lines_then n (λ before row. task_tests (extras_of before) row) (λ tasks. arc_part_tests n (extras_of tasks))
 
 abbrev pub graph_line_tests : List Row → Row → List (Test GraphKind)
-graph_line_tests [] row = header_tests row
-graph_line_tests (header ∷ []) row = task_count_tests row
-graph_line_tests (header ∷ counted ∷ rows) row = body_tests (tasks_stated counted) rows row
+graph_line_tests =
+    first_then graph_header_tests (λ header.
+    first_then task_count_tests (λ counted.
+    graph_body_tests (tasks_stated counted)))
 
 -- whether no line is missing, after the tasks
-abbrev pub is_whole : List Row → Bool
-is_whole [] = false
-is_whole (counted ∷ rows) = length rows == arcs_stated counted + 1
+abbrev pub are_arcs_complete : List Row → Bool
+are_arcs_complete = has_first (λ counted rows. length rows == arcs_stated counted + 1)
 
-abbrev pub is_complete : List Row → Bool
-is_complete [] = false
-is_complete (header ∷ []) = false
-is_complete (header ∷ counted ∷ rows) = is_whole (drop (tasks_stated counted) rows)
+abbrev pub is_graph_complete : List Row → Bool
+is_graph_complete = has_first (λ header. has_first (λ counted rows. are_arcs_complete (drop (tasks_stated counted) rows)))
 
 abbrev pub graph_end_tests : List Row → ℕ → List (Test GraphKind)
-graph_end_tests rows past = test (is_complete rows) (fault_at past kinds.NoEnd) ∷ []
+graph_end_tests rows past = end_tests (is_graph_complete rows) kinds.NoEnd past
 
 abbrev pub graph_format : Format GraphKind
 graph_format = record { line_tests = graph_line_tests; end_tests = graph_end_tests }
@@ -176,10 +141,6 @@ graph_stated [] = record { tasks = []; arcs = [] }
 graph_stated (header ∷ []) = record { tasks = []; arcs = [] }
 graph_stated (header ∷ counted ∷ rows) =
     record { tasks = map task_on_row (take (tasks_stated counted) rows); arcs = map arc_of (arc_rows (drop (tasks_stated counted) rows)) }
-
--- the number of the line that states task v
-abbrev pub line_stating : List Row → ℕ → ℕ
-line_stating rows v = (slice_index_or rows (v + 1) (record { number = 0; tokens = [] })).number
 
 -- ---- the whole file
 

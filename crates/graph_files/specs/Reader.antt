@@ -12,8 +12,9 @@ use Rattle.graph_files.specs.declared.kind.GraphKind.{GraphKind}
 use Rattle.graph_files.specs.declared.kind.GraphKind.TheVariants as kinds
 use Rattle.graph_files.specs.declared.stage.Stage.{Stage}
 use Rattle.graph_files.specs.declared.stage.Stage.TheVariants as stages
-use Rattle.graph_files.specs.GraphFile.{header_tests, task_count_tests, tasks_stated, arc_count_tests, arcs_stated, task_tests, task_on_row}
-use Rattle.graph_files.specs.GraphFile.{extras_of, arc_tests, arc_of, sizes_of, last_tests}
+use Rattle.graph_files.specs.GraphFile.{graph_header_tests, task_count_tests, tasks_stated, arc_count_tests, arcs_stated, task_tests, task_on_row}
+use Rattle.graph_files.specs.GraphFile.{extras_of, arc_tests, arc_of, sizes_of}
+use Rattle.file_frame.specs.Frame.{last_tests}
 
 -- what the reader keeps: what comes next, the stated numbers of tasks and of arcs, the tasks with the numbers of their lines, the
 -- arcs, and the sum of all extras and sizes
@@ -57,10 +58,10 @@ abbrev pub arcs_step : ReaderState → Row → Result ReaderState (Refusal Graph
 arcs_step s row =
     if nat_lt (length s.arcs) s.arc_count
     then tested (arc_tests s.count s.total row) (with_arc s row)
-    else tested (last_tests row) (record s { stage = stages.Ended })
+    else tested (last_tests kinds.Section row) (record s { stage = stages.Ended })
 
 abbrev pub staged_step : Stage → ReaderState → Row → Result ReaderState (Refusal GraphKind)
-staged_step stages.Header s row = tested (header_tests row) (record s { stage = stages.TaskCount })
+staged_step stages.Header s row = tested (graph_header_tests row) (record s { stage = stages.TaskCount })
 staged_step stages.TaskCount s row = tested (task_count_tests row) (record s { stage = stages.Tasks; count = tasks_stated row })
 staged_step stages.Tasks s row = tasks_step s row
 staged_step stages.Arcs s row = arcs_step s row

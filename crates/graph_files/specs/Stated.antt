@@ -6,7 +6,8 @@ use Rattle.mp_text.specs.declared.layout.Layout.TheVariants.{Commented}
 use Rattle.mp_text.specs.Ahead.{rows_of_bytes}
 use Rattle.graphs.specs.Graph.{TaskGraph, IsAmong}
 use Rattle.graphs.specs.Judged.{IsPlain}
-use Rattle.graph_files.specs.GraphFile.{HasForm, stated_by, line_stating}
+use Rattle.graph_files.specs.GraphFile.{HasForm, stated_by}
+use Rattle.file_frame.specs.Frame.{line_stating}
 
 pub record IsStated (bytes : List ℕ) (graph : TaskGraph) (lines : List ℕ) : Type 0 where
   pub form : HasForm bytes

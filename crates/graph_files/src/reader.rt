@@ -2,8 +2,9 @@ ghost use Rattle.std.specs.Prelude.{◌≡◌};
 ghost use Rattle.mp_text.specs.Ahead.{row};
 
 use crate::kind::GraphKind;
-use crate::lines::{arc_count_on, arc_on, header_on, last_on, task_count_on, task_on};
+use crate::lines::{arc_count_on, arc_on, task_count_on, task_on};
 use crate::stage::Stage;
+use file_frame::{Version, end_on, header_on};
 use graphs::Arc;
 use mp_system::Task;
 use mp_text::{Line, Reader, Refusal, fault};
@@ -131,7 +132,7 @@ impl GraphReader {
         if self.lacks_arcs() {
             return self.arc_line(line);
         }
-        last_on(line)?;
+        end_on(line, GraphKind::Section)?;
         self.stage = Stage::Ended;
         Ok(())
     }
@@ -143,7 +144,7 @@ impl GraphReader {
     {
         match self.stage {
             Stage::Header => {
-                header_on(line)?;
+                header_on(line, b"graph", Version::One, GraphKind::Header)?;
                 self.stage = Stage::TaskCount;
                 Ok(())
             }

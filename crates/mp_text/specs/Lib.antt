@@ -1,5 +1,4 @@
 pub mod Text
-pub mod Words
 pub mod Ahead
 pub mod Grammar
 pub mod Reading

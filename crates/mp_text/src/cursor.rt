@@ -36,7 +36,7 @@ impl<'a> Tokens<'a> {
         }
     }
 
-    /// The token, where there is just one.
+    /// The token, where it is the only one.
     pub fn one(mut self) -> Option<&'a [u8]>
         ensures { MatchOption result ((length self.entry == 1) ≡ false) (λ t. self.entry ≡ t.now ∷ []) }
     {
@@ -44,32 +44,6 @@ impl<'a> Tokens<'a> {
         match self.next() {
             Some(_) => None,
             None => Some(only),
-        }
-    }
-
-    /// The tokens, where there are two.
-    pub fn two(mut self) -> Option<(&'a [u8], &'a [u8])>
-        ensures { MatchOption result ((length self.entry == 2) ≡ false) (λ p. self.entry ≡ p.0.now ∷ p.1.now ∷ []) }
-    {
-        let first = self.next()?;
-        let second = self.next()?;
-        match self.next() {
-            Some(_) => None,
-            None => Some((first, second)),
-        }
-    }
-
-    /// The tokens, where there are four.
-    pub fn four(mut self) -> Option<(&'a [u8], &'a [u8], &'a [u8], &'a [u8])>
-        ensures { MatchOption result ((length self.entry == 4) ≡ false) (λ p. self.entry ≡ p.0.now ∷ p.1.now ∷ p.2.now ∷ p.3.now ∷ []) }
-    {
-        let first = self.next()?;
-        let second = self.next()?;
-        let third = self.next()?;
-        let fourth = self.next()?;
-        match self.next() {
-            Some(_) => None,
-            None => Some((first, second, third, fourth)),
         }
     }
 }

@@ -13,7 +13,6 @@ mod refusals;
 mod reports;
 mod split;
 mod token_scan;
-mod words;
 
 pub use faults::fault;
 pub use layout::Layout;
@@ -25,7 +24,6 @@ pub use reports::{Report, Token};
 pub use split::tokens;
 use std::alloc::AllocError;
 pub use token_scan::Tokens;
-pub use words::{Version, after_word, is_word, version_of};
 
 /// Want of memory: an allocation was refused.
 pub type NoMemory = AllocError;

@@ -7,5 +7,5 @@ use crate::token_scan::Tokens;
 pub fn tokens(text: &[u8]) -> Tokens<'_>
     ensures { result ≡ tokens_of text.now }
 {
-    Tokens::of(text)
+    Tokens { rest: text }
 }

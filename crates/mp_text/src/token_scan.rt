@@ -60,7 +60,7 @@ fn first_token(line: &[u8]) -> Option<(&[u8], &[u8])>
 /// The tokens of a line that are left, as an iterator.
 #[derive(Drop)]
 pub struct Tokens<'a> {
-    rest: &'a [u8],
+    pub(crate) rest: &'a [u8],
 }
 
 impl<'a> Model for Tokens<'a> {
@@ -73,12 +73,6 @@ impl<'a> Model for Tokens<'a> {
 }
 
 impl<'a> Tokens<'a> {
-    pub(crate) fn of(text: &'a [u8]) -> Tokens<'a>
-        ensures { result ≡ tokens_of text.now }
-    {
-        Tokens { rest: text }
-    }
-
     // Takes the next token where it is digits and not too many, and gives the number that they spell. Else it takes nothing.
     #[inline]
     pub(crate) fn short_number(&mut self) -> Option<u64>

@@ -5,8 +5,8 @@ ghost use Rattle.mp_text.specs.Grammar.{fault, fault_at, test};
 
 use limits::LimitName;
 use mp_text::{
-    Fault, Layout, Line, Lines, NoMemory, Reader, Refusal, Report, Token, Version, after_word,
-    fault, is_word, number, read_with, signed, tokens, version_of,
+    Fault, Layout, Line, Lines, NoMemory, Reader, Refusal, Report, Token, fault, number, read_with,
+    signed, tokens,
 };
 use std::alloc::Global;
 use std::test::Fail;
@@ -155,33 +155,29 @@ fn reads_a_format(rt: HostRuntime) -> Result<(), Fail> {
     Ok(())
 }
 
-// A line, whether it is one, two or four tokens, and its two numbers.
+// A line, whether it is one token, and its two numbers.
 #[rattlefmt::skip]
-const TOKENS: &[(&str, bool, bool, bool, Option<[u64; 2]>)] = &[
-    ("", false, false, false, None),
-    (" 7 ", true, false, false, None),
-    ("7 8", false, true, false, Some([7, 8])),
-    ("007\t18446744073709551615\r", false, true, false, Some([7, u64::MAX])),
-    ("7 18446744073709551616", false, true, false, None),
-    ("-7 8", false, true, false, None),
-    ("7 8 9", false, false, false, None),
-    ("1 2 3 4", false, false, true, None),
-    ("1 2 3 4 5", false, false, false, None),
+const TOKENS: &[(&str, bool, Option<[u64; 2]>)] = &[
+    ("", false, None),
+    (" 7 ", true, None),
+    ("7 8", false, Some([7, 8])),
+    ("007\t18446744073709551615\r", false, Some([7, u64::MAX])),
+    ("7 18446744073709551616", false, None),
+    ("-7 8", false, None),
+    ("7 8 9", false, None),
 ];
 
 #[test]
 fn counts_tokens(rt: HostRuntime) {
-    for (text, one, two, four, _numbers) in TOKENS {
+    for (text, one, _numbers) in TOKENS {
         let line = text.as_bytes();
         assert_eq!(rt; tokens(line).one().is_some(), *one, "at {text:?}");
-        assert_eq!(rt; tokens(line).two().is_some(), *two, "at {text:?}");
-        assert_eq!(rt; tokens(line).four().is_some(), *four, "at {text:?}");
     }
 }
 
 #[test]
 fn gives_two_numbers(rt: HostRuntime) {
-    for (text, _one, _two, _four, numbers) in TOKENS {
+    for (text, _one, numbers) in TOKENS {
         let found = tokens(text.as_bytes()).numbers::<2>();
         assert_eq!(rt; found, *numbers, "at {text:?}");
     }
@@ -196,31 +192,9 @@ fn gives_numbers_one_after_another(rt: HostRuntime) {
 }
 
 #[test]
-fn reads_words(rt: HostRuntime) {
-    // a line, whether it is `end`, what follows `nodes`, and the version that `tree` has
-    for (text, end, nodes, version) in [
-        ("end", true, None, None),
-        ("end end", false, None, None),
-        ("nodes 5", false, Some("5"), None),
-        ("nodes 5 6", false, None, None),
-        ("tree 1", false, None, Some(Version::One)),
-        (" tree  2", false, None, Some(Version::Two)),
-        ("tree 3", false, None, None),
-        ("tree", false, None, None),
-        ("trees 1", false, None, None),
-    ] {
-        let line = text.as_bytes();
-        let after = after_word(line, b"nodes").and_then(|token| str::from_utf8(token).ok());
-        assert_eq!(rt; is_word(line, b"end"), end, "at {text:?}");
-        assert_eq!(rt; after, nodes, "at {text:?}");
-        assert_eq!(rt; version_of(line, b"tree"), version, "at {text:?}");
-    }
-}
-
-#[test]
 fn prints_lines(rt: HostRuntime) -> Result<(), Fail> {
     let mut report = Report::new(rt.alloc());
-    report.line(&[Token::Word("tree"), Token::Word(Version::Two.word())])?;
+    report.line(&[Token::Word("tree"), Token::Number(2)])?;
     report.line(&[])?;
     report.line(&[
         Token::Number(u64::MAX),
@@ -235,7 +209,7 @@ fn prints_lines(rt: HostRuntime) -> Result<(), Fail> {
 // Two lines, after which a third is cut off.
 fn cut_back(alloc: Global) -> Result<Report, NoMemory> {
     let mut report = Report::new(alloc);
-    report.line(&[Token::Word("tree"), Token::Word(Version::Two.word())])?;
+    report.line(&[Token::Word("tree"), Token::Number(2)])?;
     report.line(&[])?;
     let start = report.len();
     report.line(&[

@@ -9,13 +9,13 @@ use Rattle.limits.specs.Limits.{most_tasks, most_positions, most_total}
 use Rattle.mp_text.specs.declared.layout.Layout.TheVariants.{Commented}
 use Rattle.mp_text.specs.declared.refusals.Refusal.{Refusal}
 use Rattle.mp_text.specs.Text.{Row, signed_of}
-use Rattle.mp_text.specs.declared.words.Version.{Version}
-use Rattle.mp_text.specs.declared.words.Version.TheVariants.{One, Two}
+use Rattle.file_frame.specs.declared.version.Version.{Version}
+use Rattle.file_frame.specs.declared.version.Version.TheVariants.{One, Two}
 use Rattle.mp_text.specs.Ahead.{rows_of_bytes}
 use Rattle.mp_text.specs.Grammar.{test, first_failure, ArePassed, token_at}
 use Rattle.permutations.specs.Perm.{IsPart, IsPerm, IsVertex, times}
 use Rattle.plans.specs.Plan.{PlanValue, most_number, IsPlan, IsClaimWithin, RiseFrom, IsPriority}
-use Rattle.plan_files.specs.PlanFile.{Stated, stated, plan_format, staged_tests, is_ended, is_number_up_to, is_bound, bound_of, value_of, task_on, stated_on, claim_on, last_position, claim_tests, order_tests, peak_tests, priority_tests, priority_section_tests, tests_after_order, last_tests, ReadsPlan}
+use Rattle.plan_files.specs.PlanFile.{Stated, stated, plan_format, staged_tests, is_ended, is_number_up_to, is_bound, bound_of, value_of, task_on, claim_on, last_position, claim_tests, order_tests, peak_tests, priority_tests, priority_section_tests, tests_after_order, ReadsPlan}
 use Rattle.plan_files.specs.Reader.{staged_next, with_task, with_rank, with_claim, peak_next, ranks_next, after_order_next}
 use Rattle.plan_files.proofs.ReaderLaws.{stated_push}
 use Rattle.plans.specs.declared.claim.Claim.{Claim}
@@ -23,12 +23,11 @@ use Rattle.plan_files.specs.declared.stage.Stage.{Stage}
 use Rattle.plan_files.specs.declared.stage.Stage.TheVariants as stages
 use Rattle.plans.proofs.Rising.{last_from, rise_push, rise_at, last_is}
 use Rattle.permutations.proofs.PermLemmas.{part-none, part-push, perm_from_part}
+use Rattle.file_frame.specs.Frame.{stated_on, last_tests}
+use Rattle.file_frame.proofs.TestLemmas.{passes}
+use Rattle.plan_files.specs.declared.kind.PlanKind.TheVariants as kinds
 
 -- ---- tests that hold
-
-passes : {K : Type 0} (holds : Bool) (rest : Option (Refusal K)) (refusal : Refusal K) → cond holds rest (Some refusal) ≡ None → (holds ≡ true) × (rest ≡ None)
-passes true rest refusal none = (refl, none)
-passes false rest refusal none = absurd cc
 
 up_to : (most : ℕ) (token : List ℕ) → is_number_up_to most token ≡ true → value_of token ≤ most
 up_to most token e = leb-true _ _ (and_parts _ _ e).1
@@ -160,7 +159,7 @@ priority-passed s row stage so at = go (ltb (length s.priority) s.count) refl wh
 
 claims-passed : (s : Stated) (row : Row) → s.stage ≡ stages.Claims → IsSoFar s.order s.peak s.claims → At stages.Claims s → first_failure (staged_tests stages.Claims s row) ≡ None → Holds (staged_next stages.Claims s row)
 claims-passed s row stage so at = go (ltb (length s.claims) s.count) refl where
-  go : (b : Bool) → ltb (length s.claims) s.count ≡ b → first_failure (cond b (claim_tests s.claims row) (last_tests row)) ≡ None → Holds (cond b (with_claim s row) (record s { stage = stages.Ended }))
+  go : (b : Bool) → ltb (length s.claims) s.count ≡ b → first_failure (cond b (claim_tests s.claims row) (last_tests kinds.NoEnd row)) ≡ None → Holds (cond b (with_claim s row) (record s { stage = stages.Ended }))
   go true e passed =
       let claim = claim-test s.claims row passed in
       let lt = ltb-true _ _ e in

@@ -13,10 +13,10 @@ use Rattle.std.proofs.lemmas.List.Sums.{sum_by-append}
 use Rattle.limits.specs.Limits.{most_tasks, most_positions, most_total}
 use Rattle.mp_text.specs.declared.layout.Layout.{Layout}
 use Rattle.mp_text.specs.declared.layout.Layout.TheVariants.{Commented}
-use Rattle.mp_text.specs.declared.words.Version.{Version}
-use Rattle.mp_text.specs.declared.words.Version.TheVariants.{One, Two}
+use Rattle.file_frame.specs.declared.version.Version.{Version}
+use Rattle.file_frame.specs.declared.version.Version.TheVariants.{One, Two}
 use Rattle.mp_text.specs.Text.{Row, says_nothing, number_of, signed_of}
-use Rattle.mp_text.specs.Words.{after_word, version_of}
+use Rattle.file_frame.specs.Words.{after_word, version_of}
 use Rattle.mp_text.specs.Ahead.{rows_of_bytes, past_of_bytes}
 use Rattle.mp_text.specs.Grammar.{first_failure, ArePassed}
 use Rattle.mp_text.specs.Report.{is_counted, numbered_from, text_of_lines, is_token}
@@ -24,7 +24,7 @@ use Rattle.permutations.specs.Perm.{IsVertex, times}
 use Rattle.permutations.proofs.PlaceLemmas.{times-here}
 use Rattle.plans.specs.Plan.{PlanValue, most_number, IsPlan, IsClaimWithin, RiseFrom, IsPriority}
 use Rattle.plan_files.specs.PlanFile.{Stated, stated, nothing, plan_format, tests_after, plan_stated, end_tests_after, peak_tests, dir_named, last_position, ReadsPlan}
-use Rattle.plan_files.specs.Printed.{header_line, section_line, task_line, claim_line, dir_word, end_line, task_lines, claim_lines, priority_lines, last_lines, lines_in, text_in, version_for, text_of, text2_of}
+use Rattle.plan_files.specs.Printed.{task_line, claim_line, dir_word, task_lines, claim_lines, priority_lines, last_lines, plan_lines, plan_text_in, plan_version_for, plan_text, plan_text_2}
 use Rattle.plan_files.specs.Reader.{next, peak_next}
 use Rattle.plan_files.proofs.ReaderLaws.{stated_push, at_claims, at_peak, at_ranks, at_order}
 use Rattle.plans.specs.declared.claim.Claim.{Claim}
@@ -32,15 +32,9 @@ use Rattle.plans.specs.declared.claim.Direction.{Direction}
 use Rattle.plans.specs.declared.claim.Direction.TheVariants.{Forward, Backward}
 use Rattle.plan_files.specs.declared.stage.Stage.TheVariants as stages
 use Rattle.plan_files.proofs.FormLemmas.{last-rises}
-
--- what the laws of printed numbers and files say
-pub record AreLaws : Type 0 where
-  pub token : (n : ℕ) → n < 2 ^ 64 → IsTrue (is_token (decimal n))
-  pub value : (n : ℕ) → n < 2 ^ 64 → number_of (decimal n) ≡ Some n
-  pub signed_token : (n : ℤ) → FitsSigned w64 n → IsTrue (is_token (signed_decimal n))
-  pub signed_value : (n : ℤ) → FitsSigned w64 n → signed_of (signed_decimal n) ≡ Some n
-  pub counted : (layout : Layout) (n : ℕ) (tokens : List (List ℕ)) → n < 2 ^ 64 → IsTrue (list_all is_token tokens) → IsTrue (is_counted layout (decimal n ∷ tokens))
-  pub rows : (layout : Layout) (lines : List (List (List ℕ))) → IsTrue (list_all (is_counted layout) lines) → rows_of_bytes layout (text_of_lines lines) ≡ numbered_from 1 lines
+use Rattle.file_frame.specs.Printed.{header_line, section_line, end_line}
+use Rattle.file_frame.proofs.PrintedLaws.{AreLaws}
+use Rattle.file_frame.proofs.LineLemmas.{section_counted}
 
 -- ---- lines that pass, one after another
 
@@ -216,7 +210,7 @@ module _ (laws : AreLaws) (plan : PlanValue) (is : IsPlan plan) where
       let lines = order-leads laws (begun v) (length plan.order) [] plan.order (priority_lines v plan.priority ++ last_lines plan) (whole v plan) is.tasks (omega arith) (after_order-leads v) (n + 1) in
       rw (count, le-leb (length plan.order) most_tasks is.few_tasks) (refl, lines)
 
-  all-lead : (v : Version) → Leads nothing (numbered_from 1 (lines_in v plan)) (whole v plan)
+  all-lead : (v : Version) → Leads nothing (numbered_from 1 (plan_lines v plan)) (whole v plan)
   unfolding Leads after_word version_of
   all-lead One = (refl, section-leads One (1 + 1))
   all-lead Two = (refl, section-leads Two (1 + 1))
@@ -243,31 +237,27 @@ module _ (laws : AreLaws) where
       and_from _ _ (laws.counted Commented c.position (dir_word c.dir ∷ signed_decimal c.bound ∷ decimal c.rest ∷ []) (let le = here.position in omega arith) others)
       (claims-counted cs (All-tail IsClaimWithin c cs within))
 
-  -- a line that begins a section, where its word is a token that begins no comment
-  section-counted : (word : List ℕ) (n : ℕ) → is_token word ≡ true → says_nothing Commented (word ∷ decimal n ∷ []) ≡ false → n < 2 ^ 64 → is_counted Commented (section_line word n) ≡ true
-  section-counted word n token plain small = and_from _ _ (and_from _ _ token (and_from _ _ (laws.token n small) refl)) (ap not plain)
-
-  header-counted : (v : Version) → is_counted Commented (header_line v) ≡ true
+  header-counted : (v : Version) → is_counted Commented (header_line (codes "plan") v) ≡ true
   header-counted One = refl
   header-counted Two = refl
 
   priority-counted : (v : Version) (n : ℕ) (priority : List ℕ) → n ≤ most_tasks → IsPriority n priority → list_all (is_counted Commented) (priority_lines v priority) ≡ true
   priority-counted One n priority few ranked = refl
-  priority-counted Two n priority few (inl none) = rw none (and_from _ _ (section-counted (codes "priority") 0 refl refl (omega arith)) refl)
+  priority-counted Two n priority few (inl none) = rw none (and_from _ _ (section_counted laws (codes "priority") 0 refl refl (omega arith)) refl)
   priority-counted Two n priority few (inr ranks) =
       let len = ranks.len in
-      and_from _ _ (section-counted (codes "priority") (length priority) refl refl (omega arith))
+      and_from _ _ (section_counted laws (codes "priority") (length priority) refl refl (omega arith))
       (tasks-counted priority (λ i d lt. let task = ranks.vertices i d lt in let le = task.1 in omega arith))
 
-  lines-counted : (v : Version) (plan : PlanValue) → IsPlan plan → list_all (is_counted Commented) (lines_in v plan) ≡ true
+  lines-counted : (v : Version) (plan : PlanValue) → IsPlan plan → list_all (is_counted Commented) (plan_lines v plan) ≡ true
   lines-counted v plan is =
       let few = is.few_tasks in
       let few_claims = is.few_claims in
       let peak = is.peak in
-      let order = and_from _ _ (section-counted (codes "order") (length plan.order) refl refl (omega arith)) (tasks-counted plan.order is.tasks) in
-      let claims = and_from _ _ (section-counted (codes "claims") (length plan.claims) refl refl (omega arith)) (claims-counted plan.claims is.claims) in
+      let order = and_from _ _ (section_counted laws (codes "order") (length plan.order) refl refl (omega arith)) (tasks-counted plan.order is.tasks) in
+      let claims = and_from _ _ (section_counted laws (codes "claims") (length plan.claims) refl refl (omega arith)) (claims-counted plan.claims is.claims) in
       let last : list_all (is_counted Commented) (last_lines plan) ≡ true =
-      and_from _ _ (section-counted (codes "peak") plan.peak refl refl (omega arith))
+      and_from _ _ (section_counted laws (codes "peak") plan.peak refl refl (omega arith))
       (list_all-append (is_counted Commented) (claim_lines plan.claims) (end_line ∷ []) ∙ and_from _ _ claims refl) in
       and_from _ _ (header-counted v)
       (list_all-append (is_counted Commented) (task_lines (codes "order") plan.order) (priority_lines v plan.priority ++ last_lines plan)
@@ -284,12 +274,12 @@ whole-ended : (v : Version) (plan : PlanValue) (past : ℕ) → first_failure (e
 whole-ended One plan past = refl
 whole-ended Two plan past = refl
 
-printed-reads : AreLaws → (v : Version) (plan : PlanValue) → IsPlan plan → (v ≡ One → plan.priority ≡ []) → ReadsPlan (text_in v plan) plan
+printed-reads : AreLaws → (v : Version) (plan : PlanValue) → IsPlan plan → (v ≡ One → plan.priority ≡ []) → ReadsPlan (plan_text_in v plan) plan
 unfolding stated
 printed-reads laws v plan is none =
-    let text = text_in v plan in
-    let rows = numbered_from 1 (lines_in v plan) in
-    let read : rows_of_bytes Commented text ≡ rows = laws.rows Commented (lines_in v plan) (lines-counted laws v plan is) in
+    let text = plan_text_in v plan in
+    let rows = numbered_from 1 (plan_lines v plan) in
+    let read : rows_of_bytes Commented text ≡ rows = laws.rows Commented (plan_lines v plan) (lines-counted laws v plan is) in
     let leads : Leads (stated []) rows (whole v plan) = all-lead laws plan is v in
     let stated_is : stated (rows_of_bytes Commented text) ≡ whole v plan = ap stated read ∙ leads-stated [] rows (whole v plan) leads in
     record {
@@ -302,12 +292,12 @@ printed-reads laws v plan is none =
 
 -- ---- both versions
 
-unranked : (priority : List ℕ) → version_for priority ≡ One → priority ≡ []
+unranked : (priority : List ℕ) → plan_version_for priority ≡ One → priority ≡ []
 unranked [] e = refl
 unranked (x ∷ xs) e = absurd cc
 
-pub text_of-reads : AreLaws → (plan : PlanValue) → IsPlan plan → ReadsPlan (text_of plan) plan
-text_of-reads laws plan is = printed-reads laws (version_for plan.priority) plan is (unranked plan.priority)
+pub plan_text-reads : AreLaws → (plan : PlanValue) → IsPlan plan → ReadsPlan (plan_text plan) plan
+plan_text-reads laws plan is = printed-reads laws (plan_version_for plan.priority) plan is (unranked plan.priority)
 
-pub text2_of-reads : AreLaws → (plan : PlanValue) → IsPlan plan → ReadsPlan (text2_of plan) plan
-text2_of-reads laws plan is = printed-reads laws Two plan is (λ never. absurd cc)
+pub plan_text_2-reads : AreLaws → (plan : PlanValue) → IsPlan plan → ReadsPlan (plan_text_2 plan) plan
+plan_text_2-reads laws plan is = printed-reads laws Two plan is (λ never. absurd cc)

@@ -5,15 +5,16 @@ use Rattle.std.proofs.Math.Seq.{take-nil, drop-nil}
 use Rattle.std.proofs.lemmas.Bool.{cases_Bool, ltb-true, ltb-false, le-ltb, lt-ltb}
 use Rattle.std.proofs.lemmas.List.{map_push, length-map, length_push, take_all, drop_all, length-take-le, take-append-le, drop-append-le}
 use Rattle.mp_text.specs.Text.{Row}
-use Rattle.mp_text.specs.declared.words.Version.{Version}
-use Rattle.mp_text.specs.declared.words.Version.TheVariants.{One, Two}
+use Rattle.file_frame.specs.declared.version.Version.{Version}
+use Rattle.file_frame.specs.declared.version.Version.TheVariants.{One, Two}
 use Rattle.mp_text.specs.Grammar.{ArePassed}
 use Rattle.mp_text.specs.Reading.{Follows}
 use Rattle.mp_text.specs.ReadingLaws.{tested-follows}
-use Rattle.plan_files.specs.PlanFile.{Stated, stated, nothing, stated_on, task_on, claim_on, version_stated, with_end, with_claims, with_peak, with_ranks, after_order_in, with_order, plan_format, tests_after, end_tests_after}
+use Rattle.plan_files.specs.PlanFile.{Stated, stated, nothing, task_on, claim_on, plan_version, with_end, with_claims, with_peak, with_ranks, after_order_in, with_order, plan_format, tests_after, end_tests_after}
 use Rattle.plan_files.specs.Reader.{next, after_order_next, plan_step, plan_end, took}
 use Rattle.plans.specs.declared.claim.Claim.{Claim}
 use Rattle.plan_files.specs.declared.stage.Stage.TheVariants as stages
+use Rattle.file_frame.specs.Frame.{stated_on}
 
 -- ---- a section of n lines, and one line more
 
@@ -126,14 +127,14 @@ order_push s section rows row fresh =
     ]
 
 abbrev pub begun : Row → Stated
-begun header = record nothing { stage = stages.OrderSection; version = version_stated header }
+begun header = record nothing { stage = stages.OrderSection; version = plan_version header }
 
 pub stated_push : (rows : List Row) (row : Row) → stated (rows ++ row ∷ []) ≡ next (stated rows) row
 unfolding stated
 stated_push [] row = refl
 stated_push (header ∷ []) row =
     let n = stated_on (codes "order") row in
-    rw (drop-nil n, take-nil n) (after_none (version_stated header) (at_order (begun header) n []))
+    rw (drop-nil n, take-nil n) (after_none (plan_version header) (at_order (begun header) n []))
 stated_push (header ∷ section ∷ rows) row = order_push (begun header) section rows row refl
 
 -- ---- the two laws

@@ -10,10 +10,10 @@ use Rattle.limits.specs.declared.name.LimitName.TheVariants as limits
 use Rattle.mp_text.specs.declared.layout.Layout.TheVariants.{Commented}
 use Rattle.mp_text.specs.declared.refusals.Refusal.{Refusal}
 use Rattle.mp_text.specs.declared.refusals.Refusal.TheVariants as refusals
-use Rattle.mp_text.specs.declared.words.Version.{Version}
-use Rattle.mp_text.specs.declared.words.Version.TheVariants.{One, Two}
+use Rattle.file_frame.specs.declared.version.Version.{Version}
+use Rattle.file_frame.specs.declared.version.Version.TheVariants.{One, Two}
 use Rattle.mp_text.specs.Text.{Row, number_of, signed_of}
-use Rattle.mp_text.specs.Words.{after_word, version_of}
+use Rattle.file_frame.specs.Words.{after_word, version_of}
 use Rattle.mp_text.specs.Ahead.{rows_of_bytes, past_of_bytes}
 use Rattle.mp_text.specs.Grammar.{Test, test, Format, IsWellFormed, Refuses, fault, fault_at, token_at}
 use Rattle.mp_text.specs.Reading.{IsRefusal}
@@ -26,6 +26,7 @@ use Rattle.plan_files.specs.declared.kind.PlanKind.{PlanKind}
 use Rattle.plan_files.specs.declared.kind.PlanKind.TheVariants as kinds
 use Rattle.plan_files.specs.declared.stage.Stage.{Stage}
 use Rattle.plan_files.specs.declared.stage.Stage.TheVariants as stages
+use Rattle.file_frame.specs.Frame.{header_tests, version_stated, stated_on, section_tests, count_tests, last_tests, further_tests, end_tests}
 
 -- the number that a token spells, 0 where it spells none
 abbrev pub value_of : List ℕ → ℕ
@@ -36,44 +37,30 @@ is_number_up_to most token = is_some (number_of token) && nat_le (value_of token
 
 -- ---- line 1: `plan 1` or `plan 2`
 
-abbrev pub header_tests : Row → List (Test PlanKind)
-header_tests row = test (is_some (version_of (codes "plan") row.tokens)) (fault kinds.Header row) ∷ []
+abbrev pub plan_header_tests : Row → List (Test PlanKind)
+plan_header_tests row = header_tests (codes "plan") Two kinds.Header row
 
-abbrev pub version_stated : Row → Version
-version_stated header = unwrap_or (version_of (codes "plan") header.tokens) One
+abbrev pub plan_version : Row → Version
+plan_version header = version_stated (codes "plan") Two header
 
 -- ---- a line that begins a section: `order N`, `priority M`, `peak P`, `claims C`
 
--- the number after the word
-abbrev pub number_after : List ℕ → Row → Option ℕ
-number_after word row = option_and_then number_of (after_word word row.tokens)
-
-abbrev pub stated_on : List ℕ → Row → ℕ
-stated_on word row = unwrap_or (number_after word row) 0
-
-abbrev pub section_form : List ℕ → Row → List (Test PlanKind)
-section_form word row =
-    test (is_some (after_word word row.tokens)) (fault kinds.Section row)
-    ∷ test (is_some (number_after word row)) (fault kinds.Number row)
-    ∷ []
-
 abbrev pub order_section_tests : Row → List (Test PlanKind)
-order_section_tests row =
-    section_form (codes "order") row ++ test (nat_le (stated_on (codes "order") row) most_tasks) (refusals.Limit limits.Tasks) ∷ []
+order_section_tests row = count_tests (codes "order") kinds.Section kinds.Number most_tasks limits.Tasks row
 
 -- the priority ranks all tasks of the order, or is left out
 abbrev pub priority_section_tests : ℕ → Row → List (Test PlanKind)
 priority_section_tests tasks row =
     let count = stated_on (codes "priority") row in
-    section_form (codes "priority") row ++ test ((count == 0) || (count == tasks)) (fault kinds.Priority row) ∷ []
+    section_tests (codes "priority") kinds.Section kinds.Number row ++ test ((count == 0) || (count == tasks)) (fault kinds.Priority row) ∷ []
 
 abbrev pub peak_tests : Row → List (Test PlanKind)
-peak_tests row = section_form (codes "peak") row ++ test (nat_le (stated_on (codes "peak") row) most_total) (fault kinds.Number row) ∷ []
+peak_tests row =
+    section_tests (codes "peak") kinds.Section kinds.Number row
+    ++ test (nat_le (stated_on (codes "peak") row) most_total) (fault kinds.Number row) ∷ []
 
 abbrev pub claims_section_tests : Row → List (Test PlanKind)
-claims_section_tests row =
-    section_form (codes "claims") row
-    ++ test (nat_le (stated_on (codes "claims") row) most_positions) (refusals.Limit limits.Positions) ∷ []
+claims_section_tests row = count_tests (codes "claims") kinds.Section kinds.Number most_positions limits.Positions row
 
 -- ---- a line within a section
 
@@ -134,11 +121,6 @@ abbrev pub claim_tests : List Claim → Row → List (Test PlanKind)
 claim_tests before row =
     claim_form row ++ test (nat_lt (last_position before) (claim_on row).position) (fault kinds.Claim row) ∷ []
 
--- ---- the last line: `end`, and none after it
-
-abbrev pub last_tests : Row → List (Test PlanKind)
-last_tests row = test (pointwise bytes_eq row.tokens (codes "end" ∷ [])) (fault kinds.NoEnd row) ∷ []
-
 -- ---- what some lines of a file state, section by section
 
 -- which line comes next, the version, how many lines the section at hand has, how many tasks the priority ranks, and what the lines say
@@ -194,7 +176,7 @@ with_order s (section ∷ rows) =
 
 unfoldable pub stated : List Row → Stated
 stated [] = nothing
-stated (header ∷ rows) = with_order (record nothing { stage = stages.OrderSection; version = version_stated header }) rows
+stated (header ∷ rows) = with_order (record nothing { stage = stages.OrderSection; version = plan_version header }) rows
 
 -- ---- the tests of a line after lines that state this
 
@@ -204,13 +186,13 @@ tests_after_order One s row = peak_tests row
 tests_after_order Two s row = priority_section_tests s.count row
 
 abbrev pub staged_tests : Stage → Stated → Row → List (Test PlanKind)
-staged_tests stages.Header s row = header_tests row
+staged_tests stages.Header s row = plan_header_tests row
 staged_tests stages.OrderSection s row = order_section_tests row
 staged_tests stages.Order s row = if nat_lt (length s.order) s.count then order_tests row else tests_after_order s.version s row
 staged_tests stages.Priority s row = if nat_lt (length s.priority) s.count then priority_tests s.tasks s.priority row else peak_tests row
 staged_tests stages.ClaimsSection s row = claims_section_tests row
-staged_tests stages.Claims s row = if nat_lt (length s.claims) s.count then claim_tests s.claims row else last_tests row
-staged_tests stages.Ended s row = test false (fault kinds.NoEnd row) ∷ []
+staged_tests stages.Claims s row = if nat_lt (length s.claims) s.count then claim_tests s.claims row else last_tests kinds.NoEnd row
+staged_tests stages.Ended s row = further_tests kinds.NoEnd row
 
 abbrev pub tests_after : Stated → Row → List (Test PlanKind)
 tests_after s row = staged_tests s.stage s row
@@ -221,7 +203,7 @@ is_ended stages.Ended = true
 is_ended _ = false
 
 abbrev pub end_tests_after : Stated → ℕ → List (Test PlanKind)
-end_tests_after s past = test (is_ended s.stage) (fault_at past kinds.NoEnd) ∷ []
+end_tests_after s past = end_tests (is_ended s.stage) kinds.NoEnd past
 
 abbrev pub plan_format : Format PlanKind
 plan_format = record {

@@ -1,22 +1,15 @@
 -- The text of a plan: the file, of version 1 or 2, that is printed for it. Plan files are this project's own format.
 use Rattle.std.specs.Prelude.{ℕ, List, [], ◌∷◌, ◌++◌, length, map, codes}
 use Rattle.std.specs.Fmt.{decimal, signed_decimal}
-use Rattle.mp_text.specs.declared.words.Version.{Version}
-use Rattle.mp_text.specs.declared.words.Version.TheVariants.{One, Two}
-use Rattle.mp_text.specs.Words.{version_word}
+use Rattle.file_frame.specs.declared.version.Version.{Version}
+use Rattle.file_frame.specs.declared.version.Version.TheVariants.{One, Two}
+use Rattle.file_frame.specs.Words.{version_word}
 use Rattle.mp_text.specs.Report.{text_of_lines}
 use Rattle.plans.specs.Plan.{PlanValue}
 use Rattle.plans.specs.declared.claim.Claim.{Claim}
 use Rattle.plans.specs.declared.claim.Direction.{Direction}
 use Rattle.plans.specs.declared.claim.Direction.TheVariants.{Forward, Backward}
-
--- line 1
-abbrev pub header_line : Version → List (List ℕ)
-header_line version = codes "plan" ∷ version_word version ∷ []
-
--- a line that begins a section
-abbrev pub section_line : List ℕ → ℕ → List (List ℕ)
-section_line word number = word ∷ decimal number ∷ []
+use Rattle.file_frame.specs.Printed.{header_line, section_line, end_line}
 
 -- an order line or a priority line
 abbrev pub task_line : ℕ → List (List ℕ)
@@ -28,10 +21,6 @@ dir_word Backward = codes "R"
 
 abbrev pub claim_line : Claim → List (List ℕ)
 claim_line c = decimal c.position ∷ dir_word c.dir ∷ signed_decimal c.bound ∷ decimal c.rest ∷ []
-
--- the last line
-abbrev pub end_line : List (List ℕ)
-end_line = codes "end" ∷ []
 
 -- how many tasks there are, and each on a line
 abbrev pub task_lines : List ℕ → List ℕ → List (List (List ℕ))
@@ -50,21 +39,21 @@ abbrev pub last_lines : PlanValue → List (List (List ℕ))
 last_lines plan = section_line (codes "peak") plan.peak ∷ (claim_lines plan.claims ++ end_line ∷ [])
 
 -- the lines of a file of this version
-abbrev pub lines_in : Version → PlanValue → List (List (List ℕ))
-lines_in version plan =
-    header_line version ∷ (task_lines (codes "order") plan.order ++ (priority_lines version plan.priority ++ last_lines plan))
+abbrev pub plan_lines : Version → PlanValue → List (List (List ℕ))
+plan_lines version plan =
+    header_line (codes "plan") version ∷ (task_lines (codes "order") plan.order ++ (priority_lines version plan.priority ++ last_lines plan))
 
-abbrev pub text_in : Version → PlanValue → List ℕ
-text_in version plan = text_of_lines (lines_in version plan)
+abbrev pub plan_text_in : Version → PlanValue → List ℕ
+plan_text_in version plan = text_of_lines (plan_lines version plan)
 
 -- the version that a priority needs: 1 where it is empty, else 2
-abbrev pub version_for : List ℕ → Version
-version_for [] = One
-version_for (task ∷ tasks) = Two
+abbrev pub plan_version_for : List ℕ → Version
+plan_version_for [] = One
+plan_version_for (task ∷ tasks) = Two
 
 -- the text of a plan, and its text in version 2
-abbrev pub text_of : PlanValue → List ℕ
-text_of plan = text_in (version_for plan.priority) plan
+abbrev pub plan_text : PlanValue → List ℕ
+plan_text plan = plan_text_in (plan_version_for plan.priority) plan
 
-abbrev pub text2_of : PlanValue → List ℕ
-text2_of plan = text_in Two plan
+abbrev pub plan_text_2 : PlanValue → List ℕ
+plan_text_2 plan = plan_text_in Two plan

@@ -3,13 +3,14 @@
 use Rattle.std.specs.Prelude.{◌≡◌, ℕ, nat_lt, List, [], ◌∷◌, ◌++◌, length, codes, if◌then◌else◌, Result}
 use Rattle.mp_text.specs.declared.refusals.Refusal.{Refusal}
 use Rattle.mp_text.specs.Text.{Row}
-use Rattle.mp_text.specs.declared.words.Version.{Version}
-use Rattle.mp_text.specs.declared.words.Version.TheVariants.{One, Two}
+use Rattle.file_frame.specs.declared.version.Version.{Version}
+use Rattle.file_frame.specs.declared.version.Version.TheVariants.{One, Two}
 use Rattle.mp_text.specs.Reading.{tested}
-use Rattle.plan_files.specs.PlanFile.{Stated, version_stated, stated_on, task_on, claim_on, staged_tests, end_tests_after, stated}
+use Rattle.plan_files.specs.PlanFile.{Stated, plan_version, task_on, claim_on, staged_tests, end_tests_after, stated}
 use Rattle.plan_files.specs.declared.kind.PlanKind.{PlanKind}
 use Rattle.plan_files.specs.declared.stage.Stage.{Stage}
 use Rattle.plan_files.specs.declared.stage.Stage.TheVariants as stages
+use Rattle.file_frame.specs.Frame.{stated_on}
 
 -- what is stated with one line more
 
@@ -33,7 +34,7 @@ abbrev pub with_claim : Stated → Row → Stated
 with_claim s row = record s { claims = s.claims ++ claim_on row ∷ [] }
 
 abbrev pub staged_next : Stage → Stated → Row → Stated
-staged_next stages.Header s row = record s { stage = stages.OrderSection; version = version_stated row }
+staged_next stages.Header s row = record s { stage = stages.OrderSection; version = plan_version row }
 staged_next stages.OrderSection s row = record s { stage = stages.Order; count = stated_on (codes "order") row }
 staged_next stages.Order s row = if nat_lt (length s.order) s.count then with_task s row else after_order_next s.version s row
 staged_next stages.Priority s row = if nat_lt (length s.priority) s.count then with_rank s row else peak_next s row

@@ -9,18 +9,18 @@ use Rattle.mp_text.specs.declared.refusals.Refusal.TheVariants as refusals
 use Rattle.limits.specs.declared.name.LimitName.TheVariants as limits
 use Rattle.mp_text.specs.Text.{lines_of, tokens_of, number_of, number_from, signed_of, rows_from}
 use Rattle.mp_text.specs.Ahead.{rows_of_bytes, past_of_bytes}
-use Rattle.mp_text.specs.Words.{after_word, version_of}
+use Rattle.file_frame.specs.Words.{after_word, version_of}
 use Rattle.mp_text.specs.Grammar.{fault_at, first_failure, tests_of_all}
 use Rattle.plans.specs.Samples.{five, ranked}
 use Rattle.plan_files.specs.PlanFile.{dir_named, stated, plan_stated, plan_format}
-use Rattle.plan_files.specs.Printed.{text_of, text2_of}
+use Rattle.plan_files.specs.Printed.{plan_text, plan_text_2}
 use Rattle.plan_files.specs.Json.{json_of}
 use Rattle.plan_files.specs.declared.kind.PlanKind.{PlanKind}
 use Rattle.plan_files.specs.declared.kind.PlanKind.TheVariants as kinds
 
 -- ---- printing
 
-pub printed : text_of five ∷ text2_of five ∷ text_of ranked ∷ []
+pub printed : plan_text five ∷ plan_text_2 five ∷ plan_text ranked ∷ []
     ≡ codes "plan 1\norder 5\n1\n3\n2\n4\n5\npeak 11\nclaims 4\n5 R 5 5\n10 R 5 5\n11 R 10 10\n13 R 10 0\nend\n"
     ∷ codes "plan 2\norder 5\n1\n3\n2\n4\n5\npriority 0\npeak 11\nclaims 4\n5 R 5 5\n10 R 5 5\n11 R 10 10\n13 R 10 0\nend\n"
     ∷ codes "plan 2\norder 2\n1\n2\npriority 2\n2\n1\npeak 6\nclaims 1\n1 F -1 0\nend\n"

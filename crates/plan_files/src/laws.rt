@@ -6,7 +6,7 @@ ghost use Rattle.mp_text.specs.declared.refusals.Refusal.{Refusal};
 ghost use Rattle.plan_files.specs.declared.kind.PlanKind.{PlanKind};
 ghost use Rattle.plans.specs.Plan.{PlanValue, IsPlan};
 ghost use Rattle.plan_files.specs.PlanFile.{ReadsPlan, RefusesPlan};
-ghost use Rattle.plan_files.specs.Printed.{text_of, text2_of};
+ghost use Rattle.plan_files.specs.Printed.{plan_text, plan_text_2};
 
 use crate::kind::PlanKind;
 use mp_text::laws as text_laws;
@@ -31,8 +31,8 @@ pub fn read_law()
 
 /// The text of a plan, and its text in version 2, are read as that plan.
 pub fn printed_plan()
-    ensures text { (plan : PlanValue) → IsPlan plan → ReadsPlan (text_of plan) plan }
-    ensures text_2 { (plan : PlanValue) → IsPlan plan → ReadsPlan (text2_of plan) plan }
+    ensures text { (plan : PlanValue) → IsPlan plan → ReadsPlan (plan_text plan) plan }
+    ensures text_2 { (plan : PlanValue) → IsPlan plan → ReadsPlan (plan_text_2 plan) plan }
 {
     text_laws::printed_number();
     text_laws::printed_file();
@@ -40,6 +40,6 @@ pub fn printed_plan()
 
 /// The text of a plan, and its text in version 2, are within the limit of bytes, so that a file of it can be read whole.
 pub fn printed_length()
-    ensures text { (plan : PlanValue) → IsPlan plan → length (text_of plan) ≤ most_bytes }
-    ensures text_2 { (plan : PlanValue) → IsPlan plan → length (text2_of plan) ≤ most_bytes }
+    ensures text { (plan : PlanValue) → IsPlan plan → length (plan_text plan) ≤ most_bytes }
+    ensures text_2 { (plan : PlanValue) → IsPlan plan → length (plan_text_2 plan) ≤ most_bytes }
 {}

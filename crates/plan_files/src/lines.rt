@@ -1,20 +1,20 @@
 //! One function for each kind of line of a plan file: its tests in the order of the format's table.
 
-ghost use Rattle.std.specs.Prelude.{◌≡◌, ◌≤◌, MatchOption, IfOk, Some, false, unsigned_abs, codes};
+ghost use Rattle.std.specs.Prelude.{◌≡◌, ◌≤◌, ◌==◌, [], ◌∷◌, length, MatchOption, IfOk, Some, false, unsigned_abs, codes};
 ghost use Rattle.limits.specs.Limits.{most_tasks, most_positions, most_total};
-ghost use Rattle.mp_text.specs.Text.{number_of, signed_of};
+ghost use Rattle.mp_text.specs.Text.{number_of, signed_of, tokens_of};
 ghost use Rattle.mp_text.specs.Ahead.{row};
 ghost use Rattle.mp_text.specs.Reading.{Gives, tested};
+ghost use Rattle.file_frame.specs.Frame.{stated_on};
 ghost use Rattle.permutations.specs.Perm.{IsVertex, times};
-ghost use Rattle.plan_files.specs.PlanFile.{is_number_up_to, dir_named, is_bound, header_tests, version_stated, section_form, stated_on};
-ghost use Rattle.plan_files.specs.PlanFile.{order_section_tests, priority_section_tests, peak_tests, claims_section_tests, task_on};
-ghost use Rattle.plan_files.specs.PlanFile.{order_tests, priority_tests, last_position, claim_on, claim_form, claim_tests, last_tests};
+ghost use Rattle.plan_files.specs.PlanFile.{is_number_up_to, dir_named, is_bound, order_section_tests, priority_section_tests, peak_tests};
+ghost use Rattle.plan_files.specs.PlanFile.{claims_section_tests, task_on, order_tests, priority_tests, last_position, claim_on, claim_form};
+ghost use Rattle.plan_files.specs.PlanFile.{claim_tests};
 
 use crate::kind::PlanKind;
+use file_frame::{count_on, number_on};
 use limits::{LimitName, MOST_POSITIONS, MOST_TASKS, MOST_TOTAL};
-use mp_text::{
-    Line, Refusal, Version, after_word, fault, is_word, number, signed, tokens, version_of,
-};
+use mp_text::{Line, Refusal, fault, number, signed, tokens};
 use permutations::PartialPerm;
 use plans::{Claim, Direction};
 
@@ -51,32 +51,20 @@ fn dir_named(token: &[u8]) -> Option<Direction>
     None
 }
 
-/// Line 1: the version.
-pub fn header_on(line: Line<'_>) -> Result<Version, Refusal<PlanKind>>
-    ensures { let r = row line.entry.number line.entry.text.now in Gives (tested (header_tests r) (version_stated r)) result }
-{
-    version_of(line.text, b"plan").ok_or(fault(line.number, PlanKind::Header))
-}
-
-// The number of a line that begins a section.
-fn section_on(line: Line<'_>, word: &[u8]) -> Result<u64, Refusal<PlanKind>>
-    ensures { let r = row line.entry.number line.entry.text.now in Gives (tested (section_form word.now r) (stated_on word.now r)) result }
-{
-    let stated = after_word(line.text, word).ok_or(fault(line.number, PlanKind::Section))?;
-    number(stated).ok_or(fault(line.number, PlanKind::Number))
-}
-
 /// `order N`: the number of tasks.
 pub fn order_section_on(line: Line<'_>) -> Result<u64, Refusal<PlanKind>>
     ensures judged { let r = row line.entry.number line.entry.text.now in
         Gives (tested (order_section_tests r) (stated_on (codes "order") r)) result }
     ensures few { IfOk result (λ n. n ≤ most_tasks) }
 {
-    let count = section_on(line, b"order")?;
-    if count > MOST_TASKS {
-        return Err(Refusal::Limit(LimitName::Tasks));
-    }
-    Ok(count)
+    count_on(
+        line,
+        b"order",
+        PlanKind::Section,
+        PlanKind::Number,
+        MOST_TASKS,
+        LimitName::Tasks,
+    )
 }
 
 /// `priority M`: the number of tasks that it ranks, all or none.
@@ -85,7 +73,7 @@ pub fn priority_section_on(tasks: u64, line: Line<'_>) -> Result<u64, Refusal<Pl
         Gives (tested (priority_section_tests tasks r) (stated_on (codes "priority") r)) result }
     ensures few { IfOk result (λ n. n ≤ tasks) }
 {
-    let count = section_on(line, b"priority")?;
+    let count = number_on(line, b"priority", PlanKind::Section, PlanKind::Number)?;
     if count != 0 && count != tasks {
         return Err(fault(line.number, PlanKind::Priority));
     }
@@ -96,7 +84,7 @@ pub fn priority_section_on(tasks: u64, line: Line<'_>) -> Result<u64, Refusal<Pl
 pub fn peak_on(line: Line<'_>) -> Result<u64, Refusal<PlanKind>>
     ensures { let r = row line.entry.number line.entry.text.now in Gives (tested (peak_tests r) (stated_on (codes "peak") r)) result }
 {
-    let peak = section_on(line, b"peak")?;
+    let peak = number_on(line, b"peak", PlanKind::Section, PlanKind::Number)?;
     if peak > MOST_TOTAL {
         return Err(fault(line.number, PlanKind::Number));
     }
@@ -109,11 +97,14 @@ pub fn claims_section_on(line: Line<'_>) -> Result<u64, Refusal<PlanKind>>
         Gives (tested (claims_section_tests r) (stated_on (codes "claims") r)) result }
     ensures few { IfOk result (λ n. n ≤ most_positions) }
 {
-    let count = section_on(line, b"claims")?;
-    if count > MOST_POSITIONS {
-        return Err(Refusal::Limit(LimitName::Positions));
-    }
-    Ok(count)
+    count_on(
+        line,
+        b"claims",
+        PlanKind::Section,
+        PlanKind::Number,
+        MOST_POSITIONS,
+        LimitName::Positions,
+    )
 }
 
 /// An order line: the task.
@@ -154,13 +145,30 @@ fn last_position(claims: &[Claim]) -> u32
     }
 }
 
+// The tokens of a line, where they are four.
+fn four_words(text: &[u8]) -> Option<(&[u8], &[u8], &[u8], &[u8])>
+    ensures { MatchOption result
+        ((length (tokens_of text.now) == 4) ≡ false)
+        (λ p. tokens_of text.now ≡ p.0.now ∷ p.1.now ∷ p.2.now ∷ p.3.now ∷ []) }
+{
+    let mut words = tokens(text);
+    let first = words.next()?;
+    let second = words.next()?;
+    let third = words.next()?;
+    let fourth = words.next()?;
+    match words.next() {
+        Some(_) => None,
+        None => Some((first, second, third, fourth)),
+    }
+}
+
 // The claim of a line, wherever its position is.
 fn claim_stated(line: Line<'_>) -> Result<Claim, Refusal<PlanKind>>
     ensures { let r = row line.entry.number line.entry.text.now in Gives (tested (claim_form r) (claim_on r)) result }
 {
     let no_claim = fault(line.number, PlanKind::Claim);
     let no_number = fault(line.number, PlanKind::Number);
-    let (position, dir, bound, rest) = tokens(line.text).four().ok_or(no_claim)?;
+    let (position, dir, bound, rest) = four_words(line.text).ok_or(no_claim)?;
     let dir = dir_named(dir).ok_or(no_claim)?;
     let position = number_up_to(MOST_NUMBER, position).ok_or(no_number)?;
     let bound = bound_of(bound).ok_or(no_number)?;
@@ -182,14 +190,4 @@ pub fn claim_on(claims: &[Claim], line: Line<'_>) -> Result<Claim, Refusal<PlanK
         return Err(fault(line.number, PlanKind::Claim));
     }
     Ok(claim)
-}
-
-/// The line after the last claim.
-pub fn last_on(line: Line<'_>) -> Result<(), Refusal<PlanKind>>
-    ensures { Gives (tested (last_tests (row line.entry.number line.entry.text.now)) tt) result }
-{
-    if !is_word(line.text, b"end") {
-        return Err(fault(line.number, PlanKind::NoEnd));
-    }
-    Ok(())
 }

@@ -2,12 +2,13 @@
 
 ghost use Rattle.std.specs.Prelude.{◌≡◌, ◌++◌, map, length, take, IsTrue, OnOk, OnErr};
 ghost use Rattle.mp_text.specs.Report.{is_line_start, is_token, text_of_lines};
-ghost use Rattle.plan_files.specs.Printed.{task_line, dir_word, claim_line, task_lines, claim_lines, priority_lines, last_lines, text_in};
-ghost use Rattle.plan_files.specs.Printed.{version_for, text_of, text2_of};
+ghost use Rattle.plan_files.specs.Printed.{task_line, dir_word, claim_line, task_lines, claim_lines, priority_lines, last_lines, plan_text_in};
+ghost use Rattle.plan_files.specs.Printed.{plan_version_for, plan_text, plan_text_2};
 
 use crate::NoMemory;
+use file_frame::{Version, print_end, print_header, print_section};
 use mp_text::laws::printed_lines;
-use mp_text::{Report, Token, Version};
+use mp_text::{Report, Token};
 use plans::{Claim, Direction, Plan};
 
 /// The word for a direction.
@@ -29,7 +30,7 @@ fn print_tasks(word: &str, tasks: &[u32], report: &mut Report) -> Result<(), NoM
     ensures err { OnErr result (take (length report.old) report.new ≡ report.old) }
 {
     printed_lines();
-    report.line(&[Token::Word(word), Token::Number(tasks.len() as u64)])?;
+    print_section(word, tasks.len() as u64, report)?;
     for task in tasks {
         report.line(&[Token::Number(u64::from(*task))])?;
     }
@@ -43,7 +44,7 @@ fn print_claims(claims: &[Claim], report: &mut Report) -> Result<(), NoMemory>
     ensures err { OnErr result (take (length report.old) report.new ≡ report.old) }
 {
     printed_lines();
-    report.line(&[Token::Word("claims"), Token::Number(claims.len() as u64)])?;
+    print_section("claims", claims.len() as u64, report)?;
     for claim in claims {
         report.line(&[
             Token::Number(u64::from(claim.position)),
@@ -62,9 +63,9 @@ fn print_last(plan: &Plan, report: &mut Report) -> Result<(), NoMemory>
     ensures err { OnErr result (take (length report.old) report.new ≡ report.old) }
 {
     printed_lines();
-    report.line(&[Token::Word("peak"), Token::Number(plan.peak())])?;
+    print_section("peak", plan.peak(), report)?;
     print_claims(plan.claims(), report)?;
-    report.line(&[Token::Word("end")])
+    print_end(report)
 }
 
 // The priority, which only version 2 has, and the lines after it.
@@ -86,18 +87,18 @@ fn print_rest(version: Version, plan: &Plan, report: &mut Report) -> Result<(), 
 // Appends the lines of a version, or some bytes.
 fn print_lines(version: Version, plan: &Plan, report: &mut Report) -> Result<(), NoMemory>
     requires { IsTrue (is_line_start report.old) }
-    ensures ok { OnOk result (report.new ≡ report.old ++ text_in version plan.now) }
+    ensures ok { OnOk result (report.new ≡ report.old ++ plan_text_in version plan.now) }
     ensures err { OnErr result (take (length report.old) report.new ≡ report.old) }
 {
     printed_lines();
-    report.line(&[Token::Word("plan"), Token::Word(version.word())])?;
+    print_header("plan", version, report)?;
     print_tasks("order", plan.order(), report)?;
     print_rest(version, plan, report)
 }
 
 fn print_in(version: Version, plan: &Plan, report: &mut Report) -> Result<(), NoMemory>
     requires { IsTrue (is_line_start report.old) }
-    ensures ok { OnOk result (report.new ≡ report.old ++ text_in version plan.now) }
+    ensures ok { OnOk result (report.new ≡ report.old ++ plan_text_in version plan.now) }
     ensures err { OnErr result (report.new ≡ report.old) }
 {
     let start = report.len();
@@ -109,7 +110,7 @@ fn print_in(version: Version, plan: &Plan, report: &mut Report) -> Result<(), No
 }
 
 fn version_for(priority: &[u32]) -> Version
-    ensures { result ≡ version_for priority.now }
+    ensures { result ≡ plan_version_for priority.now }
 {
     if priority.is_empty() {
         Version::One
@@ -123,7 +124,7 @@ fn version_for(priority: &[u32]) -> Version
 /// Where memory runs out, the report stays as it was.
 pub fn print_plan(plan: &Plan, report: &mut Report) -> Result<(), NoMemory>
     requires { IsTrue (is_line_start report.old) }
-    ensures ok { OnOk result (report.new ≡ report.old ++ text_of plan.now) }
+    ensures ok { OnOk result (report.new ≡ report.old ++ plan_text plan.now) }
     ensures err { OnErr result (report.new ≡ report.old) }
 {
     print_in(version_for(plan.priority()), plan, report)
@@ -134,7 +135,7 @@ pub fn print_plan(plan: &Plan, report: &mut Report) -> Result<(), NoMemory>
 /// Where memory runs out, the report stays as it was.
 pub fn print_plan_2(plan: &Plan, report: &mut Report) -> Result<(), NoMemory>
     requires { IsTrue (is_line_start report.old) }
-    ensures ok { OnOk result (report.new ≡ report.old ++ text2_of plan.now) }
+    ensures ok { OnOk result (report.new ≡ report.old ++ plan_text_2 plan.now) }
     ensures err { OnErr result (report.new ≡ report.old) }
 {
     print_in(Version::Two, plan, report)

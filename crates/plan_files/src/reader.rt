@@ -7,11 +7,12 @@ ghost use Rattle.plan_files.specs.Reader.{peak_next, ranks_next, staged_step, pl
 
 use crate::kind::PlanKind;
 use crate::lines::{
-    claim_on, claims_section_on, header_on, last_on, order_on, order_section_on, peak_on,
-    priority_on, priority_section_on,
+    claim_on, claims_section_on, order_on, order_section_on, peak_on, priority_on,
+    priority_section_on,
 };
 use crate::stage::Stage;
-use mp_text::{Layout, Line, Reader, Refusal, Version, fault, read_with};
+use file_frame::{Version, end_on, header_on};
+use mp_text::{Layout, Line, Reader, Refusal, fault, read_with};
 use permutations::PartialPerm;
 use plans::{Claim, NoMemory, Plan};
 use std::alloc::Global;
@@ -126,7 +127,7 @@ impl PlanReader {
             self.claims.push(claim)?;
             return Ok(());
         }
-        last_on(line)?;
+        end_on(line, PlanKind::NoEnd)?;
         self.stage = Stage::Ended;
         Ok(())
     }
@@ -138,7 +139,7 @@ impl PlanReader {
     {
         match self.stage {
             Stage::Header => {
-                self.version = header_on(line)?;
+                self.version = header_on(line, b"plan", Version::Two, PlanKind::Header)?;
                 self.stage = Stage::OrderSection;
                 Ok(())
             }

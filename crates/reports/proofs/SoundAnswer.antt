@@ -12,7 +12,7 @@ use Rattle.mp_system.specs.System.{TaskSystem, IsSystem}
 use Rattle.mp_system.specs.Traversal.{IsLeast}
 use Rattle.plans.specs.Plan.{PlanValue, IsPlan}
 use Rattle.plan_files.specs.PlanFile.{ReadsPlan}
-use Rattle.plan_files.specs.Printed.{text_of}
+use Rattle.plan_files.specs.Printed.{plan_text}
 use Rattle.sp_terms.specs.declared.position.Position.{Position}
 use Rattle.sp_terms.specs.Postfix.{Denotes}
 use Rattle.sp_terms.specs.SystemOfTerm.{system_of_term}
@@ -24,7 +24,7 @@ use Rattle.trees.specs.Tree.{IsTree, system_of_nodes}
 use Rattle.trees.specs.TreeTerm.{forest_positions}
 use Rattle.reports.specs.Check.{IsCheckOf, IsCertified, yes_line}
 use Rattle.judging.specs.Files.{Answer, IsPlanFile, IsTreeOf, IsSystemWithTerm}
-use Rattle.reports.specs.Plan.{IsPlanOf, IsBestPlan, IsPrintedAs, plan_text}
+use Rattle.reports.specs.Plan.{IsPlanOf, IsBestPlan, IsPrintedAs, plan_printed}
 use Rattle.requests.specs.Request.{TreeInput, Input, tree_input, workflow_named, OrderSource, PlanFormat, as_file, as_json, Simulation}
 use Rattle.reports.specs.Simulate.{IsSimulation, IsSimulationOf, IsSimulated, IsPrintedRun}
 use Rattle.judging.specs.declared.status.Status.TheVariants.{Done}
@@ -70,25 +70,25 @@ module _
     printed_is = ap (λ (a : Answer). a.text) e ∙ ap yes_line (sym is_peak);
   }
 
-  printed_as : (format : PlanFormat) (plan : PlanValue) → IsPrintedAs format plan (text_of plan) (plan_text format plan)
+  printed_as : (format : PlanFormat) (plan : PlanValue) → IsPrintedAs format plan (plan_text plan) (plan_printed format plan)
   printed_as as_file plan = refl
   printed_as as_json plan = refl
 
-  pub best : ((plan : PlanValue) → IsPlan plan → ReadsPlan (text_of plan) plan) → ((plan : PlanValue) → IsPlan plan → length (text_of plan) ≤ most_bytes)
+  pub best : ((plan : PlanValue) → IsPlan plan → ReadsPlan (plan_text plan) plan) → ((plan : PlanValue) → IsPlan plan → length (plan_text plan) ≤ most_bytes)
       → (input : Input) (format : PlanFormat) (texts : List (List ℕ)) (answer : Answer) → IsPlanOf input format texts answer → IsBestPlan input format texts answer.text
   best reads short input format texts answer is =
-      let is_plan : IsPlanFile (text_of is.plan) is.plan = (short is.plan is.within, reads is.plan is.within) in
+      let is_plan : IsPlanFile (plan_text is.plan) is.plan = (short is.plan is.within, reads is.plan is.within) in
       subst (λ (a : Answer). IsBestPlan input format texts a.text) (sym is.answer_is) (record {
         system = is.system;
         is_system = work_has_system input texts is.system is.positions is.with_term;
         plan = is.plan;
-        file = text_of is.plan;
+        file = plan_text is.plan;
         is_plan = is_plan;
         printed_is = printed_as format is.plan;
         traversal = is.accepted.traversal;
         peak = is.accepted.peak;
         least = is_least input texts is.system is.positions is.plan is.with_term is.accepted;
-        checked = (texts, text_of is.plan, is.system, is.positions, is.plan, refl, is.with_term, is_plan, (Yes is.plan.peak, (is.accepted, refl), refl));
+        checked = (texts, plan_text is.plan, is.system, is.positions, is.plan, refl, is.with_term, is_plan, (Yes is.plan.peak, (is.accepted, refl), refl));
       })
 
 -- ---- runs

@@ -5,15 +5,15 @@ use Rattle.permutations.specs.Perm.{IsPerm}
 use Rattle.matrix_files.specs.PermFile.{ReadsPerm}
 use Rattle.plans.specs.Plan.{PlanValue, IsPlan, IsPriority}
 use Rattle.plan_files.specs.PlanFile.{ReadsPlan}
-use Rattle.plan_files.specs.Printed.{text2_of as plan_text}
+use Rattle.plan_files.specs.Printed.{plan_text_2}
 use Rattle.sp_terms.specs.declared.position.Position.{Position}
 use Rattle.sp_terms.specs.Values.{IsTerms}
 use Rattle.workflow_files.specs.WorkflowFile.{ReadsWorkflow}
-use Rattle.workflow_files.specs.WorkflowText.{text2_of as workflow_text}
+use Rattle.workflow_files.specs.WorkflowText.{workflow_text_2}
 use Rattle.trees.specs.declared.node.Node.{Node}
 use Rattle.trees.specs.Tree.{IsTree}
 use Rattle.tree_files.specs.TreeFile.{ReadsTree}
-use Rattle.tree_files.specs.TreeText.{text2_of as tree_text}
+use Rattle.tree_files.specs.TreeText.{tree_text_2}
 use Rattle.judging.specs.Files.{Answer, IsTreeFile, IsWorkflowFile, IsPlanFile, IsFirstRefusal, AreAccepted}
 use Rattle.judging.specs.Told.{AreTold}
 use Rattle.judging.specs.Judged.{IsPriorityOf, IsRefusedRanking}
@@ -32,9 +32,9 @@ pub record IsKind {V : Type 0} (reads : List ℕ → V → Type 0) (keeps : V �
   pub short : (v : V) → keeps v → length (text v) ≤ most_bytes
 
 pub record Kinds : Type 0 where
-  pub trees : IsKind ReadsTree IsTree tree_text
-  pub workflows : IsKind ReadsWorkflow IsTerms workflow_text
-  pub plans : IsKind ReadsPlan IsPlan plan_text
+  pub trees : IsKind ReadsTree IsTree tree_text_2
+  pub workflows : IsKind ReadsWorkflow IsTerms workflow_text_2
+  pub plans : IsKind ReadsPlan IsPlan plan_text_2
   pub perms : (n : ℕ) (bytes a b : List ℕ) → ReadsPerm n bytes a → ReadsPerm n bytes b → a ≡ b
   pub perm : (n : ℕ) (bytes a : List ℕ) → ReadsPerm n bytes a → IsPerm n a
 
@@ -76,13 +76,13 @@ module _ (k : Kinds) where
       let priorities : q ≡ q' = k.perms (length x.order) s q q' ranks.1 moved in
       v ∙ (λ i. plan_value (with_priority (plans i) (priorities i))) ∙ sym v'
 
-  written_tree : (x : List Node) → IsTree x → IsTreeFile (tree_text x) x
+  written_tree : (x : List Node) → IsTree x → IsTreeFile (tree_text_2 x) x
   written_tree x is = (k.trees.short x is, k.trees.printed x is)
 
-  written_workflow : (x : List Position) → IsTerms x → IsWorkflowFile (workflow_text x) x
+  written_workflow : (x : List Position) → IsTerms x → IsWorkflowFile (workflow_text_2 x) x
   written_workflow x is = (k.workflows.short x is, k.workflows.printed x is)
 
-  written_plan : (x : PlanValue) → IsPlan x → IsPlanFile (plan_text x) x
+  written_plan : (x : PlanValue) → IsPlan x → IsPlanFile (plan_text_2 x) x
   written_plan x is = (k.plans.short x is, k.plans.printed x is)
 
   says_it : (value own : Versioned) → value ≡ own → IsFileOf (text_2 own) own → IsFileOf (text_2 value) value

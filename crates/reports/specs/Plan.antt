@@ -16,12 +16,12 @@ use Rattle.judging.specs.Files.{IsSystemOf, IsPlanFile, Answer, IsSystemWithTerm
 use Rattle.reports.specs.Check.{IsCheckOf, verdict_answer}
 
 -- the plan file of a plan, or its JSON on a line
-abbrev pub plan_text : PlanFormat → PlanValue → List ℕ
-plan_text as_file plan = plans.text_of plan
-plan_text as_json plan = line_text (json_of plan ∷ [])
+abbrev pub plan_printed : PlanFormat → PlanValue → List ℕ
+plan_printed as_file plan = plans.plan_text plan
+plan_printed as_json plan = line_text (json_of plan ∷ [])
 
 abbrev pub plan_answer : PlanFormat → PlanValue → Answer
-plan_answer format plan = record { status = status.Done; text = plan_text format plan }
+plan_answer format plan = record { status = status.Done; text = plan_printed format plan }
 
 -- a plan of the input's system and term that is accepted and has no priority, whichever it is; the texts are those of the input's files
 pub record IsPlanOf (input : Input) (format : PlanFormat) (texts : List (List ℕ)) (answer : Answer) : Type 0 where
@@ -37,7 +37,7 @@ pub record IsPlanOf (input : Input) (format : PlanFormat) (texts : List (List �
 -- a plan file is printed as it is, or its plan as JSON
 abbrev pub IsPrintedAs : PlanFormat → PlanValue → List ℕ → List ℕ → Type 0
 IsPrintedAs as_file plan file printed = printed ≡ file
-IsPrintedAs as_json plan file printed = printed ≡ plan_text as_json plan
+IsPrintedAs as_json plan file printed = printed ≡ plan_printed as_json plan
 
 -- a plan file is printed, or the JSON of its plan; its order is a traversal of the input's system, whose peak is the one that the plan
 -- states, and no traversal has a lower one; and `check` of this file over the same input answers yes with that peak.

@@ -1,11 +1,11 @@
 -- `upgrade`: a tree, a workflow or a plan, written as version 2; and what that says: the file is read as what was upgraded.
 use Rattle.std.specs.Prelude.{◌≡◌, ℕ, List, [], ◌∷◌, length, Some, None}
 use Rattle.sp_terms.specs.declared.position.Position.{Position}
-use Rattle.workflow_files.specs.WorkflowText.{text2_of as workflow_text}
+use Rattle.workflow_files.specs.WorkflowText.{workflow_text_2}
 use Rattle.trees.specs.declared.node.Node.{Node}
-use Rattle.tree_files.specs.TreeText.{text2_of as tree_text}
+use Rattle.tree_files.specs.TreeText.{tree_text_2}
 use Rattle.plans.specs.Plan.{PlanValue}
-use Rattle.plan_files.specs.Printed.{text2_of as plan_text}
+use Rattle.plan_files.specs.Printed.{plan_text_2}
 use Rattle.requests.specs.Request.{Upgrade, tree_upgrade, workflow_upgrade, plan_upgrade}
 use Rattle.judging.specs.declared.status.Status.TheVariants as status
 use Rattle.judging.specs.Files.{Answer, IsTreeFile, IsWorkflowFile, IsPlanFile, IsPermFile}
@@ -18,9 +18,9 @@ pub data Versioned : Type 0 where
 
 -- its text in version 2
 abbrev pub text_2 : Versioned → List ℕ
-text_2 (tree_value nodes) = tree_text nodes
-text_2 (workflow_value positions) = workflow_text positions
-text_2 (plan_value plan) = plan_text plan
+text_2 (tree_value nodes) = tree_text_2 nodes
+text_2 (workflow_value positions) = workflow_text_2 positions
+text_2 (plan_value plan) = plan_text_2 plan
 
 -- a file that says it
 abbrev pub IsFileOf : List ℕ → Versioned → Type 0

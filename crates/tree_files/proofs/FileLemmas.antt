@@ -1,96 +1,48 @@
 -- Of a tree file: it is read or refused, never both, as one tree or with one refusal.
-use Rattle.std.proofs.Common.{◌≡◌, ℕ, zero, suc, ◌+◌, ◌<◌, ◌≤◌, leb, List, ◌⊎◌, inl, inr, length, refl, sym, ap, subst, ◌∙◌, arith}
-use Rattle.std.proofs.lemmas.Bool.{cases_eq, cases_Bool, leb-true, leb-false}
+use Rattle.std.proofs.Common.{◌≡◌, ℕ, ◌+◌, List, ◌⊎◌, inl, inr, length, refl, sym, ap, subst, ◌∙◌, arith}
+use Rattle.std.proofs.lemmas.Bool.{cases_eq, cases_lt}
 use Rattle.mp_text.specs.declared.layout.Layout.TheVariants.{Commented}
 use Rattle.mp_text.specs.declared.refusals.Refusal.{Refusal}
-use Rattle.mp_text.specs.Text.{Row}
 use Rattle.mp_text.specs.Ahead.{rows_of_bytes, past_of_bytes}
-use Rattle.mp_text.specs.Grammar.{Format, IsWellFormed, Refuses, fault_at}
+use Rattle.mp_text.specs.Grammar.{fault_at}
 use Rattle.trees.specs.Tree.{IsNode, LeadsToRoot, NodeShareFits, IsTree, ancestor, node_at, children_out}
 use Rattle.trees.specs.Judged.{AreNodesWithin}
-use Rattle.tree_files.specs.TreeFile.{tree_format, nodes_stated, ReadsTree, RefusesCycle, RefusesShare, RefusesTree, line_stating}
-use Rattle.lists.specs.Numbers.{IsFirstWithout}
+use Rattle.tree_files.specs.TreeFile.{tree_format, nodes_stated, ReadsTree, RefusesCycle, RefusesShare, RefusesTree}
+use Rattle.lists.proofs.Places.{IsEither, first_without, one_first_without}
 use Rattle.trees.specs.declared.node.Node.{Node}
 use Rattle.tree_files.specs.declared.kind.TreeKind.{TreeKind}
 use Rattle.tree_files.specs.declared.kind.TreeKind.TheVariants as kinds
 use Rattle.tree_files.proofs.FormLemmas.{well_formed_within}
+use Rattle.file_frame.specs.Frame.{line_stating}
+use Rattle.file_frame.proofs.TestLemmas.{SomeOutcome, NotBoth, OneRefusal}
 
--- ---- the lowest node of which a fact does not hold
+-- ---- facts of a node that hold or not
 
--- a fact that holds or not
-abbrev IsEither : (ℕ → Type 0) → Type 0
-IsEither fact = (v : ℕ) → fact v ⊎ (fact v → ⊥)
+leads_or_not : (nodes : List Node) → IsEither (length nodes) (LeadsToRoot nodes)
+leads_or_not nodes v place = cases_eq (ancestor nodes (length nodes) v) 0
 
-lowest-up_to : (fact : ℕ → Type 0) → IsEither fact → (nodes : List Node) (n : ℕ) → n ≤ length nodes
-    → ((v : ℕ) → 1 ≤ v → v ≤ n → fact v) ⊎ ((v : ℕ) × IsFirstWithout (length nodes) fact v)
-lowest-up_to fact either nodes zero short = inl (λ v some small. absurd (omega arith))
-lowest-up_to fact either nodes (suc n) short =
-    elim (lowest-up_to fact either nodes n (omega arith)) [
-      | inr first ↦ inr first
-      | inl before ↦ elim (either (suc n)) [
-        | inr fails ↦ inr (suc n, record { is_place = (omega arith, short); fails = fails; before = λ w some less. before w some (omega arith) })
-        | inl holds ↦ inl (λ v some small. elim (cases_eq v (suc n)) [
-          | inl last ↦ subst fact (sym last) holds
-          | inr other ↦ before v some (omega arith)
-        ])
-      ]
-    ]
-
-lowest : (fact : ℕ → Type 0) → IsEither fact → (nodes : List Node) → ((v : ℕ) → IsNode nodes v → fact v) ⊎ ((v : ℕ) × IsFirstWithout (length nodes) fact v)
-lowest fact either nodes =
-    elim (lowest-up_to fact either nodes (length nodes) (omega arith)) [
-      | inl all ↦ inl (λ v node. all v node.0 node.1)
-      | inr first ↦ inr first
-    ]
-
-cases_le : (a b : ℕ) → (a ≤ b) ⊎ (b < a)
-cases_le a b = elim (cases_Bool (leb a b)) [ inl e ↦ inl (leb-true a b e) | inr e ↦ inr (leb-false a b e) ]
-
-one_lowest : (fact : ℕ → Type 0) (nodes : List Node) (v w : ℕ) → IsFirstWithout (length nodes) fact v → IsFirstWithout (length nodes) fact w → v ≡ w
-one_lowest fact nodes v w one two =
-    elim (cases_eq v w) [
-      | inl same ↦ same
-      | inr other ↦ elim (cases_le v w) [
-        | inl le ↦ absurd (one.fails (two.before v one.is_place.0 (omega arith)))
-        | inr gt ↦ absurd (two.fails (one.before w two.is_place.0 gt))
-      ]
-    ]
-
-leads_or_not : (nodes : List Node) → IsEither (LeadsToRoot nodes)
-leads_or_not nodes v = cases_eq (ancestor nodes (length nodes) v) 0
-
-fits_or_not : (nodes : List Node) → IsEither (NodeShareFits nodes)
-fits_or_not nodes v =
+fits_or_not : (nodes : List Node) → IsEither (length nodes) (NodeShareFits nodes)
+fits_or_not nodes v place =
     let node = node_at nodes v in
-    elim (cases_le node.share (children_out nodes v)) [
-      | inr gt ↦ inr (λ has. absurd (let le = has.0 in omega arith))
-      | inl below ↦ elim (cases_le node.share (node.extra + node.out)) [
-        | inr gt ↦ inr (λ has. absurd (let le = has.1 in omega arith))
-        | inl own ↦ inl (below, own)
+    elim (cases_lt (children_out nodes v) node.share) [
+      | inl gt ↦ inr (λ has. absurd (let le = has.0 in omega arith))
+      | inr below ↦ elim (cases_lt (node.extra + node.out) node.share) [
+        | inl gt ↦ inr (λ has. absurd (let le = has.1 in omega arith))
+        | inr own ↦ inl (below, own)
       ]
     ]
 
 -- ---- a file is read or refused
 
--- what the law of formats says
-abbrev pub SomeOutcome : Type 0
-SomeOutcome = (format : Format TreeKind) (rows : List Row) (past : ℕ) → IsWellFormed format rows past ⊎ ((refusal : Refusal TreeKind) × Refuses format rows past refusal)
-
-abbrev pub NotBoth : Type 0
-NotBoth = (format : Format TreeKind) (rows : List Row) (past : ℕ) (refusal : Refusal TreeKind) → IsWellFormed format rows past → Refuses format rows past refusal → ⊥
-
-abbrev pub OneRefusal : Type 0
-OneRefusal = (format : Format TreeKind) (rows : List Row) (past : ℕ) (one two : Refusal TreeKind) → Refuses format rows past one → Refuses format rows past two → one ≡ two
-
-pub read_or_refused : SomeOutcome → (bytes : List ℕ) → ((nodes : List Node) × ReadsTree bytes nodes) ⊎ ((refusal : Refusal TreeKind) × RefusesTree bytes refusal)
+pub read_or_refused : SomeOutcome TreeKind → (bytes : List ℕ) → ((nodes : List Node) × ReadsTree bytes nodes) ⊎ ((refusal : Refusal TreeKind) × RefusesTree bytes refusal)
 read_or_refused outcome bytes =
     let rows = rows_of_bytes Commented bytes in
     let nodes = nodes_stated rows in
     elim (outcome tree_format rows (past_of_bytes bytes)) [
       | inr refused ↦ inr (refused.0, inl refused.1)
-      | inl form ↦ elim (lowest (LeadsToRoot nodes) (leads_or_not nodes) nodes) [
+      | inl form ↦ elim (first_without (length nodes) (LeadsToRoot nodes) (leads_or_not nodes)) [
         | inr first ↦ inr (fault_at (line_stating rows first.0) kinds.Cycle, inr (inl (record { form = form; node = first.0; first = first.1; refusal_is = refl })))
-        | inl roots ↦ elim (lowest (NodeShareFits nodes) (fits_or_not nodes) nodes) [
+        | inl roots ↦ elim (first_without (length nodes) (NodeShareFits nodes) (fits_or_not nodes)) [
           | inr first ↦ inr (fault_at (line_stating rows first.0) kinds.Share, inr (inr (record { form = form; roots = roots; node = first.0; first = first.1; refusal_is = refl })))
           | inl shares ↦ inl (nodes, record { form = form; stated = refl; roots = roots; shares = shares })
         ]
@@ -104,22 +56,22 @@ stated_roots bytes nodes reads = subst (λ (ns : List Node). (v : ℕ) → IsNod
 stated_shares : (bytes : List ℕ) (nodes : List Node) → ReadsTree bytes nodes → (v : ℕ) → IsNode (nodes_stated (rows_of_bytes Commented bytes)) v → NodeShareFits (nodes_stated (rows_of_bytes Commented bytes)) v
 stated_shares bytes nodes reads = subst (λ (ns : List Node). (v : ℕ) → IsNode ns v → NodeShareFits ns v) reads.stated reads.shares
 
-pub not_both : NotBoth → (bytes : List ℕ) (nodes : List Node) (refusal : Refusal TreeKind) → ReadsTree bytes nodes → RefusesTree bytes refusal → ⊥
+pub not_both : NotBoth TreeKind → (bytes : List ℕ) (nodes : List Node) (refusal : Refusal TreeKind) → ReadsTree bytes nodes → RefusesTree bytes refusal → ⊥
 not_both apart bytes nodes refusal reads (inl refused) = apart tree_format (rows_of_bytes Commented bytes) (past_of_bytes bytes) refusal reads.form refused
 not_both apart bytes nodes refusal reads (inr (inl cycle)) = cycle.first.fails (stated_roots bytes nodes reads cycle.node cycle.first.is_place)
 not_both apart bytes nodes refusal reads (inr (inr share)) = share.first.fails (stated_shares bytes nodes reads share.node share.first.is_place)
 
 one_cycle : (bytes : List ℕ) (one two : Refusal TreeKind) → RefusesCycle bytes one → RefusesCycle bytes two → one ≡ two
 one_cycle bytes one two this that =
-    let same = one_lowest _ _ this.node that.node this.first that.first in
+    let same = one_first_without _ _ this.node that.node this.first that.first in
     this.refusal_is ∙ ap (λ (v : ℕ). fault_at (line_stating (rows_of_bytes Commented bytes) v) kinds.Cycle) same ∙ sym that.refusal_is
 
 one_share : (bytes : List ℕ) (one two : Refusal TreeKind) → RefusesShare bytes one → RefusesShare bytes two → one ≡ two
 one_share bytes one two this that =
-    let same = one_lowest _ _ this.node that.node this.first that.first in
+    let same = one_first_without _ _ this.node that.node this.first that.first in
     this.refusal_is ∙ ap (λ (v : ℕ). fault_at (line_stating (rows_of_bytes Commented bytes) v) kinds.Share) same ∙ sym that.refusal_is
 
-pub one_refusal : NotBoth → OneRefusal → (bytes : List ℕ) (one two : Refusal TreeKind) → RefusesTree bytes one → RefusesTree bytes two → one ≡ two
+pub one_refusal : NotBoth TreeKind → OneRefusal TreeKind → (bytes : List ℕ) (one two : Refusal TreeKind) → RefusesTree bytes one → RefusesTree bytes two → one ≡ two
 one_refusal apart only bytes one two (inl this) (inl that) = only tree_format (rows_of_bytes Commented bytes) (past_of_bytes bytes) one two this that
 one_refusal apart only bytes one two (inl this) (inr (inl that)) = absurd (apart _ _ _ one that.form this)
 one_refusal apart only bytes one two (inl this) (inr (inr that)) = absurd (apart _ _ _ one that.form this)

@@ -4,5 +4,4 @@ pub mod LengthLemmas
 pub mod NodeLines
 pub mod PrintedLemmas
 pub mod ReaderLaws
-pub mod RowsAhead
 pub mod StatedLemmas

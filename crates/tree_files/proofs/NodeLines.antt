@@ -6,11 +6,12 @@ use Rattle.std.specs.Cmp.Lexicographic.{pointwise}
 use Rattle.std.proofs.lemmas.Bool.{cases_Bool, and_right}
 use Rattle.mp_text.specs.Text.{Row, number_of, numbers_of}
 use Rattle.mp_text.specs.Reading.{tested}
-use Rattle.mp_text.specs.declared.words.Version.{Version}
-use Rattle.mp_text.specs.declared.words.Version.TheVariants.{One, Two}
-use Rattle.tree_files.specs.TreeFile.{is_end, fields_of, fields_stated, node_tests}
+use Rattle.file_frame.specs.declared.version.Version.{Version}
+use Rattle.file_frame.specs.declared.version.Version.TheVariants.{One, Two}
+use Rattle.tree_files.specs.TreeFile.{fields_of, fields_stated, node_tests}
 use Rattle.tree_files.specs.Reader.{refusal_without_fields}
 use Rattle.tree_files.specs.declared.fields.NodeFields.{NodeFields}
+use Rattle.file_frame.specs.Frame.{is_end}
 
 -- one number is too few
 one_number : (version : Version) (first : Option ℕ) (f : NodeFields)

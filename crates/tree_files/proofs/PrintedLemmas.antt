@@ -1,45 +1,35 @@
 -- A printed tree is read as it was.
-use Rattle.std.proofs.Common.{◌≡◌, ℕ, zero, suc, ◌+◌, ◌-◌, ◌^◌, ◌<◌, ◌≤◌, Bool, true, false, not, eqb, ltb, cond, List, [], ◌∷◌, ◌++◌, ◌⊎◌, inl, inr, length, get_or, take, map, refl, sym, ap, subst, ◌∙◌, arith, Some, None}
-use Rattle.std.specs.Bool.{IsTrue}
-use Rattle.std.specs.Fmt.{decimal}
+use Rattle.std.proofs.Common.{◌≡◌, ℕ, zero, suc, ◌+◌, ◌-◌, ◌^◌, ◌<◌, ◌≤◌, Bool, true, false, not, eqb, ltb, cond, List, [], ◌∷◌, ◌++◌, inl, inr, length, get_or, take, drop, map, refl, sym, ap, subst, ◌∙◌, arith, Some, None}
 use Rattle.std.specs.List.{All, sum_by, list_all}
 use Rattle.std.proofs.lemmas.Bool.{and_from, and_right, le-leb, lt-ltb, le-ltb, ne_eqb, eq-eqb, eqb-true, not-false, or_parts}
-use Rattle.std.proofs.lemmas.List.{length-map, length_push, get_or_default}
+use Rattle.std.proofs.lemmas.List.{length-map, length_push, get_or_default, drop_all}
 use Rattle.std.proofs.Common.{length-append}
 use Rattle.std.proofs.lemmas.List.Elements.{All-nil, All-cons, All-tail}
 use Rattle.std.proofs.lemmas.List.Folds.{list_all-append}
 use Rattle.std.proofs.lemmas.List.Sums.{sum_by-cons, sum_by-append}
 use Rattle.std.proofs.Math.Seq.{take-append_seam}
 use Rattle.limits.specs.Limits.{most_tasks, most_size, most_time, most_total}
-use Rattle.mp_text.specs.declared.layout.Layout.{Layout}
 use Rattle.mp_text.specs.declared.layout.Layout.TheVariants.{Commented}
-use Rattle.mp_text.specs.declared.words.Version.{Version}
-use Rattle.mp_text.specs.declared.words.Version.TheVariants.{One, Two}
-use Rattle.mp_text.specs.Text.{Row, number_of, numbers_of}
-use Rattle.mp_text.specs.Words.{after_word, version_of}
+use Rattle.file_frame.specs.declared.version.Version.{Version}
+use Rattle.file_frame.specs.declared.version.Version.TheVariants.{One, Two}
+use Rattle.mp_text.specs.Text.{Row, numbers_of}
+use Rattle.file_frame.specs.Words.{after_word}
 use Rattle.mp_text.specs.Ahead.{rows_of_bytes}
 use Rattle.mp_text.specs.Grammar.{first_failure, ArePassed}
-use Rattle.mp_text.specs.Report.{is_token, is_counted, numbered_from, text_of_lines}
+use Rattle.mp_text.specs.Report.{is_counted, numbered_from}
 use Rattle.trees.specs.Tree.{IsTree, IsNodeWithin, node_size, node_at}
-use Rattle.tree_files.specs.TreeFile.{tree_format, header_tests, version_stated, count_tests, count_stated, fields_of, node_tests, node_of, total_of, last_tests, is_end, is_complete, nodes_stated, tree_line_tests, ReadsTree}
-use Rattle.tree_files.specs.TreeText.{node_numbers, node_line, header_line, count_line, end_line, lines_in, text_in, has_share, version_for, text_of, text2_of}
+use Rattle.tree_files.specs.TreeFile.{tree_format, tree_header_tests, tree_version, node_count_tests, node_count, fields_of, node_tests, node_of, total_of, is_tree_complete, nodes_stated, tree_line_tests, ReadsTree}
+use Rattle.tree_files.specs.TreeText.{node_numbers, node_line, tree_lines, tree_text_in, has_share, tree_version_for, tree_text, tree_text_2}
 use Rattle.trees.specs.declared.node.Node.{Node}
 use Rattle.lists.proofs.Lists.{within as last_or_within}
-
--- what the laws of printed numbers and files say
-pub record AreLaws : Type 0 where
-  pub token : (n : ℕ) → n < 2 ^ 64 → IsTrue (is_token (decimal n))
-  pub value : (n : ℕ) → n < 2 ^ 64 → number_of (decimal n) ≡ Some n
-  pub values : (ns : List ℕ) → All (λ n. n < 2 ^ 64) ns → numbers_of (map decimal ns) ≡ Some ns
-  pub counted : (layout : Layout) (n : ℕ) (tokens : List (List ℕ)) → n < 2 ^ 64 → IsTrue (list_all is_token tokens) → IsTrue (is_counted layout (decimal n ∷ tokens))
-  pub rows : (layout : Layout) (lines : List (List (List ℕ))) → IsTrue (list_all (is_counted layout) lines) → rows_of_bytes layout (text_of_lines lines) ≡ numbered_from 1 lines
-  pub parts : (n : ℕ) (xs ys : List (List (List ℕ))) → numbered_from n (xs ++ ys) ≡ numbered_from n xs ++ numbered_from (n + length xs) ys
-  pub count : (n : ℕ) (lines : List (List (List ℕ))) → length (numbered_from n lines) ≡ length lines
+use Rattle.file_frame.specs.Frame.{is_end, last_tests}
+use Rattle.file_frame.specs.Printed.{header_line, section_line, end_line}
+use Rattle.file_frame.proofs.PrintedLaws.{AreLaws, AreSmall, numbers_counted}
+use Rattle.file_frame.proofs.LineLemmas.{header_row, header_passes, header_is, section_is, section_counted}
+use Rattle.tree_files.specs.declared.kind.TreeKind.TheVariants as kinds
+use Rattle.std.specs.Prelude.{codes}
 
 -- ---- one line
-
-abbrev AreSmall : List ℕ → Type 0
-AreSmall ns = All (λ n. n < 2 ^ 64) ns
 
 -- what is printed of a node is the node
 record IsPrintable (version : Version) (node : Node) : Type 0 where
@@ -71,16 +61,9 @@ not_end : (version : Version) (number : ℕ) (node : Node) → is_end (record { 
 not_end One number node = and_right _ _ refl
 not_end Two number node = and_right _ _ refl
 
-all_tokens : AreLaws → (ns : List ℕ) → AreSmall ns → list_all is_token (map decimal ns) ≡ true
-all_tokens laws [] small = refl
-all_tokens laws (n ∷ ns) small = and_from _ _ (laws.token n (small 0 n (omega arith))) (all_tokens laws ns (All-tail (λ m. m < 2 ^ 64) n ns small))
-
-all_counted : AreLaws → (n : ℕ) (ns : List ℕ) → AreSmall (n ∷ ns) → is_counted Commented (map decimal (n ∷ ns)) ≡ true
-all_counted laws n ns small = laws.counted Commented n (map decimal ns) (small 0 n (omega arith)) (all_tokens laws ns (All-tail (λ m. m < 2 ^ 64) n ns small))
-
 node-counted : AreLaws → (version : Version) (node : Node) → IsPrintable version node → is_counted Commented (node_line version node) ≡ true
-node-counted laws One node fits = all_counted laws node.parent (node.out ∷ node.extra ∷ node.time ∷ []) fits.numbers
-node-counted laws Two node fits = all_counted laws node.parent (node.out ∷ node.extra ∷ node.share ∷ node.time ∷ []) fits.numbers
+node-counted laws One node fits = numbers_counted laws Commented node.parent (node.out ∷ node.extra ∷ node.time ∷ []) fits.numbers
+node-counted laws Two node fits = numbers_counted laws Commented node.parent (node.out ∷ node.extra ∷ node.share ∷ node.time ∷ []) fits.numbers
 
 -- ---- rows
 
@@ -164,31 +147,18 @@ node_passes laws version count total number node fits parent out extra some time
     ) refl
 
 count_row : ℕ → Row
-count_row count = record { number = 2; tokens = count_line count }
+count_row count = record { number = 2; tokens = section_line (codes "nodes") count }
 
-count_passes : AreLaws → (count : ℕ) → 1 ≤ count → count ≤ most_tasks → first_failure (count_tests (count_row count)) ≡ None
+count_passes : AreLaws → (count : ℕ) → 1 ≤ count → count ≤ most_tasks → first_failure (node_count_tests (count_row count)) ≡ None
 unfolding count_row after_word
 count_passes laws count some few =
     let number = laws.value count (omega arith) in
     let positive : eqb count 0 ≡ false = ne_eqb count 0 (λ z. omega arith) in
     rw (number, positive, le-leb count most_tasks few) refl
 
-count_is : AreLaws → (count : ℕ) → count ≤ most_tasks → count_stated (count_row count) ≡ count
-unfolding count_row after_word
-count_is laws count few = rw (laws.value count (omega arith)) refl
-
-header_row : Version → Row
-header_row version = record { number = 1; tokens = header_line version }
-
-header_passes : (version : Version) → first_failure (header_tests (header_row version)) ≡ None
-unfolding header_row version_of after_word
-header_passes One = refl
-header_passes Two = refl
-
-header_is : (version : Version) → version_stated (header_row version) ≡ version
-unfolding header_row version_of after_word
-header_is One = refl
-header_is Two = refl
+count_is : AreLaws → (count : ℕ) → count ≤ most_tasks → node_count (count_row count) ≡ count
+unfolding count_row
+count_is laws count few = section_is laws (codes "nodes") 2 count refl (omega arith)
 
 -- ---- all lines
 
@@ -198,21 +168,21 @@ Passes : List Row → Row → Type 0
 Passes before row = first_failure (tree_line_tests before row) ≡ None
 
 -- a header, a count, as many node lines and an end pass, where each does
-module _ (header counted last : Row) (rows : List Row) (whole : length rows ≡ count_stated counted)
-    (header_ok : first_failure (header_tests header) ≡ None) (count_ok : first_failure (count_tests counted) ≡ None)
-    (rows_ok : (before after : List Row) (row : Row) → rows ≡ before ++ row ∷ after → first_failure (node_tests (version_stated header) (count_stated counted) (total_of (version_stated header) before) row) ≡ None)
-    (last_ok : first_failure (last_tests last) ≡ None) where
+module _ (header counted last : Row) (rows : List Row) (whole : length rows ≡ node_count counted)
+    (header_ok : first_failure (tree_header_tests header) ≡ None) (count_ok : first_failure (node_count_tests counted) ≡ None)
+    (rows_ok : (before after : List Row) (row : Row) → rows ≡ before ++ row ∷ after → first_failure (node_tests (tree_version header) (node_count counted) (total_of (tree_version header) before) row) ≡ None)
+    (last_ok : first_failure (last_tests kinds.Count last) ≡ None) where
   at_last : Passes (header ∷ counted ∷ rows) last
   unfolding Passes
   at_last =
-      let past : ltb (length rows) (count_stated counted) ≡ false = le-ltb _ _ (omega arith) in
-      let same : eqb (length rows) (count_stated counted) ≡ true = eq-eqb _ _ whole in
-      rw (past, same) last_ok
+      let past : ltb (length rows) (node_count counted) ≡ false = le-ltb _ _ (omega arith) in
+      let none_left : drop (node_count counted) rows ≡ [] = drop_all (node_count counted) rows (omega (arith, whole)) in
+      rw (past, none_left) last_ok
 
   at_node : (before after : List Row) (row : Row) → rows ≡ before ++ row ∷ after → Passes (header ∷ counted ∷ before) row
   unfolding Passes
   at_node before after row e =
-      let fewer : ltb (length before) (count_stated counted) ≡ true = lt-ltb _ _ (omega (arith, whole, ap length e, length-append before (row ∷ after))) in
+      let fewer : ltb (length before) (node_count counted) ≡ true = lt-ltb _ _ (omega (arith, whole, ap length e, length-append before (row ∷ after))) in
       rw fewer (rows_ok before after row e)
 
   all_passed : ArePassed tree_format (header ∷ counted ∷ (rows ++ last ∷ []))
@@ -258,7 +228,7 @@ module _ (laws : AreLaws) (version : Version) (nodes : List Node) (tree : IsTree
 
   -- the rows
   abbrev header : Row
-  header = header_row version
+  header = header_row (codes "tree") version
 
   abbrev counted : Row
   counted = count_row (length nodes)
@@ -269,11 +239,11 @@ module _ (laws : AreLaws) (version : Version) (nodes : List Node) (tree : IsTree
   abbrev last : Row
   last = record { number = 3 + length (map (node_line version) nodes); tokens = end_line }
 
-  rows_are : numbered_from 1 (lines_in version nodes) ≡ header ∷ counted ∷ (rows ++ last ∷ [])
-  unfolding header_row count_row node_rows
-  rows_are = ap (λ (rs : List Row). header_row version ∷ count_row (length nodes) ∷ rs) (laws.parts 3 (map (node_line version) nodes) (end_line ∷ []))
+  rows_are : numbered_from 1 (tree_lines version nodes) ≡ header ∷ counted ∷ (rows ++ last ∷ [])
+  unfolding count_row node_rows
+  rows_are = ap (λ (rs : List Row). header_row (codes "tree") version ∷ count_row (length nodes) ∷ rs) (laws.parts 3 (map (node_line version) nodes) (end_line ∷ []))
 
-  counted_is : count_stated counted ≡ length nodes
+  counted_is : node_count counted ≡ length nodes
   counted_is = count_is laws (length nodes) tree.few
 
   rows_len : length rows ≡ length nodes
@@ -292,44 +262,44 @@ module _ (laws : AreLaws) (version : Version) (nodes : List Node) (tree : IsTree
       subst (λ (r : Row). first_failure (node_tests version (length nodes) (total_of version before) r) ≡ None) (sym split.row_is)
       (node_passes laws version (length nodes) (total_of version before) split.number split.node fits within.parent within.out within.extra within.time.0 within.time.1 small)
 
-  rows_ok : (before after : List Row) (row : Row) → rows ≡ before ++ row ∷ after → first_failure (node_tests (version_stated header) (count_stated counted) (total_of (version_stated header) before) row) ≡ None
-  rows_ok before after row e = rw (header_is version, counted_is) (node_ok before after row e)
+  rows_ok : (before after : List Row) (row : Row) → rows ≡ before ++ row ∷ after → first_failure (node_tests (tree_version header) (node_count counted) (total_of (tree_version header) before) row) ≡ None
+  rows_ok before after row e = rw (header_is (codes "tree") version refl, counted_is) (node_ok before after row e)
 
   passed : ArePassed tree_format (header ∷ counted ∷ (rows ++ last ∷ []))
-  passed = all_passed header counted last rows (rows_len ∙ sym counted_is) (header_passes version) (count_passes laws (length nodes) tree.some tree.few) rows_ok refl
+  passed = all_passed header counted last rows (rows_len ∙ sym counted_is) (header_passes (codes "tree") kinds.Header version refl) (count_passes laws (length nodes) tree.some tree.few) rows_ok refl
 
-  whole : is_complete (header ∷ counted ∷ (rows ++ last ∷ [])) ≡ true
+  whole : is_tree_complete (header ∷ counted ∷ (rows ++ last ∷ [])) ≡ true
   whole = eq-eqb _ _ (omega (arith, length_push rows last, rows_len, counted_is))
 
   stated : nodes_stated (header ∷ counted ∷ (rows ++ last ∷ [])) ≡ nodes
   stated =
-      let cut : take (count_stated counted) (rows ++ last ∷ []) ≡ rows = ap (λ (n : ℕ). take n (rows ++ last ∷ [])) (counted_is ∙ sym rows_len) ∙ take-append_seam rows (last ∷ []) in
-      ap (λ (v : Version). map (node_of v) (take (count_stated counted) (rows ++ last ∷ []))) (header_is version) ∙ ap (map (node_of version)) cut ∙ nodes_of-rows laws version 3 nodes printable
+      let cut : take (node_count counted) (rows ++ last ∷ []) ≡ rows = ap (λ (n : ℕ). take n (rows ++ last ∷ [])) (counted_is ∙ sym rows_len) ∙ take-append_seam rows (last ∷ []) in
+      ap (λ (v : Version). map (node_of v) (take (node_count counted) (rows ++ last ∷ []))) (header_is (codes "tree") version refl) ∙ ap (map (node_of version)) cut ∙ nodes_of-rows laws version 3 nodes printable
 
   -- the lines count
   nodes_counted : (ns : List Node) → All (IsPrintable version) ns → list_all (is_counted Commented) (map (node_line version) ns) ≡ true
   nodes_counted [] fit = refl
   nodes_counted (n ∷ ns) fit = and_from _ _ (node-counted laws version n (fit 0 n (omega arith))) (nodes_counted ns (All-tail (IsPrintable version) n ns fit))
 
-  header_counted : (v : Version) → is_counted Commented (header_line v) ≡ true
+  header_counted : (v : Version) → is_counted Commented (header_line (codes "tree") v) ≡ true
   header_counted One = refl
   header_counted Two = refl
 
-  count_counted : is_counted Commented (count_line (length nodes)) ≡ true
-  count_counted = rw (laws.token (length nodes) (omega (arith, tree.few))) refl
+  count_counted : is_counted Commented (section_line (codes "nodes") (length nodes)) ≡ true
+  count_counted = section_counted laws (codes "nodes") (length nodes) refl refl (omega (arith, tree.few))
 
-  lines_counted : list_all (is_counted Commented) (lines_in version nodes) ≡ true
+  lines_counted : list_all (is_counted Commented) (tree_lines version nodes) ≡ true
   lines_counted =
       and_from _ _ (header_counted version) (and_from _ _ count_counted
       (list_all-append (is_counted Commented) (map (node_line version) nodes) (end_line ∷ []) ∙ and_from _ _ (nodes_counted nodes printable) refl))
 
-  pub printed-reads : ReadsTree (text_in version nodes) nodes
+  pub printed-reads : ReadsTree (tree_text_in version nodes) nodes
   printed-reads =
-      let read : rows_of_bytes Commented (text_in version nodes) ≡ header ∷ counted ∷ (rows ++ last ∷ []) = laws.rows Commented (lines_in version nodes) lines_counted ∙ rows_are in
+      let read : rows_of_bytes Commented (tree_text_in version nodes) ≡ header ∷ counted ∷ (rows ++ last ∷ []) = laws.rows Commented (tree_lines version nodes) lines_counted ∙ rows_are in
       record {
         form = record {
           lines = subst (ArePassed tree_format) (sym read) passed;
-          end = rw (ap is_complete read ∙ whole) refl;
+          end = rw (ap is_tree_complete read ∙ whole) refl;
         };
         stated = sym (ap nodes_stated read ∙ stated);
         roots = tree.roots;
@@ -348,8 +318,8 @@ one_unshared : (b : Bool) (nodes : List Node) → has_share nodes ≡ b → cond
 one_unshared true nodes e is = absurd cc
 one_unshared false nodes e is = no_share nodes e
 
-pub text_of-reads : AreLaws → (nodes : List Node) → IsTree nodes → ReadsTree (text_of nodes) nodes
-text_of-reads laws nodes tree = printed-reads laws (version_for nodes) nodes tree (one_unshared (has_share nodes) nodes refl)
+pub tree_text-reads : AreLaws → (nodes : List Node) → IsTree nodes → ReadsTree (tree_text nodes) nodes
+tree_text-reads laws nodes tree = printed-reads laws (tree_version_for nodes) nodes tree (one_unshared (has_share nodes) nodes refl)
 
-pub text2_of-reads : AreLaws → (nodes : List Node) → IsTree nodes → ReadsTree (text2_of nodes) nodes
-text2_of-reads laws nodes tree = printed-reads laws Two nodes tree (λ never. absurd cc)
+pub tree_text_2-reads : AreLaws → (nodes : List Node) → IsTree nodes → ReadsTree (tree_text_2 nodes) nodes
+tree_text_2-reads laws nodes tree = printed-reads laws Two nodes tree (λ never. absurd cc)

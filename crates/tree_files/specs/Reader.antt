@@ -4,18 +4,18 @@ use Rattle.std.specs.Prelude.{◌≡◌, ℕ, ◌+◌, ◌≤◌, nat_lt, List, 
 use Rattle.limits.specs.Limits.{most_tasks, most_total}
 use Rattle.mp_text.specs.declared.refusals.Refusal.{Refusal}
 use Rattle.mp_text.specs.Text.{Row}
-use Rattle.mp_text.specs.declared.words.Version.{Version}
-use Rattle.mp_text.specs.declared.words.Version.TheVariants.{One}
+use Rattle.file_frame.specs.declared.version.Version.{Version}
+use Rattle.file_frame.specs.declared.version.Version.TheVariants.{One}
 use Rattle.mp_text.specs.Grammar.{fault, fault_at}
 use Rattle.mp_text.specs.Reading.{tested}
 use Rattle.trees.specs.Tree.{node_size}
-use Rattle.tree_files.specs.TreeFile.{header_tests, version_stated, count_tests, count_stated, is_end, node_tests, node_of, total_of}
-use Rattle.tree_files.specs.TreeFile.{last_tests}
+use Rattle.tree_files.specs.TreeFile.{tree_header_tests, tree_version, node_count_tests, node_count, node_tests, node_of, total_of}
 use Rattle.trees.specs.declared.node.Node.{Node}
 use Rattle.tree_files.specs.declared.kind.TreeKind.{TreeKind}
 use Rattle.tree_files.specs.declared.kind.TreeKind.TheVariants as kinds
 use Rattle.tree_files.specs.declared.stage.Stage.{Stage}
 use Rattle.tree_files.specs.declared.stage.Stage.TheVariants as stages
+use Rattle.file_frame.specs.Frame.{is_end, last_tests}
 
 -- what the reader keeps: what comes next, the version, the stated number of nodes, the nodes, and the sum of their sizes
 pub record ReaderState : Type 0 where
@@ -49,11 +49,11 @@ abbrev pub body_step : ReaderState → Row → Result ReaderState (Refusal TreeK
 body_step s row =
     if nat_lt (length s.nodes) s.count
     then tested (node_tests s.version s.count s.total row) (with_node s row)
-    else tested (last_tests row) (record s { stage = stages.Ended })
+    else tested (last_tests kinds.Count row) (record s { stage = stages.Ended })
 
 abbrev pub staged_step : Stage → ReaderState → Row → Result ReaderState (Refusal TreeKind)
-staged_step stages.Header s row = tested (header_tests row) (record s { stage = stages.Count; version = version_stated row })
-staged_step stages.Count s row = tested (count_tests row) (record s { stage = stages.Nodes; count = count_stated row })
+staged_step stages.Header s row = tested (tree_header_tests row) (record s { stage = stages.Count; version = tree_version row })
+staged_step stages.Count s row = tested (node_count_tests row) (record s { stage = stages.Nodes; count = node_count row })
 staged_step stages.Nodes s row = body_step s row
 staged_step stages.Ended s row = Err (fault kinds.Count row)
 
@@ -71,11 +71,11 @@ tree_end s past = staged_end s.stage s past
 
 -- the reader stands where nodes are read, after a header, a count and these node lines
 pub record TookNodes (s : ReaderState) (header counted : Row) (rows : List Row) : Type 0 where
-  pub version : s.version ≡ version_stated header
-  pub count : s.count ≡ count_stated counted
-  pub nodes : s.nodes ≡ map (node_of (version_stated header)) rows
-  pub total : s.total ≡ total_of (version_stated header) rows
-  pub within : length rows ≤ count_stated counted
+  pub version : s.version ≡ tree_version header
+  pub count : s.count ≡ node_count counted
+  pub nodes : s.nodes ≡ map (node_of (tree_version header)) rows
+  pub total : s.total ≡ total_of (tree_version header) rows
+  pub within : length rows ≤ node_count counted
 
 -- the reader has taken nothing of the nodes yet
 pub record IsFresh (s : ReaderState) : Type 0 where
@@ -85,7 +85,7 @@ pub record IsFresh (s : ReaderState) : Type 0 where
 pub record TookHeader (s : ReaderState) (rows : List Row) : Type 0 where
   pub header : Row
   pub rows_are : rows ≡ header ∷ []
-  pub version : s.version ≡ version_stated header
+  pub version : s.version ≡ tree_version header
   pub fresh : IsFresh s
 
 pub record TookSome (s : ReaderState) (rows : List Row) : Type 0 where
@@ -102,7 +102,7 @@ pub record TookAll (s : ReaderState) (rows : List Row) : Type 0 where
   pub last : Row
   pub rows_are : rows ≡ header ∷ counted ∷ (node_rows ++ last ∷ [])
   pub nodes : TookNodes s header counted node_rows
-  pub whole : length node_rows ≡ count_stated counted
+  pub whole : length node_rows ≡ node_count counted
 
 -- the reader stands after these lines
 abbrev pub staged_took : Stage → ReaderState → List Row → Type 0

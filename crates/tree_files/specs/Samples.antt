@@ -7,26 +7,27 @@ use Rattle.mp_text.specs.declared.refusals.Refusal.{Refusal}
 use Rattle.mp_text.specs.declared.refusals.Refusal.TheVariants as refusals
 use Rattle.limits.specs.declared.name.LimitName.TheVariants as limits
 use Rattle.mp_text.specs.Text.{lines_of, tokens_of, number_of, number_from, numbers_of, rows_from}
-use Rattle.mp_text.specs.Words.{after_word, version_of}
+use Rattle.file_frame.specs.Words.{after_word, version_of}
 use Rattle.mp_text.specs.Ahead.{rows_of_bytes, past_of_bytes}
 use Rattle.mp_text.specs.Grammar.{fault_at, first_failure, tests_of_all}
 use Rattle.tree_files.specs.declared.kind.TreeKind.{TreeKind}
 use Rattle.tree_files.specs.declared.kind.TreeKind.TheVariants as kinds
-use Rattle.tree_files.specs.TreeFile.{nodes_stated, line_stating, tree_line_tests, tree_end_tests}
-use Rattle.tree_files.specs.TreeText.{text_of, text2_of}
+use Rattle.tree_files.specs.TreeFile.{nodes_stated, tree_line_tests, tree_end_tests}
+use Rattle.tree_files.specs.TreeText.{tree_text, tree_text_2}
 use Rattle.trees.specs.Samples.{five, shared}
+use Rattle.file_frame.specs.Frame.{line_stating}
 
 -- ---- printing
 
-pub five_text : text_of five ≡ codes "tree 1\nnodes 5\n2 1 9 1\n5 5 0 1\n4 1 9 1\n5 5 0 1\n0 0 0 1\nend\n"
+pub five_text : tree_text five ≡ codes "tree 1\nnodes 5\n2 1 9 1\n5 5 0 1\n4 1 9 1\n5 5 0 1\n0 0 0 1\nend\n"
 unfolding digits
 five_text = refl
 
-pub five_text2 : text2_of five ≡ codes "tree 2\nnodes 5\n2 1 9 0 1\n5 5 0 0 1\n4 1 9 0 1\n5 5 0 0 1\n0 0 0 0 1\nend\n"
+pub five_text2 : tree_text_2 five ≡ codes "tree 2\nnodes 5\n2 1 9 0 1\n5 5 0 0 1\n4 1 9 0 1\n5 5 0 0 1\n0 0 0 0 1\nend\n"
 unfolding digits
 five_text2 = refl
 
-pub shared_text : text_of shared ≡ codes "tree 2\nnodes 2\n2 4 0 0 1\n0 3 2 4 1\nend\n"
+pub shared_text : tree_text shared ≡ codes "tree 2\nnodes 2\n2 4 0 0 1\n0 3 2 4 1\nend\n"
 unfolding digits
 shared_text = refl
 

@@ -1,20 +1,16 @@
 -- Tree files of version 1, and of version 2, whose nodes have a share: what a file reads as, and what it is refused with. They are this
 -- project's own format.
-use Rattle.std.specs.Prelude.{◌≡◌, ◌==◌, ℕ, ◌+◌, Bool, false, ◌&&◌, not, nat_lt, nat_le, is_some, unwrap_or, Option, Some, None}
-use Rattle.std.specs.Prelude.{List, [], ◌∷◌, length, map, take, codes, if◌then◌else◌, slice_index_or, ◌⊎◌}
+use Rattle.std.specs.Prelude.{◌≡◌, ◌==◌, ℕ, ◌+◌, Bool, ◌&&◌, not, nat_le, is_some, unwrap_or, Option, Some, None}
+use Rattle.std.specs.Prelude.{List, [], ◌∷◌, ◌++◌, length, map, take, codes, ◌⊎◌}
 use Rattle.std.specs.List.{sum_by}
-use Rattle.std.specs.Option.{option_and_then}
-use Rattle.std.specs.Str.{bytes_eq}
-use Rattle.std.specs.Cmp.Lexicographic.{pointwise}
 use Rattle.limits.specs.Limits.{most_tasks, most_size, most_time, most_total}
 use Rattle.limits.specs.declared.name.LimitName.TheVariants as limits
 use Rattle.mp_text.specs.declared.layout.Layout.TheVariants.{Commented}
 use Rattle.mp_text.specs.declared.refusals.Refusal.{Refusal}
 use Rattle.mp_text.specs.declared.refusals.Refusal.TheVariants as refusals
-use Rattle.mp_text.specs.Text.{Row, number_of, numbers_of}
-use Rattle.mp_text.specs.declared.words.Version.{Version}
-use Rattle.mp_text.specs.declared.words.Version.TheVariants.{One, Two}
-use Rattle.mp_text.specs.Words.{after_word, version_of}
+use Rattle.mp_text.specs.Text.{Row, numbers_of}
+use Rattle.file_frame.specs.declared.version.Version.{Version}
+use Rattle.file_frame.specs.declared.version.Version.TheVariants.{One, Two}
 use Rattle.mp_text.specs.Ahead.{rows_of_bytes, past_of_bytes}
 use Rattle.mp_text.specs.Grammar.{Test, test, Format, IsWellFormed, Refuses, fault, fault_at}
 use Rattle.tree_files.specs.declared.fields.NodeFields.{NodeFields}
@@ -23,35 +19,30 @@ use Rattle.trees.specs.Tree.{IsNode, LeadsToRoot, NodeShareFits, node_size}
 use Rattle.trees.specs.declared.node.Node.{Node}
 use Rattle.tree_files.specs.declared.kind.TreeKind.{TreeKind}
 use Rattle.tree_files.specs.declared.kind.TreeKind.TheVariants as kinds
+use Rattle.file_frame.specs.Frame.{header_tests, version_stated, stated_on, is_end, end_tests, first_then}
+use Rattle.file_frame.specs.Frame.{section_tests, line_stating, lines_then, end_then_none, has_first}
 
 -- ---- line 1: `tree 1` or `tree 2`
 
-abbrev pub header_tests : Row → List (Test TreeKind)
-header_tests row = test (is_some (version_of (codes "tree") row.tokens)) (fault kinds.Header row) ∷ []
+abbrev pub tree_header_tests : Row → List (Test TreeKind)
+tree_header_tests row = header_tests (codes "tree") Two kinds.Header row
 
-abbrev pub version_stated : Row → Version
-version_stated header = unwrap_or (version_of (codes "tree") header.tokens) One
+abbrev pub tree_version : Row → Version
+tree_version header = version_stated (codes "tree") Two header
 
 -- ---- line 2: `nodes N`
 
-abbrev pub count_number : Row → Option ℕ
-count_number row = option_and_then number_of (after_word (codes "nodes") row.tokens)
+abbrev pub node_count : Row → ℕ
+node_count row = stated_on (codes "nodes") row
 
-abbrev pub count_stated : Row → ℕ
-count_stated row = unwrap_or (count_number row) 0
-
-abbrev pub count_tests : Row → List (Test TreeKind)
-count_tests row =
-    test (is_some (after_word (codes "nodes") row.tokens)) (fault kinds.Header row)
-    ∷ test (is_some (count_number row)) (fault kinds.Number row)
-    ∷ test (not (count_stated row == 0)) (fault kinds.Count row)
-    ∷ test (nat_le (count_stated row) most_tasks) (refusals.Limit limits.Tasks)
+abbrev pub node_count_tests : Row → List (Test TreeKind)
+node_count_tests row =
+    section_tests (codes "nodes") kinds.Header kinds.Number row
+    ++ test (not (node_count row == 0)) (fault kinds.Count row)
+    ∷ test (nat_le (node_count row) most_tasks) (refusals.Limit limits.Tasks)
     ∷ []
 
 -- ---- a node line: `parent out extra time`, in version 2 `parent out extra share time`
-
-abbrev pub is_end : Row → Bool
-is_end row = pointwise bytes_eq row.tokens (codes "end" ∷ [])
 
 -- the fields of a line that has just so many tokens, all of them numbers
 abbrev pub fields_of : Version → Option (List ℕ) → Option NodeFields
@@ -85,31 +76,22 @@ total_of version rows = sum_by (λ row. node_size (node_of version row)) rows
 
 -- ---- the lines after the second: N nodes, then `end`, then none
 
-abbrev pub last_tests : Row → List (Test TreeKind)
-last_tests row = test (is_end row) (fault kinds.Count row) ∷ []
-
-abbrev pub further_tests : Row → List (Test TreeKind)
-further_tests row = test false (fault kinds.Count row) ∷ []
-
-abbrev pub body_tests : Version → ℕ → List Row → Row → List (Test TreeKind)
-body_tests version count nodes row =
-    if nat_lt (length nodes) count then node_tests version count (total_of version nodes) row
-    else (if length nodes == count then last_tests row
-    else further_tests row)
+abbrev pub tree_body_tests : Version → ℕ → List Row → Row → List (Test TreeKind)
+tree_body_tests version count =
+    lines_then count (λ before row. node_tests version count (total_of version before) row) (λ nodes. end_then_none kinds.Count kinds.Count)
 
 abbrev pub tree_line_tests : List Row → Row → List (Test TreeKind)
-tree_line_tests [] row = header_tests row
-tree_line_tests (header ∷ []) row = count_tests row
-tree_line_tests (header ∷ count ∷ nodes) row = body_tests (version_stated header) (count_stated count) nodes row
+tree_line_tests =
+    first_then tree_header_tests (λ header.
+    first_then node_count_tests (λ counted.
+    tree_body_tests (tree_version header) (node_count counted)))
 
 -- whether no line is missing
-abbrev pub is_complete : List Row → Bool
-is_complete [] = false
-is_complete (header ∷ []) = false
-is_complete (header ∷ count ∷ rows) = length rows == count_stated count + 1
+abbrev pub is_tree_complete : List Row → Bool
+is_tree_complete = has_first (λ header. has_first (λ counted rows. length rows == node_count counted + 1))
 
 abbrev pub tree_end_tests : List Row → ℕ → List (Test TreeKind)
-tree_end_tests rows past = test (is_complete rows) (fault_at past kinds.NoEnd) ∷ []
+tree_end_tests rows past = end_tests (is_tree_complete rows) kinds.NoEnd past
 
 abbrev pub tree_format : Format TreeKind
 tree_format = record { line_tests = tree_line_tests; end_tests = tree_end_tests }
@@ -118,11 +100,7 @@ tree_format = record { line_tests = tree_line_tests; end_tests = tree_end_tests 
 abbrev pub nodes_stated : List Row → List Node
 nodes_stated [] = []
 nodes_stated (header ∷ []) = []
-nodes_stated (header ∷ count ∷ rows) = map (node_of (version_stated header)) (take (count_stated count) rows)
-
--- the number of the line that states node v
-abbrev pub line_stating : List Row → ℕ → ℕ
-line_stating rows v = (slice_index_or rows (v + 1) (record { number = 0; tokens = [] })).number
+nodes_stated (header ∷ count ∷ rows) = map (node_of (tree_version header)) (take (node_count count) rows)
 
 -- ---- the whole file
 

@@ -2,7 +2,8 @@ ghost use Rattle.std.specs.Prelude.{◌≡◌};
 ghost use Rattle.mp_text.specs.Text.{tokens_of, numbers_of};
 ghost use Rattle.tree_files.specs.TreeFile.{fields_of};
 
-use mp_text::{Version, tokens};
+use file_frame::Version;
+use mp_text::tokens;
 
 /// The numbers of a node line, of whatever size.
 #[derive(Clone, Copy, Debug)]

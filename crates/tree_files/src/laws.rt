@@ -7,7 +7,7 @@ ghost use Rattle.trees.specs.declared.node.Node.{Node};
 ghost use Rattle.tree_files.specs.declared.kind.TreeKind.{TreeKind};
 ghost use Rattle.trees.specs.Tree.{IsTree};
 ghost use Rattle.tree_files.specs.TreeFile.{ReadsTree, RefusesTree};
-ghost use Rattle.tree_files.specs.TreeText.{text_of, text2_of};
+ghost use Rattle.tree_files.specs.TreeText.{tree_text, tree_text_2};
 
 use crate::kind::TreeKind;
 use mp_text::laws as text_laws;
@@ -27,8 +27,8 @@ pub fn exactly_one()
 
 /// The text of a tree, and its text in version 2, are read as that tree.
 pub fn printed_tree()
-    ensures text { (nodes : List Node) → IsTree nodes → ReadsTree (text_of nodes) nodes }
-    ensures text_2 { (nodes : List Node) → IsTree nodes → ReadsTree (text2_of nodes) nodes }
+    ensures text { (nodes : List Node) → IsTree nodes → ReadsTree (tree_text nodes) nodes }
+    ensures text_2 { (nodes : List Node) → IsTree nodes → ReadsTree (tree_text_2 nodes) nodes }
 {
     text_laws::printed_number();
     text_laws::printed_file();
@@ -36,8 +36,8 @@ pub fn printed_tree()
 
 /// The text of a tree, and its text in version 2, are within the limit of bytes, so that a file of it can be read whole.
 pub fn printed_length()
-    ensures text { (nodes : List Node) → IsTree nodes → length (text_of nodes) ≤ most_bytes }
-    ensures text_2 { (nodes : List Node) → IsTree nodes → length (text2_of nodes) ≤ most_bytes }
+    ensures text { (nodes : List Node) → IsTree nodes → length (tree_text nodes) ≤ most_bytes }
+    ensures text_2 { (nodes : List Node) → IsTree nodes → length (tree_text_2 nodes) ≤ most_bytes }
 {}
 
 /// What a file is read as is a tree within the limits.

@@ -5,29 +5,22 @@ ghost use Rattle.limits.specs.Limits.{most_tasks, most_total};
 ghost use Rattle.mp_text.specs.Ahead.{row};
 ghost use Rattle.mp_text.specs.Reading.{Gives, tested};
 ghost use Rattle.tree_files.specs.Reader.{refusal_without_fields};
-ghost use Rattle.tree_files.specs.TreeFile.{header_tests, version_stated, count_tests, count_stated, is_end, fields_stated, node_tests};
-ghost use Rattle.tree_files.specs.TreeFile.{node_of, last_tests};
+ghost use Rattle.tree_files.specs.TreeFile.{node_count_tests, node_count, fields_stated, node_tests, node_of};
+ghost use Rattle.file_frame.specs.Frame.{is_end};
 
 use crate::fields::{NodeFields, fields_on};
 use crate::kind::TreeKind;
+use file_frame::{Version, is_word, number_on};
 use limits::{LimitName, MOST_SIZE, MOST_TASKS, MOST_TIME, MOST_TOTAL};
-use mp_text::{Line, Refusal, Version, after_word, fault, is_word, number, version_of};
+use mp_text::{Line, Refusal, fault};
 use trees::Node;
 
-/// Line 1: the version.
-pub fn header_on(line: Line<'_>) -> Result<Version, Refusal<TreeKind>>
-    ensures { let r = row line.entry.number line.entry.text.now in Gives (tested (header_tests r) (version_stated r)) result }
-{
-    version_of(line.text, b"tree").ok_or(fault(line.number, TreeKind::Header))
-}
-
 /// Line 2: the number of nodes.
-pub fn count_on(line: Line<'_>) -> Result<u64, Refusal<TreeKind>>
-    ensures judged { let r = row line.entry.number line.entry.text.now in Gives (tested (count_tests r) (count_stated r)) result }
+pub fn node_count_on(line: Line<'_>) -> Result<u64, Refusal<TreeKind>>
+    ensures judged { let r = row line.entry.number line.entry.text.now in Gives (tested (node_count_tests r) (node_count r)) result }
     ensures few { IfOk result (λ n. n ≤ most_tasks) }
 {
-    let count = after_word(line.text, b"nodes").ok_or(fault(line.number, TreeKind::Header))?;
-    let count = number(count).ok_or(fault(line.number, TreeKind::Number))?;
+    let count = number_on(line, b"nodes", TreeKind::Header, TreeKind::Number)?;
     if count == 0 {
         return Err(fault(line.number, TreeKind::Count));
     }
@@ -89,14 +82,4 @@ pub fn node_on(
         share: fields.share,
         time: fields.time,
     })
-}
-
-/// The line after the last node.
-pub fn last_on(line: Line<'_>) -> Result<(), Refusal<TreeKind>>
-    ensures { Gives (tested (last_tests (row line.entry.number line.entry.text.now)) tt) result }
-{
-    if !is_word(line.text, b"end") {
-        return Err(fault(line.number, TreeKind::Count));
-    }
-    Ok(())
 }

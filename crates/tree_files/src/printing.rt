@@ -2,11 +2,12 @@
 
 ghost use Rattle.std.specs.Prelude.{◌≡◌, ◌++◌, map, length, take, IsTrue, OnOk, OnErr};
 ghost use Rattle.mp_text.specs.Report.{is_line_start, line_text, text_of_lines};
-ghost use Rattle.tree_files.specs.TreeText.{node_line, text_in, has_share, version_for, text_of, text2_of};
+ghost use Rattle.tree_files.specs.TreeText.{node_line, tree_text_in, has_share, tree_version_for, tree_text, tree_text_2};
 
 use crate::NoMemory;
+use file_frame::{Version, print_end, print_header, print_section};
 use mp_text::laws::printed_lines;
-use mp_text::{Report, Token, Version};
+use mp_text::{Report, Token};
 use trees::{Node, Tree};
 
 fn print_node(version: Version, node: &Node, report: &mut Report) -> Result<(), NoMemory>
@@ -40,18 +41,18 @@ fn print_nodes(version: Version, nodes: &[Node], report: &mut Report) -> Result<
 
 fn print_lines(version: Version, nodes: &[Node], report: &mut Report) -> Result<(), NoMemory>
     requires { IsTrue (is_line_start report.old) }
-    ensures ok { OnOk result (report.new ≡ report.old ++ text_in version nodes.now) }
+    ensures ok { OnOk result (report.new ≡ report.old ++ tree_text_in version nodes.now) }
     ensures err { OnErr result (take (length report.old) report.new ≡ report.old) }
 {
-    report.line(&[Token::Word("tree"), Token::Word(version.word())])?;
-    report.line(&[Token::Word("nodes"), Token::Number(nodes.len() as u64)])?;
+    print_header("tree", version, report)?;
+    print_section("nodes", nodes.len() as u64, report)?;
     print_nodes(version, nodes, report)?;
-    report.line(&[Token::Word("end")])
+    print_end(report)
 }
 
 fn print_in(version: Version, nodes: &[Node], report: &mut Report) -> Result<(), NoMemory>
     requires { IsTrue (is_line_start report.old) }
-    ensures ok { OnOk result (report.new ≡ report.old ++ text_in version nodes.now) }
+    ensures ok { OnOk result (report.new ≡ report.old ++ tree_text_in version nodes.now) }
     ensures err { OnErr result (report.new ≡ report.old) }
 {
     let start = report.len();
@@ -69,7 +70,7 @@ fn has_share(nodes: &[Node]) -> bool
 }
 
 fn version_for(nodes: &[Node]) -> Version
-    ensures { result ≡ version_for nodes.now }
+    ensures { result ≡ tree_version_for nodes.now }
 {
     if has_share(nodes) {
         Version::Two
@@ -81,7 +82,7 @@ fn version_for(nodes: &[Node]) -> Version
 /// Appends the lines of a tree file, of version 1 where every share is 0, else of version 2. Linear in the nodes.
 pub fn print_tree(tree: &Tree, report: &mut Report) -> Result<(), NoMemory>
     requires { IsTrue (is_line_start report.old) }
-    ensures ok { OnOk result (report.new ≡ report.old ++ text_of tree.now) }
+    ensures ok { OnOk result (report.new ≡ report.old ++ tree_text tree.now) }
     ensures err { OnErr result (report.new ≡ report.old) }
 {
     let nodes = tree.nodes();
@@ -91,7 +92,7 @@ pub fn print_tree(tree: &Tree, report: &mut Report) -> Result<(), NoMemory>
 /// Appends the lines of a tree file of version 2. Linear in the nodes.
 pub fn print_tree_2(tree: &Tree, report: &mut Report) -> Result<(), NoMemory>
     requires { IsTrue (is_line_start report.old) }
-    ensures ok { OnOk result (report.new ≡ report.old ++ text2_of tree.now) }
+    ensures ok { OnOk result (report.new ≡ report.old ++ tree_text_2 tree.now) }
     ensures err { OnErr result (report.new ≡ report.old) }
 {
     print_in(Version::Two, tree.nodes(), report)

@@ -2,9 +2,10 @@ ghost use Rattle.std.specs.Prelude.{◌≡◌};
 ghost use Rattle.mp_text.specs.Ahead.{row};
 
 use crate::kind::TreeKind;
-use crate::lines::{count_on, header_on, last_on, node_on};
+use crate::lines::{node_count_on, node_on};
 use crate::stage::Stage;
-use mp_text::{Line, Reader, Refusal, Version, fault};
+use file_frame::{Version, end_on, header_on};
+use mp_text::{Line, Reader, Refusal, fault};
 use std::alloc::Global;
 use std::marker::Model;
 use trees::Node;
@@ -89,7 +90,7 @@ impl TreeReader {
         if self.lacks_nodes() {
             return self.node_line(line);
         }
-        last_on(line)?;
+        end_on(line, TreeKind::Count)?;
         self.stage = Stage::Ended;
         Ok(())
     }
@@ -101,12 +102,12 @@ impl TreeReader {
     {
         match self.stage {
             Stage::Header => {
-                self.version = header_on(line)?;
+                self.version = header_on(line, b"tree", Version::Two, TreeKind::Header)?;
                 self.stage = Stage::Count;
                 Ok(())
             }
             Stage::Count => {
-                self.count = count_on(line)?;
+                self.count = node_count_on(line)?;
                 self.stage = Stage::Nodes;
                 Ok(())
             }

@@ -2,8 +2,9 @@ ghost use Rattle.std.specs.Prelude.{◌≡◌, IfOk, IfErr, OnOk, MatchResult};
 ghost use Rattle.mp_text.specs.declared.layout.Layout.TheVariants.{Commented};
 ghost use Rattle.mp_text.specs.Ahead.{rows_of_bytes};
 ghost use Rattle.trees.specs.Tree.{IsTree};
-ghost use Rattle.tree_files.specs.TreeFile.{ReadsTree, IsTreeRefusal, line_stating};
+ghost use Rattle.tree_files.specs.TreeFile.{ReadsTree, IsTreeRefusal};
 ghost use Rattle.tree_files.specs.Stated.{AreStated};
+ghost use Rattle.file_frame.specs.Frame.{line_stating};
 
 use crate::kind::TreeKind;
 use crate::reader::TreeReader;

@@ -5,7 +5,6 @@ use Rattle.std.specs.Bool.{IsTrue}
 use Rattle.std.specs.Fmt.{decimal}
 use Rattle.std.specs.List.{All, enumerate_from, join_with_byte, list_all}
 use Rattle.std.proofs.lemmas.Bool.{and_from}
-use Rattle.std.proofs.lemmas.Fmt.{length-decimal-le}
 use Rattle.std.proofs.lemmas.List.{length-map, take_all, take_more, map-append}
 use Rattle.std.proofs.lemmas.List.Concat.{length-flat_map}
 use Rattle.std.proofs.lemmas.List.Elements.{All-nil, All-cons, All-head, All-tail}
@@ -14,7 +13,7 @@ use Rattle.std.proofs.lemmas.List.Sums.{sum_by-le}
 use Rattle.limits.specs.Limits.{most_bytes, most_tasks}
 use Rattle.mp_text.specs.Comments.{is_comment_line}
 use Rattle.mp_text.specs.Report.{is_token, line_text, text_of_lines}
-use Rattle.workflow_files.specs.WorkflowText.{text_of}
+use Rattle.workflow_files.specs.WorkflowText.{workflow_text}
 use Rattle.sp_terms.specs.declared.position.Position.{Position}
 use Rattle.workflow_files.proofs.LengthLemmas.{small-decimal}
 use Rattle.workflow_files.specs.NamedText.{name_line, name_lines, named_text}
@@ -93,12 +92,12 @@ names-short k (v ∷ names) few small =
     (names-short (k + 1) names (omega arith) (All-tail IsSmall v names small))
 
 pub named-length : (positions : List Position) (names : List ℕ) → length names ≤ most_tasks → All IsSmall names
-    → length (text_of positions) + 50 * most_tasks ≤ most_bytes → length (named_text positions names) ≤ most_bytes
+    → length (workflow_text positions) + 50 * most_tasks ≤ most_bytes → length (named_text positions names) ≤ most_bytes
 named-length positions names few small room =
     let lines = name_lines names in
     omega (
       arith,
-      length-append (text_of positions) (text_of_lines lines),
+      length-append (workflow_text positions) (text_of_lines lines),
       length-flat_map line_text lines,
       sum_by-le (λ (line : List (List ℕ)). length (line_text line)) 50 lines (names-short 1 names (omega (arith, few)) small),
       length-map (enumerate_from 1 names) name_line,

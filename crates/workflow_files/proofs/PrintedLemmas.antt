@@ -1,25 +1,23 @@
 -- A printed workflow is read as it was.
-use Rattle.std.proofs.Common.{◌≡◌, ℕ, ◌+◌, ◌^◌, ◌<◌, ◌≤◌, Bool, true, false, cond, List, [], ◌∷◌, ◌++◌, length, map, refl, sym, ap, subst, ◌∙◌, arith, Some, None, append_assoc, append-nil}
+use Rattle.std.proofs.Common.{◌≡◌, ℕ, ◌+◌, ◌≤◌, Bool, true, false, cond, List, [], ◌∷◌, ◌++◌, length, map, refl, sym, ap, subst, ◌∙◌, arith, Some, None, append_assoc, append-nil}
 use Rattle.std.specs.Bool.{IsTrue}
 use Rattle.std.specs.Option.{is_some}
-use Rattle.std.specs.Fmt.{decimal}
-use Rattle.std.specs.List.{All, sum_by, list_all, list_any}
+use Rattle.std.specs.List.{sum_by, list_all, list_any}
 use Rattle.std.proofs.Math.Bool.{or-true}
 use Rattle.std.proofs.lemmas.Bool.{and_from, le-leb, eq-eqb, eqb-true, not-false, or_parts}
 use Rattle.std.proofs.lemmas.List.{map_push}
-use Rattle.std.proofs.lemmas.List.Elements.{All-nil, All-cons, All-head, All-tail}
+use Rattle.std.proofs.lemmas.List.Elements.{All-nil, All-cons}
 use Rattle.std.proofs.lemmas.List.Folds.{list_any-append}
 use Rattle.limits.specs.Limits.{most_tasks, most_total}
-use Rattle.mp_text.specs.declared.layout.Layout.{Layout}
 use Rattle.mp_text.specs.declared.layout.Layout.TheVariants.{Commented}
-use Rattle.mp_text.specs.declared.words.Version.{Version}
-use Rattle.mp_text.specs.declared.words.Version.TheVariants.{One, Two}
-use Rattle.mp_text.specs.Text.{Row, number_of, numbers_of}
-use Rattle.mp_text.specs.Words.{after_word, version_of}
+use Rattle.file_frame.specs.declared.version.Version.{Version}
+use Rattle.file_frame.specs.declared.version.Version.TheVariants.{One, Two}
+use Rattle.mp_text.specs.Text.{Row}
+use Rattle.file_frame.specs.Words.{after_word}
 use Rattle.mp_text.specs.Ahead.{rows_of_bytes}
 use Rattle.mp_text.specs.Comments.{is_comment_line}
 use Rattle.mp_text.specs.Grammar.{first_failure, ArePassed}
-use Rattle.mp_text.specs.Report.{is_token, is_counted, numbered_from, text_of_lines}
+use Rattle.mp_text.specs.Report.{is_counted, numbered_from, text_of_lines}
 use Rattle.sp_terms.specs.declared.position.Position.{Position}
 use Rattle.sp_terms.specs.declared.position.Position.TheVariants.{Hold, Par}
 use Rattle.sp_terms.specs.declared.position.Position.TheVariants as at
@@ -27,26 +25,18 @@ use Rattle.sp_terms.specs.Term.{Term, count}
 use Rattle.sp_terms.specs.Builder.{is_short, limit_of, is_overshared}
 use Rattle.sp_terms.specs.Postfix.{push_all}
 use Rattle.sp_terms.specs.Values.{stack_from, stack_of, added_size, added_tasks, IsTerms, IsWithinLimits, AllAllowed}
-use Rattle.workflow_files.specs.WorkflowFile.{workflow_format, workflow_line_tests, header_tests, version_stated, count_tests, count_stated, word_spelled, position_from, position_stated, stated_or, position_of, is_position, is_too_many, is_end, is_complete, positions_stated, ReadsWorkflow}
-use Rattle.workflow_files.specs.WorkflowText.{position_word, position_numbers, position_line, header_line, count_line, end_line, lines_in, text_in, is_sharing, version_for, text_of, text2_of}
+use Rattle.workflow_files.specs.WorkflowFile.{workflow_format, workflow_line_tests, workflow_count_tests, workflow_count, word_spelled, position_from, position_stated, stated_or, position_of, is_position, is_too_many, begins_end, is_workflow_complete, positions_stated, ReadsWorkflow}
+use Rattle.workflow_files.specs.WorkflowText.{position_word, position_numbers, position_line, workflow_lines, is_sharing, workflow_version_for, workflow_text, workflow_text_2}
 use Rattle.workflow_files.proofs.ReadLemmas.{stated_parts}
 use Rattle.sp_terms.proofs.Stacks.{onto, Pushed, held, ran, beside}
 use Rattle.sp_terms.proofs.Standing.{Standing, standing, not_over, small_share, onto-length, stack_few}
-
--- what the laws of printed numbers and files say
-pub record AreLaws : Type 0 where
-  pub token : (n : ℕ) → n < 2 ^ 64 → IsTrue (is_token (decimal n))
-  pub value : (n : ℕ) → n < 2 ^ 64 → number_of (decimal n) ≡ Some n
-  pub values : (ns : List ℕ) → All (λ n. n < 2 ^ 64) ns → numbers_of (map decimal ns) ≡ Some ns
-  pub rows : (layout : Layout) (lines : List (List (List ℕ))) → IsTrue (list_all (is_counted layout) lines) → rows_of_bytes layout (text_of_lines lines) ≡ numbered_from 1 lines
+use Rattle.file_frame.specs.Printed.{header_line, section_line, end_line}
+use Rattle.file_frame.proofs.PrintedLaws.{AreLaws, IsSmall, AreSmall, all_tokens}
+use Rattle.file_frame.proofs.LineLemmas.{header_row, header_passes, header_is, section_is, section_counted}
+use Rattle.workflow_files.specs.declared.kind.WorkflowKind.TheVariants as kinds
+use Rattle.std.specs.Prelude.{codes}
 
 -- ---- one position
-
-abbrev IsSmall : ℕ → Type 0
-IsSmall n = n < 2 ^ 64
-
-abbrev AreSmall : List ℕ → Type 0
-AreSmall = All IsSmall
 
 -- what is printed of a position is the position
 record IsPrintable (version : Version) (p : Position) : Type 0 where
@@ -71,15 +61,11 @@ is_worded (Hold size) = refl
 is_worded (at.Task extra share time) = refl
 is_worded (Par parts) = refl
 
-not_end : (version : Version) (number : ℕ) (p : Position) → is_end (position_row version number p) ≡ false
+not_end : (version : Version) (number : ℕ) (p : Position) → begins_end (position_row version number p) ≡ false
 unfolding position_row
 not_end version number (Hold size) = refl
 not_end version number (at.Task extra share time) = refl
 not_end version number (Par parts) = refl
-
-all_tokens : AreLaws → (ns : List ℕ) → AreSmall ns → list_all is_token (map decimal ns) ≡ true
-all_tokens laws [] small = refl
-all_tokens laws (n ∷ ns) small = and_from _ _ (laws.token n (All-head IsSmall n ns small)) (all_tokens laws ns (All-tail IsSmall n ns small))
 
 is_line : AreLaws → (version : Version) (p : Position) → AreSmall (position_numbers version p) → is_counted Commented (position_line version p) ≡ true
 is_line laws version (Hold size) small = and_from _ _ (all_tokens laws (position_numbers version (Hold size)) small) refl
@@ -122,33 +108,20 @@ module _ (ps first : List Position) (p : Position) (terms : IsTerms ps) (stands 
 
 -- ---- the first two lines
 
-header_row : Version → Row
-header_row version = record { number = 1; tokens = header_line version }
-
-header_passes : (version : Version) → first_failure (header_tests (header_row version)) ≡ None
-unfolding header_row version_of after_word
-header_passes One = refl
-header_passes Two = refl
-
-header_is : (version : Version) → version_stated (header_row version) ≡ version
-unfolding header_row version_of after_word
-header_is One = refl
-header_is Two = refl
-
-header_counts : (version : Version) → is_counted Commented (header_line version) ≡ true
+header_counts : (version : Version) → is_counted Commented (header_line (codes "workflow") version) ≡ true
 header_counts One = refl
 header_counts Two = refl
 
 count_row : ℕ → Row
-count_row total = record { number = 2; tokens = count_line total }
+count_row total = record { number = 2; tokens = section_line (codes "tasks") total }
 
-count_passes : AreLaws → (total : ℕ) → total ≤ most_tasks → first_failure (count_tests (count_row total)) ≡ None
+count_passes : AreLaws → (total : ℕ) → total ≤ most_tasks → first_failure (workflow_count_tests (count_row total)) ≡ None
 unfolding count_row after_word
 count_passes laws total few = rw (laws.value total (omega arith), le-leb total most_tasks few) refl
 
-count_is : AreLaws → (total : ℕ) → total ≤ most_tasks → count_stated (count_row total) ≡ total
-unfolding count_row after_word
-count_is laws total few = rw (laws.value total (omega arith)) refl
+count_is : AreLaws → (total : ℕ) → total ≤ most_tasks → workflow_count (count_row total) ≡ total
+unfolding count_row
+count_is laws total few = section_is laws (codes "tasks") 2 total refl (omega arith)
 
 -- ---- all lines
 
@@ -173,12 +146,12 @@ all_passed before (r ∷ rows) pass (f ∷ first) rest row e =
 
 module _ (laws : AreLaws) (version : Version) (ps : List Position) (terms : IsTerms ps) (unshared : version ≡ One → list_any is_sharing ps ≡ false) where
   abbrev header : Row
-  header = header_row version
+  header = header_row (codes "workflow") version
 
   abbrev counted : Row
   counted = count_row (sum_by added_tasks ps)
 
-  counted_is : count_stated counted ≡ sum_by added_tasks ps
+  counted_is : workflow_count counted ≡ sum_by added_tasks ps
   counted_is = count_is laws (sum_by added_tasks ps) terms.few_tasks
 
   printable : (first : List Position) (p : Position) (rest : List Position) → ps ≡ first ++ p ∷ rest → IsPrintable version p
@@ -195,24 +168,24 @@ module _ (laws : AreLaws) (version : Version) (ps : List Position) (terms : IsTe
     last : Row
     rows_are : numbered_from number (map (position_line version) rest ++ end_line ∷ []) ≡ rows ++ last ∷ []
     state : map (position_of version) rows ≡ rest
-    ended : is_end last ≡ true
+    ended : begins_end last ≡ true
     pass : AllPass (header ∷ counted ∷ before) (numbered_from number (map (position_line version) rest ++ end_line ∷ []))
     lines : list_all (is_counted Commented) (map (position_line version) rest ++ end_line ∷ []) ≡ true
 
-  last_passes : (before : List Row) (number : ℕ) → map (position_of version) before ≡ ps → list_any is_end before ≡ false → Passes (header ∷ counted ∷ before) (record { number = number; tokens = end_line })
+  last_passes : (before : List Row) (number : ℕ) → map (position_of version) before ≡ ps → list_any begins_end before ≡ false → Passes (header ∷ counted ∷ before) (record { number = number; tokens = end_line })
   unfolding Passes
   last_passes before number state unended =
-      rw (unended, header_is version, counted_is, state, eq-eqb _ _ (ap length (ap stack_from terms.is)), eq-eqb (sum_by added_tasks ps) _ refl) refl
+      rw (unended, header_is (codes "workflow") version refl, counted_is, state, eq-eqb _ _ (ap length (ap stack_from terms.is)), eq-eqb (sum_by added_tasks ps) _ refl) refl
 
-  position_passes : (before : List Row) (number : ℕ) (first : List Position) (p : Position) (rest : List Position) → ps ≡ first ++ p ∷ rest → map (position_of version) before ≡ first → list_any is_end before ≡ false
+  position_passes : (before : List Row) (number : ℕ) (first : List Position) (p : Position) (rest : List Position) → ps ≡ first ++ p ∷ rest → map (position_of version) before ≡ first → list_any begins_end before ≡ false
       → Passes (header ∷ counted ∷ before) (position_row version number p)
   unfolding Passes position_row
   position_passes before number first p rest e state unended =
       let fit = is_fit ps first p terms (standing ps first p rest terms e) in
       let is = position_is laws version number p (printable first p rest e) in
-      rw (unended, not_end version number p, header_is version, counted_is, state, is, fit.asked, fit.high, fit.few, fit.limit, fit.share, is_worded p) refl
+      rw (unended, not_end version number p, header_is (codes "workflow") version refl, counted_is, state, is, fit.asked, fit.high, fit.few, fit.limit, fit.share, is_worded p) refl
 
-  printed : (before : List Row) (number : ℕ) (first rest : List Position) → ps ≡ first ++ rest → map (position_of version) before ≡ first → list_any is_end before ≡ false → ArePrinted before number rest
+  printed : (before : List Row) (number : ℕ) (first rest : List Position) → ps ≡ first ++ rest → map (position_of version) before ≡ first → list_any begins_end before ≡ false → ArePrinted before number rest
   unfolding position_row
   printed before number first [] e state unended = record {
     rows = [];
@@ -228,7 +201,7 @@ module _ (laws : AreLaws) (version : Version) (ps : List Position) (terms : IsTe
       let fits = printable first p rest e in
       let is : position_of version row ≡ p = ap stated_or (position_is laws version number p fits) in
       let more = printed (before ++ row ∷ []) (number + 1) (first ++ p ∷ []) rest (e ∙ sym (append_assoc first (p ∷ []) rest))
-      (map_push (position_of version) before row ∙ (λ i. state i ++ is i ∷ [])) (list_any-append is_end before (row ∷ []) ∙ rw (unended, not_end version number p) refl) in
+      (map_push (position_of version) before row ∙ (λ i. state i ++ is i ∷ [])) (list_any-append begins_end before (row ∷ []) ∙ rw (unended, not_end version number p) refl) in
       record {
         rows = row ∷ more.rows;
         last = more.last;
@@ -241,22 +214,23 @@ module _ (laws : AreLaws) (version : Version) (ps : List Position) (terms : IsTe
 
   -- a text that has just the lines that are printed is read as the positions
   pub printed-reads : (text : List ℕ)
-      → (list_all (is_counted Commented) (lines_in version ps) ≡ true → rows_of_bytes Commented text ≡ numbered_from 1 (lines_in version ps)) → ReadsWorkflow text ps
-  unfolding header_row count_row Passes
+      → (list_all (is_counted Commented) (workflow_lines version ps) ≡ true → rows_of_bytes Commented text ≡ numbered_from 1 (workflow_lines version ps)) → ReadsWorkflow text ps
+  unfolding count_row Passes
   printed-reads text has =
       let body = printed [] 3 [] ps refl refl refl in
       let all = header ∷ counted ∷ (body.rows ++ body.last ∷ []) in
-      let count_counts : is_counted Commented (count_line (sum_by added_tasks ps)) ≡ true = rw (laws.token (sum_by added_tasks ps) (omega (arith, terms.few_tasks))) refl in
+      let count_counts : is_counted Commented (section_line (codes "tasks") (sum_by added_tasks ps)) ≡ true =
+      section_counted laws (codes "tasks") (sum_by added_tasks ps) refl refl (omega (arith, terms.few_tasks)) in
       let read : rows_of_bytes Commented text ≡ all =
       has (and_from _ _ (header_counts version) (and_from _ _ count_counts body.lines)) ∙ ap (λ (rs : List Row). header ∷ counted ∷ rs) body.rows_are in
-      let pass : AllPass [] all = (header_passes version, (count_passes laws (sum_by added_tasks ps) terms.few_tasks, subst (AllPass (header ∷ counted ∷ [])) body.rows_are body.pass)) in
-      let complete : is_complete all ≡ true = list_any-append is_end body.rows (body.last ∷ []) ∙ rw body.ended (or-true (list_any is_end body.rows)) in
+      let pass : AllPass [] all = (header_passes (codes "workflow") kinds.Header version refl, (count_passes laws (sum_by added_tasks ps) terms.few_tasks, subst (AllPass (header ∷ counted ∷ [])) body.rows_are body.pass)) in
+      let complete : is_workflow_complete all ≡ true = list_any-append begins_end body.rows (body.last ∷ []) ∙ rw body.ended (or-true (list_any begins_end body.rows)) in
       record {
         form = record {
           lines = subst (ArePassed workflow_format) (sym read) (λ before after row. all_passed [] all pass before after row);
-          end = rw (ap is_complete read ∙ complete) refl;
+          end = rw (ap is_workflow_complete read ∙ complete) refl;
         };
-        stated = sym (ap positions_stated read ∙ stated_parts header counted body.last body.rows ∙ ap (λ (v : Version). map (position_of v) body.rows) (header_is version) ∙ body.state);
+        stated = sym (ap positions_stated read ∙ stated_parts header counted body.last body.rows ∙ ap (λ (v : Version). map (position_of v) body.rows) (header_is (codes "workflow") version refl) ∙ body.state);
       }
 
 -- ---- both versions
@@ -266,13 +240,13 @@ one_unshared : (b : Bool) → cond b Two One ≡ One → b ≡ false
 one_unshared true is = absurd cc
 one_unshared false is = refl
 
-pub text_of-reads : AreLaws → (ps : List Position) → IsTerms ps → ReadsWorkflow (text_of ps) ps
-text_of-reads laws ps terms =
-    let version = version_for ps in
-    printed-reads laws version ps terms (one_unshared (list_any is_sharing ps)) (text_of ps) (laws.rows Commented (lines_in version ps))
+pub workflow_text-reads : AreLaws → (ps : List Position) → IsTerms ps → ReadsWorkflow (workflow_text ps) ps
+workflow_text-reads laws ps terms =
+    let version = workflow_version_for ps in
+    printed-reads laws version ps terms (one_unshared (list_any is_sharing ps)) (workflow_text ps) (laws.rows Commented (workflow_lines version ps))
 
-pub text2_of-reads : AreLaws → (ps : List Position) → IsTerms ps → ReadsWorkflow (text2_of ps) ps
-text2_of-reads laws ps terms = printed-reads laws Two ps terms (λ never. absurd cc) (text2_of ps) (laws.rows Commented (lines_in Two ps))
+pub workflow_text_2-reads : AreLaws → (ps : List Position) → IsTerms ps → ReadsWorkflow (workflow_text_2 ps) ps
+workflow_text_2-reads laws ps terms = printed-reads laws Two ps terms (λ never. absurd cc) (workflow_text_2 ps) (laws.rows Commented (workflow_lines Two ps))
 
 -- ---- with comments after the last line
 
@@ -281,8 +255,8 @@ pub commented-reads : AreLaws
     → ((lines comments : List (List (List ℕ))) → IsTrue (list_all (is_counted Commented) lines) → IsTrue (list_all is_comment_line comments)
     → rows_of_bytes Commented (text_of_lines (lines ++ comments)) ≡ numbered_from 1 lines)
     → (ps : List Position) (comments : List (List (List ℕ))) → IsTerms ps → IsTrue (list_all is_comment_line comments)
-    → ReadsWorkflow (text_of ps ++ text_of_lines comments) ps
+    → ReadsWorkflow (workflow_text ps ++ text_of_lines comments) ps
 commented-reads laws parts rows ps comments terms are =
-    let version = version_for ps in
-    printed-reads laws version ps terms (one_unshared (list_any is_sharing ps)) (text_of ps ++ text_of_lines comments)
-    (λ counted. ap (rows_of_bytes Commented) (sym (parts (lines_in version ps) comments)) ∙ rows (lines_in version ps) comments counted are)
+    let version = workflow_version_for ps in
+    printed-reads laws version ps terms (one_unshared (list_any is_sharing ps)) (workflow_text ps ++ text_of_lines comments)
+    (λ counted. ap (rows_of_bytes Commented) (sym (parts (workflow_lines version ps) comments)) ∙ rows (workflow_lines version ps) comments counted are)

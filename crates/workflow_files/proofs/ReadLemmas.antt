@@ -10,17 +10,18 @@ use Rattle.std.proofs.Math.Bool.{or-false}
 use Rattle.std.proofs.lemmas.Bool.{or_parts}
 use Rattle.mp_text.specs.declared.layout.Layout.TheVariants.{Commented}
 use Rattle.mp_text.specs.declared.refusals.Refusal.{Refusal}
-use Rattle.mp_text.specs.declared.words.Version.{Version}
+use Rattle.file_frame.specs.declared.version.Version.{Version}
 use Rattle.mp_text.specs.Text.{Row}
 use Rattle.mp_text.specs.Ahead.{rows_of_bytes, past_of_bytes}
-use Rattle.mp_text.specs.Grammar.{Format, ArePassed, IsWellFormed, Refuses, first_failure}
+use Rattle.mp_text.specs.Grammar.{ArePassed, first_failure}
 use Rattle.workflow_files.specs.declared.kind.WorkflowKind.{WorkflowKind}
 use Rattle.sp_terms.specs.declared.position.Position.{Position}
 use Rattle.sp_terms.specs.Values.{stack_of, added_tasks, added_size, Leaves, IsTerms, IsWithinLimits}
 use Rattle.sp_terms.specs.Builder.{IsPosition, is_short, limit_of, is_overshared}
 use Rattle.sp_terms.specs.Ends.{IsBuilder, all_ends}
-use Rattle.workflow_files.specs.WorkflowFile.{workflow_format, version_stated, position_of, position_tests, is_end, is_complete, positions_stated, ReadsWorkflow, RefusesWorkflow}
+use Rattle.workflow_files.specs.WorkflowFile.{workflow_format, workflow_version, position_of, position_tests, begins_end, is_workflow_complete, positions_stated, ReadsWorkflow, RefusesWorkflow}
 use Rattle.sp_terms.proofs.BuilderLemmas.{height, over_same, builder_more, one_term}
+use Rattle.file_frame.proofs.TestLemmas.{SomeOutcome}
 
 -- ---- one line
 
@@ -53,9 +54,9 @@ StackLeft ps = Leaves ps (stack_of ps)
 none_left : StackLeft []
 none_left = record { is = refl; allowed = tt; within = All-nil IsWithinLimits; few = omega arith; few_tasks = omega arith; total = omega arith }
 
-module _ (header counted last : Row) (rows : List Row) (passed : ArePassed workflow_format (header ∷ counted ∷ (rows ++ last ∷ []))) (unended : list_any is_end rows ≡ false) where
+module _ (header counted last : Row) (rows : List Row) (passed : ArePassed workflow_format (header ∷ counted ∷ (rows ++ last ∷ []))) (unended : list_any begins_end rows ≡ false) where
   stated : List Row → List Position
-  stated = map (position_of (version_stated header))
+  stated = map (position_of (workflow_version header))
 
   all_taken : (before after : List Row) → rows ≡ before ++ after → StackLeft (stated before) → StackLeft (stated rows)
   unfolding stated
@@ -63,16 +64,16 @@ module _ (header counted last : Row) (rows : List Row) (passed : ArePassed workf
   all_taken before (row ∷ after) e leaves =
       let split : rows ++ last ∷ [] ≡ before ++ row ∷ (after ++ last ∷ []) = ap (λ (rs : List Row). rs ++ last ∷ []) e ∙ append_assoc before (row ∷ after) (last ∷ []) in
       let none = passed (header ∷ counted ∷ before) (after ++ last ∷ []) row (ap (λ (rs : List Row). header ∷ counted ∷ rs) split) in
-      let sides = or_parts (list_any is_end before) (list_any is_end (row ∷ after)) (sym (list_any-append is_end before (row ∷ after)) ∙ ap (list_any is_end) (sym e) ∙ unended) in
-      let own = or_parts (is_end row) (list_any is_end after) sides.1 in
+      let sides = or_parts (list_any begins_end before) (list_any begins_end (row ∷ after)) (sym (list_any-append begins_end before (row ∷ after)) ∙ ap (list_any begins_end) (sym e) ∙ unended) in
+      let own = or_parts (begins_end row) (list_any begins_end after) sides.1 in
       all_taken (before ++ row ∷ []) after (e ∙ sym (append_assoc before (row ∷ []) after))
-      (subst StackLeft (sym (map_push (position_of (version_stated header)) before row)) (line_taken (version_stated header) _ (stated before) row leaves (rw (sides.0, own.0) at none)))
+      (subst StackLeft (sym (map_push (position_of (workflow_version header)) before row)) (line_taken (workflow_version header) _ (stated before) row leaves (rw (sides.0, own.0) at none)))
 
-  is_terms : is_end last ≡ true → IsTerms (map (position_of (version_stated header)) rows)
+  is_terms : begins_end last ≡ true → IsTerms (map (position_of (workflow_version header)) rows)
   unfolding stated
   is_terms ended =
       let none = passed (header ∷ counted ∷ rows) [] last refl in
-      let one : length (stack_of (map (position_of (version_stated header)) rows)) ≡ 1 = grind arith in
+      let one : length (stack_of (map (position_of (workflow_version header)) rows)) ≡ 1 = grind arith in
       let leaves = all_taken [] rows refl none_left in
       one_term _ _ _ _ (builder (stated rows) leaves) (height _ _ _ _ (builder (stated rows) leaves) ∙ one)
 
@@ -85,36 +86,36 @@ record AreParts (all : List Row) : Type 0 where
   rows : List Row
   last : Row
   all_are : all ≡ header ∷ counted ∷ (rows ++ last ∷ [])
-  unended : list_any is_end rows ≡ false
-  ended : is_end last ≡ true
+  unended : list_any begins_end rows ≡ false
+  ended : begins_end last ≡ true
 
 -- a list with an element ends with one
 ends_with : {X : Type 0} (x : X) (xs : List X) → (front : List X) × (last : X) × (x ∷ xs ≡ front ++ last ∷ [])
 ends_with x [] = ([], x, refl)
 ends_with x (y ∷ xs) = let (front, last, e) = ends_with y xs in (x ∷ front, last, ap (λ zs. x ∷ zs) e)
 
-ends_once : (header counted last : Row) (rows : List Row) → ArePassed workflow_format (header ∷ counted ∷ (rows ++ last ∷ [])) → list_any is_end (rows ++ last ∷ []) ≡ true → AreParts (header ∷ counted ∷ (rows ++ last ∷ []))
-ends_once header counted last rows passed e = go (list_any is_end rows) refl
+ends_once : (header counted last : Row) (rows : List Row) → ArePassed workflow_format (header ∷ counted ∷ (rows ++ last ∷ [])) → list_any begins_end (rows ++ last ∷ []) ≡ true → AreParts (header ∷ counted ∷ (rows ++ last ∷ []))
+ends_once header counted last rows passed e = go (list_any begins_end rows) refl
   where
-    go : (b : Bool) → list_any is_end rows ≡ b → AreParts (header ∷ counted ∷ (rows ++ last ∷ []))
+    go : (b : Bool) → list_any begins_end rows ≡ b → AreParts (header ∷ counted ∷ (rows ++ last ∷ []))
     go true is = absurd (let none = passed (header ∷ counted ∷ rows) [] last refl in let fails = rw is at none in cc)
     go false is =
-        let any : (list_any is_end rows || (is_end last || false)) ≡ true = sym (list_any-append is_end rows (last ∷ [])) ∙ e in
-        let ended : (is_end last || false) ≡ true = rw is at any in
-        record { header = header; counted = counted; rows = rows; last = last; all_are = refl; unended = is; ended = sym (or-false (is_end last)) ∙ ended }
+        let any : (list_any begins_end rows || (begins_end last || false)) ≡ true = sym (list_any-append begins_end rows (last ∷ [])) ∙ e in
+        let ended : (begins_end last || false) ≡ true = rw is at any in
+        record { header = header; counted = counted; rows = rows; last = last; all_are = refl; unended = is; ended = sym (or-false (begins_end last)) ∙ ended }
 
-parts_of : (all : List Row) → ArePassed workflow_format all → is_complete all ≡ true → AreParts all
+parts_of : (all : List Row) → ArePassed workflow_format all → is_workflow_complete all ≡ true → AreParts all
 parts_of [] passed e = absurd cc
 parts_of (header ∷ []) passed e = absurd cc
 parts_of (header ∷ counted ∷ []) passed e = absurd cc
 parts_of (header ∷ counted ∷ r ∷ rs) passed e =
     let (rows, last, split) = ends_with r rs in
-    subst (λ (xs : List Row). ArePassed workflow_format (header ∷ counted ∷ xs) → list_any is_end xs ≡ true → AreParts (header ∷ counted ∷ xs)) (sym split) (ends_once header counted last rows) passed e
+    subst (λ (xs : List Row). ArePassed workflow_format (header ∷ counted ∷ xs) → list_any begins_end xs ≡ true → AreParts (header ∷ counted ∷ xs)) (sym split) (ends_once header counted last rows) passed e
 
-pub stated_parts : (header counted last : Row) (rows : List Row) → positions_stated (header ∷ counted ∷ (rows ++ last ∷ [])) ≡ map (position_of (version_stated header)) rows
+pub stated_parts : (header counted last : Row) (rows : List Row) → positions_stated (header ∷ counted ∷ (rows ++ last ∷ [])) ≡ map (position_of (workflow_version header)) rows
 stated_parts header counted last rows =
     let len : length (rows ++ last ∷ []) - 1 ≡ length rows = omega (arith, length-append rows (last ∷ [])) in
-    ap (map (position_of (version_stated header))) (ap (λ (n : ℕ). take n (rows ++ last ∷ [])) len ∙ take-append_seam rows (last ∷ []))
+    ap (map (position_of (workflow_version header))) (ap (λ (n : ℕ). take n (rows ++ last ∷ [])) len ∙ take-append_seam rows (last ∷ []))
 
 pub reads-terms : (bytes : List ℕ) (ps : List Position) → ReadsWorkflow bytes ps → IsTerms ps
 reads-terms bytes ps reads =
@@ -125,11 +126,7 @@ reads-terms bytes ps reads =
 
 -- ---- a file is read or refused
 
--- what the law of formats says
-abbrev pub SomeOutcome : Type 0
-SomeOutcome = (format : Format WorkflowKind) (rows : List Row) (past : ℕ) → IsWellFormed format rows past ⊎ ((refusal : Refusal WorkflowKind) × Refuses format rows past refusal)
-
-pub read_or_refused : SomeOutcome → (bytes : List ℕ) → ((ps : List Position) × ReadsWorkflow bytes ps) ⊎ ((refusal : Refusal WorkflowKind) × RefusesWorkflow bytes refusal)
+pub read_or_refused : SomeOutcome WorkflowKind → (bytes : List ℕ) → ((ps : List Position) × ReadsWorkflow bytes ps) ⊎ ((refusal : Refusal WorkflowKind) × RefusesWorkflow bytes refusal)
 read_or_refused outcome bytes =
     elim (outcome workflow_format (rows_of_bytes Commented bytes) (past_of_bytes bytes)) [
       | inl form ↦ inl (positions_stated (rows_of_bytes Commented bytes), record { form = form; stated = refl })

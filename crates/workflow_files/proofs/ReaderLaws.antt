@@ -5,7 +5,7 @@ use Rattle.std.specs.Option.{option_map}
 use Rattle.std.proofs.Common.{sym, subst, ◌∙◌, arith}
 use Rattle.std.proofs.lemmas.List.{map_push}
 use Rattle.std.proofs.lemmas.List.Folds.{list_any-append}
-use Rattle.mp_text.specs.declared.words.Version.{Version}
+use Rattle.file_frame.specs.declared.version.Version.{Version}
 use Rattle.mp_text.specs.Text.{Row}
 use Rattle.mp_text.specs.Grammar.{ArePassed, first_failure}
 use Rattle.mp_text.specs.Reading.{Follows, tested, ◌>>=◌}
@@ -16,7 +16,7 @@ use Rattle.workflow_files.specs.declared.stage.Stage.TheVariants as stages
 use Rattle.sp_terms.specs.declared.position.Position.{Position}
 use Rattle.sp_terms.specs.Values.{stack_of, added_tasks}
 use Rattle.sp_terms.specs.Builder.{refusal_of, is_short}
-use Rattle.workflow_files.specs.WorkflowFile.{workflow_format, workflow_line_tests, workflow_end_tests, header_tests, version_stated, count_tests, position_of, form_tests, room_tests, position_tests, last_tests, body_tests, is_end, is_complete}
+use Rattle.workflow_files.specs.WorkflowFile.{workflow_format, workflow_line_tests, workflow_end_tests, workflow_header_tests, workflow_version, workflow_count_tests, position_of, form_tests, room_tests, position_tests, workflow_last_tests, workflow_body_tests, begins_end, is_workflow_complete}
 use Rattle.workflow_files.specs.Reader.{ReaderState, refusal_at, pushed_or, pushed, body_step, staged_step, workflow_step, staged_end, workflow_end, TookPositions, staged_took, took}
 
 -- ---- the tests of a position
@@ -35,14 +35,14 @@ room_same before p line high = grind arith
 IsNext : (rows : List Row) (next : ReaderState) → Type 0
 IsNext rows next = took next rows × (workflow_format ≡ workflow_format)
 
-at_header : (s : ReaderState) (row : Row) → s.positions ≡ [] → Follows (header_tests row) (IsNext (row ∷ [])) (staged_step stages.Header s row)
+at_header : (s : ReaderState) (row : Row) → s.positions ≡ [] → Follows (workflow_header_tests row) (IsNext (row ∷ [])) (staged_step stages.Header s row)
 unfolding IsNext
-at_header s row fresh = tested-follows (header_tests row) _ _ (λ _. (record { header = row; rows_are = refl; version = refl; fresh = fresh }, refl))
+at_header s row fresh = tested-follows (workflow_header_tests row) _ _ (λ _. (record { header = row; rows_are = refl; version = refl; fresh = fresh }, refl))
 
-at_count : (s : ReaderState) (header row : Row) → s.version ≡ version_stated header → s.positions ≡ []
-    → Follows (count_tests row) (IsNext (header ∷ row ∷ [])) (staged_step stages.Count s row)
+at_count : (s : ReaderState) (header row : Row) → s.version ≡ workflow_version header → s.positions ≡ []
+    → Follows (workflow_count_tests row) (IsNext (header ∷ row ∷ [])) (staged_step stages.Count s row)
 unfolding IsNext
-at_count s header row version fresh = tested-follows (count_tests row) _ _ (λ _. (
+at_count s header row version fresh = tested-follows (workflow_count_tests row) _ _ (λ _. (
   record {
     header = header;
     counted = row;
@@ -58,7 +58,7 @@ module _ (s : ReaderState) (header counted row : Row) (rows : List Row) (stage :
   all = header ∷ counted ∷ (rows ++ row ∷ [])
 
   -- one position more
-  next_is : is_end row ≡ false → IsNext all (record s { positions = s.positions ++ position_of s.version row ∷ [] })
+  next_is : begins_end row ≡ false → IsNext all (record s { positions = s.positions ++ position_of s.version row ∷ [] })
   unfolding IsNext all
   next_is more = (
     subst (λ (st : Stage). staged_took st (record s { positions = s.positions ++ position_of s.version row ∷ [] }) all) (sym stage) (record {
@@ -69,14 +69,14 @@ module _ (s : ReaderState) (header counted row : Row) (rows : List Row) (stage :
       taken = record {
         version = taken.version;
         count = taken.count;
-        positions = rw (taken.positions, taken.version) (sym (map_push (position_of (version_stated header)) rows row));
-        unended = list_any-append is_end rows (row ∷ []) ∙ rw (taken.unended, more) refl;
+        positions = rw (taken.positions, taken.version) (sym (map_push (position_of (workflow_version header)) rows row));
+        unended = list_any-append begins_end rows (row ∷ []) ∙ rw (taken.unended, more) refl;
       };
     }),
     refl,
   )
 
-  pushed_follows : is_end row ≡ false → is_short (length (stack_of s.positions)) (position_of s.version row) ≡ false
+  pushed_follows : begins_end row ≡ false → is_short (length (stack_of s.positions)) (position_of s.version row) ≡ false
       → Follows (room_tests s.positions (position_of s.version row) row.number) (IsNext all) (pushed s row.number (position_of s.version row))
   pushed_follows more high = go (refusal_of s.positions (position_of s.version row)) (room_same s.positions (position_of s.version row) row.number high)
     where
@@ -86,7 +86,7 @@ module _ (s : ReaderState) (header counted row : Row) (rows : List Row) (stage :
       go None e = (e, next_is more)
       go (Some refusal) e = e
 
-  at_position : is_end row ≡ false → Follows (position_tests s.version s.count s.positions row) (IsNext all)
+  at_position : begins_end row ≡ false → Follows (position_tests s.version s.count s.positions row) (IsNext all)
       (tested (form_tests s.version s.count (length (stack_of s.positions)) (sum_by added_tasks s.positions) row) (position_of s.version row) >>= pushed s row.number)
   at_position more =
       let p = position_of s.version row in
@@ -97,10 +97,10 @@ module _ (s : ReaderState) (header counted row : Row) (rows : List Row) (stage :
       (λ q here. subst (λ (o : Position). Follows (room_tests s.positions p row.number) (IsNext all) (pushed s row.number o)) (sym here.0)
       (pushed_follows more (line_high s.version s.count (length (stack_of s.positions)) (sum_by added_tasks s.positions) row here.1)))
 
-  at_last : is_end row ≡ true → let last = last_tests s.count (length (stack_of s.positions)) (sum_by added_tasks s.positions) row in
+  at_last : begins_end row ≡ true → let last = workflow_last_tests s.count (length (stack_of s.positions)) (sum_by added_tasks s.positions) row in
       Follows last (IsNext all) (tested last (record s { stage = stages.Ended }))
   unfolding IsNext all
-  at_last ended = tested-follows (last_tests s.count (length (stack_of s.positions)) (sum_by added_tasks s.positions) row) _ _ (λ none.
+  at_last ended = tested-follows (workflow_last_tests s.count (length (stack_of s.positions)) (sum_by added_tasks s.positions) row) _ _ (λ none.
       let one : length (stack_of s.positions) ≡ 1 = grind arith in (
         record {
           header = header;
@@ -115,10 +115,10 @@ module _ (s : ReaderState) (header counted row : Row) (rows : List Row) (stage :
         refl,
       ))
 
-  at_kept : Follows (body_tests s.version s.count s.positions row) (IsNext all) (body_step s row)
-  at_kept = go (is_end row) refl
+  at_kept : Follows (workflow_body_tests s.version s.count s.positions row) (IsNext all) (body_step s row)
+  at_kept = go (begins_end row) refl
     where
-      go : (b : Bool) → is_end row ≡ b → Follows (body_tests s.version s.count s.positions row) (IsNext all) (body_step s row)
+      go : (b : Bool) → begins_end row ≡ b → Follows (workflow_body_tests s.version s.count s.positions row) (IsNext all) (body_step s row)
       go true e = rw e (at_last e)
       go false e = rw e (at_position e)
 
@@ -133,7 +133,7 @@ staged_step_follows stages.Header s before row e taken = rw taken.0 (at_header s
 staged_step_follows stages.Count s before row e taken = rw taken.rows_are (at_count s taken.header row taken.version taken.fresh)
 staged_step_follows stages.Positions s before row e taken = rw taken.rows_are (at_body s taken.header taken.counted row taken.position_rows e taken.taken)
 staged_step_follows stages.Ended s before row e taken =
-    rw (taken.rows_are, list_any-append is_end taken.position_rows (taken.last ∷ []), taken.taken.unended, taken.ended) refl
+    rw (taken.rows_are, list_any-append begins_end taken.position_rows (taken.last ∷ []), taken.taken.unended, taken.ended) refl
 
 pub step_follows : (s : ReaderState) (before : List Row) (row : Row) → took s before → ArePassed workflow_format before →
     Follows (workflow_line_tests before row) (λ next. took next (before ++ row ∷ []) × (workflow_format ≡ workflow_format)) (workflow_step s row)
@@ -151,7 +151,7 @@ staged_end_follows stages.Header s rows past e taken = rw taken.0 refl
 staged_end_follows stages.Count s rows past e taken = rw taken.rows_are refl
 staged_end_follows stages.Positions s rows past e taken = rw (taken.rows_are, taken.taken.unended) refl
 staged_end_follows stages.Ended s rows past e taken =
-    let complete : is_complete rows ≡ true = rw (taken.rows_are, list_any-append is_end taken.position_rows (taken.last ∷ []), taken.taken.unended, taken.ended) refl in
+    let complete : is_workflow_complete rows ≡ true = rw (taken.rows_are, list_any-append begins_end taken.position_rows (taken.last ∷ []), taken.taken.unended, taken.ended) refl in
     (rw complete refl, subst (λ (st : Stage). staged_took st s rows) (sym e) taken)
 
 pub end_follows : (s : ReaderState) (rows : List Row) (past : ℕ) → took s rows → ArePassed workflow_format rows →

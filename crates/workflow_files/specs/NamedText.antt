@@ -5,7 +5,7 @@ use Rattle.std.specs.Fmt.{decimal}
 use Rattle.std.specs.List.{enumerate_from}
 use Rattle.mp_text.specs.Report.{text_of_lines}
 use Rattle.sp_terms.specs.declared.position.Position.{Position}
-use Rattle.workflow_files.specs.WorkflowText.{text_of}
+use Rattle.workflow_files.specs.WorkflowText.{workflow_text}
 
 -- `# K NAME`: task K of the term has the name NAME
 abbrev pub name_line : ℕ × ℕ → List (List ℕ)
@@ -15,4 +15,4 @@ abbrev pub name_lines : List ℕ → List (List (List ℕ))
 name_lines names = map name_line (enumerate_from 1 names)
 
 abbrev pub named_text : List Position → List ℕ → List ℕ
-named_text positions names = text_of positions ++ text_of_lines (name_lines names)
+named_text positions names = workflow_text positions ++ text_of_lines (name_lines names)

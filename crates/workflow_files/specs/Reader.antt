@@ -5,8 +5,8 @@ use Rattle.std.specs.Prelude.{◌≡◌, ℕ, true, false, if◌then◌else◌, 
 use Rattle.std.specs.List.{sum_by, list_any}
 use Rattle.mp_text.specs.declared.refusals.Refusal.{Refusal}
 use Rattle.mp_text.specs.declared.refusals.Refusal.TheVariants as refusals
-use Rattle.mp_text.specs.declared.words.Version.{Version}
-use Rattle.mp_text.specs.declared.words.Version.TheVariants.{One}
+use Rattle.file_frame.specs.declared.version.Version.{Version}
+use Rattle.file_frame.specs.declared.version.Version.TheVariants.{One}
 use Rattle.mp_text.specs.Text.{Row}
 use Rattle.mp_text.specs.Grammar.{fault, fault_at}
 use Rattle.mp_text.specs.Reading.{tested, ◌>>=◌}
@@ -20,8 +20,8 @@ use Rattle.sp_terms.specs.declared.position.Position.{Position}
 use Rattle.workflow_files.specs.declared.word.Word.{Word}
 use Rattle.sp_terms.specs.Values.{stack_of, added_tasks}
 use Rattle.sp_terms.specs.Builder.{refusal_of}
-use Rattle.workflow_files.specs.WorkflowFile.{header_tests, version_stated, count_tests, count_stated, position_from}
-use Rattle.workflow_files.specs.WorkflowFile.{stated_or, stated_tests, position_of, form_tests, last_tests, is_end}
+use Rattle.workflow_files.specs.WorkflowFile.{workflow_header_tests, workflow_version, workflow_count_tests, workflow_count, position_from}
+use Rattle.workflow_files.specs.WorkflowFile.{stated_or, stated_tests, position_of, form_tests, workflow_last_tests, begins_end}
 
 -- what the reader keeps: what comes next, the version, the stated number of tasks, and the positions
 pub record ReaderState : Type 0 where
@@ -62,8 +62,8 @@ abbrev pub end_step : ReaderState → Row → Result ReaderState (Refusal Workfl
 end_step s row =
     let height = length (stack_of s.positions) in
     let tasks = sum_by added_tasks s.positions in
-    if is_end row
-    then tested (last_tests s.count height tasks row) (record s { stage = stages.Ended })
+    if begins_end row
+    then tested (workflow_last_tests s.count height tasks row) (record s { stage = stages.Ended })
     else Err (fault kinds.Word row)
 
 -- a line where positions are read: one more of them, or the end
@@ -71,14 +71,14 @@ abbrev pub body_step : ReaderState → Row → Result ReaderState (Refusal Workf
 body_step s row =
     let height = length (stack_of s.positions) in
     let tasks = sum_by added_tasks s.positions in
-    if is_end row
-    then tested (last_tests s.count height tasks row) (record s { stage = stages.Ended })
+    if begins_end row
+    then tested (workflow_last_tests s.count height tasks row) (record s { stage = stages.Ended })
     else tested (form_tests s.version s.count height tasks row) (position_of s.version row) >>= pushed s row.number
 
 -- a line, by what is expected
 abbrev pub staged_step : Stage → ReaderState → Row → Result ReaderState (Refusal WorkflowKind)
-staged_step stages.Header s row = tested (header_tests row) (record s { stage = stages.Count; version = version_stated row })
-staged_step stages.Count s row = tested (count_tests row) (record s { stage = stages.Positions; count = count_stated row })
+staged_step stages.Header s row = tested (workflow_header_tests row) (record s { stage = stages.Count; version = workflow_version row })
+staged_step stages.Count s row = tested (workflow_count_tests row) (record s { stage = stages.Positions; count = workflow_count row })
 staged_step stages.Positions s row = body_step s row
 staged_step stages.Ended s row = Err (fault kinds.Word row)
 
@@ -97,16 +97,16 @@ workflow_end s past = staged_end s.stage s past
 
 -- the reader took a header, a count and these position lines
 pub record TookPositions (s : ReaderState) (header counted : Row) (rows : List Row) : Type 0 where
-  pub version : s.version ≡ version_stated header
-  pub count : s.count ≡ count_stated counted
-  pub positions : s.positions ≡ map (position_of (version_stated header)) rows
-  pub unended : list_any is_end rows ≡ false
+  pub version : s.version ≡ workflow_version header
+  pub count : s.count ≡ workflow_count counted
+  pub positions : s.positions ≡ map (position_of (workflow_version header)) rows
+  pub unended : list_any begins_end rows ≡ false
 
 -- the reader took a header
 pub record TookHeader (s : ReaderState) (rows : List Row) : Type 0 where
   pub header : Row
   pub rows_are : rows ≡ header ∷ []
-  pub version : s.version ≡ version_stated header
+  pub version : s.version ≡ workflow_version header
   pub fresh : s.positions ≡ []
 
 -- the reader took a header, a count, and some position lines
@@ -125,7 +125,7 @@ pub record TookAll (s : ReaderState) (rows : List Row) : Type 0 where
   pub last : Row
   pub rows_are : rows ≡ header ∷ counted ∷ (position_rows ++ last ∷ [])
   pub taken : TookPositions s header counted position_rows
-  pub ended : is_end last ≡ true
+  pub ended : begins_end last ≡ true
   pub one : length (stack_of s.positions) ≡ 1
 
 -- the reader stands after these lines

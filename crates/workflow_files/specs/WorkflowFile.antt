@@ -3,7 +3,7 @@
 use Rattle.std.specs.Prelude.{◌≡◌, ◌==◌, ℕ, ◌-◌, Bool, true, false, ◌&&◌, not, nat_le, is_some, unwrap_or, Option, Some, None, List, []}
 use Rattle.std.specs.Prelude.{◌∷◌, ◌++◌, length, map, take, drop, codes, if◌then◌else◌}
 use Rattle.std.specs.List.{sum_by, list_any}
-use Rattle.std.specs.Option.{option_and_then, option_map}
+use Rattle.std.specs.Option.{option_map}
 use Rattle.std.specs.Str.{bytes_eq}
 use Rattle.mp_system.specs.declared.system.Task.{Task}
 use Rattle.limits.specs.Limits.{most_tasks}
@@ -12,10 +12,9 @@ use Rattle.limits.specs.declared.name.LimitName.TheVariants as limits
 use Rattle.mp_text.specs.declared.layout.Layout.TheVariants.{Commented}
 use Rattle.mp_text.specs.declared.refusals.Refusal.{Refusal}
 use Rattle.mp_text.specs.declared.refusals.Refusal.TheVariants as refusals
-use Rattle.mp_text.specs.declared.words.Version.{Version}
-use Rattle.mp_text.specs.declared.words.Version.TheVariants.{One, Two}
-use Rattle.mp_text.specs.Text.{Row, number_of, numbers_of}
-use Rattle.mp_text.specs.Words.{after_word, version_of}
+use Rattle.file_frame.specs.declared.version.Version.{Version}
+use Rattle.file_frame.specs.declared.version.Version.TheVariants.{One, Two}
+use Rattle.mp_text.specs.Text.{Row, numbers_of}
 use Rattle.mp_text.specs.Ahead.{rows_of_bytes, past_of_bytes}
 use Rattle.mp_text.specs.Grammar.{Test, test, Format, IsWellFormed, Refuses, fault, fault_at, token_at}
 use Rattle.workflow_files.specs.declared.kind.WorkflowKind.{WorkflowKind}
@@ -28,29 +27,23 @@ use Rattle.sp_terms.specs.declared.position.Position.TheVariants as at
 use Rattle.sp_terms.specs.Postfix.{at_task}
 use Rattle.sp_terms.specs.Values.{stack_of, added_tasks}
 use Rattle.sp_terms.specs.Builder.{is_short, limit_of, is_overshared}
+use Rattle.file_frame.specs.Frame.{header_tests, version_stated, stated_on, count_tests, further_tests, end_tests, first_then, has_first}
 
 -- ---- line 1: `workflow 1` or `workflow 2`
 
-abbrev pub header_tests : Row → List (Test WorkflowKind)
-header_tests row = test (is_some (version_of (codes "workflow") row.tokens)) (fault kinds.Header row) ∷ []
+abbrev pub workflow_header_tests : Row → List (Test WorkflowKind)
+workflow_header_tests row = header_tests (codes "workflow") Two kinds.Header row
 
-abbrev pub version_stated : Row → Version
-version_stated header = unwrap_or (version_of (codes "workflow") header.tokens) One
+abbrev pub workflow_version : Row → Version
+workflow_version header = version_stated (codes "workflow") Two header
 
 -- ---- line 2: `tasks N`
 
-abbrev pub count_number : Row → Option ℕ
-count_number row = option_and_then number_of (after_word (codes "tasks") row.tokens)
+abbrev pub workflow_count : Row → ℕ
+workflow_count row = stated_on (codes "tasks") row
 
-abbrev pub count_stated : Row → ℕ
-count_stated row = unwrap_or (count_number row) 0
-
-abbrev pub count_tests : Row → List (Test WorkflowKind)
-count_tests row =
-    test (is_some (after_word (codes "tasks") row.tokens)) (fault kinds.Header row)
-    ∷ test (is_some (count_number row)) (fault kinds.Number row)
-    ∷ test (nat_le (count_stated row) most_tasks) (refusals.Limit limits.Tasks)
-    ∷ []
+abbrev pub workflow_count_tests : Row → List (Test WorkflowKind)
+workflow_count_tests row = count_tests (codes "tasks") kinds.Header kinds.Number most_tasks limits.Tasks row
 
 -- ---- a position line: `data D`, `task X T`, in version 2 `task X S T`, or `par K`
 
@@ -135,44 +128,40 @@ position_tests version count before row =
 
 -- ---- the last line, `end`, where one term is left and the tasks are as many as stated; then no line
 
-abbrev pub is_end : Row → Bool
-is_end row = bytes_eq (token_at 0 row) (codes "end")
+-- whether the line begins with the word
+abbrev pub begins_end : Row → Bool
+begins_end row = bytes_eq (token_at 0 row) (codes "end")
 
-abbrev pub last_tests : ℕ → ℕ → ℕ → Row → List (Test WorkflowKind)
-last_tests count height tasks row =
+abbrev pub workflow_last_tests : ℕ → ℕ → ℕ → Row → List (Test WorkflowKind)
+workflow_last_tests count height tasks row =
     test (length row.tokens == 1) (fault kinds.Number row)
     ∷ test (height == 1) (fault kinds.NotOneTerm row)
     ∷ test (tasks == count) (fault kinds.TaskCount row)
     ∷ []
 
-abbrev pub further_tests : Row → List (Test WorkflowKind)
-further_tests row = test false (fault kinds.Word row) ∷ []
-
 -- ---- all lines
 
 -- a line after the second, after lines that state these positions
-abbrev pub body_tests : Version → ℕ → List Position → Row → List (Test WorkflowKind)
-body_tests version count before row =
-    if is_end row
-    then last_tests count (length (stack_of before)) (sum_by added_tasks before) row
+abbrev pub workflow_body_tests : Version → ℕ → List Position → Row → List (Test WorkflowKind)
+workflow_body_tests version count before row =
+    if begins_end row
+    then workflow_last_tests count (length (stack_of before)) (sum_by added_tasks before) row
     else position_tests version count before row
 
 abbrev pub workflow_line_tests : List Row → Row → List (Test WorkflowKind)
-workflow_line_tests [] row = header_tests row
-workflow_line_tests (header ∷ []) row = count_tests row
-workflow_line_tests (header ∷ counted ∷ rows) row =
-    if list_any is_end rows
-    then further_tests row
-    else body_tests (version_stated header) (count_stated counted) (map (position_of (version_stated header)) rows) row
+workflow_line_tests =
+    first_then workflow_header_tests (λ header.
+    first_then workflow_count_tests (λ counted rows row.
+    if list_any begins_end rows
+    then further_tests kinds.Word row
+    else workflow_body_tests (workflow_version header) (workflow_count counted) (map (position_of (workflow_version header)) rows) row))
 
 -- whether the text has come to its `end`
-abbrev pub is_complete : List Row → Bool
-is_complete [] = false
-is_complete (header ∷ []) = false
-is_complete (header ∷ counted ∷ rows) = list_any is_end rows
+abbrev pub is_workflow_complete : List Row → Bool
+is_workflow_complete = has_first (λ header. has_first (λ counted rows. list_any begins_end rows))
 
 abbrev pub workflow_end_tests : List Row → ℕ → List (Test WorkflowKind)
-workflow_end_tests rows past = test (is_complete rows) (fault_at past kinds.NoEnd) ∷ []
+workflow_end_tests rows past = end_tests (is_workflow_complete rows) kinds.NoEnd past
 
 abbrev pub workflow_format : Format WorkflowKind
 workflow_format = record { line_tests = workflow_line_tests; end_tests = workflow_end_tests }
@@ -183,7 +172,7 @@ workflow_format = record { line_tests = workflow_line_tests; end_tests = workflo
 abbrev pub positions_stated : List Row → List Position
 positions_stated [] = []
 positions_stated (header ∷ []) = []
-positions_stated (header ∷ counted ∷ rows) = map (position_of (version_stated header)) (take (length rows - 1) rows)
+positions_stated (header ∷ counted ∷ rows) = map (position_of (workflow_version header)) (take (length rows - 1) rows)
 
 -- every line passes, and the positions are those stated
 pub record ReadsWorkflow (bytes : List ℕ) (positions : List Position) : Type 0 where

@@ -9,7 +9,7 @@ ghost use Rattle.workflow_files.specs.declared.kind.WorkflowKind.{WorkflowKind};
 ghost use Rattle.sp_terms.specs.declared.position.Position.{Position};
 ghost use Rattle.sp_terms.specs.Values.{IsTerms};
 ghost use Rattle.workflow_files.specs.WorkflowFile.{ReadsWorkflow, RefusesWorkflow};
-ghost use Rattle.workflow_files.specs.WorkflowText.{text_of, text2_of};
+ghost use Rattle.workflow_files.specs.WorkflowText.{workflow_text, workflow_text_2};
 ghost use Rattle.workflow_files.specs.NamedText.{named_text};
 
 use crate::kind::WorkflowKind;
@@ -36,8 +36,8 @@ pub fn read_law()
 
 /// The text of a workflow, and its text in version 2, are read as that workflow.
 pub fn printed_workflow()
-    ensures text { (positions : List Position) → IsTerms positions → ReadsWorkflow (text_of positions) positions }
-    ensures text_2 { (positions : List Position) → IsTerms positions → ReadsWorkflow (text2_of positions) positions }
+    ensures text { (positions : List Position) → IsTerms positions → ReadsWorkflow (workflow_text positions) positions }
+    ensures text_2 { (positions : List Position) → IsTerms positions → ReadsWorkflow (workflow_text_2 positions) positions }
 {
     text_laws::printed_number();
     text_laws::printed_file();
@@ -45,8 +45,8 @@ pub fn printed_workflow()
 
 /// The text of a workflow, and its text in version 2, are within the limit of bytes, so that a file of it can be read whole.
 pub fn printed_length()
-    ensures text { (positions : List Position) → IsTerms positions → length (text_of positions) ≤ most_bytes }
-    ensures text_2 { (positions : List Position) → IsTerms positions → length (text2_of positions) ≤ most_bytes }
+    ensures text { (positions : List Position) → IsTerms positions → length (workflow_text positions) ≤ most_bytes }
+    ensures text_2 { (positions : List Position) → IsTerms positions → length (workflow_text_2 positions) ≤ most_bytes }
 {}
 
 /// A workflow file with comments after its last line is read as the same workflow. It leaves room for them within the limit of bytes:
@@ -54,8 +54,8 @@ pub fn printed_length()
 pub fn commented_workflow()
     ensures reads { (positions : List Position) (comments : List (List (List ℕ))) → IsTerms positions →
         IsTrue (list_all is_comment_line comments) →
-        ReadsWorkflow (text_of positions ++ text_of_lines comments) positions }
-    ensures room { (positions : List Position) → IsTerms positions → length (text_of positions) + 50 * most_tasks ≤ most_bytes }
+        ReadsWorkflow (workflow_text positions ++ text_of_lines comments) positions }
+    ensures room { (positions : List Position) → IsTerms positions → length (workflow_text positions) + 50 * most_tasks ≤ most_bytes }
 {
     text_laws::printed_number();
     text_laws::printed_file();

@@ -8,33 +8,29 @@ ghost use Rattle.mp_text.specs.Reading.{Gives, tested};
 ghost use Rattle.sp_terms.specs.Builder.{IsPosition};
 ghost use Rattle.sp_terms.specs.Postfix.{at_task};
 ghost use Rattle.sp_terms.specs.declared.position.Position.TheVariants.{Par};
-ghost use Rattle.workflow_files.specs.WorkflowFile.{header_tests, version_stated, count_tests, count_stated, only, task_from};
-ghost use Rattle.workflow_files.specs.WorkflowFile.{position_from, stated_or, stated_tests, is_end, last_tests};
+ghost use Rattle.workflow_files.specs.WorkflowFile.{workflow_count_tests, workflow_count, only, task_from};
+ghost use Rattle.workflow_files.specs.WorkflowFile.{position_from, stated_or, stated_tests, begins_end, workflow_last_tests};
 
 use crate::kind::WorkflowKind;
 use crate::word::Word;
+use file_frame::{Version, count_on};
 use limits::{LimitName, MOST_TASKS};
 use mp_system::Task;
-use mp_text::{Line, Refusal, Tokens, Version, after_word, fault, number, tokens, version_of};
+use mp_text::{Line, Refusal, Tokens, fault, tokens};
 use sp_terms::Position;
 
-/// Line 1: the version.
-pub fn header_on(line: Line<'_>) -> Result<Version, Refusal<WorkflowKind>>
-    ensures { let r = row line.entry.number line.entry.text.now in Gives (tested (header_tests r) (version_stated r)) result }
-{
-    version_of(line.text, b"workflow").ok_or(fault(line.number, WorkflowKind::Header))
-}
-
 /// Line 2: the number of tasks.
-pub fn count_on(line: Line<'_>) -> Result<u64, Refusal<WorkflowKind>>
-    ensures { let r = row line.entry.number line.entry.text.now in Gives (tested (count_tests r) (count_stated r)) result }
+pub fn task_count_on(line: Line<'_>) -> Result<u64, Refusal<WorkflowKind>>
+    ensures { let r = row line.entry.number line.entry.text.now in Gives (tested (workflow_count_tests r) (workflow_count r)) result }
 {
-    let count = after_word(line.text, b"tasks").ok_or(fault(line.number, WorkflowKind::Header))?;
-    let count = number(count).ok_or(fault(line.number, WorkflowKind::Number))?;
-    if count > MOST_TASKS {
-        return Err(Refusal::Limit(LimitName::Tasks));
-    }
-    Ok(count)
+    count_on(
+        line,
+        b"tasks",
+        WorkflowKind::Header,
+        WorkflowKind::Number,
+        MOST_TASKS,
+        LimitName::Tasks,
+    )
 }
 
 // The number of a line that has just one.
@@ -132,8 +128,8 @@ pub fn position_on(
 }
 
 /// Whether a line begins with the word `end`.
-pub fn is_end(line: Line<'_>) -> bool
-    ensures { result ≡ is_end (row line.entry.number line.entry.text.now) }
+pub fn begins_end(line: Line<'_>) -> bool
+    ensures { result ≡ begins_end (row line.entry.number line.entry.text.now) }
 {
     match tokens(line.text).next() {
         Some(word) => word == b"end".as_slice(),
@@ -148,7 +144,7 @@ pub fn last_on(
     tasks: u64,
     line: Line<'_>,
 ) -> Result<(), Refusal<WorkflowKind>>
-    ensures { Gives (tested (last_tests count height tasks (row line.entry.number line.entry.text.now)) tt) result }
+    ensures { Gives (tested (workflow_last_tests count height tasks (row line.entry.number line.entry.text.now)) tt) result }
 {
     if tokens(line.text).one().is_none() {
         return Err(fault(line.number, WorkflowKind::Number));

@@ -5,11 +5,13 @@ ghost use Rattle.std.specs.List.{list_any, sum_by};
 ghost use Rattle.limits.specs.Limits.{most_tasks};
 ghost use Rattle.mp_text.specs.Report.{is_line_start, line_text, text_of_lines};
 ghost use Rattle.sp_terms.specs.Values.{added_tasks};
-ghost use Rattle.workflow_files.specs.WorkflowText.{position_line, text_in, is_sharing, version_for, text_of, text2_of};
+ghost use Rattle.workflow_files.specs.WorkflowText.{position_line, workflow_text_in, is_sharing, workflow_version_for};
+ghost use Rattle.workflow_files.specs.WorkflowText.{workflow_text, workflow_text_2};
 
 use crate::NoMemory;
+use file_frame::{Version, print_end, print_header, print_section};
 use mp_text::laws::printed_lines;
-use mp_text::{Report, Token, Version};
+use mp_text::{Report, Token};
 use sp_terms::{Position, TermList, tasks_of_position};
 
 fn print_position(version: Version, position: Position, report: &mut Report) -> Result<(), NoMemory>
@@ -54,24 +56,24 @@ fn print_positions(
 fn print_part(version: Version, positions: &[Position], report: &mut Report) -> Result<(), NoMemory>
     requires few { sum_by added_tasks positions.now ≤ most_tasks }
     requires start { IsTrue (is_line_start report.old) }
-    ensures ok { OnOk result (report.new ≡ report.old ++ text_in version positions.now) }
+    ensures ok { OnOk result (report.new ≡ report.old ++ workflow_text_in version positions.now) }
     ensures err { OnErr result (take (length report.old) report.new ≡ report.old) }
 {
     printed_lines();
-    report.line(&[Token::Word("workflow"), Token::Word(version.word())])?;
+    print_header("workflow", version, report)?;
     let tasks = positions
         .iter()
         .map(|position| tasks_of_position(*position))
         .sum();
-    report.line(&[Token::Word("tasks"), Token::Number(tasks)])?;
+    print_section("tasks", tasks, report)?;
     print_positions(version, positions, report)?;
-    report.line(&[Token::Word("end")])
+    print_end(report)
 }
 
 fn print_in(version: Version, positions: &[Position], report: &mut Report) -> Result<(), NoMemory>
     requires few { sum_by added_tasks positions.now ≤ most_tasks }
     requires start { IsTrue (is_line_start report.old) }
-    ensures ok { OnOk result (report.new ≡ report.old ++ text_in version positions.now) }
+    ensures ok { OnOk result (report.new ≡ report.old ++ workflow_text_in version positions.now) }
     ensures err { OnErr result (report.new ≡ report.old) }
 {
     let start = report.len();
@@ -98,7 +100,7 @@ fn has_share(positions: &[Position]) -> bool
 }
 
 fn version_for(positions: &[Position]) -> Version
-    ensures { result ≡ version_for positions.now }
+    ensures { result ≡ workflow_version_for positions.now }
 {
     if has_share(positions) {
         Version::Two
@@ -112,7 +114,7 @@ fn version_for(positions: &[Position]) -> Version
 /// Where memory runs out, the report stays as it was.
 pub fn print_workflow(terms: &TermList, report: &mut Report) -> Result<(), NoMemory>
     requires { IsTrue (is_line_start report.old) }
-    ensures ok { OnOk result (report.new ≡ report.old ++ text_of terms.now) }
+    ensures ok { OnOk result (report.new ≡ report.old ++ workflow_text terms.now) }
     ensures err { OnErr result (report.new ≡ report.old) }
 {
     let positions = terms.positions();
@@ -124,7 +126,7 @@ pub fn print_workflow(terms: &TermList, report: &mut Report) -> Result<(), NoMem
 /// Where memory runs out, the report stays as it was.
 pub fn print_workflow_2(terms: &TermList, report: &mut Report) -> Result<(), NoMemory>
     requires { IsTrue (is_line_start report.old) }
-    ensures ok { OnOk result (report.new ≡ report.old ++ text2_of terms.now) }
+    ensures ok { OnOk result (report.new ≡ report.old ++ workflow_text_2 terms.now) }
     ensures err { OnErr result (report.new ≡ report.old) }
 {
     print_in(Version::Two, terms.positions(), report)

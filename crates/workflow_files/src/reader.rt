@@ -4,10 +4,11 @@ ghost use Rattle.workflow_files.specs.Reader.{refusal_at};
 ghost use Rattle.workflow_files.specs.WorkflowFile.{ReadsWorkflow, IsWorkflowRefusal};
 
 use crate::kind::WorkflowKind;
-use crate::lines::{count_on, header_on, is_end, last_on, position_on};
+use crate::lines::{begins_end, last_on, position_on, task_count_on};
 use crate::stage::Stage;
 use crate::word::{Word, next_word};
-use mp_text::{Layout, Line, Reader, Refusal, Tokens, Version, fault, read_with, tokens};
+use file_frame::{Version, header_on};
+use mp_text::{Layout, Line, Reader, Refusal, Tokens, fault, read_with, tokens};
 use sp_terms::{Position, PushRefusal, TermBuilder, TermList};
 use std::alloc::Global;
 use std::marker::Model;
@@ -89,7 +90,7 @@ impl WorkflowReader {
     fn end_line(&mut self, line: Line<'_>) -> Result<(), Refusal<WorkflowKind>>
         ensures { Steps (end_step self.old (row line.entry.number line.entry.text.now)) result self.new }
     {
-        if !is_end(line) {
+        if !begins_end(line) {
             return Err(fault(line.number, WorkflowKind::Word));
         }
         last_on(
@@ -120,12 +121,12 @@ impl WorkflowReader {
     {
         match self.stage {
             Stage::Header => {
-                self.version = header_on(line)?;
+                self.version = header_on(line, b"workflow", Version::Two, WorkflowKind::Header)?;
                 self.stage = Stage::Count;
                 Ok(())
             }
             Stage::Count => {
-                self.count = count_on(line)?;
+                self.count = task_count_on(line)?;
                 self.stage = Stage::Positions;
                 Ok(())
             }

@@ -10,7 +10,7 @@ use Rattle.mp_text.specs.declared.layout.Layout.TheVariants.{Commented, Banner}
 use Rattle.mp_text.specs.declared.refusals.Refusal.{Refusal}
 use Rattle.mp_text.specs.declared.refusals.Refusal.TheVariants as refusals
 use Rattle.mp_text.specs.Text.{Row, lines_of, tokens_of, number_of, number_from, numbers_of, rows_from}
-use Rattle.mp_text.specs.Words.{after_word, version_of}
+use Rattle.file_frame.specs.Words.{after_word, version_of}
 use Rattle.mp_text.specs.Ahead.{rows_of_bytes, past_of_bytes}
 use Rattle.mp_text.specs.Grammar.{Format, fault_at, first_failure, tests_of_all}
 use Rattle.mp_system.specs.declared.system.Task.{Task}
@@ -20,10 +20,11 @@ use Rattle.sp_terms.specs.declared.position.Position.TheVariants as at
 use Rattle.sp_terms.specs.Term.{hold}
 use Rattle.sp_terms.specs.Builder.{is_short, limit_of, is_overshared}
 use Rattle.workflow_files.specs.WorkflowFile.{workflow_format, positions_stated}
-use Rattle.workflow_files.specs.WorkflowText.{text_of, text2_of}
+use Rattle.workflow_files.specs.WorkflowText.{workflow_text, workflow_text_2}
 use Rattle.workflow_files.specs.declared.kind.WorkflowKind.TheVariants as workflows
 use Rattle.graphs.specs.declared.arc.Arc.{Arc}
-use Rattle.graph_files.specs.GraphFile.{graph_format, graph_stated, line_stating}
+use Rattle.graph_files.specs.GraphFile.{graph_format, graph_stated}
+use Rattle.file_frame.specs.Frame.{line_stating}
 use Rattle.graph_files.specs.declared.kind.GraphKind.TheVariants as graphs
 use Rattle.matrix_files.specs.MatrixFile.{matrix_format, order_stated, pairs_stated, is_word, size_stated, entry_stated}
 use Rattle.matrix_files.specs.declared.kind.MatrixKind.TheVariants as matrices
@@ -44,11 +45,11 @@ refusal_of layout format bytes =
 abbrev pub one_task : List Position
 one_task = Hold 0 ∷ Hold 7 ∷ at.Task 2 0 1 ∷ []
 
-pub one_task_text : text_of one_task ≡ codes "workflow 1\ntasks 1\ndata 0\ndata 7\ntask 2 1\nend\n"
+pub one_task_text : workflow_text one_task ≡ codes "workflow 1\ntasks 1\ndata 0\ndata 7\ntask 2 1\nend\n"
 unfolding digits
 one_task_text = refl
 
-pub one_task_text2 : text2_of one_task ≡ codes "workflow 2\ntasks 1\ndata 0\ndata 7\ntask 2 0 1\nend\n"
+pub one_task_text2 : workflow_text_2 one_task ≡ codes "workflow 2\ntasks 1\ndata 0\ndata 7\ntask 2 0 1\nend\n"
 unfolding digits
 one_task_text2 = refl
 
@@ -104,7 +105,7 @@ pub graphs_stated :
     map (λ bytes. graph_stated (rows_of_bytes Commented bytes))
     (codes "graph 1\ntasks 0\narcs 0\nend\n" ∷ codes "graph 1\ntasks 2\n3 0 1\n0 2 4\narcs 1\n1 2 5\nend\n" ∷ [])
     ≡ record { tasks = []; arcs = [] } ∷ record { tasks = task 3 0 1 ∷ task 0 2 4 ∷ []; arcs = arc 1 2 5 ∷ [] } ∷ []
-unfolding lines_of tokens_of number_of number_from numbers_of rows_from after_word
+unfolding lines_of tokens_of number_of number_from numbers_of rows_from after_word version_of
 graphs_stated = refl
 
 pub line_of_task : line_stating (rows_of_bytes Commented (codes "graph 1\ntasks 2\n3 0 1\n\n0 2 4\narcs 1\n1 2 5\nend\n")) 2 ≡ 5
@@ -123,7 +124,7 @@ pub graph_refusals :
     ∷ [])
     ≡ None ∷ Some (fault_at 1 graphs.Header) ∷ Some (fault_at 3 graphs.Number) ∷ Some (fault_at 5 graphs.Arc)
     ∷ Some (refusals.Limit limits.Arcs) ∷ Some (fault_at 4 graphs.NoEnd) ∷ []
-unfolding digits lines_of tokens_of number_of number_from numbers_of rows_from after_word
+unfolding digits lines_of tokens_of number_of number_from numbers_of rows_from after_word version_of
 graph_refusals = refl
 
 -- ---- matrices

@@ -1,14 +1,20 @@
-use Rattle.plan_files.proofs.PrintedLemmas.{AreLaws, text_of-reads, text2_of-reads}
+use Rattle.file_frame.proofs.PrintedLaws.{AreLaws}
+use Rattle.plan_files.proofs.PrintedLemmas.{plan_text-reads, plan_text_2-reads}
 use Rattle.plan_files.proofs.laws.printed_plan.Goals as goal
 
 pub returns : goal.returns
 returns c =
+    let number = c.printed_number.ensures in
+    let file = c.printed_file.ensures in
     let laws : AreLaws = record {
-      token = c.printed_number.ensures.token;
-      value = c.printed_number.ensures.value;
-      signed_token = c.printed_number.ensures.signed_token;
-      signed_value = c.printed_number.ensures.signed_value;
-      counted = c.printed_number.ensures.counted;
-      rows = c.printed_file.ensures.rows;
+      token = number.token;
+      value = number.value;
+      values = number.values;
+      signed_token = number.signed_token;
+      signed_value = number.signed_value;
+      counted = number.counted;
+      rows = file.rows;
+      parts = file.parts;
+      count = file.count;
     } in
-    record { text = text_of-reads laws; text_2 = text2_of-reads laws }
+    record { text = plan_text-reads laws; text_2 = plan_text_2-reads laws }

@@ -2,7 +2,7 @@ use Rattle.std.proofs.Common.{◌≡◌, ◌+◌, ◌∙◌, List, [], get_or, d
 use Rattle.mp_text.specs.declared.layout.Layout.TheVariants.{Commented}
 use Rattle.mp_text.specs.Text.{Row}
 use Rattle.mp_text.specs.Ahead.{row, rows_of, rows_of_bytes}
-use Rattle.tree_files.proofs.RowsAhead.{rows_from_next, row_ahead}
+use Rattle.file_frame.proofs.RowsAhead.{rows_from_next, row_ahead}
 use Rattle.tree_files.proofs.reading.line_of.Goals as goal
 
 pub loop-before-preserved : goal.loop-before-preserved

@@ -1,18 +1,20 @@
-use Rattle.workflow_files.proofs.PrintedLemmas.{text_of-reads, text2_of-reads}
+use Rattle.file_frame.proofs.PrintedLaws.{AreLaws}
+use Rattle.workflow_files.proofs.PrintedLemmas.{workflow_text-reads, workflow_text_2-reads}
 use Rattle.workflow_files.proofs.laws.printed_workflow.Goals as goal
 
-pub returns-clause-text : goal.returns-clause-text
-returns-clause-text c = text_of-reads (record {
-  token = c.printed_number.ensures.token;
-  value = c.printed_number.ensures.value;
-  values = c.printed_number.ensures.values;
-  rows = c.printed_file.ensures.rows;
-})
-
-pub returns-clause-text_2 : goal.returns-clause-text_2
-returns-clause-text_2 c = text2_of-reads (record {
-  token = c.printed_number.ensures.token;
-  value = c.printed_number.ensures.value;
-  values = c.printed_number.ensures.values;
-  rows = c.printed_file.ensures.rows;
-})
+pub returns : goal.returns
+returns c =
+    let number = c.printed_number.ensures in
+    let file = c.printed_file.ensures in
+    let laws : AreLaws = record {
+      token = number.token;
+      value = number.value;
+      values = number.values;
+      signed_token = number.signed_token;
+      signed_value = number.signed_value;
+      counted = number.counted;
+      rows = file.rows;
+      parts = file.parts;
+      count = file.count;
+    } in
+    record { text = workflow_text-reads laws; text_2 = workflow_text_2-reads laws }

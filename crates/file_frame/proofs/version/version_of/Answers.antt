@@ -1,6 +1,6 @@
 use Rattle.std.proofs.Common.{refl, ◌∙◌}
-use Rattle.mp_text.specs.Words.{version_of}
-use Rattle.mp_text.proofs.words.version_of.Goals as goal
+use Rattle.file_frame.specs.Words.{version_of}
+use Rattle.file_frame.proofs.version.version_of.Goals as goal
 
 pub returns-in_err-after_word : goal.returns-in_err-after_word
 unfolding version_of

@@ -1,0 +1,5 @@
+pub mod TestLemmas
+pub mod LineLemmas
+pub mod PrintedLaws
+pub mod RowsAhead
+pub mod LengthLemmas

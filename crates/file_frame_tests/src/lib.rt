@@ -1,0 +1,5 @@
+//! Tests of `file_frame`, over its public functions.
+#![tactic(auto)]
+
+#[cfg(test)]
+mod tests;
