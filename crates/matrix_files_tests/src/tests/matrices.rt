@@ -1,6 +1,6 @@
 //! Matrix files worked by hand, and what they are refused with.
 
-use matrix_files::{read_pattern, read_pattern_owned};
+use matrix_files::read_pattern;
 use patterns::Pattern;
 use std::process::Abort;
 use std::test::Fail;
@@ -46,9 +46,8 @@ fn reads(rt: HostRuntime) -> Result<(), Fail> {
         ),
     ];
     for (text, wanted) in rows {
-        check_rows(&rt, &read_pattern(alloc, text.as_bytes())?, wanted);
-        let owned = Vec::from_slice(alloc, text.as_bytes())?;
-        check_rows(&rt, &read_pattern_owned(alloc, owned)?, wanted);
+        let bytes = Vec::from_slice(alloc, text.as_bytes())?;
+        check_rows(&rt, &read_pattern(alloc, bytes)?, wanted);
     }
     Ok(())
 }
@@ -135,7 +134,8 @@ fn refuses(rt: HostRuntime) -> Result<(), Fail> {
     for (start, rows) in REFUSED {
         for (rest, said) in rows {
             let text = format!(in alloc; "{start}{rest}")?;
-            let refusal = read_pattern(alloc, text.as_bytes()).err().ok_or(*rest)?;
+            let bytes = Vec::from_slice(alloc, text.as_bytes())?;
+            let refusal = read_pattern(alloc, bytes).err().ok_or(*rest)?;
             assert_eq!(rt; format!(in alloc; "{refusal}")?.as_str(), *said, "{text}");
         }
     }
