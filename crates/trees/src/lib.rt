@@ -17,6 +17,7 @@ mod system;
 mod term;
 mod tree;
 
+pub use children::child_rows;
 pub use faults::{TreeFault, first_fault};
 pub use judged::{NodeTest, NodesRefusal, tree_of_nodes};
 pub use names::Names;

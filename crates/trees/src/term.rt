@@ -6,9 +6,9 @@ ghost use Rattle.mp_system.specs.Renaming.{IsRenamed};
 ghost use Rattle.sp_terms.specs.SystemOfTerm.{system_of_term};
 ghost use Rattle.sp_terms.specs.Values.{term_of};
 ghost use Rattle.trees.specs.Tree.{IsNode, system_of_nodes};
-ghost use Rattle.trees.specs.Forest.{Forest, IsForestOf, all_numbers, children_of};
+ghost use Rattle.trees.specs.Forest.{AreChildren, Forest, IsForestOf, all_numbers, children_of};
 ghost use Rattle.trees.specs.TreeTerm.{forest_positions, beside_positions};
-ghost use Rattle.trees.specs.Children.{AreChildren, positions_of};
+ghost use Rattle.trees.specs.Children.{positions_of};
 
 use crate::children::child_rows;
 use crate::names::Names;
