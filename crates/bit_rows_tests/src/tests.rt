@@ -67,7 +67,7 @@ fn two_rows(rt: HostRuntime) -> Result<(), Fail> {
 fn words_of_a_row(rt: HostRuntime) -> Result<(), Fail> {
     let alloc = rt.alloc();
     let row = row_of(alloc, &[3, 130, 199])?;
-    assert_eq!(rt; row.words(), &[8, 0, 4, 128]);
+    assert_eq!(rt; row.words(), [8u64, 0, 4, 128].as_slice());
     assert_eq!(rt; BitRow::empty(alloc).words().len(), 0);
     Ok(())
 }

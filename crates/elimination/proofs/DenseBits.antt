@@ -1,5 +1,6 @@
 -- Rows of bits in a list, their vertices counted, and the bits of a word.
-use Rattle.std.proofs.Common.{◌≡◌, ◌≢◌, ℕ, suc, ◌+◌, ◌*◌, ◌%◌, ◌^◌, ◌<◌, inl, inr, Bool, true, false, cond, List, [], ◌∷◌, length, get_or, set, ap, ◌∙◌, arith, bit_and, w64}
+use Rattle.std.proofs.Common.{◌≡◌, ◌≢◌, ℕ, suc, ◌+◌, ◌*◌, ◌%◌, ◌^◌, ◌<◌, inl, inr, Bool, false, List, [], ◌∷◌, length, get_or, set, ap, ◌∙◌}
+use Rattle.std.proofs.Common.{arith, bit_and, w64}
 use Rattle.std.specs.Int.{bit_at, bit_not, trailing_zeros}
 use Rattle.std.specs.List.{count_by, range_with_len}
 use Rattle.std.proofs.lemmas.Bool.{cases_eq}
@@ -9,6 +10,7 @@ use Rattle.std.proofs.lemmas.Nat.{and_le_l}
 use Rattle.std.proofs.lemmas.Nat.Bits.{bit_at_clear_same, bit_at_clear_other, bit_at-trailing_zeros}
 use Rattle.bit_rows.specs.Bits.{bit_in}
 use Rattle.elimination.specs.Dense.{row_of}
+use Rattle.elimination.proofs.Degrees.{bit}
 
 -- ---- a list of rows
 
@@ -34,9 +36,10 @@ put_others row new x b is y ne = ap (λ z. bit_in z y) is ∙ get_or-set_other r
 pub count_vertices : (p : ℕ → Bool) (n : ℕ) → p 0 ≡ false → count_by p (range_with_len 0 (n + 1)) ≡ count_by p (range_with_len 1 n)
 count_vertices p n none =
     let e : n + 1 ≡ suc n = omega arith in
-    let s = ap (λ m. count_by p (range_with_len 0 m)) e in
-    let c = sum_by-cons (λ x. cond (p x) 1 0) 0 (range_with_len 1 n) in
-    let z : cond (p 0) 1 0 ≡ 0 = ap (λ b. cond b 1 0) none in
+    let s : count_by p (range_with_len 0 (n + 1)) ≡ count_by p (0 ∷ range_with_len 1 n) = ap (λ m. count_by p (range_with_len 0 m)) e in
+    let c : count_by p (0 ∷ range_with_len 1 n) ≡ bit (p 0) + count_by p (range_with_len 1 n) =
+    sum_by-cons (λ x. bit (p x)) 0 (range_with_len 1 n) in
+    let z : bit (p 0) ≡ 0 = ap bit none in
     omega arith
 
 -- ---- the bits of a word, lowest first

@@ -181,7 +181,7 @@ module _ (q : Quotient) (t : Tables) (v : ℕ) (s : IsReleased q t v) where
           let d = numbered_degree x (group_vertex v x h) not_gone in
           omega arith
 
-      pub twin_full : (row : List ℕ) → IsFullRow (stage_at q.left vertices) (at numbers v) row
+      pub twin_full : (row : List Bool) → IsFullRow (stage_at q.left vertices) (at numbers v) row
           → IsFullRow (stage_at q.left vertices) (at numbers x) row
       twin_full row f = record {
         width = f.width;

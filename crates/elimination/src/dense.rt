@@ -65,12 +65,11 @@ impl DenseSearch {
         ensures none { IfOk result (λ search. (x : ℕ) → bit_in search.alive x ≡ false) }
     {
         let count = order as usize + 1;
-        let alive = BitRow::new(alloc, count)?;
         Ok(DenseSearch {
             order,
             rows: empty_rows(alloc, count)?,
             pivots: Vec::new(alloc),
-            alive,
+            alive: BitRow::new(alloc, count)?,
             bounds: MinTree::new(alloc, count)?,
         })
     }

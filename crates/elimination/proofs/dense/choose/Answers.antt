@@ -42,7 +42,8 @@ look-degree-requires-clause-stand c = (
 )
 
 items_are : (c : After-look-degree) → (with_items c.search.search.rows c.look-degree.new.rows).items ≡ c.look-degree.new.rows
-items_are c = let l = c.look-degree.ensures.len in let m = c.deref_mut.ensures.len in with_items_is c.search.search.rows c.look-degree.new.rows (l ∙ m)
+items_are c = let l = c.look-degree.ensures.len in let m = c.deref_mut.ensures.len in
+    with_items_is c.search.search.rows c.look-degree.new.rows (l ∙ m)
 
 looked : (c : After-look-degree) (stage : Stage) → AreBitRows stage (row_of c.deref_mut.result.now) c.deref.result.now c.search.search.alive
     → IsStanding stage c.first_least-v.result

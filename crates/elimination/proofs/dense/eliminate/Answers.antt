@@ -1,4 +1,4 @@
-use Rattle.std.proofs.Common.{◌≡◌, ◌≢◌, ◌∷◌, [], ◌++◌, ◌&&◌, ◌-◌, ◌<◌, inl, inr, true, false, ℕ, get_or, take, length, length-set, arith, sym, ap, ap₂, ◌∙◌, subst}
+use Rattle.std.proofs.Common.{◌≡◌, ◌≢◌, ◌∷◌, [], ◌++◌, ◌&&◌, ◌-◌, ◌<◌, inl, inr, false, ℕ, get_or, take, length, length-set, arith, sym, ap, ap₂, ◌∙◌, subst}
 use Rattle.std.specs.List.{filter}
 use Rattle.std.proofs.lemmas.Bool.{cases_eq, both_ways}
 use Rattle.std.proofs.lemmas.List.{with_items_is}
@@ -9,7 +9,7 @@ use Rattle.patterns.proofs.NumberLists.{has_at}
 use Rattle.elimination.proofs.DenseBits.{row_get, put_own, put_others}
 use Rattle.elimination.proofs.DenseSteps.{eliminated_rows, eliminated_bounds}
 use Rattle.elimination.proofs.dense.eliminate.Goals as goal
-use Rattle.elimination.proofs.dense.eliminate.Goals.{After-remove, After-words, After-words-2}
+use Rattle.elimination.proofs.dense.eliminate.Goals.{After-remove, After-words}
 
 pub remove-requires : goal.remove-requires
 remove-requires c =

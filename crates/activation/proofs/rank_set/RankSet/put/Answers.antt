@@ -1,4 +1,4 @@
-use Rattle.std.proofs.Common.{◌≡◌, ◌<◌, ◌/◌, List, Bool, length, length-set, set, refl, ap, ◌∙◌, arith}
+use Rattle.std.proofs.Common.{◌<◌, ◌/◌, List, Bool, length, length-set, set, refl, ap, ◌∙◌, arith}
 use Rattle.activation.proofs.Bits.{upper_kept}
 use Rattle.activation.proofs.rank_set.RankSet.put.Goals as goal
 

@@ -65,7 +65,7 @@ loop-x-preserved c =
       | inl e ↦ subst (λ z. IsTrue (bit_in c.put.new.self.alive z)) (sym e) c.put.ensures.put
       | inr ne ↦ c.put.ensures.others y ne ∙ t
     ] in
-    let copy : c.in_ok-copy.field-0 ≡ c.args.row = c.in_ok-copy.ensures in
+    let copy : c.in_ok-copy.field-0 ≡ c.args.row = (let made = c.in_ok-copy.ensures in let was = c.row.view_is in cc) in
     record {
       order = c.put.ensures.order ∙ inv.order;
       filling = λ q vertices s a f r.

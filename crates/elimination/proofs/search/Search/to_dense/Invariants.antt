@@ -2,6 +2,7 @@ use Rattle.std.proofs.Common.{◌≡◌, ℕ, ◌+◌, ◌<◌, IsTrue, get_or, 
 use Rattle.elimination.specs.Elimination.{IsVertex}
 use Rattle.elimination.specs.Quotients.{Quotient, at}
 use Rattle.elimination.specs.Tables.{tables, AllHaveLength}
+use Rattle.bit_rows.specs.Bits.{bit_in}
 use Rattle.elimination.specs.Dense.{IsFilling}
 use Rattle.elimination.specs.Switch.{stage_at, CanFill}
 use Rattle.elimination.proofs.search.Search.to_dense.Given as goal
