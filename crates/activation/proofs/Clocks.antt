@@ -13,7 +13,7 @@ use Rattle.activation.specs.Machine.{Setting, State, IsSetting, phase_in, is_run
 use Rattle.activation.specs.declared.clock.Due.{Due}
 use Rattle.activation.specs.Clock.{ClockValue, IsFirstDue, IsDueOf, has_place}
 use Rattle.activation.specs.Safe.{IsSafe}
-use Rattle.activation.specs.Bits.{IsFirstRank}
+use Rattle.bit_rows.specs.Bits.{IsFirstIn}
 use Rattle.activation.specs.Schedule.{task_entry, HoldsEach, Moment, FinishesNext, ComesNext}
 use Rattle.activation.specs.Tables.{IsNumbering, is_startable}
 use Rattle.activation.specs.Run.{RunTables, IsNextDue, IsFirstStartable, IsRun, IsRoom}
@@ -123,7 +123,7 @@ module _ {c : Setting} {st : State} {time : ℕ} {x : RunTables} (long' : Long) 
     pub due_now : d.time ≤ time → (t : ℕ) → IsNextDue c (record { state = st; time = time; dues = x.dues }) t → task_entry x.dues t ≡ time
     due_now low t next = omega (arith, next.least (slice_index c.order d.place) next_is_due.running, due_time, low, r.not_past t next.running)
 
-  pub first_is_startable : (rank : ℕ) → IsFirstRank x.ready rank → (get_or x.priority rank 0 < length c.order) × IsFirstStartable c (map (slice_index c.order) x.priority) st (slice_index c.order (get_or x.priority rank 0))
+  pub first_is_startable : (rank : ℕ) → IsFirstIn x.ready rank → (get_or x.priority rank 0 < length c.order) × IsFirstStartable c (map (slice_index c.order) x.priority) st (slice_index c.order (get_or x.priority rank 0))
   first_is_startable rank first =
       let f : ℕ → ℕ = slice_index c.order in
       let within : rank < length x.priority = omega (arith, first.within, r.ready_long, r.ranked.long) in
@@ -147,10 +147,10 @@ module _ {c : Setting} {st : State} {time : ℕ} {x : RunTables} (long' : Long) 
         },
       )
 
-  pub none_startable : ((k : ℕ) → k < length x.ready → get_or x.ready k false ≡ false) → (u : ℕ) → IsTask c.system u → is_startable c st u ≡ false
+  pub none_startable : ((k : ℕ) → get_or x.ready k false ≡ false) → (u : ℕ) → IsTask c.system u → is_startable c st u ≡ false
   none_startable none u is =
       let p = place_in c.order u (task_has_place c.system c.order (each set) u is) in
-      ap (is_startable c st) (sym p.2) ∙ sym (r.ready_is p.0 p.1) ∙ none (get_or x.ranks p.0 0) (omega (arith, r.ready_long, r.ranked.ranks_are.within p.0 p.1))
+      ap (is_startable c st) (sym p.2) ∙ sym (r.ready_is p.0 p.1) ∙ none (get_or x.ranks p.0 0)
 
 -- at the start no task is startable
 start_unstartable : (c : Setting) (t : ℕ) → is_startable c (start_state c) t ≡ false

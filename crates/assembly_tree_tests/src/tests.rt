@@ -56,7 +56,7 @@ const ALONE: Expected = Expected { supers: &[(1, 0, 0), (1, 0, 0), (1, 0, 0), (1
 ] };
 
 fn tree_of(rt: &impl Abort, alloc: Global, matrix: &str, order: &str) -> Result<Parents, Fail> {
-    let pattern = read_pattern(alloc, matrix.as_bytes())?;
+    let pattern = read_pattern(alloc, Vec::from_slice(alloc, matrix.as_bytes())?)?;
     let perm = read_perm(alloc, order.as_bytes(), pattern.rows())?;
     assert_eq!(rt; pattern.rows(), perm.len());
     Ok(etree(alloc, &pattern, &perm)?)

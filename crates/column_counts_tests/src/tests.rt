@@ -79,7 +79,7 @@ fn read(rt: &impl Abort, alloc: Global, matrix: &str, order: &str) -> Result<(Pa
     ensures { IfOk result (λ r. length r.1 ≡ length r.0) }
 {
     let file = format!(in alloc; "{BANNER}\n{matrix}")?;
-    let pattern = read_pattern(alloc, file.as_bytes())?;
+    let pattern = read_pattern(alloc, file.into_bytes())?;
     let perm = read_perm(alloc, order.as_bytes(), pattern.rows())?;
     assert_eq!(rt; perm.len(), pattern.rows());
     Ok((pattern, perm))

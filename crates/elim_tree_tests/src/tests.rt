@@ -83,7 +83,7 @@ fn pattern_of(alloc: Global, pairs: &[(u32, u32)]) -> Result<Pattern, Fail> {
     for (a, b) in pairs {
         text.line(&[Token::Number((*b).into()), Token::Number((*a).into())])?;
     }
-    Ok(read_pattern(alloc, text.bytes())?)
+    Ok(read_pattern(alloc, Vec::from_slice(alloc, text.bytes())?)?)
 }
 
 fn order_of(alloc: Global, order: [u32; 4]) -> Result<Perm, Fail> {

@@ -3,13 +3,14 @@ use Rattle.std.proofs.Common.{inl, inr, ℕ, sym, ap, ◌∙◌, IsTrue}
 use Rattle.std.proofs.lemmas.Bool.{both_ways, false_from_ne_true}
 use Rattle.patterns.specs.Pattern.{has}
 use Rattle.elimination.specs.Elimination.{IsAdjacency}
-use Rattle.elimination.specs.Dense.{Stage, IsStanding, IsFilling, IsDense, bit_in}
+use Rattle.bit_rows.specs.Bits.{bit_in}
+use Rattle.elimination.specs.Dense.{Stage, IsStanding, IsFilling, IsDense}
 use Rattle.elimination.specs.declared.dense.DenseSearch.{DenseSearch}
 
 -- all that are left were put in
 pub filled : (stage : Stage) (search : DenseSearch) → IsAdjacency stage.left → ((a b : ℕ) → IsTrue (stage.left a b) → IsStanding stage a)
     → IsFilling stage search
-    → ((x : ℕ) → IsStanding stage x → IsTrue (bit_in search.alive.items x)) → IsDense stage search
+    → ((x : ℕ) → IsStanding stage x → IsTrue (bit_in search.alive x)) → IsDense stage search
 filled stage search plain within s all =
     let none : (p : ℕ) → IsTrue (has search.pivots.items p) → ⊥ = λ p h. both_ways (has search.pivots.items p)
     (ap (λ z. has z p) s.none_open) h in
@@ -32,6 +33,6 @@ filled stage search plain within s all =
       bounds = record {
         len = s.bounds_len;
         low = λ x lx. s.low x (all x lx);
-        off = λ x le out. s.off x le (false_from_ne_true (bit_in search.alive.items x) (λ t. out (s.alive_from x t)));
+        off = λ x le out. s.off x le (false_from_ne_true (bit_in search.alive x) (λ t. out (s.alive_from x t)));
       };
     }

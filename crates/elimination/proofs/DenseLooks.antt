@@ -1,16 +1,17 @@
 -- One look at a vertex: the open rows that have it are put into its row.
-use Rattle.std.proofs.Common.{◌≡◌, ◌≢◌, ◌⊎◌, inl, inr, ℕ, ◌-◌, ◌&&◌, eqb, List, length, sym, ap, ◌∙◌, arith, subst, IsTrue}
+use Rattle.std.proofs.Common.{◌≡◌, ◌≢◌, ◌⊎◌, inl, inr, ℕ, ◌-◌, ◌&&◌, Bool, eqb, List, length, sym, ap, ◌∙◌, arith, subst, IsTrue}
 use Rattle.std.specs.List.{count_by, range_with_len}
 use Rattle.std.proofs.lemmas.Bool.{cases_eq, or_cases, and_parts, and_from, eqb-true}
 use Rattle.patterns.specs.Pattern.{has}
 use Rattle.elimination.specs.Elimination.{degree_of, times}
 use Rattle.elimination.specs.Twins.{is_near}
-use Rattle.elimination.specs.Dense.{Stage, IsStanding, IsInOpen, bit_in, AreBitRows, IsLookedAt, width_of}
+use Rattle.bit_rows.specs.Bits.{bit_in}
+use Rattle.elimination.specs.Dense.{Stage, IsStanding, IsInOpen, AreBitRows, IsLookedAt, width_of}
 use Rattle.lists.proofs.Bools.{same_bool}
 use Rattle.elimination.proofs.Degrees.{counted_is, near_count}
 
 -- who is near a vertex that is left is left too
-pub near_stands : (stage : Stage) (row : ℕ → List ℕ) (opened alive : List ℕ) → AreBitRows stage row opened alive → (v x : ℕ)
+pub near_stands : (stage : Stage) (row : ℕ → List Bool) (opened : List ℕ) (alive : List Bool) → AreBitRows stage row opened alive → (v x : ℕ)
     → IsStanding stage v → IsTrue (is_near stage.left v x) → IsStanding stage x
 near_stands stage row opened alive s v x here near = elim (or_cases (eqb v x) _ near) [
   | inl e ↦ subst (IsStanding stage) (eqb-true v x e) here
@@ -18,12 +19,12 @@ near_stands stage row opened alive s v x here near = elim (or_cases (eqb v x) _ 
 ]
 
 -- what is open is gone
-pub open_apart : (stage : Stage) (row : ℕ → List ℕ) (opened alive : List ℕ) → AreBitRows stage row opened alive → (v : ℕ)
+pub open_apart : (stage : Stage) (row : ℕ → List Bool) (opened : List ℕ) (alive : List Bool) → AreBitRows stage row opened alive → (v : ℕ)
     → IsStanding stage v → (p : ℕ) → IsTrue (has opened p) → p ≢ v
 open_apart stage row opened alive s v here p h e = let g = (s.open_gone p h).1 in let k = ap (times stage.gone) e in let z = here.1 in
     absurd (omega arith)
 
-module _ (stage : Stage) (row row' : ℕ → List ℕ) (opened alive : List ℕ) (s : AreBitRows stage row opened alive) (v : ℕ)
+module _ (stage : Stage) (row row' : ℕ → List Bool) (opened : List ℕ) (alive : List Bool) (s : AreBitRows stage row opened alive) (v : ℕ)
     (here : IsStanding stage v)
     (same : (y : ℕ) → y ≢ v → row' y ≡ row y) (len : length (row' v) ≡ length (row v))
     (kept : (x : ℕ) → IsTrue (bit_in (row v) x) → IsTrue (bit_in (row' v) x))

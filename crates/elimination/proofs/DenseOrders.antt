@@ -5,7 +5,8 @@ use Rattle.patterns.specs.Pattern.{has}
 use Rattle.min_tree.specs.Least.{IsFirstLeast}
 use Rattle.elimination.specs.Elimination.{IsRemaining, IsAdjacency, times, eliminate, eliminated, degree_of}
 use Rattle.elimination.specs.Twins.{is_near}
-use Rattle.elimination.specs.Dense.{IsStanding, IsDense, IsDenseChoice, IsDenseUnderWay, IsDenseRest, IsLeastDegreeOrder, bit_in, stage_of, stage_after}
+use Rattle.bit_rows.specs.Bits.{bit_in}
+use Rattle.elimination.specs.Dense.{IsStanding, IsDense, IsDenseChoice, IsDenseUnderWay, IsDenseRest, IsLeastDegreeOrder, stage_of, stage_after}
 use Rattle.elimination.specs.declared.dense.DenseSearch.{DenseSearch}
 use Rattle.elimination.proofs.Eliminations.{eliminated_push, pattern_eliminate, kept, keep_old}
 use Rattle.elimination.proofs.ListFacts.{times_unless, times_some}
@@ -58,7 +59,7 @@ module _ (joined : ℕ → ℕ → Bool) (vertices : List ℕ) (search : DenseSe
         let low = b.low u lu in
         omega arith
 
-    pub rest_first : IsDenseRest joined search.order search.alive.items vertices 1
+    pub rest_first : IsDenseRest joined search.order search.alive vertices 1
     rest_first =
         let rows = s.dense.rows in
         let left = eliminated joined vertices in
@@ -78,7 +79,7 @@ module _ (joined : ℕ → ℕ → Bool) (vertices : List ℕ) (search : DenseSe
           alive_to = λ u le lu. rows.alive_to u lu;
         }
 
-module _ (joined : ℕ → ℕ → Bool) (n : ℕ) (alive vertices : List ℕ) (v : ℕ) (s : IsDenseRest joined n alive vertices v) where
+module _ (joined : ℕ → ℕ → Bool) (n : ℕ) (alive : List Bool) (vertices : List ℕ) (v : ℕ) (s : IsDenseRest joined n alive vertices v) where
   -- v is gone already
   pub rest_skip : bit_in alive v ≡ false → IsDenseRest joined n alive vertices (v + 1)
   rest_skip gone = record {

@@ -9,7 +9,8 @@ use Rattle.patterns.specs.Pattern.{has}
 use Rattle.min_tree.specs.Least.{IsFirstLeast, greatest}
 use Rattle.elimination.specs.Elimination.{IsVertex, IsAhead, degree_of, times, eliminate}
 use Rattle.elimination.specs.Twins.{is_near}
-use Rattle.elimination.specs.Dense.{Stage, IsStanding, IsInOpen, bit_in, AreBitRows, AreLowBounds, stage_after, width_of, lacks}
+use Rattle.bit_rows.specs.Bits.{bit_in}
+use Rattle.elimination.specs.Dense.{Stage, IsStanding, IsInOpen, AreBitRows, AreLowBounds, stage_after, width_of, lacks}
 use Rattle.elimination.proofs.Eliminations.{pattern_eliminate, kept, keep_old, keep_new, no_neighbour}
 use Rattle.elimination.proofs.ListFacts.{has_one, has_own, has_left, has_right, has_cases}
 use Rattle.elimination.proofs.VertexLists.{times_append, times-here, times-beyond}
@@ -140,9 +141,9 @@ filter_to q (x ∷ xs) p h t = elim (has_cases (x ∷ []) xs p h) [
       )
 ]
 
-module _ (stage : Stage) (row : ℕ → List ℕ) (opened alive : List ℕ) (s : AreBitRows stage row opened alive) (v : ℕ) (here : IsStanding stage v)
+module _ (stage : Stage) (row : ℕ → List Bool) (opened : List ℕ) (alive : List Bool) (s : AreBitRows stage row opened alive) (v : ℕ) (here : IsStanding stage v)
     (exact : (x : ℕ) → IsStanding stage x → bit_in (row v) x ≡ is_near stage.left v x)
-    (alive' : List ℕ) (alive_len : length alive' ≡ length alive) (cleared : bit_in alive' v ≡ false)
+    (alive' : List Bool) (alive_len : length alive' ≡ length alive) (cleared : bit_in alive' v ≡ false)
     (others : (x : ℕ) → x ≢ v → bit_in alive' x ≡ bit_in alive x) where
   after_cases : (p : ℕ) → IsTrue (has (filter (lacks row v) opened ++ v ∷ []) p) → IsTrue (has opened p) ⊎ (v ≡ p)
   after_cases p h = elim (has_cases (filter (lacks row v) opened) (v ∷ []) p h) [

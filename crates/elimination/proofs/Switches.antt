@@ -8,7 +8,8 @@ use Rattle.elimination.specs.Quotients.{Quotient, at}
 use Rattle.elimination.specs.Tables.{Tables}
 use Rattle.elimination.specs.Turns.{StandFor, IsReleased}
 use Rattle.elimination.specs.Twins.{is_near}
-use Rattle.elimination.specs.Dense.{IsStanding, IsFullRow, IsFilling, IsDense, IsDenseUnderWay, IsLeastDegreeOrder, bit_in, width_of}
+use Rattle.bit_rows.specs.Bits.{bit_in}
+use Rattle.elimination.specs.Dense.{IsStanding, IsFullRow, IsFilling, IsDense, IsDenseUnderWay, IsLeastDegreeOrder, width_of}
 use Rattle.elimination.specs.declared.dense.DenseSearch.{DenseSearch}
 use Rattle.elimination.specs.Switch.{most_of, stage_at, renumbered, AreNumbers, IsNumberIn, IsNumberInGroups, CanFill, IsRestAfter}
 use Rattle.elimination.specs.declared.switch.Rest.{Rest}
@@ -63,7 +64,7 @@ module _ (q : Quotient) (t : Tables) (v : ℕ) (s : IsReleased q t v) where
 
   module _ (vertices numbers : List ℕ) (a : AreNumbers t.turn q.order vertices numbers) where
     -- the bits of a row are new numbers
-    module _ (row : List ℕ) (own : IsTrue (bit_in row (at numbers v)))
+    module _ (row : List Bool) (own : IsTrue (bit_in row (at numbers v)))
         (group : (x : ℕ) → IsTrue (has (t.groups v) x) → IsTrue (bit_in row (at numbers x)))
         (near : (x : ℕ) → IsTrue (has t.near x) → IsTrue (bit_in row (at numbers x)))
         (groups : (r x : ℕ) → IsTrue (has t.near r) → IsTrue (has (t.groups r) x) → IsTrue (bit_in row (at numbers x)))
@@ -131,7 +132,7 @@ module _ (q : Quotient) (t : Tables) (v : ℕ) (s : IsReleased q t v) where
           near_numbered t.turn q.order vertices a.numbered q.left (at numbers u) y (a.most u) (omega arith)
           ∙ ap (λ z. is_near q.left z (at vertices y)) k.1
 
-      pub full_row : (row : List ℕ) → length row ≡ width_of (most_of vertices)
+      pub full_row : (row : List Bool) → length row ≡ width_of (most_of vertices)
           → ((x : ℕ) → IsVertex q.order x → t.turn x ≡ 0 → bit_in row (at numbers x) ≡ is_near q.left u x)
           → IsFullRow (stage_at q.left vertices) (at numbers u) row
       full_row row width exact = record {
@@ -180,7 +181,7 @@ module _ (q : Quotient) (t : Tables) (v : ℕ) (s : IsReleased q t v) where
           let d = numbered_degree x (group_vertex v x h) not_gone in
           omega arith
 
-      pub twin_full : (row : List ℕ) → IsFullRow (stage_at q.left vertices) (at numbers v) row
+      pub twin_full : (row : List Bool) → IsFullRow (stage_at q.left vertices) (at numbers v) row
           → IsFullRow (stage_at q.left vertices) (at numbers x) row
       twin_full row f = record {
         width = f.width;
@@ -198,7 +199,7 @@ module _ (rows : List (List ℕ)) (q : Quotient) (t : Tables) (f : CanFill rows 
 
   pub all_filled : (vertices numbers : List ℕ) (dense : DenseSearch) → AreNumbers t.turn q.order vertices numbers
       → IsFilling (stage_at q.left vertices) dense
-      → ((x : ℕ) → IsVertex q.order x → t.turn x ≡ 0 → IsTrue (bit_in dense.alive.items (at numbers x)))
+      → ((x : ℕ) → IsVertex q.order x → t.turn x ≡ 0 → IsTrue (bit_in dense.alive (at numbers x)))
       → IsDense (stage_at q.left vertices) dense
   all_filled vertices numbers dense a filling all =
       let plain = f.stand.quotient.plain in
@@ -206,7 +207,7 @@ module _ (rows : List (List ℕ)) (q : Quotient) (t : Tables) (f : CanFill rows 
       (λ j k h. (number_within q.left vertices a.numbered.first plain j k h, refl)) filling
       (λ y ly. (
       let l = a.numbered.left y ly.0 in
-      subst (λ z. IsTrue (bit_in dense.alive.items z)) (number_at t.turn q.order vertices numbers a y ly.0) (all (at vertices y) l.0 l.1)
+      subst (λ z. IsTrue (bit_in dense.alive z)) (number_at t.turn q.order vertices numbers a y ly.0) (all (at vertices y) l.0 l.1)
       ))
 
 -- the dense search of the new numbers can begin

@@ -7,13 +7,13 @@ ghost use Rattle.std.specs.Prelude.{length, slice_index, take, not, true, false}
 ghost use Rattle.std.specs.List.{count_by, filter, range_with_len};
 ghost use Rattle.std.specs.Int.{bit_at};
 ghost use Rattle.limits.specs.Limits.{most_order};
-ghost use Rattle.patterns.specs.Pattern.{has};
+ghost use Rattle.bit_rows.specs.Bits.{bit_in, word_bit};
 ghost use Rattle.elimination.specs.Elimination.{IsVertex, IsRemaining, degree_of};
-ghost use Rattle.elimination.specs.Dense.{bit_in, lacks, Stage, IsStanding, IsInOpen, AreBitRows, IsLookedAt, IsDense, IsDenseChoice};
+ghost use Rattle.elimination.specs.Dense.{lacks, row_of, Stage, IsStanding, IsInOpen, AreBitRows, IsLookedAt, IsDense, IsDenseChoice};
 ghost use Rattle.elimination.specs.Dense.{IsDenseUnderWay, IsDenseRest, IsLeastDegreeOrder, stage_after, width_of, IsFullRow, IsFilling};
-ghost use Rattle.elimination.specs.Quotients.{inner_at};
 
 use crate::NoMemory;
+use bit_rows::BitRow;
 use min_tree::MinTree;
 use std::alloc::Global;
 use std::mem;
@@ -24,86 +24,34 @@ use std::mem;
 pub struct DenseSearch {
     order: u32,
     // by vertex; that of 0 is not read
-    rows: Vec<Vec<u64>>,
+    rows: Vec<BitRow>,
     // eliminated vertices that are open
     pivots: Vec<u32>,
     // has the vertices that are left
-    alive: Vec<u64>,
+    alive: BitRow,
     // none is above the degree
     bounds: MinTree,
 }
 
-// Whether a row has the bit of x.
-#[inline]
-fn has_bit(row: &[u64], x: u32) -> bool
-    requires { x / 64 < length row.now }
-    ensures { result ≡ bit_in row.now x }
-{
-    row[x as usize / 64] >> (x % 64) & 1 == 1
-}
-
-/// Adds the bit of x to a row.
-#[inline]
-pub fn set_bit(row: &mut [u64], x: u32)
-    requires { x / 64 < length row.old }
-    ensures set { bit_in row.new x ≡ true }
-    ensures others { (y : ℕ) → y ≢ x → bit_in row.new y ≡ bit_in row.old y }
-{
-    row[x as usize / 64] |= 1 << (x % 64);
-}
-
-// Takes the bit of x out of a row.
-fn clear_bit(row: &mut [u64], x: u32)
-    requires { x / 64 < length row.old }
-    ensures cleared { bit_in row.new x ≡ false }
-    ensures others { (y : ℕ) → y ≢ x → bit_in row.new y ≡ bit_in row.old y }
-{
-    row[x as usize / 64] &= !(1 << (x % 64));
-}
-
-// Adds the bits of another row.
-fn unite(row: &mut [u64], other: &[u64])
-    requires { length other.now ≡ length row.old }
-    ensures { (x : ℕ) → bit_in row.new x ≡ (bit_in row.old x || bit_in other.now x) }
-{
-    for k in 0..row.len() {
-        row[k] |= other[k];
-    }
-}
-
-// How many bits two rows have in common.
-fn count_common(row: &[u64], other: &[u64]) -> u32
-    requires same { length other.now ≡ length row.now }
-    requires few { length row.now ≤ most_order }
-    ensures { (n : ℕ) → ((x : ℕ) → IsTrue (bit_in other.now x) → IsVertex n x) →
-        result ≡ count_by (λ x. bit_in row.now x && bit_in other.now x) (range_with_len 1 n) }
-{
-    let mut count = 0;
-    for k in 0..row.len() {
-        count += (row[k] & other[k]).count_ones();
-    }
-    count
-}
-
 /// A row of so many vertices, with the bit of v alone.
-pub fn row_with(alloc: Global, order: u32, v: u32) -> Result<Vec<u64>, NoMemory>
+pub fn row_with(alloc: Global, order: u32, v: u32) -> Result<BitRow, NoMemory>
     requires few { order ≤ most_order }
     requires v { v ≤ order }
-    ensures len { IfOk result (λ row. length row.items ≡ width_of order) }
-    ensures bits { IfOk result (λ row. (x : ℕ) → bit_in row.items x ≡ (v == x)) }
+    ensures len { IfOk result (λ row. length row ≡ width_of order) }
+    ensures bits { IfOk result (λ row. (x : ℕ) → bit_in row x ≡ (v == x)) }
 {
-    let mut row = vec![in alloc; 0; order as usize / 64 + 1]?;
-    set_bit(&mut row, v);
+    let mut row = BitRow::new(alloc, order as usize + 1)?;
+    row.insert(v as usize);
     Ok(row)
 }
 
-// So many rows without a word.
-fn empty_rows(alloc: Global, count: usize) -> Result<Vec<Vec<u64>>, NoMemory>
+// So many rows of no number.
+fn empty_rows(alloc: Global, count: usize) -> Result<Vec<BitRow>, NoMemory>
     ensures { IfOk result (λ rows. length rows.items ≡ count) }
 {
     let mut rows = Vec::with_capacity(alloc, count)?;
     for _ in 0..count {
-        rows.push(Vec::new(alloc))?;
+        rows.push(BitRow::empty(alloc))?;
     }
     Ok(rows)
 }
@@ -114,14 +62,14 @@ impl DenseSearch {
         requires { order ≤ most_order }
         ensures filling { IfOk result (λ search. (stage : Stage) → order ≡ stage.order → IsFilling stage search) }
         ensures order { IfOk result (λ search. search.order ≡ order) }
-        ensures none { IfOk result (λ search. (x : ℕ) → bit_in search.alive.items x ≡ false) }
+        ensures none { IfOk result (λ search. (x : ℕ) → bit_in search.alive x ≡ false) }
     {
         let count = order as usize + 1;
         Ok(DenseSearch {
             order,
             rows: empty_rows(alloc, count)?,
             pivots: Vec::new(alloc),
-            alive: vec![in alloc; 0; order as usize / 64 + 1]?,
+            alive: BitRow::new(alloc, count)?,
             bounds: MinTree::new(alloc, count)?,
         })
     }
@@ -134,50 +82,51 @@ impl DenseSearch {
     }
 
     /// Puts in a vertex that is left, with its row and a number that is not above its degree.
-    pub fn put(&mut self, v: u32, row: Vec<u64>, bound: u64)
+    pub fn put(&mut self, v: u32, row: BitRow, bound: u64)
         requires { (stage : Stage) × IsFilling stage self.old × IsStanding stage v }
         ensures order { self.new.order ≡ self.old.order }
-        ensures put { bit_in self.new.alive.items v ≡ true }
+        ensures put { bit_in self.new.alive v ≡ true }
         ensures bound { slice_index self.new.bounds v ≡ bound }
-        ensures others { (x : ℕ) → x ≢ v → bit_in self.new.alive.items x ≡ bit_in self.old.alive.items x }
-        ensures filled { (stage : Stage) → IsFilling stage self.old → IsStanding stage v → IsFullRow stage v row.items
+        ensures others { (x : ℕ) → x ≢ v → bit_in self.new.alive x ≡ bit_in self.old.alive x }
+        ensures filled { (stage : Stage) → IsFilling stage self.old → IsStanding stage v → IsFullRow stage v row
             → bound ≤ degree_of stage.left stage.order v → IsFilling stage self.new }
     {
-        set_bit(&mut self.alive, v);
+        self.alive.insert(v as usize);
         self.bounds.put(v as usize, bound);
         self.rows[v as usize] = row;
     }
 }
 
 // Adds to a row the open rows that have v.
-fn unite_open(row: &mut [u64], rows: &[Vec<u64>], pivots: &[u32], v: u32)
+fn unite_open(row: &mut BitRow, rows: &[BitRow], pivots: &[u32], v: u32)
     requires within { (j : ℕ) → j < length pivots.now → slice_index pivots.now j < length rows.now }
-    requires widths { (j : ℕ) → j < length pivots.now → length (inner_at rows.now (slice_index pivots.now j)) ≡ length row.old }
-    requires v { v / 64 < length row.old }
+    requires widths { (j : ℕ) → j < length pivots.now → length (row_of rows.now (slice_index pivots.now j)) ≡ length row.old }
+    requires v { v < length row.old }
+    ensures len { length row.new ≡ length row.old }
     ensures kept { (x : ℕ) → IsTrue (bit_in row.old x) → IsTrue (bit_in row.new x) }
-    ensures from { (x : ℕ) → IsTrue (bit_in row.new x) → IsTrue (bit_in row.old x) ⊎ IsInOpen (inner_at rows.now) pivots.now v x }
-    ensures to { (x : ℕ) → IsInOpen (inner_at rows.now) pivots.now v x → IsTrue (bit_in row.new x) }
+    ensures from { (x : ℕ) → IsTrue (bit_in row.new x) → IsTrue (bit_in row.old x) ⊎ IsInOpen (row_of rows.now) pivots.now v x }
+    ensures to { (x : ℕ) → IsInOpen (row_of rows.now) pivots.now v x → IsTrue (bit_in row.new x) }
 {
     for p in pivots {
         let other = &rows[*p as usize];
-        if has_bit(other, v) {
-            unite(row, other);
+        if other.has(v as usize) {
+            row.unite(other);
         }
     }
 }
 
 // Makes the row of v exact among the vertices that are left, and counts its degree.
-fn look(alloc: Global, rows: &mut [Vec<u64>], pivots: &[u32], alive: &[u64], v: u32) -> u32
+fn look(alloc: Global, rows: &mut [BitRow], pivots: &[u32], alive: &BitRow, v: u32) -> u64
     requires few { length rows.old ≤ (most_order + 1) }
-    requires stand { (stage : Stage) × AreBitRows stage (inner_at rows.old) pivots.now alive.now × IsStanding stage v
+    requires stand { (stage : Stage) × AreBitRows stage (row_of rows.old) pivots.now alive.now × IsStanding stage v
         × (length rows.old ≡ stage.order + 1) }
     ensures len { length rows.new ≡ length rows.old }
-    ensures looked { (stage : Stage) → AreBitRows stage (inner_at rows.old) pivots.now alive.now → IsStanding stage v
-        → IsLookedAt stage (inner_at rows.new) pivots.now alive.now v result }
+    ensures looked { (stage : Stage) → AreBitRows stage (row_of rows.old) pivots.now alive.now → IsStanding stage v
+        → IsLookedAt stage (row_of rows.new) pivots.now alive.now v result }
 {
-    let mut row = mem::replace(&mut rows[v as usize], Vec::new(alloc));
+    let mut row = mem::replace(&mut rows[v as usize], BitRow::empty(alloc));
     unite_open(&mut row, rows, pivots, v);
-    let degree = count_common(&row, alive).saturating_sub(1);
+    let degree = (row.count_common(alive) as u64).saturating_sub(1);
     rows[v as usize] = row;
     degree
 }
@@ -190,7 +139,7 @@ fn choose(alloc: Global, search: &mut DenseSearch) -> u32
 {
     'search: loop {
         let v = search.bounds.first_least() as u32;
-        let degree = u64::from(look(alloc, &mut search.rows, &search.pivots, &search.alive, v));
+        let degree = look(alloc, &mut search.rows, &search.pivots, &search.alive, v);
         if degree <= search.bounds.at(v as usize) {
             return v;
         }
@@ -216,14 +165,14 @@ fn lower_word(word: u64, first: usize, bounds: &mut MinTree)
     }
 }
 
-// Lowers by one the bounds of those that two rows have in common.
+// Lowers by one the bounds of those that two rows, in words, have in common.
 fn lower_common(row: &[u64], other: &[u64], bounds: &mut MinTree)
     requires same { length other.now ≡ length row.now }
     requires few { length row.now ≤ most_order }
-    requires inside { (x : ℕ) → IsTrue (bit_in other.now x) → x < length bounds.old }
+    requires inside { (x : ℕ) → IsTrue (word_bit other.now x) → x < length bounds.old }
     ensures len { length bounds.new ≡ length bounds.old }
-    ensures common { (x : ℕ) → IsTrue (bit_in row.now x && bit_in other.now x) → slice_index bounds.new x ≡ slice_index bounds.old x - 1 }
-    ensures others { (x : ℕ) → (bit_in row.now x && bit_in other.now x) ≡ false → slice_index bounds.new x ≡ slice_index bounds.old x }
+    ensures common { (x : ℕ) → IsTrue (word_bit row.now x && word_bit other.now x) → slice_index bounds.new x ≡ slice_index bounds.old x - 1 }
+    ensures others { (x : ℕ) → (word_bit row.now x && word_bit other.now x) ≡ false → slice_index bounds.new x ≡ slice_index bounds.old x }
 {
     for k in 0..row.len() {
         lower_word(row[k] & other[k], 64 * k, bounds);
@@ -231,15 +180,15 @@ fn lower_common(row: &[u64], other: &[u64], bounds: &mut MinTree)
 }
 
 // Moves the open vertices whose rows lack v to the front, and says how many they are.
-fn keep_apart(rows: &[Vec<u64>], pivots: &mut [u32], v: u32) -> usize
+fn keep_apart(rows: &[BitRow], pivots: &mut [u32], v: u32) -> usize
     requires within { (j : ℕ) → j < length pivots.old → slice_index pivots.old j < length rows.now }
-    requires widths { (j : ℕ) → j < length pivots.old → v / 64 < length (inner_at rows.now (slice_index pivots.old j)) }
-    ensures { take result pivots.new ≡ filter (lacks (inner_at rows.now) v) pivots.old }
+    requires widths { (j : ℕ) → j < length pivots.old → v < length (row_of rows.now (slice_index pivots.old j)) }
+    ensures { take result pivots.new ≡ filter (lacks (row_of rows.now) v) pivots.old }
 {
     let mut kept = 0;
     for i in 0..pivots.len() {
         let p = pivots[i];
-        if has_bit(&rows[p as usize], v) {
+        if rows[p as usize].has(v as usize) {
             continue;
         }
         pivots[kept] = p;
@@ -255,8 +204,12 @@ fn eliminate(search: &mut DenseSearch, v: u32) -> Result<(), NoMemory>
     ensures eliminated { OnOk result ((stage : Stage) → IsDenseChoice stage search.old v → IsDense (stage_after stage v) search.new) }
 {
     search.bounds.put(v as usize, u64::MAX);
-    clear_bit(&mut search.alive, v);
-    lower_common(&search.rows[v as usize], &search.alive, &mut search.bounds);
+    search.alive.remove(v as usize);
+    lower_common(
+        search.rows[v as usize].words(),
+        search.alive.words(),
+        &mut search.bounds,
+    );
     let kept = keep_apart(&search.rows, &mut search.pivots, v);
     search.pivots.truncate(kept);
     search.pivots.push(v)?;
@@ -264,14 +217,14 @@ fn eliminate(search: &mut DenseSearch, v: u32) -> Result<(), NoMemory>
 }
 
 // Lists the vertices that are left, where all of them are joined to each other: by rising number.
-fn finish(order: u32, alive: &[u64], vertices: &mut Vec<u32>) -> Result<(), NoMemory>
-    requires width { order / 64 < length alive.now }
+fn finish(order: u32, alive: &BitRow, vertices: &mut Vec<u32>) -> Result<(), NoMemory>
+    requires width { order < length alive.now }
     requires few { order ≤ most_order }
     ensures { OnOk result ((joined : ℕ → ℕ → Bool) → IsDenseRest joined order alive.now vertices.old.items 1
         → IsLeastDegreeOrder joined order vertices.new.items) }
 {
     for v in 1..=order {
-        if !has_bit(alive, v) {
+        if !alive.has(v as usize) {
             continue;
         }
         vertices.push(v)?;

@@ -1,23 +1,26 @@
 //! The dense search alone, on orders worked by hand.
 
-ghost use Rattle.std.specs.Prelude.{◌≡◌, ◌<◌, ◌≤◌, ◌/◌, ◌||◌, ℕ, [], All, length, slice_index, IfOk};
+ghost use Rattle.std.specs.Prelude.{◌≡◌, ◌<◌, ◌≤◌, ◌||◌, ℕ, [], All, length, slice_index, IfOk};
+ghost use Rattle.bit_rows.specs.Bits.{bit_in};
 ghost use Rattle.patterns.specs.Pattern.{IsPairWithin, has, is_joined};
-ghost use Rattle.elimination.specs.Dense.{bit_in, IsDenseUnderWay, IsLeastDegreeOrder};
+ghost use Rattle.elimination.specs.Dense.{IsDenseUnderWay, IsLeastDegreeOrder};
 
 use crate::NoMemory;
-use crate::dense::{DenseSearch, eliminate_dense, row_with, set_bit};
+use crate::dense::{DenseSearch, eliminate_dense, row_with};
+use bit_rows::BitRow;
 use patterns::Pattern;
 use std::alloc::Global;
 use std::process::Abort;
 use std::test::Fail;
 
 // Adds the bits of a list to a row.
-fn set_bits(row: &mut [u64], list: &[u32])
-    requires { (j : ℕ) → j < length list.now → slice_index list.now j / 64 < length row.old }
-    ensures { (x : ℕ) → bit_in row.new x ≡ (bit_in row.old x || has list.now x) }
+fn set_bits(row: &mut BitRow, list: &[u32])
+    requires { (j : ℕ) → j < length list.now → slice_index list.now j < length row.old }
+    ensures len { length row.new ≡ length row.old }
+    ensures bits { (x : ℕ) → bit_in row.new x ≡ (bit_in row.old x || has list.now x) }
 {
     for x in list {
-        set_bit(row, *x);
+        row.insert(*x as usize);
     }
 }
 

@@ -3,6 +3,7 @@
 
 ghost use Rattle.std.specs.Prelude.{◌≡◌, ◌==◌, ◌≢◌, ◌⊎◌, ℕ, Bool, List, ◌+◌, ◌/◌, ◌<◌, ◌≤◌, IsTrue, length, slice_index, false, IfOk, OnOk};
 ghost use Rattle.limits.specs.Limits.{most_order};
+ghost use Rattle.bit_rows.specs.Bits.{bit_in};
 ghost use Rattle.patterns.specs.Pattern.{has};
 ghost use Rattle.elimination.specs.Elimination.{IsVertex};
 ghost use Rattle.elimination.specs.Quotients.{Quotient, at, inner_at};
@@ -10,12 +11,13 @@ ghost use Rattle.elimination.specs.Hoods.{mark_at};
 ghost use Rattle.elimination.specs.Tables.{tables, AllHaveLength};
 ghost use Rattle.elimination.specs.Turns.{IsReleased};
 ghost use Rattle.elimination.specs.Twins.{is_near};
-ghost use Rattle.elimination.specs.Dense.{bit_in, IsFullRow, IsFilling, IsDense, IsLeastDegreeOrder};
+ghost use Rattle.elimination.specs.Dense.{IsFullRow, IsFilling, IsDense, IsLeastDegreeOrder};
 ghost use Rattle.elimination.specs.Switch.{most_of, stage_at, AreNumbered, AreNumbers, IsNumberIn, IsNumberInGroups, CanFill, IsRestAfter};
 
 use crate::NoMemory;
-use crate::dense::{DenseSearch, eliminate_dense, row_with, set_bit};
+use crate::dense::{DenseSearch, eliminate_dense, row_with};
 use crate::search::Search;
+use bit_rows::BitRow;
 use patterns::Pattern;
 use std::alloc::Global;
 
@@ -59,23 +61,25 @@ fn number_rest(alloc: Global, turns: &[u32]) -> Result<Numbering, NoMemory>
 }
 
 // Adds the bits of the new numbers of a list to a row.
-fn set_numbers(row: &mut [u64], list: &[u32], numbers: &[u32])
+fn set_numbers(row: &mut BitRow, list: &[u32], numbers: &[u32])
     requires within { (j : ℕ) → j < length list.now → slice_index list.now j < length numbers.now }
-    requires fit { (x : ℕ) → slice_index numbers.now x / 64 < length row.old }
+    requires fit { (x : ℕ) → slice_index numbers.now x < length row.old }
+    ensures len { length row.new ≡ length row.old }
     ensures kept { (y : ℕ) → IsTrue (bit_in row.old y) → IsTrue (bit_in row.new y) }
     ensures from { (y : ℕ) → IsTrue (bit_in row.new y) → IsTrue (bit_in row.old y) ⊎ IsNumberIn numbers.now list.now y }
     ensures to { (x : ℕ) → IsTrue (has list.now x) → IsTrue (bit_in row.new (slice_index numbers.now x)) }
 {
     for x in list {
-        set_bit(row, numbers[*x as usize]);
+        row.insert(numbers[*x as usize] as usize);
     }
 }
 
 // Adds the groups of these vertices to a row.
-fn set_groups(row: &mut [u64], list: &[u32], groups: &[Vec<u32>], numbers: &[u32])
+fn set_groups(row: &mut BitRow, list: &[u32], groups: &[Vec<u32>], numbers: &[u32])
     requires within { (j : ℕ) → j < length list.now → slice_index list.now j < length groups.now }
     requires inner { (r x : ℕ) → IsTrue (has list.now r) → IsTrue (has (inner_at groups.now r) x) → x < length numbers.now }
-    requires fit { (x : ℕ) → slice_index numbers.now x / 64 < length row.old }
+    requires fit { (x : ℕ) → slice_index numbers.now x < length row.old }
+    ensures len { length row.new ≡ length row.old }
     ensures kept { (y : ℕ) → IsTrue (bit_in row.old y) → IsTrue (bit_in row.new y) }
     ensures from { (y : ℕ) → IsTrue (bit_in row.new y)
         → IsTrue (bit_in row.old y) ⊎ IsNumberInGroups numbers.now (inner_at groups.now) list.now y }
@@ -89,13 +93,14 @@ fn set_groups(row: &mut [u64], list: &[u32], groups: &[Vec<u32>], numbers: &[u32
 
 impl Search {
     // Adds to a row that has v alone the neighbours of v, at which the search looked last, and those for which these and v stand.
-    fn add_hood(&self, v: u32, row: &mut [u64], numbers: &[u32])
+    fn add_hood(&self, v: u32, row: &mut BitRow, numbers: &[u32])
         requires lengths { AllHaveLength (length self.now.turns.items) self.now }
         requires len { length numbers.now ≡ length self.now.turns.items }
-        requires fit { (x : ℕ) → slice_index numbers.now x / 64 < length row.old }
+        requires fit { (x : ℕ) → slice_index numbers.now x < length row.old }
         requires own { (y : ℕ) → bit_in row.old y ≡ (slice_index numbers.now v == y) }
         requires start { (q : Quotient) × IsReleased q (tables self.now) v }
-        ensures { (q : Quotient) (vertices : List ℕ) → IsReleased q (tables self.now) v
+        ensures len { length row.new ≡ length row.old }
+        ensures exact { (q : Quotient) (vertices : List ℕ) → IsReleased q (tables self.now) v
             → AreNumbers (at self.now.turns.items) q.order vertices numbers.now
             → (x : ℕ) → IsVertex q.order x → at self.now.turns.items x ≡ 0
             → bit_in row.new (slice_index numbers.now x) ≡ is_near q.left v x }
@@ -112,7 +117,7 @@ impl Search {
         numbers: &[u32],
         order: u32,
         v: u32,
-    ) -> Result<Vec<u64>, NoMemory>
+    ) -> Result<BitRow, NoMemory>
         requires lengths { AllHaveLength (length self.now.turns.items) self.now }
         requires len { length numbers.now ≡ length self.now.turns.items }
         requires few { order ≤ most_order }
@@ -120,7 +125,7 @@ impl Search {
         requires start { (q : Quotient) × IsReleased q (tables self.now) v }
         ensures { IfOk result (λ row. (q : Quotient) (vertices : List ℕ) → IsReleased q (tables self.now) v
             → AreNumbers (at self.now.turns.items) q.order vertices numbers.now → order ≡ most_of vertices
-            → IsFullRow (stage_at q.left vertices) (slice_index numbers.now v) row.items) }
+            → IsFullRow (stage_at q.left vertices) (slice_index numbers.now v) row) }
     {
         let mut row = row_with(alloc, order, numbers[v as usize])?;
         self.add_hood(v, &mut row, numbers);
@@ -132,26 +137,26 @@ impl Search {
         &self,
         numbers: &[u32],
         v: u32,
-        row: Vec<u64>,
+        row: BitRow,
         dense: &mut DenseSearch,
     ) -> Result<(), NoMemory>
         requires lengths { AllHaveLength (length self.now.turns.items) self.now }
         requires len { length numbers.now ≡ length self.now.turns.items }
         requires start { (q : Quotient) × (vertices : List ℕ) × IsReleased q (tables self.now) v
             × AreNumbers (at self.now.turns.items) q.order vertices numbers.now × IsFilling (stage_at q.left vertices) dense.old
-            × IsFullRow (stage_at q.left vertices) (slice_index numbers.now v) row.items }
+            × IsFullRow (stage_at q.left vertices) (slice_index numbers.now v) row }
         ensures filling { OnOk result ((q : Quotient) (vertices : List ℕ) → IsReleased q (tables self.now) v
             → AreNumbers (at self.now.turns.items) q.order vertices numbers.now → IsFilling (stage_at q.left vertices) dense.old
-            → IsFullRow (stage_at q.left vertices) (slice_index numbers.now v) row.items → IsFilling (stage_at q.left vertices) dense.new) }
+            → IsFullRow (stage_at q.left vertices) (slice_index numbers.now v) row → IsFilling (stage_at q.left vertices) dense.new) }
         ensures order { OnOk result (dense.new.order ≡ dense.old.order) }
-        ensures kept { OnOk result ((y : ℕ) → IsTrue (bit_in dense.old.alive.items y) → IsTrue (bit_in dense.new.alive.items y)) }
-        ensures own { OnOk result (IsTrue (bit_in dense.new.alive.items (slice_index numbers.now v))) }
+        ensures kept { OnOk result ((y : ℕ) → IsTrue (bit_in dense.old.alive y) → IsTrue (bit_in dense.new.alive y)) }
+        ensures own { OnOk result (IsTrue (bit_in dense.new.alive (slice_index numbers.now v))) }
         ensures group { OnOk result ((x : ℕ) → IsTrue (has (inner_at self.now.groups.items v) x)
-            → IsTrue (bit_in dense.new.alive.items (slice_index numbers.now x))) }
+            → IsTrue (bit_in dense.new.alive (slice_index numbers.now x))) }
     {
         let bound = self.bounds.at(v as usize);
         for x in &self.groups[v as usize] {
-            dense.put(numbers[*x as usize], row.clone()?, bound);
+            dense.put(numbers[*x as usize], row.copy()?, bound);
         }
         dense.put(numbers[v as usize], row, bound);
         Ok(())
@@ -189,9 +194,9 @@ impl Search {
             → AreNumbers (at self.old.turns.items) q.order vertices numbers.now → IsFilling (stage_at q.left vertices) dense.old
             → IsFilling (stage_at q.left vertices) dense.new) }
         ensures order { OnOk result (dense.new.order ≡ dense.old.order) }
-        ensures kept { OnOk result ((y : ℕ) → IsTrue (bit_in dense.old.alive.items y) → IsTrue (bit_in dense.new.alive.items y)) }
+        ensures kept { OnOk result ((y : ℕ) → IsTrue (bit_in dense.old.alive y) → IsTrue (bit_in dense.new.alive y)) }
         ensures put { OnOk result ((q : Quotient) → CanFill pattern.now q (tables self.old)
-            → (x : ℕ) → q.rep x ≡ v → IsTrue (bit_in dense.new.alive.items (slice_index numbers.now x))) }
+            → (x : ℕ) → q.rep x ≡ v → IsTrue (bit_in dense.new.alive (slice_index numbers.now x))) }
     {
         self.gather(v, pattern.neighbours(v))?;
         self.release(v);

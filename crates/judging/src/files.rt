@@ -19,9 +19,7 @@ use crate::stop::Stop;
 use graph_files::{GraphKind, read_graph};
 use graphs::Graph;
 use limits::LimitName;
-use matrix_files::{
-    MatrixKind, OrderFileKind, PermKind, read_order, read_pattern_owned, read_perm,
-};
+use matrix_files::{MatrixKind, OrderFileKind, PermKind, read_order, read_pattern, read_perm};
 use mp_outside::{Files, ReadRefusal, read_whole};
 use mp_text::{Kind, Refusal};
 use patterns::Pattern;
@@ -203,7 +201,7 @@ impl FileKind for MatrixFile {
     }
 
     fn read(&self, alloc: Global, text: Vec<u8>) -> Result<Pattern, Refusal<MatrixKind>> {
-        read_pattern_owned(alloc, text)
+        read_pattern(alloc, text)
     }
 }
 

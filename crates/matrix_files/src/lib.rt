@@ -14,7 +14,7 @@ mod stage;
 pub use kind::MatrixKind;
 pub use order_file::{OrderFileKind, read_order};
 pub use perm_file::{PermKind, read_perm};
-pub use reader::{read_pattern, read_pattern_owned};
+pub use reader::read_pattern;
 use std::alloc::AllocError;
 
 /// Want of memory: an allocation was refused.

@@ -131,18 +131,9 @@ fn read_entries(alloc: Global, bytes: &[u8]) -> Result<Entries, Refusal<MatrixKi
 
 /// The pattern of a matrix file in the coordinate format of Matrix Market, or why the file is refused: the first test that fails in
 /// the first line that fails. The pattern is that of the matrix and its transpose together, without the diagonal, under every symmetry
-/// word. The values of entries are counted and not read.
-pub fn read_pattern(alloc: Global, bytes: &[u8]) -> Result<Pattern, Refusal<MatrixKind>>
-    ensures { MatchResult result (λ pattern. ReadsPattern bytes.now pattern) (IsMatrixRefusal bytes.now) }
-{
-    let entries = read_entries(alloc, bytes)?;
-    let pattern = Pattern::from_pairs(alloc, entries.order, entries.pairs)?;
-    Ok(pattern)
-}
-
-/// The pattern as `read_pattern` gives it, of a text that is handed over: the text is let go before the pattern is made, so that the
+/// word. The values of entries are counted and not read. The text is handed over: it is let go before the pattern is made, so that the
 /// two are never held together.
-pub fn read_pattern_owned(alloc: Global, text: Vec<u8>) -> Result<Pattern, Refusal<MatrixKind>>
+pub fn read_pattern(alloc: Global, text: Vec<u8>) -> Result<Pattern, Refusal<MatrixKind>>
     ensures { MatchResult result (λ pattern. ReadsPattern text.items pattern) (IsMatrixRefusal text.items) }
 {
     let entries = read_entries(alloc, &text)?;

@@ -22,7 +22,7 @@ fn check_perm(rt: &impl Abort, perm: &Perm, vertices: &[u32], places: &[u32], sa
 // The pattern of a size line and the entries under it.
 fn pattern_of(alloc: Global, entries: &str) -> Result<Pattern, Fail> {
     let text = format!(in alloc; "%%MatrixMarket matrix coordinate pattern symmetric\n{entries}")?;
-    Ok(read_pattern(alloc, text.as_bytes())?)
+    Ok(read_pattern(alloc, text.into_bytes())?)
 }
 
 // The arrow, the grid of 2 by 2, and no pairs: the vertices by place, and the places.

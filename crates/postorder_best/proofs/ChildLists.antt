@@ -1,16 +1,15 @@
--- The rows of children as they are grouped.
+-- The children of each node, in rows.
 use Rattle.std.proofs.Common.{◌≡◌, ◌∙◌, ◌↔◌, inl, inr, sym, ap, subst, ℕ, zero, suc, ◌+◌, ◌<◌, ◌≤◌, Bool, true, false, eqb, eq-eqb, eqb-true, List, [], ◌∷◌, map, length, get_or, arith}
 use Rattle.std.specs.Prelude.{All}
 use Rattle.std.specs.List.{filter, range_with_len}
 use Rattle.std.proofs.lemmas.Bool.{cases_Bool, cases_lt}
 use Rattle.std.proofs.lemmas.List.{length-map, get_or-map, get_or_past}
-use Rattle.std.proofs.lemmas.List.Elements.{All-map, All-weaker}
-use Rattle.row_table.specs.Rows.{row_at, numbers_with}
 use Rattle.trees.specs.declared.node.Node.{Node}
 use Rattle.trees.specs.Tree.{IsTree, IsNodeWithin, parent_of_node}
 use Rattle.postorder_best.specs.Postorder.{Member}
-use Rattle.postorder_best.specs.Rows.{Once, AreRows, parent_in}
-use Rattle.postorder_best.proofs.TreeLinks.{no_node, parent_at, forest_of}
+use Rattle.trees.specs.Forest.{AreChildren}
+use Rattle.postorder_best.specs.Rows.{Once, AreRows}
+use Rattle.postorder_best.proofs.TreeLinks.{forest_of}
 
 -- ---- what passes a test, and ranges
 
@@ -50,27 +49,15 @@ once_range a (suc n) = ((λ m. let low = ((member_range (a + 1) n a).0 m).0 in o
 
 -- ---- rows
 
-abbrev pub NumbersLaw : Type 0
-NumbersLaw =
-    (keys : List ℕ) (first k : ℕ) (test : ℕ → Bool) → ((i : ℕ) → i < length keys → test (first + i) ≡ eqb (get_or keys i 0) k)
-    → filter test (range_with_len first (length keys)) ≡ numbers_with keys first k
-
 module _ (nodes : List Node) (t : IsTree nodes) where
-  pub parents_within : All (λ key. key < length nodes + 1) (map parent_in nodes)
-  parents_within = All-map (λ key. key < length nodes + 1) parent_in nodes (All-weaker (IsNodeWithin nodes) (λ node. node.parent < length nodes + 1) (λ node has. let low = has.parent in omega arith) nodes t.each)
+  pub parents_within : (i : ℕ) (d : Node) → i < length nodes → (get_or nodes i d).parent ≤ length nodes
+  parents_within i d lt = let has = t.each i d lt in has.parent
 
-  children_are : NumbersLaw → (x : ℕ) → filter (λ v. eqb (parent_of_node nodes v) x) (range_with_len 1 (length nodes)) ≡ numbers_with (map parent_in nodes) 1 x
-  children_are law x =
-      ap (λ n. filter (λ v. eqb (parent_of_node nodes v) x) (range_with_len 1 n)) (sym (length-map nodes parent_in))
-      ∙ law (map parent_in nodes) 1 x (λ v. eqb (parent_of_node nodes v) x) (λ i lt.
-      ap (λ p. eqb p x) (parent_at nodes (1 + i) i (omega arith) ∙ sym (get_or-map parent_in nodes i no_node 0 (let e = length-map nodes parent_in in omega arith))))
-
-  pub grouped_rows : NumbersLaw → (rows : List (List ℕ)) → length rows ≡ length nodes + 1
-      → ((x : ℕ) → x < length nodes + 1 → row_at rows x ≡ numbers_with (map parent_in nodes) 1 x) → AreRows nodes rows
-  grouped_rows law rows len rows_are =
-      let is = λ (x : ℕ) (l : x < length nodes + 1). rows_are x l ∙ sym (children_are law x) in
+  pub rows_of_children : (rows : List (List ℕ)) → AreChildren nodes rows → AreRows nodes rows
+  rows_of_children rows are =
+      let is = λ (x : ℕ) (l : x < length nodes + 1). are.rows_are x (omega arith) in
       record {
-        len = len;
+        len = are.len;
         members = λ x c. elim (cases_lt x (length nodes + 1)) [
           | inl l ↦ (
               let f = member_filter (λ v. eqb (parent_of_node nodes v) x) (range_with_len 1 (length nodes)) c in
@@ -80,7 +67,7 @@ module _ (nodes : List Node) (t : IsTree nodes) where
               )
               )
           | inr g ↦ (
-            (λ m. absurd (subst (λ (xs : List ℕ). Member c xs) (get_or_past rows x [] (omega arith)) m)),
+            (λ m. absurd (subst (λ (xs : List ℕ). Member c xs) (get_or_past rows x [] (let len = are.len in omega arith)) m)),
             (λ h. let up = (forest_of nodes t).inside c h.0 in let e = h.1 in absurd (omega arith)),
           )
         ];

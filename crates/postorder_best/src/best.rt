@@ -7,13 +7,12 @@ ghost use Rattle.row_table.specs.Rows.{row_at};
 ghost use Rattle.postorder_best.specs.Rows.{AreRows, IsBest};
 
 use crate::NoMemory;
-use crate::children::children_rows;
 use crate::peaks::fill_peaks;
 use crate::tables::{needs_table, outs_table};
 use crate::walking::listing;
 use row_table::RowTable;
 use std::alloc::Global;
-use trees::{Node, Tree, laws};
+use trees::{Node, Tree, child_rows, laws};
 
 /// A postorder of a tree: the numbers of its nodes, from 1, and the peak of their replay.
 #[derive(Drop)]
@@ -55,7 +54,7 @@ pub fn best_postorder(alloc: Global, tree: &Tree) -> Result<Post, NoMemory>
         post.peak ≤ peak_of (system_of_nodes tree.now) other) }
 {
     let nodes = tree.nodes();
-    let mut rows = children_rows(alloc, nodes)?;
+    let mut rows = child_rows(alloc, nodes)?;
     let peak = sort_rows(alloc, nodes, &mut rows)?;
     let order = listing(alloc, &rows)?;
     Ok(Post { order, peak })

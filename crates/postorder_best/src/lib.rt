@@ -3,7 +3,6 @@
 #![tactic(auto)]
 
 mod best;
-mod children;
 pub mod laws;
 mod peaks;
 mod sorting;

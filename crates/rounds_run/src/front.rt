@@ -9,11 +9,12 @@ ghost use Rattle.rounds_run.specs.Holding.{IsJob, IsHandedBack};
 
 use crate::NoMemory;
 use crate::gathering::{add_later, add_lists};
-use crate::number_lists::{Inbox, NumberList};
+use crate::number_lists::Inbox;
 use elim_tree::laws::{no_earlier_row, path_theorem, renumbered_pattern, structure_by_children};
 use patterns::Pattern;
 use permutations::Perm;
 use permutations::laws::places_are_inverse;
+use row_table::NumberList;
 use std::alloc::Global;
 
 /// What the task of a front is given.
@@ -89,7 +90,7 @@ pub fn make_front(alloc: Global, pattern: &Pattern, perm: &Perm, job: Job) -> Re
     rows.dedup();
     let rest = rest_of(alloc, &rows, job.columns)?;
     Ok(Made {
-        rows: NumberList::of(rows),
-        rest: NumberList::of(rest),
+        rows: NumberList::new(rows),
+        rest: NumberList::new(rest),
     })
 }

@@ -2,7 +2,7 @@ ghost use Rattle.std.specs.Prelude.{◌≡◌, ◌-◌, ◌≤◌, ◌<◌, ◌^
 ghost use Rattle.rounds_run.specs.FrontRows.{list_of_front};
 ghost use Rattle.rounds_run.specs.Fronts.{FrontsValue};
 
-use crate::number_lists::NumberList;
+use row_table::NumberList;
 use std::marker::Model;
 
 /// The rows of all fronts, and the rounds in which they were made. Fronts have the numbers of their supernodes, from 1.

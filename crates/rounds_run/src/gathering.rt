@@ -5,8 +5,8 @@ ghost use Rattle.std.specs.List.{list_any};
 ghost use Rattle.rounds_run.specs.Gathering.{Adds, in_lists, is_later};
 
 use crate::NoMemory;
-use crate::number_lists::NumberList;
 use permutations::Perm;
+use row_table::NumberList;
 
 /// Puts the columns of those vertices at the end that are eliminated after column `first`.
 pub fn add_later(

@@ -10,10 +10,11 @@ ghost use Rattle.rounds_run.specs.Holding.{Factor, IsFactor, IsHeld, AreJobsOf, 
 
 use crate::NoMemory;
 use crate::front::{Job, Made};
-use crate::number_lists::{Inbox, NumberList, empty_inboxes, empty_lists};
+use crate::number_lists::{Inbox, empty_inboxes, empty_lists};
 use assembly_tree::Super;
 use elim_tree::laws::{no_earlier_row, path_theorem, structure_by_children};
 use ordering::laws::parent_is_first;
+use row_table::NumberList;
 use std::alloc::Global;
 use std::mem;
 

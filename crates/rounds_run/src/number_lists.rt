@@ -1,46 +1,11 @@
-//! Lists of numbers, which contracts see as such.
+//! Lists of numbers, one for each of many, and lists that are handed on.
 
 ghost use Rattle.std.specs.Prelude.{◌≡◌, ◌++◌, ◌∷◌, ℕ, List, [], IfOk, OnOk, replicate};
 
 use crate::NoMemory;
+use row_table::NumberList;
 use std::alloc::Global;
 use std::marker::Model;
-
-/// A list of numbers.
-#[derive(Drop)]
-pub struct NumberList {
-    numbers: Vec<u32>,
-}
-
-impl Model for NumberList {
-    ghost Value = { List ℕ };
-
-    ghost view = { λ l. l.numbers.items };
-}
-
-impl NumberList {
-    /// The list of these numbers. It takes no memory.
-    pub fn of(numbers: Vec<u32>) -> NumberList
-        ensures { result ≡ numbers.items }
-    {
-        NumberList { numbers }
-    }
-
-    /// Puts a number at the end.
-    pub fn push(&mut self, number: u32) -> Result<(), NoMemory>
-        ensures { OnOk result (self.new ≡ self.old ++ number ∷ []) }
-    {
-        self.numbers.push(number)?;
-        Ok(())
-    }
-
-    /// The numbers.
-    pub fn as_slice(&self) -> &[u32]
-        ensures { result.now ≡ self.now }
-    {
-        &self.numbers
-    }
-}
 
 /// The lists that a supernode was handed by its children.
 #[derive(Drop)]
@@ -86,7 +51,7 @@ pub fn empty_lists(alloc: Global, count: usize) -> Result<Vec<NumberList>, NoMem
 {
     let mut lists = Vec::with_capacity(alloc, count)?;
     for _ in 0..count {
-        lists.push(NumberList::of(Vec::new(alloc)))?;
+        lists.push(NumberList::new(Vec::new(alloc)))?;
     }
     Ok(lists)
 }

@@ -9,13 +9,13 @@ ghost use Rattle.rounds_run.specs.Rounds.{AreRounds};
 ghost use Rattle.rounds_run.specs.Fronts.{IsFrontsRefusal};
 ghost use Rattle.rounds_run.specs.Holding.{AreOrderly};
 
-use crate::number_lists::NumberList;
 use crate::refusal::FrontsRefusal;
 use crate::rounds::rounds_of;
 use crate::row_tree::{row_order, row_system};
 use activation::laws::once_law;
 use activation::{Core, CoreRefusal, Simulator};
 use assembly_tree::Assembly;
+use row_table::NumberList;
 use std::alloc::Global;
 
 /// The rounds of the supernodes, and the greatest number of rows that they use.

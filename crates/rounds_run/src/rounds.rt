@@ -6,8 +6,8 @@ ghost use Rattle.activation.specs.declared.events.EventKind.{EventKind};
 ghost use Rattle.rounds_run.specs.Rounds.{AreStarts};
 
 use crate::NoMemory;
-use crate::number_lists::NumberList;
 use activation::{Event, EventKind};
+use row_table::NumberList;
 use std::alloc::Global;
 
 // Puts empty lists at the end until there is one at this place.
@@ -17,7 +17,7 @@ fn reach(alloc: Global, lists: &mut Vec<NumberList>, place: u64) -> Result<(), N
         ((k : ℕ) → slice_index_or lists.new.items k [] ≡ slice_index_or lists.old.items k []) }
 {
     'more: while lists.len() as u64 <= place {
-        lists.push(NumberList::of(Vec::new(alloc)))?;
+        lists.push(NumberList::new(Vec::new(alloc)))?;
     }
     Ok(())
 }

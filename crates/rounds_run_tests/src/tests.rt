@@ -93,7 +93,7 @@ fn fronts<R: Threads + Sync + Abort, G: Gate>(
 {
     renumbered_pattern();
     counts_of_fill();
-    let pattern = read_pattern(alloc, matrix.as_bytes())?;
+    let pattern = read_pattern(alloc, Vec::from_slice(alloc, matrix.as_bytes())?)?;
     pattern.keeps();
     let perm = read_perm(alloc, order.as_bytes(), pattern.rows())?;
     assert_eq!(rt; perm.len(), pattern.rows());

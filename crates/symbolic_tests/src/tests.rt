@@ -47,7 +47,7 @@ const CASES: &[Case] = &[
 ];
 
 fn check_fronts(rt: &impl Abort, alloc: Global, case: &Case) -> Result<(), Fail> {
-    let pattern = read_pattern(alloc, case.matrix.as_bytes())?;
+    let pattern = read_pattern(alloc, Vec::from_slice(alloc, case.matrix.as_bytes())?)?;
     let perm = read_perm(alloc, case.order.as_bytes(), pattern.rows())?;
     assert_eq!(rt; perm.len(), pattern.rows());
     let tree = front_tree(alloc, &pattern, &perm, case.options)?;

@@ -7,8 +7,8 @@ use Rattle.std.proofs.lemmas.List.FromFn.{length-range_with_len}
 use Rattle.row_table.specs.Rows.{row_at, numbers_with}
 use Rattle.trees.specs.declared.node.Node.{Node}
 use Rattle.trees.specs.Tree.{parent_of_node}
-use Rattle.trees.specs.Forest.{children_of}
-use Rattle.trees.specs.Children.{AreChildren, parent_in}
+use Rattle.trees.specs.Forest.{AreChildren, children_of}
+use Rattle.trees.specs.Children.{parent_in}
 use Rattle.trees.proofs.AscentLemmas.{parent_is}
 
 -- what the law of numbers in rows says

@@ -1,7 +1,6 @@
 -- No public clause names this.
--- The children of each node as the code holds them, and the positions of nodes one after another.
-use Rattle.std.specs.Prelude.{◌≡◌, ℕ, ◌+◌, ◌≤◌, List, [], ◌∷◌, ◌++◌, length}
-use Rattle.row_table.specs.Rows.{row_at}
+-- The parents of nodes in a list, and the positions of nodes one after another.
+use Rattle.std.specs.Prelude.{ℕ, List, [], ◌∷◌, ◌++◌, length}
 use Rattle.sp_terms.specs.declared.position.Position.{Position}
 use Rattle.trees.specs.declared.node.Node.{Node}
 use Rattle.trees.specs.Forest.{children_of}
@@ -9,11 +8,6 @@ use Rattle.trees.specs.TreeTerm.{beside_positions, own_positions}
 
 abbrev pub parent_in : Node → ℕ
 parent_in node = node.parent
-
--- for each node, and at 0 for the roots, its children
-pub record AreChildren (nodes : List Node) (rows : List (List ℕ)) : Type 0 where
-  pub len : length rows ≡ length nodes + 1
-  pub rows_are : (p : ℕ) → p ≤ length nodes → row_at rows p ≡ children_of nodes p
 
 -- the positions of each node in turn, after its children's
 abbrev pub positions_of : List Node → List ℕ → List Position

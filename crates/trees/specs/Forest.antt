@@ -1,6 +1,7 @@
 -- The forest of a tree's nodes, and its postorder (Liu 1990, The role of elimination trees in sparse factorization).
-use Rattle.std.specs.Prelude.{◌≡◌, ◌==◌, ℕ, List, [], ◌∷◌, ◌++◌, length}
+use Rattle.std.specs.Prelude.{◌≡◌, ◌==◌, ℕ, ◌+◌, ◌≤◌, List, [], ◌∷◌, ◌++◌, length}
 use Rattle.std.specs.List.{filter, range_with_len}
+use Rattle.row_table.specs.Rows.{row_at}
 use Rattle.trees.specs.declared.node.Node.{Node}
 use Rattle.trees.specs.Tree.{parent_of_node}
 
@@ -22,6 +23,11 @@ all_numbers (tree v children others) = (all_numbers children ++ v ∷ []) ++ all
 -- the nodes with this parent, in rising number; those with the parent 0 are the roots
 abbrev pub children_of : List Node → ℕ → List ℕ
 children_of nodes p = filter (λ v. parent_of_node nodes v == p) (range_with_len 1 (length nodes))
+
+-- rows of numbers that are the children of each node, and row 0 the roots
+pub record AreChildren (nodes : List Node) (rows : List (List ℕ)) : Type 0 where
+  pub len : length rows ≡ length nodes + 1
+  pub rows_are : (p : ℕ) → p ≤ length nodes → row_at rows p ≡ children_of nodes p
 
 -- below each node stand the trees of its children
 abbrev pub HasChildren : List Node → Forest → Type 0

@@ -3,7 +3,8 @@
 ghost use Rattle.std.specs.Prelude.{◌≡◌, ◌<◌, ◌≤◌, ℕ, length, map, IfOk, slice_index_or};
 ghost use Rattle.limits.specs.Limits.{most_tasks};
 ghost use Rattle.trees.specs.declared.node.Node.{Node};
-ghost use Rattle.trees.specs.Children.{AreChildren, parent_in};
+ghost use Rattle.trees.specs.Children.{parent_in};
+ghost use Rattle.trees.specs.Forest.{AreChildren};
 
 use crate::NoMemory;
 use crate::node::Node;

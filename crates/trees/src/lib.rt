@@ -7,7 +7,6 @@ mod children;
 mod faults;
 mod judged;
 pub mod laws;
-mod names;
 mod node;
 mod plain;
 mod postorder;
@@ -17,13 +16,13 @@ mod system;
 mod term;
 mod tree;
 
+pub use children::child_rows;
 pub use faults::{TreeFault, first_fault};
 pub use judged::{NodeTest, NodesRefusal, tree_of_nodes};
-pub use names::Names;
 pub use node::Node;
 use std::alloc::AllocError;
 pub use system::system_of_tree;
-pub use term::{Named, terms_of_tree};
+pub use term::{Named, Names, terms_of_tree};
 pub use tree::Tree;
 
 /// Want of memory: an allocation was refused.

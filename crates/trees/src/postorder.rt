@@ -3,8 +3,7 @@
 ghost use Rattle.std.specs.Prelude.{◌≡◌, List, IfOk};
 ghost use Rattle.trees.specs.declared.node.Node.{Node};
 ghost use Rattle.trees.specs.Tree.{IsTree};
-ghost use Rattle.trees.specs.Forest.{Forest, IsForestOf, all_numbers};
-ghost use Rattle.trees.specs.Children.{AreChildren};
+ghost use Rattle.trees.specs.Forest.{AreChildren, Forest, IsForestOf, all_numbers};
 
 use crate::NoMemory;
 use row_table::RowTable;

@@ -6,19 +6,21 @@ ghost use Rattle.mp_system.specs.Renaming.{IsRenamed};
 ghost use Rattle.sp_terms.specs.SystemOfTerm.{system_of_term};
 ghost use Rattle.sp_terms.specs.Values.{term_of};
 ghost use Rattle.trees.specs.Tree.{IsNode, system_of_nodes};
-ghost use Rattle.trees.specs.Forest.{Forest, IsForestOf, all_numbers, children_of};
+ghost use Rattle.trees.specs.Forest.{AreChildren, Forest, IsForestOf, all_numbers, children_of};
 ghost use Rattle.trees.specs.TreeTerm.{forest_positions, beside_positions};
-ghost use Rattle.trees.specs.Children.{AreChildren, positions_of};
+ghost use Rattle.trees.specs.Children.{positions_of};
 
 use crate::children::child_rows;
-use crate::names::Names;
 use crate::node::Node;
 use crate::postorder::postorder;
 use crate::tree::Tree;
 use crate::{NoMemory, laws};
-use row_table::RowTable;
+use row_table::{NumberList, RowTable};
 use sp_terms::{Position, TermList};
 use std::alloc::Global;
+
+/// Numbers of nodes: the first is what task 1 is called, and so on.
+pub type Names = NumberList;
 
 /// The term of a tree, and which node each of its tasks is.
 #[derive(Drop)]

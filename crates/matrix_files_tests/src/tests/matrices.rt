@@ -1,6 +1,6 @@
 //! Matrix files worked by hand, and what they are refused with.
 
-use matrix_files::{read_pattern, read_pattern_owned};
+use matrix_files::read_pattern;
 use patterns::Pattern;
 use std::process::Abort;
 use std::test::Fail;
@@ -47,9 +47,8 @@ const READ: &[(&str, &[&[u32]])] = &[
 fn reads(rt: HostRuntime) -> Result<(), Fail> {
     let alloc = rt.alloc();
     for (text, wanted) in READ {
-        check_rows(&rt, &read_pattern(alloc, text.as_bytes())?, wanted);
-        let owned = Vec::from_slice(alloc, text.as_bytes())?;
-        check_rows(&rt, &read_pattern_owned(alloc, owned)?, wanted);
+        let bytes = Vec::from_slice(alloc, text.as_bytes())?;
+        check_rows(&rt, &read_pattern(alloc, bytes)?, wanted);
     }
     Ok(())
 }
@@ -136,7 +135,8 @@ fn refuses(rt: HostRuntime) -> Result<(), Fail> {
     for (start, rows) in REFUSED {
         for (rest, said) in rows {
             let text = format!(in alloc; "{start}{rest}")?;
-            let refusal = read_pattern(alloc, text.as_bytes()).err().ok_or(*rest)?;
+            let bytes = Vec::from_slice(alloc, text.as_bytes())?;
+            let refusal = read_pattern(alloc, bytes).err().ok_or(*rest)?;
             assert_eq!(rt; format!(in alloc; "{refusal}")?.as_str(), *said, "{text}");
         }
     }

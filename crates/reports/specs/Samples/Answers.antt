@@ -4,7 +4,7 @@ use Rattle.std.specs.Prelude.{◌≡◌, ℕ, pos, Option, Some, None, unwrap_or
 use Rattle.std.specs.Fmt.{digits}
 use Rattle.std.proofs.Common.{lit<, lit≤, ap, subst, inl, inr}
 use Rattle.mp_text.specs.Text.{lines_of, tokens_of, rows_from}
-use Rattle.mp_text.specs.Words.{after_word, version_of}
+use Rattle.file_frame.specs.Words.{after_word, version_of}
 use Rattle.mp_text.specs.Report.{text_of_lines}
 use Rattle.mp_text.specs.Grammar.{fault_at}
 use Rattle.mp_system.specs.declared.system.OrderKind.TheVariants.{Unknown, Missing}

@@ -1,5 +1,5 @@
 use Rattle.std.proofs.Common.{◌+◌, ◌∷◌, [], length, arith, subst, sym, ap, ◌∙◌, length-append}
-use Rattle.elimination.specs.Dense.{IsDenseUnderWay, IsDenseRest, IsLeastDegreeOrder, stage_of}
+use Rattle.elimination.specs.Dense.{IsDenseUnderWay, IsLeastDegreeOrder, stage_of}
 use Rattle.elimination.proofs.DenseOrders.{some_left, under_way_next, under_way_last, rest_first}
 use Rattle.elimination.proofs.dense.eliminate_dense.Goals as goal
 use Rattle.elimination.proofs.dense.eliminate_dense.Goals.{In_ok-push}
@@ -41,8 +41,7 @@ returns-then-bound-order c = λ joined start.
     let rest = rest_first joined c.loop-gone.vertices.items c.loop-gone.search s least.0 least.1
     (omega (arith, least.2)) in
     subst (λ n. IsLeastDegreeOrder joined n c.finish.new.vertices.items) order
-    (c.in_ok-finish.ensures joined
-    (subst (λ z. IsDenseRest joined c.loop-gone.search.order z c.loop-gone.vertices.items 1) (sym c.deref.ensures.value) rest))
+    (c.in_ok-finish.ensures joined rest)
 
 pub returns : goal.returns
 returns c = λ joined start.

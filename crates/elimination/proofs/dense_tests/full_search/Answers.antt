@@ -1,10 +1,9 @@
 use Rattle.std.proofs.Common.{◌||◌, ℕ, eqb, List, [], IsTrue, length, get_or, arith, inl, inr, refl, sym, ap, ◌∙◌, subst}
-use Rattle.std.specs.Vec.{with_items}
 use Rattle.std.proofs.lemmas.Bool.{cases_eq, both_ways}
-use Rattle.std.proofs.lemmas.List.{with_items_is}
 use Rattle.patterns.specs.Pattern.{IsPattern, is_joined, has}
 use Rattle.elimination.specs.Elimination.{IsVertex, IsAdjacency}
-use Rattle.elimination.specs.Dense.{IsFilling, IsDense, IsDenseUnderWay, bit_in, stage_of, width_of}
+use Rattle.bit_rows.specs.Bits.{bit_in}
+use Rattle.elimination.specs.Dense.{IsFilling, IsDense, IsDenseUnderWay, stage_of, width_of}
 use Rattle.elimination.specs.declared.dense.DenseSearch.{DenseSearch}
 use Rattle.patterns.proofs.NumberLists.{has_at}
 use Rattle.elimination.proofs.Orders.{begun_none}
@@ -20,7 +19,7 @@ adjacent rows p = record {
 }
 
 begun : (rows : List (List ℕ)) (search : DenseSearch) → IsPattern rows → IsFilling (stage_of (is_joined rows) (length rows) []) search
-    → ((x : ℕ) → IsVertex (length rows) x → IsTrue (bit_in search.alive.items x)) → IsDenseUnderWay (is_joined rows) [] search
+    → ((x : ℕ) → IsVertex (length rows) x → IsTrue (bit_in search.alive x)) → IsDenseUnderWay (is_joined rows) [] search
 begun rows search p s all =
     let joined = is_joined rows in
     let dense = filled (stage_of (is_joined rows) (length rows) []) search (adjacent rows p)
@@ -42,7 +41,6 @@ set_bits-requires c = λ j lt.
     let h = subst (λ z. IsTrue (has z (get_or c.neighbours.result.now j 0))) c.neighbours.ensures (has_at c.neighbours.result.now j lt) in
     let v = (p.inside c.loop-v.v (get_or c.neighbours.result.now j 0) h).1 in
     let n = c.rows-n.ensures.value in
-    let w = ap length c.deref_mut.ensures.value in
     let l = c.in_ok-row.ensures.len in
     omega arith
 
@@ -59,21 +57,18 @@ loop-v-preserved c =
     let rows = c.args.pattern.now in
     let stage = stage_of (is_joined c.args.pattern.now) (length c.args.pattern.now) [] in
     let n = c.rows-n.ensures.value in
-    let made = with_items_is c.in_ok-row.row c.set_bits.new.row (c.set_bits.auto.row ∙ c.deref_mut.ensures.len) in
-    let row = (with_items c.in_ok-row.row c.set_bits.new.row).items in
     record {
       filling = c.put.ensures.filled stage c.loop-v.invariant.filling ((omega arith, omega arith), refl)
           (record {
-            width = ap length made ∙ c.set_bits.auto.row ∙ ap length c.deref_mut.ensures.value ∙ c.in_ok-row.ensures.len ∙ ap width_of n;
+            width = c.set_bits.ensures.len ∙ c.in_ok-row.ensures.len ∙ ap width_of n;
             exact = λ x lx.
-                ap (λ z. bit_in z x) made ∙ c.set_bits.ensures x
-                ∙ ap (λ z. bit_in z x || has c.neighbours.result.now x) c.deref_mut.ensures.value
+                c.set_bits.ensures.bits x
                 ∙ ap (λ b. b || has c.neighbours.result.now x) (c.in_ok-row.ensures.bits x)
                 ∙ ap (λ z. eqb v x || has z x) c.neighbours.ensures;
           })
           (omega arith);
       passed = λ x one lt. elim (cases_eq x v) [
-        | inl e ↦ ap (bit_in c.put.new.self.alive.items) e ∙ c.put.ensures.put
+        | inl e ↦ ap (bit_in c.put.new.self.alive) e ∙ c.put.ensures.put
         | inr ne ↦ c.put.ensures.others x ne ∙ c.loop-v.invariant.passed x one (omega arith)
       ];
     }

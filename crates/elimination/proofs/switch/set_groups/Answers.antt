@@ -1,4 +1,4 @@
-use Rattle.std.proofs.Common.{◌≡◌, inl, inr, get_or, arith, subst, sym, ap, ◌∙◌, IsTrue}
+use Rattle.std.proofs.Common.{◌≡◌, inl, inr, get_or, arith, refl, subst, sym, ap, ◌∙◌, IsTrue}
 use Rattle.std.proofs.lemmas.Bool.{cases_eq}
 use Rattle.patterns.specs.Pattern.{has}
 use Rattle.elimination.specs.Quotients.{inner_at}
@@ -16,7 +16,7 @@ group_is c =
     ∙ list_get c.args.groups.now r c.index-groups-r.result (c.requires.within c.loop-r.r-index (omega arith))
 
 pub loop-r-init : goal.loop-r-init
-loop-r-init c = record { kept = λ y t. t; from = λ y t. inl t; to = λ j x lt. absurd (omega arith) }
+loop-r-init c = record { len = refl; kept = λ y t. t; from = λ y t. inl t; to = λ j x lt. absurd (omega arith) }
 
 pub set_numbers-requires-clause-within : goal.set_numbers-requires-clause-within
 set_numbers-requires-clause-within c = λ j lt.
@@ -29,7 +29,7 @@ set_numbers-requires-clause-within c = λ j lt.
 pub set_numbers-requires-clause-fit : goal.set_numbers-requires-clause-fit
 set_numbers-requires-clause-fit c = λ x.
     let fit = c.requires.fit x in
-    let len = c.loop-r.auto.row in
+    let len = c.loop-r.invariant.len in
     omega arith
 
 pub loop-r-preserved : goal.loop-r-preserved
@@ -40,6 +40,7 @@ loop-r-preserved c =
     let inv = c.loop-r.invariant in
     let is = group_is (goal.at.loop-r-preserved c).After-deref in
     record {
+      len = c.set_numbers.ensures.len ∙ inv.len;
       kept = λ y t. c.set_numbers.ensures.kept y (inv.kept y t);
       from = λ y t. elim (c.set_numbers.ensures.from y t) [
         | inl t ↦ inv.from y t
@@ -51,6 +52,9 @@ loop-r-preserved c =
         | inr ne ↦ c.set_numbers.ensures.kept (get_or c.args.numbers.now x 0) (inv.to j x (omega arith) u)
       ];
     }
+
+pub returns-clause-len : goal.returns-clause-len
+returns-clause-len c = c.loop-r.invariant.len
 
 pub returns-clause-to : goal.returns-clause-to
 returns-clause-to c = λ r x h u.

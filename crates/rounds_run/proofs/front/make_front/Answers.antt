@@ -54,6 +54,6 @@ pub returns : goal.returns
 returns c =
     let before = (goal.at.returns c).After-deref in
     record {
-      rows = c.of.ensures ∙ rows_are before;
-      rest = c.of-2.ensures ∙ c.in_ok-rest.ensures ∙ ap (drop c.args.job.columns) (c.deref.ensures.value ∙ rows_are before);
+      rows = c.new.ensures ∙ rows_are before;
+      rest = c.new-2.ensures ∙ c.in_ok-rest.ensures ∙ ap (drop c.args.job.columns) (c.deref.ensures.value ∙ rows_are before);
     }

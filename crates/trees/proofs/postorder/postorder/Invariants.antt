@@ -2,8 +2,7 @@ use Rattle.std.proofs.Common.{◌-◌, List, length}
 use Rattle.limits.specs.Limits.{most_tasks}
 use Rattle.trees.specs.declared.node.Node.{Node}
 use Rattle.trees.specs.Tree.{IsTree}
-use Rattle.trees.specs.Forest.{Forest, IsForestOf}
-use Rattle.trees.specs.Children.{AreChildren}
+use Rattle.trees.specs.Forest.{AreChildren, Forest, IsForestOf}
 use Rattle.trees.proofs.OrderLemmas.{IsWalk}
 use Rattle.trees.proofs.postorder.postorder.Given as goal
 

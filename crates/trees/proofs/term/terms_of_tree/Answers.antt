@@ -5,8 +5,7 @@ use Rattle.sp_terms.specs.SystemOfTerm.{system_of_term}
 use Rattle.sp_terms.specs.Values.{IsTerms, term_of}
 use Rattle.trees.specs.declared.node.Node.{Node}
 use Rattle.trees.specs.Tree.{system_of_nodes}
-use Rattle.trees.specs.Forest.{all_numbers}
-use Rattle.trees.specs.Children.{AreChildren}
+use Rattle.trees.specs.Forest.{AreChildren, all_numbers}
 use Rattle.trees.proofs.PositionLemmas.{flat-read}
 use Rattle.trees.proofs.term.terms_of_tree.Goals as goal
 

@@ -1,13 +1,26 @@
-use Rattle.std.proofs.Common.{◌≡◌, ◌≢◌, ◌≤◌, ℕ, true, length, get_or, set, length-set, arith, inl, inr, sym, ap, ◌∙◌, subst}
-use Rattle.elimination.specs.Quotients.{inner_at}
-use Rattle.std.specs.Vec.{with_items}
+use Rattle.std.proofs.Common.{◌≡◌, ◌≢◌, ◌<◌, ◌≤◌, ℕ, true, length, get_or, set, length-set, arith, inl, inr, sym, ap, ◌∙◌, subst}
 use Rattle.std.proofs.lemmas.Bool.{cases_eq, both_ways}
-use Rattle.std.proofs.lemmas.List.{with_items_is}
+use Rattle.bit_rows.specs.Bits.{bit_in}
 use Rattle.elimination.specs.Elimination.{degree_of}
-use Rattle.elimination.specs.Dense.{IsStanding, IsFullRow, bit_in}
-use Rattle.elimination.proofs.ListWrites.{list_here, list_other}
+use Rattle.elimination.specs.Dense.{Stage, IsStanding, IsFullRow, IsFilling, row_of}
+use Rattle.elimination.specs.declared.dense.DenseSearch.{DenseSearch}
+use Rattle.elimination.proofs.DenseBits.{row_here, row_other, put_own, put_others}
 use Rattle.elimination.proofs.DenseSteps.{at_other, at_here}
 use Rattle.elimination.proofs.dense.DenseSearch.put.Goals as goal
+
+-- the vertex has a place in the row of those that are left
+place : (stage : Stage) (search : DenseSearch) (v : ℕ) → IsFilling stage search → IsStanding stage v → v < length search.alive
+place stage search v s here = let vn = here.0.1 in let width = s.alive_width in omega arith
+
+pub insert-requires : goal.insert-requires
+insert-requires c = place c.requires.0 c.args.self.now c.args.v c.requires.1 c.requires.2
+
+pub returns-clause-put : goal.returns-clause-put
+returns-clause-put c =
+    put_own c.args.self.now.alive c.insert.new.self c.args.v true c.insert.ensures (place c.requires.0 c.args.self.now c.args.v c.requires.1 c.requires.2)
+
+pub returns-clause-others : goal.returns-clause-others
+returns-clause-others c = put_others c.args.self.now.alive c.insert.new.self c.args.v true c.insert.ensures
 
 pub returns-clause-bound : goal.returns-clause-bound
 returns-clause-bound c =
@@ -19,11 +32,12 @@ pub returns-clause-filled : goal.returns-clause-filled
 returns-clause-filled c = λ stage s here full bound.
     let v = c.args.v in
     let vn = here.0.1 in
-    let is = with_items_is c.args.self.now.alive c.set_bit.new.row (c.set_bit.auto.row ∙ c.deref_mut.ensures.len) in
-    let alive = (with_items c.args.self.now.alive c.set_bit.new.row).items in
-    let other : (x : ℕ) → x ≢ v → bit_in alive x ≡ bit_in c.args.self.now.alive.items x = λ x ne. ap (λ z. bit_in z x) is
-    ∙ c.set_bit.ensures.others x ne ∙ ap (λ z. bit_in z x) c.deref_mut.ensures.value in
-    let own : bit_in alive v ≡ true = ap (λ z. bit_in z v) is ∙ c.set_bit.ensures.set in
+    let old = c.args.self.now.alive in
+    let alive = c.insert.new.self in
+    let width = s.alive_width in
+    let order = s.order_is in
+    let other : (x : ℕ) → x ≢ v → bit_in alive x ≡ bit_in old x = put_others old alive v true c.insert.ensures in
+    let own : bit_in alive v ≡ true = put_own old alive v true c.insert.ensures (omega arith) in
     let rows_len = s.rows_len in
     let bounds_len = s.bounds_len in
     record {
@@ -31,15 +45,15 @@ returns-clause-filled c = λ stage s here full bound.
       few = s.few;
       rows_len = length-set c.args.self.now.rows.items v c.args.row ∙ s.rows_len;
       none_open = s.none_open;
-      alive_width = ap length is ∙ c.set_bit.auto.row ∙ ap length c.deref_mut.ensures.value ∙ s.alive_width;
+      alive_width = ap length c.insert.ensures ∙ length-set old v true ∙ s.alive_width;
       alive_from = λ x t. elim (cases_eq x v) [
         | inl e ↦ subst (IsStanding stage) (sym e) here
         | inr ne ↦ s.alive_from x (sym (other x ne) ∙ t)
       ];
       full = λ x t. elim (cases_eq x v) [
-        | inl e ↦ subst (λ z. IsFullRow stage z (inner_at (set c.args.self.now.rows.items v c.args.row) z)) (sym e)
-            (subst (IsFullRow stage v) (sym (list_here c.args.self.now.rows.items v c.args.row (omega arith))) full)
-        | inr ne ↦ subst (IsFullRow stage x) (sym (list_other c.args.self.now.rows.items v x c.args.row ne))
+        | inl e ↦ subst (λ z. IsFullRow stage z (row_of (set c.args.self.now.rows.items v c.args.row) z)) (sym e)
+            (subst (IsFullRow stage v) (sym (row_here c.args.self.now.rows.items v c.args.row (omega arith))) full)
+        | inr ne ↦ subst (IsFullRow stage x) (sym (row_other c.args.self.now.rows.items v x c.args.row ne))
             (s.full x (sym (other x ne) ∙ t))
       ];
       bounds_len = ap length c.put.ensures ∙ length-set c.args.self.now.bounds v c.args.bound ∙ s.bounds_len;

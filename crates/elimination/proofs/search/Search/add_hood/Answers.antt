@@ -3,7 +3,7 @@ use Rattle.std.proofs.lemmas.Bool.{eq-eqb, eqb-true}
 use Rattle.patterns.specs.Pattern.{has}
 use Rattle.elimination.specs.Quotients.{at, inner_at}
 use Rattle.elimination.specs.Tables.{tables}
-use Rattle.elimination.specs.Dense.{bit_in}
+use Rattle.bit_rows.specs.Bits.{bit_in}
 use Rattle.patterns.proofs.NumberLists.{place_of}
 use Rattle.patterns.proofs.NumberLists.{has_at}
 use Rattle.elimination.proofs.ListWrites.{list_get}
@@ -53,7 +53,7 @@ set_numbers-requires-2-clause-within c = λ j lt.
 pub set_numbers-requires-2-clause-fit : goal.set_numbers-requires-2-clause-fit
 set_numbers-requires-2-clause-fit c = λ x.
     let fit = c.requires.fit x in
-    let len = c.set_numbers.auto.row in
+    let len = c.set_numbers.ensures.len in
     omega arith
 
 pub set_groups-requires-clause-within : goal.set_groups-requires-clause-within
@@ -76,17 +76,20 @@ set_groups-requires-clause-inner c = λ r x near h.
 pub set_groups-requires-clause-fit : goal.set_groups-requires-clause-fit
 set_groups-requires-clause-fit c = λ x.
     let fit = c.requires.fit x in
-    let one = c.set_numbers.auto.row in
-    let two = c.set_numbers-2.auto.row in
+    let one = c.set_numbers.ensures.len in
+    let two = c.set_numbers-2.ensures.len in
     omega arith
 
-pub returns : goal.returns
-returns c = λ q vertices s a.
+pub returns-clause-len : goal.returns-clause-len
+returns-clause-len c = c.set_groups.ensures.len ∙ c.set_numbers-2.ensures.len ∙ c.set_numbers.ensures.len
+
+pub returns-clause-exact : goal.returns-clause-exact
+returns-clause-exact c = λ q vertices s a.
     let v = c.args.v in
     let numbers = c.args.numbers.now in
     let groups = inner_at c.args.self.now.groups.items in
     let list = c.args.self.now.hood.near.items in
-    let is = group_is (goal.at.returns c).After-deref in
+    let is = group_is (goal.at.returns-clause-exact c).After-deref in
     let kept : (y : ℕ) → IsTrue (bit_in c.set_numbers.new.row y) → IsTrue (bit_in c.set_groups.new.row y) = λ y t.
     c.set_groups.ensures.kept y (c.set_numbers-2.ensures.kept y t) in
     full_exact q (tables c.args.self.now) v s vertices numbers a c.set_groups.new.row

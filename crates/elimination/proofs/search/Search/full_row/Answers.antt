@@ -1,8 +1,6 @@
-use Rattle.std.proofs.Common.{◌≡◌, length, get_or, arith, sym, subst, ap, ◌∙◌}
-use Rattle.std.proofs.lemmas.List.{with_items_is}
+use Rattle.std.proofs.Common.{◌≡◌, length, arith, ap, ◌∙◌}
 use Rattle.elimination.specs.Tables.{tables}
-use Rattle.elimination.specs.Dense.{IsFullRow, width_of}
-use Rattle.elimination.specs.Switch.{stage_at}
+use Rattle.elimination.specs.Dense.{width_of}
 use Rattle.elimination.proofs.Switches.{full_row}
 use Rattle.elimination.proofs.search.Search.full_row.Goals as goal
 
@@ -18,7 +16,7 @@ bounds-numbers-v c =
 pub add_hood-requires-clause-fit : goal.add_hood-requires-clause-fit
 add_hood-requires-clause-fit c = λ x.
     let most = c.requires.most x in
-    let len = ap length c.deref_mut.ensures.value ∙ c.in_ok-row.ensures.len in
+    let len = c.in_ok-row.ensures.len in
     omega arith
 
 pub returns : goal.returns
@@ -27,7 +25,5 @@ returns c = λ q vertices s a e.
     let v = c.args.v in
     let numbers = c.args.numbers.now in
     let row = c.add_hood.new.row in
-    let len : length row ≡ width_of c.args.order = c.add_hood.auto.row ∙ ap length c.deref_mut.ensures.value ∙ c.in_ok-row.ensures.len in
-    let is = with_items_is c.in_ok-row.row row (omega (arith, len, c.in_ok-row.ensures.len, c.in_ok-row.row.ok.0)) in
-    subst (IsFullRow (stage_at q.left vertices) (get_or numbers v 0)) (sym is)
-    (full_row q t v s vertices numbers a v s.vertex s.here row (len ∙ ap width_of e) (c.add_hood.ensures q vertices s a))
+    let len : length row ≡ width_of c.args.order = c.add_hood.ensures.len ∙ c.in_ok-row.ensures.len in
+    full_row q t v s vertices numbers a v s.vertex s.here row (len ∙ ap width_of e) (c.add_hood.ensures.exact q vertices s a)

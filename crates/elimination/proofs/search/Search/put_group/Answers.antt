@@ -1,10 +1,10 @@
 use Rattle.std.proofs.Common.{◌≡◌, inl, inr, ℕ, ◌<◌, get_or, length, arith, refl, subst, sym, ap, ◌∙◌, IsTrue}
 use Rattle.std.proofs.lemmas.Bool.{cases_eq}
-use Rattle.std.proofs.lemmas.List.Elements.{same_from_all_zip}
 use Rattle.patterns.specs.Pattern.{has}
 use Rattle.elimination.specs.Quotients.{inner_at}
 use Rattle.elimination.specs.Tables.{tables}
-use Rattle.elimination.specs.Dense.{bit_in, IsFullRow}
+use Rattle.bit_rows.specs.Bits.{bit_in}
+use Rattle.elimination.specs.Dense.{IsFullRow}
 use Rattle.elimination.specs.Switch.{stage_at}
 use Rattle.patterns.proofs.NumberLists.{place_of}
 use Rattle.patterns.proofs.NumberLists.{has_at}
@@ -60,24 +60,23 @@ loop-x-preserved c =
     let k = get_or numbers x 0 in
     let h = in_group (goal.at.loop-x-preserved c).After-deref-x-items c.loop-x.x-index (omega arith) in
     let inv = c.loop-x.invariant in
-    let kept : (y : ℕ) → IsTrue (bit_in c.loop-x.dense.alive.items y)
-    → IsTrue (bit_in c.put.new.self.alive.items y) = λ y t. elim (cases_eq y k) [
-      | inl e ↦ subst (λ z. IsTrue (bit_in c.put.new.self.alive.items z)) (sym e) c.put.ensures.put
+    let kept : (y : ℕ) → IsTrue (bit_in c.loop-x.dense.alive y)
+    → IsTrue (bit_in c.put.new.self.alive y) = λ y t. elim (cases_eq y k) [
+      | inl e ↦ subst (λ z. IsTrue (bit_in c.put.new.self.alive z)) (sym e) c.put.ensures.put
       | inr ne ↦ c.put.ensures.others y ne ∙ t
     ] in
-    let copy : c.in_ok-clone.field-0.items ≡ c.args.row.items =
-    same_from_all_zip _ c.args.row.items c.in_ok-clone.field-0.items c.in_ok-clone.ensures.cases.0 (λ y z e. e) in
+    let copy : c.in_ok-copy.field-0 ≡ c.args.row = (let made = c.in_ok-copy.ensures in let was = c.row.view_is in cc) in
     record {
       order = c.put.ensures.order ∙ inv.order;
       filling = λ q vertices s a f r.
           let t = tables c.args.self.now in
           let filling = inv.filling q vertices s a f r in
           c.put.ensures.filled (stage_at q.left vertices) filling (twin_stands q t c.args.v s vertices numbers a x h)
-          (subst (IsFullRow (stage_at q.left vertices) k) (sym copy) (twin_full q t c.args.v s vertices numbers a x h c.args.row.items r))
+          (subst (IsFullRow (stage_at q.left vertices) k) (sym copy) (twin_full q t c.args.v s vertices numbers a x h c.args.row r))
           (let b = twin_bound q t c.args.v s vertices numbers a x h in let e = c.at-bound.ensures in omega arith);
       kept = λ y t. kept y (inv.kept y t);
       group = λ j lt. elim (cases_eq j c.loop-x.x-index) [
-        | inl e ↦ subst (λ z. IsTrue (bit_in c.put.new.self.alive.items (get_or numbers (get_or c.deref-x-items.result.now z 0) 0)))
+        | inl e ↦ subst (λ z. IsTrue (bit_in c.put.new.self.alive (get_or numbers (get_or c.deref-x-items.result.now z 0) 0)))
             (sym e) c.put.ensures.put
         | inr ne ↦ kept (get_or numbers (get_or c.deref-x-items.result.now j 0) 0) (inv.group j (omega arith))
       ];
@@ -104,7 +103,7 @@ returns-clause-order c = c.put-2.ensures.order ∙ c.loop-x.invariant.order
 
 pub returns-clause-kept : goal.returns-clause-kept
 returns-clause-kept c = λ y t. elim (cases_eq y (get_or c.args.numbers.now c.args.v 0)) [
-  | inl e ↦ subst (λ z. IsTrue (bit_in c.put-2.new.self.alive.items z)) (sym e) c.put-2.ensures.put
+  | inl e ↦ subst (λ z. IsTrue (bit_in c.put-2.new.self.alive z)) (sym e) c.put-2.ensures.put
   | inr ne ↦ c.put-2.ensures.others y ne ∙ c.loop-x.invariant.kept y t
 ]
 
@@ -115,7 +114,7 @@ returns-clause-group c = λ x h.
     let lt = at.1 in
     let numbers = c.args.numbers.now in
     elim (cases_eq (get_or numbers x 0) (get_or numbers c.args.v 0)) [
-      | inl e ↦ subst (λ z. IsTrue (bit_in c.put-2.new.self.alive.items z)) (sym e) c.put-2.ensures.put
+      | inl e ↦ subst (λ z. IsTrue (bit_in c.put-2.new.self.alive z)) (sym e) c.put-2.ensures.put
       | inr ne ↦ c.put-2.ensures.others (get_or numbers x 0) ne
-          ∙ subst (λ z. IsTrue (bit_in c.loop-x.dense.alive.items (get_or numbers z 0))) at.2 (c.loop-x.invariant.group at.0 (omega arith))
+          ∙ subst (λ z. IsTrue (bit_in c.loop-x.dense.alive (get_or numbers z 0))) at.2 (c.loop-x.invariant.group at.0 (omega arith))
     ]

@@ -5,7 +5,7 @@ use Rattle.elimination.specs.Elimination.{IsVertex}
 use Rattle.elimination.specs.Quotients.{Quotient, at, inner_at}
 use Rattle.elimination.specs.Tables.{tables}
 use Rattle.elimination.specs.Turns.{CanGather, IsReleased}
-use Rattle.elimination.specs.Dense.{bit_in}
+use Rattle.bit_rows.specs.Bits.{bit_in}
 use Rattle.elimination.specs.Switch.{AreNumbers, CanFill}
 use Rattle.elimination.proofs.search.Search.put_vertex.Goals as goal
 use Rattle.elimination.proofs.search.Search.put_vertex.Goals.{After-neighbours, In_ok-gather, After-release, In_ok-row, In_ok-put_group}
@@ -110,7 +110,7 @@ returns-clause-put c = λ q f x e.
     let r = released (goal.at.returns-clause-put c).After-release q can in
     let numbers = c.args.numbers.now in
     elim (cases_eq (q.rep x) x) [
-      | inl same ↦ subst (λ z. IsTrue (bit_in c.put_group.new.dense.alive.items (get_or numbers z 0))) (sym e ∙ same)
+      | inl same ↦ subst (λ z. IsTrue (bit_in c.put_group.new.dense.alive (get_or numbers z 0))) (sym e ∙ same)
           c.in_ok-put_group.ensures.own
       | inr ne ↦ c.in_ok-put_group.ensures.group x
           (subst (λ z. IsTrue (has (inner_at c.release.new.self.groups.items z) x)) e (r.stand.grouped.listed x ne))

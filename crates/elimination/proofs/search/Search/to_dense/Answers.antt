@@ -3,7 +3,7 @@ use Rattle.std.proofs.lemmas.Bool.{cases_eq}
 use Rattle.elimination.specs.Quotients.{Quotient, at}
 use Rattle.elimination.specs.Tables.{tables}
 use Rattle.elimination.specs.declared.search.Search.{Search}
-use Rattle.elimination.specs.Dense.{bit_in}
+use Rattle.bit_rows.specs.Bits.{bit_in}
 use Rattle.elimination.specs.Switch.{stage_at, AreNumbers, CanFill}
 use Rattle.elimination.proofs.Switches.{rep_vertex, all_filled}
 use Rattle.elimination.proofs.search.Search.to_dense.Goals as goal
@@ -72,7 +72,7 @@ loop-v-preserved c =
     let inv = c.loop-v.invariant in
     let is = c.deref-in-loop-v.ensures.value in
     let numbers = c.in_ok-vertices.field-0.numbers.items in
-    let alive = c.put_vertex.new.dense.alive.items in
+    let alive = c.put_vertex.new.dense.alive in
     record {
       lengths = c.in_ok-put_vertex.ensures.lengths;
       turns = c.in_ok-put_vertex.ensures.turns ∙ inv.turns;

@@ -2,7 +2,8 @@ use Rattle.std.proofs.Common.{◌≡◌, ℕ, ◌+◌, ◌<◌, IsTrue, get_or, 
 use Rattle.elimination.specs.Elimination.{IsVertex}
 use Rattle.elimination.specs.Quotients.{Quotient, at}
 use Rattle.elimination.specs.Tables.{tables, AllHaveLength}
-use Rattle.elimination.specs.Dense.{bit_in, IsFilling}
+use Rattle.bit_rows.specs.Bits.{bit_in}
+use Rattle.elimination.specs.Dense.{IsFilling}
 use Rattle.elimination.specs.Switch.{stage_at, CanFill}
 use Rattle.elimination.proofs.search.Search.to_dense.Given as goal
 
@@ -13,5 +14,5 @@ invariant-loop-v l = record {
   stands : (q : Quotient) → CanFill l.pattern q (tables l.fn.self) → CanFill l.pattern q (tables l.self);
   filling : (q : Quotient) → CanFill l.pattern q (tables l.fn.self) → IsFilling (stage_at q.left l.vertices.items) l.search;
   passed : (q : Quotient) → CanFill l.pattern q (tables l.fn.self) → (x : ℕ) → IsVertex q.order x → at l.fn.self.turns.items x ≡ 0
-      → q.rep x < l.v → IsTrue (bit_in l.search.alive.items (get_or l.numbers.items x 0));
+      → q.rep x < l.v → IsTrue (bit_in l.search.alive (get_or l.numbers.items x 0));
 }

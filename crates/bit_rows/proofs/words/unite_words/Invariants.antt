@@ -1,0 +1,8 @@
+use Rattle.std.proofs.Common.{◌≡◌, ℕ, ◌<◌, ◌≤◌, get_or, bit_or}
+use Rattle.bit_rows.proofs.words.unite_words.Given as goal
+
+abbrev pub invariant-loop-k : goal.invariant-loop-k
+invariant-loop-k l = record {
+  done : (j : ℕ) → j < l.k → get_or l.words j 0 ≡ bit_or (get_or l.fn.words j 0) (get_or l.other j 0);
+  rest : (j : ℕ) → l.k ≤ j → get_or l.words j 0 ≡ get_or l.fn.words j 0;
+}

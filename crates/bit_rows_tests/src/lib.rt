@@ -1,0 +1,5 @@
+//! Tests of `bit_rows`, over its public functions.
+#![tactic(auto)]
+
+#[cfg(test)]
+mod tests;
