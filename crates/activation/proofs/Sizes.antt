@@ -1,9 +1,9 @@
 -- Sums of sizes stay within the whole.
-use Rattle.std.proofs.Common.{◌≡◌, ℕ, ◌+◌, ◌-◌, ◌<◌, ◌≤◌, Bool, true, false, cond, List, length, take, get_or, sym, ap, subst, arith, ◌∙◌, Option, Some, None}
+use Rattle.std.proofs.Common.{◌≡◌, ℕ, ◌+◌, ◌-◌, ◌<◌, ◌≤◌, Bool, true, cond, List, length, take, get_or, sym, ap, subst, arith, ◌∙◌, Option, Some, None}
 use Rattle.std.specs.Prelude.{All}
 use Rattle.std.specs.List.{sum_by}
 use Rattle.std.proofs.lemmas.Bool.{eqb-true}
-use Rattle.std.proofs.lemmas.List.Sums.{sum_by_more_le_part, sum_by-le-sum_by}
+use Rattle.std.proofs.lemmas.List.Sums.{sum_by_more_le_part}
 use Rattle.limits.specs.Limits.{most_size, most_time, most_total}
 use Rattle.mp_system.specs.declared.system.Item.{Item}
 use Rattle.std.proofs.lemmas.List.{get_or_default}

@@ -6,7 +6,6 @@ use Rattle.std.proofs.lemmas.List.{get_or_read}
 use Rattle.std.proofs.lemmas.List.Folds.{list_any-append, list_any_at, Any-from_list_any}
 use Rattle.std.proofs.lemmas.List.Sums.{sum_by-cons}
 use Rattle.std.proofs.lemmas.Bool.{cases_eq, eq-eqb, ne_eqb, eqb-true, or_left, or_right, or_cases}
-use Rattle.lists.proofs.Lists.{sum-same}
 
 -- a count at the front of a list
 pub count_yes : (x t : ℕ) (xs : List ℕ) → x ≡ t → count_by (λ y. y == t) (x ∷ xs) ≡ 1 + count_by (λ y. y == t) xs

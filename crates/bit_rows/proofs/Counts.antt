@@ -1,9 +1,9 @@
 -- How many bits words have in common.
-use Rattle.std.proofs.Common.{◌≡◌, ℕ, zero, suc, ◌+◌, ◌*◌, ◌/◌, ◌%◌, ◌^◌, ◌<◌, ◌≤◌, inl, inr, Bool, false, cond, ◌&&◌, eqb, List, [], ◌∷◌, ◌++◌, length, get_or, refl, sym, ap, ◌∙◌, arith, bit_and, count_ones}
+use Rattle.std.proofs.Common.{◌≡◌, ℕ, zero, suc, ◌+◌, ◌*◌, ◌/◌, ◌%◌, ◌^◌, ◌<◌, ◌≤◌, inl, inr, Bool, false, cond, ◌&&◌, eqb, List, length, get_or, refl, sym, ap, ◌∙◌, arith, bit_and, count_ones}
 use Rattle.std.specs.Int.{bit_at}
 use Rattle.std.specs.List.{count_by, range_with_len}
 use Rattle.std.specs.Int.Count.{ones_step}
-use Rattle.std.proofs.lemmas.Bool.{cases_eq, cases_lt, and_right}
+use Rattle.std.proofs.lemmas.Bool.{cases_eq}
 use Rattle.std.proofs.lemmas.List.Sums.{sum_by_push}
 use Rattle.std.proofs.lemmas.Nat.{ones_le_self}
 use Rattle.std.proofs.Math.Nat.{pow-suc}

@@ -1,12 +1,11 @@
 -- The rows of the factor, by ways up from earlier neighbours, and what marking them all counts.
-use Rattle.std.proofs.Common.{sym, ◌∙◌, subst, ap, ◌+◌, ◌-◌, ◌≡◌, ◌≢◌, ◌↔◌, inl, inr, refl, ℕ, zero, suc, ◌<◌, ◌≤◌, Bool, true, IsTrue, ◌==◌, List, [], ◌∷◌, ◌++◌, length, get_or, drop, map, arith, slice_index}
+use Rattle.std.proofs.Common.{sym, ◌∙◌, subst, ap, ◌+◌, ◌-◌, ◌≡◌, ◌≢◌, ◌↔◌, inl, inr, refl, ℕ, zero, suc, ◌<◌, ◌≤◌, Bool, true, IsTrue, ◌==◌, List, [], ◌∷◌, ◌++◌, length, drop, map, arith, slice_index}
 use Rattle.std.specs.List.{range_with_len, count_by}
 use Rattle.std.specs.Cmp.{both_ways}
 use Rattle.std.proofs.lemmas.Bool.{cases_eq, or_cases, or_left, eqb-true, eq-eqb}
-use Rattle.std.proofs.lemmas.List.{ext_get_or, get_or_read}
-use Rattle.std.proofs.lemmas.List.Folds.{list_any_at, Any-from_list_any}
+use Rattle.std.proofs.lemmas.List.{ext_get_or}
 use Rattle.std.proofs.lemmas.List.FromFn.{get_or-map-range_with_len, length-map-range_with_len, length-range_with_len, map-range_with_len_more}
-use Rattle.std.proofs.lemmas.List.Sums.{sum_by_push, count_by-le-length}
+use Rattle.std.proofs.lemmas.List.Sums.{count_by-le-length}
 use Rattle.limits.specs.Limits.{most_order}
 use Rattle.patterns.specs.Pattern.{neighbours_of, has, is_joined, IsPattern}
 use Rattle.permutations.specs.Perm.{IsVertex, vertex_at, place_of}
@@ -14,7 +13,6 @@ use Rattle.ordering.specs.Fill.{graph_at, structure_of, parent_of, parents_of, c
 use Rattle.elim_tree.specs.Paths.{IsWithin, IsInRowSubtree}
 use Rattle.elim_tree.specs.Trees.{parent_at, IsForest, IsAbove, self, step}
 use Rattle.elim_tree.specs.Forests.{column_in}
-use Rattle.column_counts.proofs.SumLemmas.{range_more}
 use Rattle.column_counts.specs.Marks.{Row, IsFactorRow, IsMarked, CanMarkRow, IsMarkedRow, bit}
 use Rattle.elim_tree.proofs.PermCounts.{range_count}
 use Rattle.elim_tree.proofs.Growth.{place_in, is_in}

@@ -1,10 +1,8 @@
 -- One way up a row of the factor: what is marked, and what it takes to go on.
-use Rattle.std.proofs.Common.{sym, ◌∙◌, subst, ap, ◌+◌, ◌^◌, ◌≡◌, ◌≢◌, inl, inr, ℕ, ◌<◌, ◌≤◌, IsTrue, List, ◌++◌, length, take, set, get_or-set_other, get_or-set_same, get_or, arith, ◌==◌, slice_index}
-use Rattle.std.proofs.Math.Seq.{take-append_seam}
+use Rattle.std.proofs.Common.{sym, ◌∙◌, subst, ap, ◌+◌, ◌^◌, ◌≡◌, ◌≢◌, inl, inr, ℕ, ◌<◌, ◌≤◌, IsTrue, List, length, get_or, arith, ◌==◌, slice_index}
 use Rattle.std.proofs.lemmas.Grind.{get_or_default_zero}
 use Rattle.std.proofs.lemmas.Bool.{cases_eq, eq-eqb, ne_eqb}
 use Rattle.column_counts.specs.Marks.{Row, IsFactorRow, IsMarked, CanGoOn, bit}
-use Rattle.lists.proofs.Lists.{written, at_here, at_other}
 
 -- ---- one entry of a table is written
 

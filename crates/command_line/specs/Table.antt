@@ -1,7 +1,7 @@
 -- No public clause names this.
 -- A table as a command of clap, and the words of a line as clap finds them.
 use Rattle.std.specs.Prelude.{◌≡◌, true, false, List, [], ◌∷◌, Some, None, map, slice_get, unwrap_or}
-use Rattle.clap.specs.Simple.{App, new_app, new_rule, new_shape, with_rule}
+use Rattle.clap.specs.Simple.{App, new_rule, new_shape, with_rule}
 use Rattle.clap.specs.Simple as clap
 use Rattle.clap.specs.Walk.{Rule, Row}
 use Rattle.clap.specs.Values.{reading_of}

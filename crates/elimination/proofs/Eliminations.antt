@@ -1,6 +1,6 @@
 -- One elimination, and one after another.
 use Rattle.std.proofs.Common.{◌≡◌, ◌≢◌, ℕ, Bool, true, not, ◌==◌, ◌⊎◌, inl, inr, refl, sym, List, [], ◌∷◌, ◌++◌, false}
-use Rattle.std.proofs.lemmas.Bool.{and_parts, or_cases, and_from, or_left, or_right, eqb-false, ne_eqb, not-true, not_from_false, cases_Bool, both_ways}
+use Rattle.std.proofs.lemmas.Bool.{and_parts, or_cases, and_from, or_left, or_right, cases_Bool, both_ways}
 use Rattle.elimination.specs.Elimination.{eliminate, IsAdjacency, eliminated}
 use Rattle.lists.proofs.Bools.{not_from_ne, ne_from_not}
 

@@ -11,7 +11,6 @@ use Rattle.patterns.proofs.NumberLists.{place_of}
 use Rattle.patterns.proofs.NumberLists.{has_push}
 use Rattle.patterns.proofs.NumberLists.{has_at}
 use Rattle.patterns.specs.Pattern.{has}
-use Rattle.lists.proofs.Bools.{same_bool}
 
 pub has_one : (b x : ℕ) → has (b ∷ []) x ≡ true → b ≡ x
 has_one b x h = eqb-true b x (sym (has_push [] b x) ∙ h)

@@ -1,11 +1,10 @@
 -- The children of each node, in rows.
-use Rattle.std.proofs.Common.{◌≡◌, ◌∙◌, ◌↔◌, inl, inr, sym, ap, subst, ℕ, zero, suc, ◌+◌, ◌<◌, ◌≤◌, Bool, true, false, eqb, eq-eqb, eqb-true, List, [], ◌∷◌, map, length, get_or, arith}
-use Rattle.std.specs.Prelude.{All}
+use Rattle.std.proofs.Common.{◌≡◌, ◌∙◌, ◌↔◌, inl, inr, sym, ap, subst, ℕ, zero, suc, ◌+◌, ◌<◌, ◌≤◌, Bool, true, false, eqb, eq-eqb, eqb-true, List, [], ◌∷◌, length, get_or, arith}
 use Rattle.std.specs.List.{filter, range_with_len}
 use Rattle.std.proofs.lemmas.Bool.{cases_Bool, cases_lt}
-use Rattle.std.proofs.lemmas.List.{length-map, get_or-map, get_or_past}
+use Rattle.std.proofs.lemmas.List.{get_or_past}
 use Rattle.trees.specs.declared.node.Node.{Node}
-use Rattle.trees.specs.Tree.{IsTree, IsNodeWithin, parent_of_node}
+use Rattle.trees.specs.Tree.{IsTree, parent_of_node}
 use Rattle.postorder_best.specs.Postorder.{Member}
 use Rattle.trees.specs.Forest.{AreChildren}
 use Rattle.postorder_best.specs.Rows.{Once, AreRows}

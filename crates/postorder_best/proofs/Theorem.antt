@@ -7,7 +7,7 @@ use Rattle.trees.specs.Tree as tree
 use Rattle.trees.specs.Tree.{IsTree, node_at, parent_of_node, children_out, system_of_nodes}
 use Rattle.postorder_best.specs.Postorder.{Member}
 use Rattle.postorder_best.specs.BestPostorder as best
-use Rattle.postorder_best.specs.BestPostorder.{out_at, need_at, children_peak, subtrees_of, ComesBefore, ComesBeforeAll, IsBestRow, Listed, ListedAll, IsBestPostorder}
+use Rattle.postorder_best.specs.BestPostorder.{out_at, need_at, subtrees_of, ComesBefore, ComesBeforeAll, IsBestRow, Listed, ListedAll, IsBestPostorder}
 use Rattle.postorder_best.specs.Rows.{Once, IsBest, sum_out}
 use Rattle.postorder_best.proofs.Forest.{IsNode, IsBestAt, IsFalling, LeadsAll, IsPostorder, peak_from}
 use Rattle.postorder_best.proofs.Least.{sum_children}

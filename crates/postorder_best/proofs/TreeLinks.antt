@@ -11,7 +11,7 @@ use Rattle.mp_system.specs.Memory.{is_present, is_produced, is_ready, stands_in,
 use Rattle.mp_system.specs.Memory as system
 use Rattle.trees.specs.declared.node.Node.{Node}
 use Rattle.trees.specs.Tree as tree
-use Rattle.trees.specs.Tree.{IsTree, node_at, node_size, parent_of_node, ancestor, LeadsToRoot, out_below, children_out, item_of_node, items_from, system_of_nodes}
+use Rattle.trees.specs.Tree.{IsTree, node_at, node_size, parent_of_node, ancestor, out_below, children_out, item_of_node, items_from, system_of_nodes}
 use Rattle.postorder_best.specs.Postorder.{Member}
 use Rattle.postorder_best.specs.BestPostorder.{out_at, need_at}
 use Rattle.postorder_best.proofs.Forest.{Rooted, top, raise, IsForest, stands, total, bit, memory, peak_from}

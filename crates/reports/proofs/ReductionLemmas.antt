@@ -1,6 +1,6 @@
 -- What `reduce` prints of a graph that has a term: a workflow file, whose system has the graph's traversals. And of one that has none: the arcs of a
 -- rest.
-use Rattle.std.proofs.Common.{◌≡◌, ◌∙◌, ◌↔◌, ◌≤◌, ℕ, List, [], ◌∷◌, length, map, sym, ap, subst, inl, inr}
+use Rattle.std.proofs.Common.{◌≡◌, ◌∙◌, ◌↔◌, ◌≤◌, ℕ, List, length, map, sym, ap, subst, inl, inr}
 use Rattle.limits.specs.Limits.{most_bytes}
 use Rattle.mp_system.specs.Memory.{peak_of}
 use Rattle.mp_system.specs.Renaming.{name_in}

@@ -1,5 +1,5 @@
 -- What `spill` prints: the items of which some is spilled, and the volume of the plan that their amounts make.
-use Rattle.std.proofs.Common.{◌≡◌, ◌∙◌, ◌+◌, ◌<◌, ◌≤◌, ℕ, zero, suc, Bool, true, false, cond, List, [], ◌∷◌, ◌++◌, length, map, take, get_or, refl, sym, ap, ap₂, subst, inl, inr, arith}
+use Rattle.std.proofs.Common.{◌≡◌, ◌∙◌, ◌+◌, ◌<◌, ◌≤◌, ℕ, zero, suc, Bool, true, false, cond, List, [], ◌∷◌, ◌++◌, length, map, take, get_or, refl, sym, ap, ap₂, inl, inr, arith}
 use Rattle.std.specs.Prelude.{sum, nat_lt, decimal}
 use Rattle.std.specs.List.{filter, enumerate_from}
 use Rattle.std.proofs.lemmas.Bool.{lt-ltb, le-ltb}
@@ -8,8 +8,7 @@ use Rattle.std.proofs.lemmas.List.Elements.{filter_more}
 use Rattle.std.proofs.lemmas.List.FromFn.{length-enumerate_from, get_or-enumerate_from}
 use Rattle.std.proofs.lemmas.List.Sums.{sum_by-cons}
 use Rattle.mp_text.specs.Report.{line_text, text_of_lines}
-use Rattle.mp_system.specs.System.{TaskSystem}
-use Rattle.spill_plan.specs.SpillPlans.{is_held, nth_item, sum_from, most_among, plan_volume, plan_by_amounts}
+use Rattle.spill_plan.specs.SpillPlans.{sum_from, most_among, plan_by_amounts}
 use Rattle.judging.specs.Files.{Answer}
 use Rattle.requests.specs.Request.{Input, OrderSource}
 use Rattle.reports.specs.Spill.{spilled_items, amount_line, IsSpillOf, IsSpilled}

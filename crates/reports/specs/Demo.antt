@@ -24,7 +24,6 @@ use Rattle.symbolic.specs.FrontTree.{IsFrontTree}
 use Rattle.symbolic.specs.declared.options.FrontOptions.{FrontOptions}
 use Rattle.trees.specs.declared.node.Node.{Node}
 use Rattle.judging.specs.Files.{Answer}
-use Rattle.requests.specs.Request.{demo}
 use Rattle.requests.specs.declared.commands.demo.Demo.{Demo}
 use Rattle.requests.specs.declared.commands.demo.Demo.TheVariants as demos
 use Rattle.judging.specs.declared.status.Status.TheVariants as status

@@ -11,7 +11,7 @@ use Rattle.symbolic.specs.FrontTree.{columns, IsAnalysis}
 use Rattle.rounds_run.specs.FrontRows.{rows_of_front, list_of_front}
 use Rattle.rounds_run.specs.RowSystem.{row_peak, row_setting}
 use Rattle.rounds_run.specs.Rounds.{AreRounds}
-use Rattle.requests.specs.Request.{fronts, OrderedMatrix}
+use Rattle.requests.specs.Request.{OrderedMatrix}
 use Rattle.judging.specs.declared.status.Status.TheVariants as status
 use Rattle.judging.specs.Files.{IsOrderedMatrix, bound_refused, Answer}
 

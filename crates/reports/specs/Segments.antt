@@ -12,7 +12,7 @@ use Rattle.sp_terms.specs.Places.{term_of_position}
 use Rattle.hill_valley.specs.declared.steps.Step.{Step}
 use Rattle.cut_laws.specs.Standing.{IsLowestReached}
 use Rattle.sp_cuts.specs.Stairs.{BothSteps, AreStairsOf, AreStairs, step_total, PassesLimit}
-use Rattle.requests.specs.Request.{segments, Input, tree_input, workflow_named, tree_named, matrix_named}
+use Rattle.requests.specs.Request.{Input, tree_input, workflow_named, tree_named, matrix_named}
 use Rattle.judging.specs.declared.status.Status.TheVariants as status
 use Rattle.judging.specs.Files.{limit_refused, Answer}
 use Rattle.judging.specs.Numbered.{IsNumberedTerm}

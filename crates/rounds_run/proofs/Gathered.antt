@@ -1,18 +1,18 @@
 -- What is gathered for a column, in rising order, is its structure.
-use Rattle.std.proofs.Common.{◌≡◌, ◌≢◌, ◌⊎◌, ◌↔◌, ℕ, zero, suc, ◌+◌, ◌-◌, ◌<◌, ◌≤◌, inl, inr, Bool, true, false, ◌&&◌, ◌||◌, eqb, ltb, IsTrue, List, [], ◌∷◌, length, get_or, refl, sym, ap, subst, ◌∙◌, arith}
+use Rattle.std.proofs.Common.{◌≡◌, ◌↔◌, ℕ, ◌<◌, ◌≤◌, inl, inr, true, ◌||◌, eqb, ltb, IsTrue, List, length, get_or, sym, ap, subst, ◌∙◌, arith}
 use Rattle.std.specs.List.{list_any, dedup, Contains}
 use Rattle.std.specs.List.Sorted.{IsPermutation, IsSorted}
 use Rattle.std.specs.Ordering.{nat_cmp}
-use Rattle.std.proofs.lemmas.Bool.{cases_eq, eq-eqb, eqb-true, ltb-true, lt-ltb, and_parts, and_from, or_cases, or_left, or_right}
+use Rattle.std.proofs.lemmas.Bool.{eq-eqb, eqb-true, ltb-true, lt-ltb, and_parts, and_from, or_cases, or_left, or_right}
 use Rattle.std.proofs.lemmas.List.{get_or_default}
 use Rattle.std.proofs.lemmas.List.Folds.{list_any_at}
 use Rattle.std.proofs.lemmas.List.Kept.{Contains-dedup_nat, Contains-from_dedup}
 use Rattle.std.proofs.lemmas.List.Sorted.{list_any-IsPermutation}
 use Rattle.std.proofs.lemmas.Map.Keys.{IsStrictlyIncreasing-dedup}
 use Rattle.patterns.specs.Pattern.{has, neighbours_of, is_joined, IsPattern}
-use Rattle.permutations.specs.Perm.{IsVertex, IsPerm, vertex_at, place_of}
+use Rattle.permutations.specs.Perm.{IsVertex, vertex_at, place_of}
 use Rattle.ordering.specs.Fill.{renumbered, structure_of}
-use Rattle.elim_tree.specs.Paths.{IsInherited, IsFromChild}
+use Rattle.elim_tree.specs.Paths.{IsFromChild}
 use Rattle.rounds_run.specs.FrontRows.{rows_of_front}
 use Rattle.rounds_run.specs.Gathering.{in_lists, is_later, is_gathered}
 use Rattle.patterns.proofs.SameRows.{rising_same}

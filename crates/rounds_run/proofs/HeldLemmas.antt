@@ -1,20 +1,16 @@
 -- What is held, as tasks take the lists of their children and hand back their own.
-use Rattle.std.proofs.Common.{◌≡◌, ◌≢◌, ◌⊎◌, ◌↔◌, ℕ, zero, suc, ◌+◌, ◌-◌, ◌<◌, ◌≤◌, inl, inr, Bool, true, false, ◌||◌, cond, eqb, IsTrue, List, [], ◌∷◌, ◌++◌, length, get_or, set, take, drop, replicate, refl, sym, ap, subst, ◌∙◌, arith}
-use Rattle.std.specs.List.{list_any, IsDistinct}
+use Rattle.std.proofs.Common.{◌≡◌, ◌≢◌, ℕ, ◌-◌, ◌<◌, ◌≤◌, inl, inr, Bool, true, false, ◌||◌, cond, eqb, List, [], ◌∷◌, ◌++◌, length, get_or, set, replicate, refl, sym, ap, subst, ◌∙◌, arith}
 use Rattle.std.proofs.Math.Bool.{or-false}
-use Rattle.std.proofs.lemmas.Bool.{cases_eq, cases_lt, cases_Bool, both_ways, eq-eqb, ne_eqb, eqb-true, eqb-false, or_parts, or_cases, or_left, or_right, cond-true, cond-false}
-use Rattle.std.proofs.lemmas.List.{get_or-set_same, get_or-set_other, length-set, length-replicate, get_or-replicate, get_or_default}
+use Rattle.std.proofs.lemmas.Bool.{cases_eq, both_ways, eq-eqb, ne_eqb, eqb-true, eqb-false, or_parts, or_cases, or_left, or_right, cond-true, cond-false}
+use Rattle.std.proofs.lemmas.List.{get_or-set_same, get_or-set_other, length-set, length-replicate, get_or-replicate}
 use Rattle.std.proofs.lemmas.List.Folds.{list_any-append}
 use Rattle.patterns.specs.Pattern.{has}
-use Rattle.assembly_tree.specs.declared.assembly.Super.{Super}
 use Rattle.assembly_tree.specs.Assembly.{IsSuper, super_at}
-use Rattle.rounds_run.specs.declared.front.Job.{Job}
 use Rattle.rounds_run.specs.declared.front.Made.{Made}
 use Rattle.rounds_run.specs.declared.held.Held.{Held}
-use Rattle.rounds_run.specs.FrontRows.{rows_of_front, list_of_front}
+use Rattle.rounds_run.specs.FrontRows.{list_of_front}
 use Rattle.rounds_run.specs.Gathering.{in_lists}
-use Rattle.rounds_run.specs.Holding.{Factor, IsHeld, IsMadeOf, HandedOver, rest_rows, front_rows}
-use Rattle.lists.proofs.Bools.{same_bool}
+use Rattle.rounds_run.specs.Holding.{Factor, IsHeld, IsMadeOf, rest_rows, front_rows}
 
 in_lists_push : (lists : List (List ℕ)) (list : List ℕ) (i : ℕ) → in_lists (lists ++ list ∷ []) i ≡ (in_lists lists i || has list i)
 in_lists_push lists list i =

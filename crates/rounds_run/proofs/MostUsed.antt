@@ -1,5 +1,5 @@
 -- The greatest use along events that stay within the bound.
-use Rattle.std.proofs.Common.{◌≡◌, ℕ, ◌≤◌, List, [], ◌∷◌, ◌++◌, refl, ap, arith}
+use Rattle.std.proofs.Common.{◌≤◌, List, [], ◌∷◌, refl, ap, arith}
 use Rattle.activation.specs.declared.events.Event.{Event}
 use Rattle.activation.specs.Machine.{Setting, State, state_after}
 use Rattle.activation.specs.Runs.{StaysWithinBound, IsWithinBound}

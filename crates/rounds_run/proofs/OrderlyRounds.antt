@@ -1,22 +1,21 @@
 -- The rounds of a schedule have each supernode once, after its children.
-use Rattle.std.proofs.Common.{◌≡◌, ◌≢◌, ℕ, zero, suc, ◌+◌, ◌-◌, ◌*◌, ◌^◌, ◌<◌, ◌≤◌, inl, inr, Bool, true, false, eqb, List, [], ◌∷◌, length, get_or, take, map, refl, sym, ap, subst, ◌∙◌, arith}
+use Rattle.std.proofs.Common.{◌≡◌, ℕ, zero, suc, ◌-◌, ◌*◌, ◌^◌, ◌<◌, ◌≤◌, inl, inr, Bool, true, eqb, List, [], ◌∷◌, length, get_or, take, map, refl, sym, ap, subst, ◌∙◌, arith}
 use Rattle.std.specs.List.{list_any, IsDistinct}
 use Rattle.std.proofs.lemmas.Bool.{cases_lt, cases_Bool, both_ways, false_from_ne_true}
 use Rattle.std.proofs.lemmas.List.{get_or_past, get_or-take, length-take, length-map, get_or-map}
 use Rattle.std.proofs.lemmas.List.Folds.{list_any_at}
 use Rattle.limits.specs.Limits.{most_order}
 use Rattle.patterns.specs.Pattern.{has}
-use Rattle.mp_system.specs.System.{TaskSystem, IsTask, task_at}
+use Rattle.mp_system.specs.System.{IsTask, task_at}
 use Rattle.trees.specs.declared.node.Node.{Node}
 use Rattle.trees.specs.Tree.{task_of_node}
 use Rattle.assembly_tree.specs.declared.assembly.Super.{Super}
 use Rattle.assembly_tree.specs.Assembly.{AssemblyTree, IsAssembly, IsSuper, no_super, super_at}
 use Rattle.activation.specs.declared.events.Event.{Event}
-use Rattle.activation.specs.Machine.{Setting, AllDone}
+use Rattle.activation.specs.Machine.{AllDone}
 use Rattle.activation.specs.Schedule.{IsSchedule, first_moment}
 use Rattle.rounds_run.specs.RowSystem.{row_node, row_system, row_order, row_setting}
-use Rattle.rounds_run.specs.Rounds.{started_at, round_count, AreStarts}
-use Rattle.rounds_run.specs.Gathering.{in_lists}
+use Rattle.rounds_run.specs.Rounds.{started_at, AreStarts}
 use Rattle.rounds_run.specs.Holding.{in_rounds, AreOrderly}
 use Rattle.rounds_run.proofs.RowTrees.{super_of_task, task_of_super, child_done, row_traversal}
 use Rattle.rounds_run.proofs.Timely.{IsTimely, timely_end, all_started}

@@ -1,18 +1,17 @@
 -- The rows of a column, as a list.
-use Rattle.std.proofs.Common.{◌≡◌, ◌≢◌, ◌⊎◌, ◌↔◌, ℕ, zero, suc, ◌+◌, ◌-◌, ◌<◌, ◌≤◌, inl, inr, Bool, true, false, not, ◌&&◌, ◌||◌, eqb, IsTrue, List, [], ◌∷◌, length, get_or, drop, refl, sym, ap, subst, ◌∙◌, arith}
-use Rattle.std.specs.List.{filter, range_with_len, count_by}
+use Rattle.std.proofs.Common.{◌≡◌, ◌≢◌, ◌↔◌, ℕ, suc, ◌+◌, ◌<◌, ◌≤◌, inl, inr, Bool, true, not, ◌&&◌, eqb, IsTrue, List, ◌∷◌, length, drop, refl, sym, ap, subst, ◌∙◌, arith}
+use Rattle.std.specs.List.{filter, range_with_len}
 use Rattle.std.specs.List.Sorted.{IsStrictlyIncreasing}
-use Rattle.std.proofs.lemmas.Bool.{cases_eq, cases_Bool, cases_lt, eq-eqb, ne_eqb, eqb-true, eqb-false, both_ways, and_parts, and_from, or_left, not-true, not_from_false}
+use Rattle.std.proofs.lemmas.Bool.{cases_eq, eq-eqb, ne_eqb, eqb-false, and_parts, and_from, or_left, not-true, not_from_false}
 use Rattle.std.proofs.lemmas.List.Kept.{IsStrictlyIncreasing-filter}
 use Rattle.std.proofs.lemmas.List.Sums.{length-filter}
 use Rattle.patterns.specs.Pattern.{has}
 use Rattle.permutations.specs.Perm.{IsVertex}
 use Rattle.ordering.specs.Fill.{IsAdjacency, structure_of, parent_of, count_of}
-use Rattle.elim_tree.specs.Paths.{Path, edge, via, IsWithin, IsInherited, IsFromChild}
+use Rattle.elim_tree.specs.Paths.{Path, edge, via, IsWithin, IsInherited}
 use Rattle.rounds_run.specs.FrontRows.{rows_of_front}
-use Rattle.rounds_run.proofs.NumberLists.{has_filter, begins_with, filter_same, from_range}
+use Rattle.rounds_run.proofs.NumberLists.{has_filter, begins_with, filter_same}
 use Rattle.patterns.proofs.SameRows.{rising_same}
-use Rattle.patterns.proofs.SameRows.{head_in as has_head}
 use Rattle.lists.proofs.Lists.{rising-tail}
 use Rattle.patterns.proofs.SameRows.{in_tail as has_tail}
 use Rattle.patterns.proofs.SameRows.{above_head}

@@ -1,5 +1,5 @@
 -- Round after round.
-use Rattle.std.proofs.Common.{◌≡◌, ℕ, ◌+◌, ◌-◌, ◌<◌, ◌≤◌, Bool, true, false, cond, ◌||◌, List, [], ◌∷◌, ◌++◌, length, get_or, set, take, drop, refl, sym, ap, subst, ◌∙◌, arith}
+use Rattle.std.proofs.Common.{◌≡◌, ℕ, ◌+◌, ◌<◌, ◌≤◌, Bool, true, false, cond, ◌||◌, List, [], ◌∷◌, ◌++◌, length, get_or, set, take, refl, sym, ap, subst, ◌∙◌, arith}
 use Rattle.std.specs.Prelude.{Result, IfOk, nat_eq}
 use Rattle.std.specs.List.{list_any, IsDistinct}
 use Rattle.std.specs.declared.alloc.AllocError.{AllocError}
@@ -7,13 +7,13 @@ use Rattle.std.proofs.lemmas.List.{get_or_default, take_all, length_push, length
 use Rattle.std.proofs.lemmas.List.Folds.{list_any_more}
 use Rattle.patterns.specs.Pattern.{has}
 use Rattle.assembly_tree.specs.declared.assembly.Super.{Super}
-use Rattle.assembly_tree.specs.Assembly.{IsSuper, super_at}
+use Rattle.assembly_tree.specs.Assembly.{IsSuper}
 use Rattle.assembly_tree.specs.Supernodes.{first_of}
 use Rattle.rounds_run.specs.declared.front.Job.{Job}
 use Rattle.rounds_run.specs.declared.front.Made.{Made}
 use Rattle.rounds_run.specs.declared.held.Held.{Held}
-use Rattle.rounds_run.specs.FrontRows.{rows_of_front, list_of_front}
-use Rattle.rounds_run.specs.Holding.{Factor, IsHeld, IsHandedBack, IsMadeOf, AreJobsOf, AreMadeOf, AreOrderly, AreDue, in_rounds, or_in, front_rows}
+use Rattle.rounds_run.specs.FrontRows.{list_of_front}
+use Rattle.rounds_run.specs.Holding.{Factor, IsHeld, IsHandedBack, AreJobsOf, AreMadeOf, AreOrderly, AreDue, in_rounds, or_in, front_rows}
 use Rattle.rounds_run.proofs.HeldLemmas.{held_same}
 
 -- a round that is read from the list

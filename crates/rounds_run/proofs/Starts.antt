@@ -1,5 +1,5 @@
 -- The lists of what starts at each moment, one event later.
-use Rattle.std.proofs.Common.{◌≡◌, ◌≢◌, ℕ, ◌+◌, ◌<◌, ◌≤◌, max, inl, inr, true, false, List, [], ◌∷◌, ◌++◌, length, get_or, set, map, refl, sym, ap, subst, ◌∙◌, arith}
+use Rattle.std.proofs.Common.{◌≡◌, ℕ, ◌+◌, ◌<◌, ◌≤◌, max, inl, inr, true, false, List, [], ◌∷◌, ◌++◌, length, get_or, set, refl, sym, ap, subst, ◌∙◌, arith}
 use Rattle.std.specs.List.{filter}
 use Rattle.std.proofs.lemmas.Bool.{cases_eq, both_ways}
 use Rattle.std.proofs.lemmas.List.{length-set, length-map, get_or-set_same, get_or-set_other}
@@ -8,7 +8,7 @@ use Rattle.activation.specs.declared.events.EventKind.{EventKind}
 use Rattle.activation.specs.declared.events.EventKind.TheVariants.{Activate, Start, Finish}
 use Rattle.activation.specs.declared.events.Event.{Event}
 use Rattle.activation.specs.Runs.{is_kind}
-use Rattle.rounds_run.specs.Rounds.{is_start_at, started_at, moments_of, round_count, AreStarts}
+use Rattle.rounds_run.specs.Rounds.{is_start_at, started_at, AreStarts}
 use Rattle.rounds_run.proofs.Timely.{round_count_more, activated_same, finished_same, started_more, started_same}
 
 -- an event that is no start

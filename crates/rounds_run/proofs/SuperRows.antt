@@ -1,21 +1,19 @@
 -- The rows of a supernode: of each of its columns, and what its children leave to it.
-use Rattle.std.proofs.Common.{◌≡◌, ◌≢◌, ◌⊎◌, ◌↔◌, ℕ, zero, suc, ◌+◌, ◌-◌, ◌<◌, ◌≤◌, inl, inr, Bool, true, false, not, ◌&&◌, eqb, IsTrue, List, [], ◌∷◌, length, get_or, take, drop, map, refl, sym, ap, subst, ◌∙◌, arith}
-use Rattle.std.specs.List.{range_with_len, sum_by}
-use Rattle.std.proofs.lemmas.Bool.{cases_eq, cases_lt, eq-eqb, ne_eqb, eqb-true, eqb-false, and_parts, and_from, not-true, not_from_false}
+use Rattle.std.proofs.Common.{◌≡◌, ◌↔◌, ℕ, zero, suc, ◌+◌, ◌-◌, ◌<◌, ◌≤◌, inl, inr, Bool, true, not, ◌&&◌, eqb, IsTrue, List, length, get_or, drop, refl, sym, ap, subst, ◌∙◌, arith}
+use Rattle.std.proofs.lemmas.Bool.{cases_eq, cases_lt, ne_eqb, eqb-false, and_parts, and_from, not-true, not_from_false}
 use Rattle.std.proofs.lemmas.List.{drop-drop}
-use Rattle.std.proofs.lemmas.List.FromFn.{get_or-map-range_with_len, length-map-range_with_len}
-use Rattle.std.proofs.lemmas.List.Sums.{sum_by-take-le, sum_by_more}
-use Rattle.std.proofs.lemmas.List.{take_all}
+use Rattle.std.proofs.lemmas.List.FromFn.{length-map-range_with_len}
+use Rattle.std.proofs.lemmas.List.Sums.{sum_by_more}
 use Rattle.patterns.specs.Pattern.{has}
 use Rattle.permutations.specs.Perm.{IsVertex}
 use Rattle.ordering.specs.Fill.{structure_of, parent_of, count_of, parents_of, counts_of, IsParent}
 use Rattle.elim_tree.specs.Paths.{IsFromChild}
 use Rattle.elim_tree.specs.Trees.{parent_at}
 use Rattle.assembly_tree.specs.declared.assembly.Super.{Super}
-use Rattle.assembly_tree.specs.Assembly.{AssemblyTree, IsSuper, no_super, super_at, super_of, columns_in, front_of}
+use Rattle.assembly_tree.specs.Assembly.{IsSuper, no_super, super_at, super_of, columns_in}
 use Rattle.assembly_tree.specs.Supernodes.{AreSupernodes, Continues, count_at, first_of, last_of}
 use Rattle.rounds_run.specs.FrontRows.{rows_of_front}
-use Rattle.rounds_run.proofs.RowLists.{Laws, has_rest, rows_long, rows_next}
+use Rattle.rounds_run.proofs.RowLists.{Laws, has_rest, rows_next}
 use Rattle.assembly_tree.proofs.CountLemmas.{count-listed}
 use Rattle.elim_tree.proofs.Columns.{parent_in_list}
 use Rattle.assembly_tree.proofs.RunLemmas.{last-within}

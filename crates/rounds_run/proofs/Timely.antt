@@ -1,26 +1,26 @@
 -- The schedule of tasks that take one unit of time each: what started when, along its events.
-use Rattle.std.proofs.Common.{◌≡◌, ◌≢◌, ◌⊎◌, ℕ, zero, suc, ◌+◌, ◌-◌, ◌<◌, ◌≤◌, max, inl, inr, Bool, true, false, ◌&&◌, ◌||◌, cond, eqb, List, [], ◌∷◌, ◌++◌, length, get_or, set, take, map, replicate, refl, sym, ap, subst, ◌∙◌, arith}
+use Rattle.std.proofs.Common.{◌≡◌, ◌≢◌, ◌⊎◌, ℕ, zero, suc, ◌+◌, ◌<◌, ◌≤◌, max, inl, inr, Bool, true, false, eqb, List, [], ◌∷◌, ◌++◌, length, take, map, refl, sym, ap, subst, ◌∙◌, arith}
 use Rattle.std.specs.List.{All, filter, list_any, IsDistinct}
 use Rattle.std.specs.Cmp.{nat_eq_equiv}
-use Rattle.std.proofs.lemmas.Bool.{cases_eq, cases_lt, cases_Bool, false_from_ne_true, eq-eqb, ne_eqb, eqb-true, both_ways, or_cases, or_left, or_right, or_from}
-use Rattle.std.proofs.lemmas.List.{get_or-set_same, get_or-set_other, length-set, length-replicate, get_or-replicate, get_or_past, append-nil, append_assoc, map-append, length_push}
+use Rattle.std.proofs.lemmas.Bool.{cases_eq, false_from_ne_true, eq-eqb, ne_eqb, eqb-true, both_ways, or_cases, or_left, or_right}
+use Rattle.std.proofs.lemmas.List.{get_or-set_same, get_or-set_other, length-set, length-replicate, append-nil, append_assoc, map-append, length_push}
 use Rattle.std.proofs.lemmas.List.Elements.{filter-append, All-take}
 use Rattle.std.proofs.lemmas.Map.Keys.{IsDistinct-push}
 use Rattle.patterns.specs.Pattern.{has}
-use Rattle.mp_system.specs.System.{TaskSystem, IsTask, task_at}
+use Rattle.mp_system.specs.System.{IsTask, task_at}
 use Rattle.mp_system.specs.Memory.{stands_in, is_ready}
 use Rattle.activation.specs.declared.events.Phase.{Phase}
 use Rattle.activation.specs.declared.events.Phase.TheVariants.{Idle, Running, Done}
 use Rattle.activation.specs.declared.events.EventKind.{EventKind}
 use Rattle.activation.specs.declared.events.EventKind.TheVariants.{Activate, Start, Finish}
 use Rattle.activation.specs.declared.events.Event.{Event}
-use Rattle.activation.specs.Machine.{Setting, State, phase_in, with_phase, is_done, is_done_phase, start_state, AllDone}
-use Rattle.activation.specs.Schedule.{Moment, task_entry, with_task_entry, dues_after, moment_after, first_moment, ComesNext, IsSchedule}
+use Rattle.activation.specs.Machine.{Setting, phase_in, with_phase, is_done, AllDone}
+use Rattle.activation.specs.Schedule.{Moment, task_entry, with_task_entry, moment_after, first_moment, ComesNext, IsSchedule}
 use Rattle.rounds_run.specs.Rounds.{is_start_at, started_at, moments_of, round_count}
 use Rattle.rounds_run.proofs.NumberLists.{has_append}
 use Rattle.patterns.proofs.NumberLists.{place_of as place_in}
 use Rattle.patterns.proofs.NumberLists.{has_push}
-use Rattle.lists.proofs.Bools.{same_bool, eqb_flip}
+use Rattle.lists.proofs.Bools.{eqb_flip}
 use Rattle.activation.proofs.Safety.{phase_replicate}
 use Rattle.activation.proofs.Phases.{done_from}
 

@@ -1,5 +1,5 @@
 -- What contracts see of fronts, and what a refusal tells.
-use Rattle.std.specs.Prelude.{◌≡◌, ◌^◌, ℕ, ◌<◌, List, length}
+use Rattle.std.specs.Prelude.{◌≡◌, ℕ, ◌<◌, List}
 use Rattle.assembly_tree.specs.declared.assembly.Super.{Super}
 use Rattle.rounds_run.specs.declared.refusal.FrontsRefusal.{FrontsRefusal}
 use Rattle.rounds_run.specs.declared.refusal.FrontsRefusal.TheVariants as refusals

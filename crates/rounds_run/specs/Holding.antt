@@ -1,8 +1,8 @@
 -- No public clause names this.
 -- The fronts as they are made: what a task is given and hands back, and what is held between the rounds.
-use Rattle.std.specs.Prelude.{◌≡◌, ◌↔◌, ℕ, ◌+◌, ◌-◌, ◌<◌, ◌≤◌, Bool, true, false, IsTrue, ◌||◌, nat_eq, List, [], Result, IfOk, length}
+use Rattle.std.specs.Prelude.{◌≡◌, ◌↔◌, ℕ, ◌-◌, ◌<◌, ◌≤◌, Bool, true, false, IsTrue, ◌||◌, nat_eq, List, [], Result, IfOk, length}
 use Rattle.std.specs.Prelude.{drop, take, slice_index, slice_index_or}
-use Rattle.std.specs.List.{list_any, IsDistinct}
+use Rattle.std.specs.List.{IsDistinct}
 use Rattle.std.specs.declared.alloc.AllocError.{AllocError}
 use Rattle.patterns.specs.Pattern.{has}
 use Rattle.permutations.specs.Perm.{IsVertex}

@@ -1,7 +1,7 @@
 -- Rounds: tasks are activated while one may be; then, while one may start, the first of them in the order starts; then all that run finish,
 -- in the order's places; and so on until every task is done. That is the schedule of the activation machine (crate `activation`,
 -- `Schedule`) in which each task takes one unit of time and the priority is the order: a round is what starts at one moment.
-use Rattle.std.specs.Prelude.{◌≡◌, ◌==◌, ℕ, ◌+◌, ◌≤◌, Bool, ◌&&◌, if◌then◌else◌, max, List, [], ◌∷◌, length, map, filter, slice_index_or}
+use Rattle.std.specs.Prelude.{◌≡◌, ◌==◌, ℕ, ◌+◌, Bool, ◌&&◌, if◌then◌else◌, max, List, [], ◌∷◌, length, map, filter, slice_index_or}
 use Rattle.activation.specs.declared.events.EventKind.TheVariants.{Start}
 use Rattle.activation.specs.declared.events.Event.{Event}
 use Rattle.activation.specs.Machine.{Setting, start_state}

@@ -1,5 +1,5 @@
 -- The ends of the arcs of a term.
-use Rattle.std.proofs.Common.{◌≡◌, ℕ, ◌+◌, ◌<◌, ◌≤◌, ◌⊎◌, inl, inr, Bool, true, false, cond, refl, subst, ap, arith, Option, Some, None, eqb, eq-eqb}
+use Rattle.std.proofs.Common.{◌≡◌, ℕ, ◌+◌, ◌<◌, ◌≤◌, inl, inr, Bool, true, false, cond, refl, subst, ap, arith, Option, Some, None, eqb, eq-eqb}
 use Rattle.std.specs.Prelude.{◌==◌}
 use Rattle.sp_reduce.specs.Nets.{Net, hold, series, both, times, IsDistinct, count, hits, pair, into, out_of, knows}
 use Rattle.lists.proofs.Orders.{le_or_lt}

@@ -10,7 +10,7 @@ use Rattle.std.proofs.lemmas.Bool.{ne_eqb, le-leb, eqb-true, cases_Bool}
 use Rattle.limits.specs.Limits.{most_size, most_positions}
 use Rattle.mp_system.specs.declared.system.Task.{Task}
 use Rattle.mp_system.specs.declared.system.Item.{Item}
-use Rattle.mp_system.specs.System.{TaskSystem, IsSystem, IsTask, IsTaskWithin, IsItemWithin, is_named, is_input, is_output, size_where, extra_size, item_size}
+use Rattle.mp_system.specs.System.{TaskSystem, IsSystem, IsItemWithin, is_named, is_input, is_output, size_where, extra_size, item_size}
 use Rattle.mp_system.specs.System as systems
 use Rattle.mp_system.specs.Renaming.{name_in}
 use Rattle.sp_terms.specs.Term.{Term, Parts, no_parts, part}

@@ -8,7 +8,6 @@ use Rattle.std.proofs.lemmas.Bool.{eqb-true}
 use Rattle.graphs.specs.Graph.{end_of}
 use Rattle.sp_reduce.specs.declared.link.Link.{Link}
 use Rattle.sp_reduce.specs.Nets.{hits, pair, into, out_of}
-use Rattle.sp_reduce.specs.NetGraphs.{counted}
 use Rattle.sp_reduce.specs.NetGraphs as nets
 use Rattle.sp_reduce.specs.Reductions.{IsParallel, IsSeries, ReducesTo, in_order, by_parallel, by_series, IsIrreducible}
 use Rattle.sp_reduce.specs.Work.{no_link, link_at, hit, link, link_weight, sum_links, graph_of, pairs_of, IsWork, IsLink}

@@ -1,7 +1,6 @@
-use Rattle.std.proofs.Common.{◌≡◌, ◌<◌, ◌≢◌, ◌*◌, ◌+◌, ◌^◌, get_or, arith, ◌∙◌, w64}
+use Rattle.std.proofs.Common.{◌<◌, ◌≢◌, ◌*◌, ◌+◌, ◌^◌, get_or, arith, w64}
 use Rattle.std.specs.Int.{trailing_zeros}
-use Rattle.std.proofs.lemmas.Bool.{eqb-false, eqb-true, not-true, not-false}
-use Rattle.std.proofs.lemmas.List.{get_or_default}
+use Rattle.std.proofs.lemmas.Bool.{eqb-false, not-true}
 use Rattle.bit_rows.proofs.WordBits.{lowest_in}
 use Rattle.bit_rows.proofs.words.is_some_word.Goals as goal
 

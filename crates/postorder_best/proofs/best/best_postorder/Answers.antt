@@ -1,5 +1,4 @@
-use Rattle.std.proofs.Common.{◌≤◌, sym, subst, List, length}
-use Rattle.limits.specs.Limits.{most_tasks}
+use Rattle.std.proofs.Common.{sym, subst, List}
 use Rattle.trees.specs.declared.node.Node.{Node}
 use Rattle.trees.specs.Tree.{IsTree}
 use Rattle.postorder_best.specs.Rows.{IsBest}

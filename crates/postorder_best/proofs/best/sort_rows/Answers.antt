@@ -1,4 +1,4 @@
-use Rattle.std.proofs.Common.{◌+◌, ◌≡◌, ◌∙◌, ◌^◌, ◌<◌, ◌≤◌, ℕ, List, length, get_or, sym, subst, ap, arith}
+use Rattle.std.proofs.Common.{◌+◌, ◌≡◌, ◌∙◌, ◌<◌, ◌≤◌, ℕ, List, length, get_or, sym, subst, ap, arith}
 use Rattle.limits.specs.Limits.{most_tasks}
 use Rattle.postorder_best.specs.Rows.{IsUpward, IsBest}
 use Rattle.postorder_best.proofs.Assembly.{can_list, upward, few, moderate, after_sort, first_of_table}

@@ -1,4 +1,4 @@
-use Rattle.std.proofs.Common.{◌+◌, ◌≡◌, ◌-◌, ◌^◌, ◌++◌, ℕ, List, length}
+use Rattle.std.proofs.Common.{◌+◌, ◌≡◌, ◌-◌, ◌++◌, ℕ, List, length}
 use Rattle.limits.specs.Limits.{most_tasks}
 use Rattle.row_table.specs.Rows.{row_at}
 use Rattle.postorder_best.specs.Rows.{Emits}

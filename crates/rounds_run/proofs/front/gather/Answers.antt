@@ -1,8 +1,7 @@
-use Rattle.std.proofs.Common.{◌≡◌, ◌∷◌, ◌++◌, [], ◌||◌, eqb, get_or, refl, ap, sym, ◌∙◌, arith}
+use Rattle.std.proofs.Common.{◌≡◌, ◌∷◌, ◌++◌, [], ◌||◌, eqb, get_or, ap, sym, ◌∙◌, arith}
 use Rattle.std.specs.List.{list_any}
 use Rattle.std.proofs.lemmas.List.{get_or_default}
 use Rattle.patterns.specs.Pattern.{has, neighbours_of}
-use Rattle.permutations.specs.Perm.{vertex_at}
 use Rattle.rounds_run.specs.Gathering.{in_lists, is_later}
 use Rattle.patterns.proofs.NumberLists.{has_push}
 use Rattle.patterns.proofs.NumberLists.{has_at}

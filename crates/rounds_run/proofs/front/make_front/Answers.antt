@@ -1,4 +1,4 @@
-use Rattle.std.proofs.Common.{◌≡◌, ℕ, ◌+◌, ◌<◌, ◌≤◌, eqb, List, length, drop, ap, ◌∙◌, arith}
+use Rattle.std.proofs.Common.{◌≡◌, ℕ, eqb, List, length, drop, ap, ◌∙◌, arith}
 use Rattle.std.proofs.lemmas.List.Filters.{dedup_is}
 use Rattle.patterns.specs.Pattern.{is_joined, neighbours_of}
 use Rattle.permutations.specs.Perm.{vertex_at}
@@ -6,7 +6,7 @@ use Rattle.ordering.specs.Fill.{renumbered}
 use Rattle.rounds_run.specs.FrontRows.{rows_of_front}
 use Rattle.rounds_run.specs.Gathering.{is_gathered}
 use Rattle.rounds_run.proofs.Gathered.{IsOrdered, gathered_rows}
-use Rattle.rounds_run.proofs.RowLists.{Laws, row_vertex, rows_long}
+use Rattle.rounds_run.proofs.RowLists.{Laws, rows_long}
 use Rattle.rounds_run.proofs.front.make_front.Goals as goal
 use Rattle.rounds_run.proofs.front.make_front.Goals.{After-deref}
 

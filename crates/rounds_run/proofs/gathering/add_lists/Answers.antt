@@ -1,4 +1,4 @@
-use Rattle.std.proofs.Common.{◌+◌, ◌||◌, ◌++◌, get_or, take, ap, sym, ◌∙◌}
+use Rattle.std.proofs.Common.{◌||◌, ◌++◌, get_or, take, ap, sym, ◌∙◌}
 use Rattle.std.proofs.lemmas.List.Folds.{list_any_more}
 use Rattle.patterns.specs.Pattern.{has}
 use Rattle.rounds_run.specs.Gathering.{in_lists}

@@ -1,9 +1,9 @@
-use Rattle.std.proofs.Common.{◌≡◌, ℕ, List, [], length, get_or, sym, ap, subst, ◌∙◌, ◌<◌, arith}
+use Rattle.std.proofs.Common.{◌≡◌, ℕ, List, [], length, sym, ap, subst, ◌∙◌, ◌<◌, arith}
 use Rattle.std.proofs.lemmas.List.{same_lists, get_or_default}
 use Rattle.activation.specs.declared.events.Event.{Event}
 use Rattle.activation.specs.Machine.{start_state}
 use Rattle.activation.specs.Schedule.{most_used}
-use Rattle.rounds_run.specs.Rounds.{started_at, round_count, AreStarts}
+use Rattle.rounds_run.specs.Rounds.{AreStarts}
 use Rattle.rounds_run.proofs.laws.one_list_of_rounds.Goals as goal
 
 same_starts : (events : List Event) (one two : List (List ℕ)) → AreStarts events one → AreStarts events two → one ≡ two

@@ -1,4 +1,4 @@
-use Rattle.std.proofs.Common.{◌≡◌, ◌≤◌, ℕ, List, map, refl, arith}
+use Rattle.std.proofs.Common.{◌≤◌, ℕ, List, map, refl, arith}
 use Rattle.activation.specs.Machine.{IsSetting, start_state}
 use Rattle.activation.specs.Schedule.{HoldsEach}
 use Rattle.assembly_tree.specs.Assembly.{AssemblyTree, IsAssembly}

@@ -1,10 +1,10 @@
-use Rattle.std.proofs.Common.{◌≡◌, ℕ, ◌<◌, ◌≤◌, ◌*◌, [], length, get_or, ap, sym, subst, ◌∙◌, arith}
+use Rattle.std.proofs.Common.{◌≤◌, ◌*◌, [], length, ap, sym, subst, ◌∙◌, arith}
 use Rattle.std.proofs.lemmas.List.{get_or_default}
 use Rattle.limits.specs.Limits.{most_order}
 use Rattle.mp_system.specs.Traversal.{IsTraversal}
-use Rattle.activation.specs.Machine.{Setting, IsSetting, start_state}
+use Rattle.activation.specs.Machine.{IsSetting, start_state}
 use Rattle.rounds_run.specs.RowSystem.{row_system, row_order, row_setting}
-use Rattle.rounds_run.specs.Rounds.{AreRounds, AreStarts, started_at}
+use Rattle.rounds_run.specs.Rounds.{AreRounds}
 use Rattle.rounds_run.proofs.MostUsed.{most_within}
 use Rattle.rounds_run.proofs.OrderlyRounds.{rounds_orderly, rounds_few}
 use Rattle.rounds_run.proofs.PlanLemmas.{holds_each, trace_rounds}

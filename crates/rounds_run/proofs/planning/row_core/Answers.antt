@@ -1,4 +1,4 @@
-use Rattle.std.proofs.Common.{◌≡◌, sym, subst}
+use Rattle.std.proofs.Common.{sym, subst}
 use Rattle.mp_system.specs.Traversal.{IsTraversal}
 use Rattle.activation.specs.Refusal.{IsCoreRefusal}
 use Rattle.rounds_run.proofs.planning.row_core.Goals as goal

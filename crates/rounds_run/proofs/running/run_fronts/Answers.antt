@@ -1,10 +1,9 @@
-use Rattle.std.proofs.Common.{◌≡◌, ℕ, ◌+◌, ◌-◌, ◌<◌, ◌≤◌, refl, List, length, drop, ap, sym, subst, ◌∙◌, arith}
+use Rattle.std.proofs.Common.{◌≡◌, ℕ, ◌+◌, ◌-◌, length, drop, ap, sym, subst, ◌∙◌, arith}
 use Rattle.patterns.specs.Pattern.{is_joined}
 use Rattle.ordering.specs.Fill.{renumbered, parents_of, counts_of}
 use Rattle.assembly_tree.specs.Assembly.{IsSuper}
 use Rattle.assembly_tree.specs.Supernodes.{AreSupernodes, first_of}
 use Rattle.rounds_run.specs.FrontRows.{rows_of_front, list_of_front}
-use Rattle.rounds_run.specs.Holding.{IsFactor}
 use Rattle.rounds_run.proofs.RowLists.{Laws}
 use Rattle.rounds_run.proofs.RowTrees.{supers_few, parents_within}
 use Rattle.rounds_run.proofs.SuperRows.{rows_from}

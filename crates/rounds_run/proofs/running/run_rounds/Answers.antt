@@ -1,7 +1,7 @@
-use Rattle.std.proofs.Common.{◌≡◌, ℕ, ◌+◌, ◌<◌, ◌≤◌, refl, List, [], length, get_or, ap, sym, subst, ◌∙◌, arith}
+use Rattle.std.proofs.Common.{◌≡◌, refl, [], length, get_or, ap, sym, ◌∙◌, arith}
 use Rattle.patterns.specs.Pattern.{has, is_joined}
 use Rattle.ordering.specs.Fill.{renumbered}
-use Rattle.rounds_run.specs.Holding.{Factor, IsHeld, AreJobsOf, AreDue, in_rounds, or_in}
+use Rattle.rounds_run.specs.Holding.{Factor, IsHeld, AreJobsOf, in_rounds, or_in}
 use Rattle.rounds_run.proofs.RunLemmas.{round_is, round_due, held_next, all_made, made_of}
 use Rattle.rounds_run.proofs.running.run_rounds.Goals as goal
 use Rattle.rounds_run.proofs.running.run_rounds.Goals.{In_ok-jobs}

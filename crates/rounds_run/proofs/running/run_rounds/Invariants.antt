@@ -1,8 +1,7 @@
-use Rattle.std.proofs.Common.{◌≡◌, ℕ, ◌+◌, length}
-use Rattle.std.specs.List.{All}
+use Rattle.std.proofs.Common.{length}
 use Rattle.patterns.specs.Pattern.{is_joined}
 use Rattle.ordering.specs.Fill.{renumbered}
-use Rattle.rounds_run.specs.Holding.{Factor, IsHeld, in_rounds}
+use Rattle.rounds_run.specs.Holding.{IsHeld, in_rounds}
 use Rattle.rounds_run.proofs.running.run_rounds.Given as goal
 
 abbrev pub invariant-loop-list : goal.invariant-loop-list

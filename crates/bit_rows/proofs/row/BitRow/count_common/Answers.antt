@@ -1,4 +1,4 @@
-use Rattle.std.proofs.Common.{◌≡◌, ◌∙◌, ◌&&◌, List, Bool, length, sym, ap, ap₂, subst, arith}
+use Rattle.std.proofs.Common.{◌≡◌, ◌∙◌, ◌&&◌, List, Bool, length, ap, ap₂, subst, arith}
 use Rattle.std.specs.List.{count_by, range_with_len}
 use Rattle.bit_rows.specs.Bits.{word_bit}
 use Rattle.bit_rows.specs.Rows.{IsBitRow}

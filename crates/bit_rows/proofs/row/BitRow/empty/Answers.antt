@@ -1,4 +1,4 @@
-use Rattle.std.proofs.Common.{◌≡◌, ℕ, List, [], length, refl, ap, ◌∙◌, arith}
+use Rattle.std.proofs.Common.{[], refl, arith}
 use Rattle.bit_rows.proofs.WordBits.{bit_past}
 use Rattle.bit_rows.proofs.row.BitRow.empty.Goals as goal
 

@@ -1,4 +1,4 @@
-use Rattle.std.proofs.Common.{◌≡◌, ◌∙◌, ℕ, not, eqb, List, length, ap, subst, arith}
+use Rattle.std.proofs.Common.{◌≡◌, ℕ, not, eqb, List, length, ap, subst, arith}
 use Rattle.std.specs.Prelude.{Some, None, position}
 use Rattle.bit_rows.specs.Rows.{IsLowestIn}
 use Rattle.bit_rows.proofs.RowBits.{first_word_some, first_of_row, none_of_row}

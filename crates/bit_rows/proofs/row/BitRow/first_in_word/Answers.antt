@@ -1,5 +1,4 @@
 use Rattle.std.proofs.Common.{length, ap, arith}
-use Rattle.bit_rows.specs.Bits.{IsSomeInWord}
 use Rattle.bit_rows.specs.Rows.{IsLowestIn}
 use Rattle.bit_rows.proofs.RowBits.{word_stands, word_not_zero, lowest_of_row}
 use Rattle.bit_rows.proofs.row.BitRow.first_in_word.Goals as goal

@@ -1,4 +1,4 @@
-use Rattle.std.proofs.Common.{◌≡◌, ◌∙◌, ℕ, List, Bool, length, get_or, subst, ap, arith}
+use Rattle.std.proofs.Common.{◌≡◌, ℕ, List, Bool, length, get_or, subst, ap, arith}
 use Rattle.bit_rows.specs.Rows.{IsLowestIn}
 use Rattle.bit_rows.proofs.RowBits.{row_length, none_in_word, some_in_word}
 use Rattle.bit_rows.proofs.row.BitRow.is_in_word.Goals as goal

@@ -1,4 +1,4 @@
-use Rattle.std.proofs.Common.{sym, ap, refl, ◌∙◌, ◌≡◌, ◌+◌, ◌-◌, ◌≤◌, ◌<◌, ℕ, inl, inr, length, arith, subst, slice_index}
+use Rattle.std.proofs.Common.{sym, ap, refl, ◌∙◌, ◌≡◌, ◌+◌, ◌-◌, ◌≤◌, ◌<◌, inl, inr, length, arith, subst, slice_index}
 use Rattle.std.proofs.lemmas.Bool.{cases_lt}
 use Rattle.permutations.specs.Perm.{vertex_at, place_of}
 use Rattle.column_counts.specs.Leaves.{AreLeavesWith, growth, last_of}

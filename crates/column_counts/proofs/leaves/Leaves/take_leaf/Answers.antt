@@ -1,4 +1,4 @@
-use Rattle.std.proofs.Common.{sym, ap, ◌∙◌, ◌+◌, ◌<◌, ◌≤◌, ◌≡◌, ◌≢◌, ℕ, length, arith, set, slice_index, subst}
+use Rattle.std.proofs.Common.{sym, ap, ◌∙◌, ◌+◌, ◌<◌, ◌≤◌, ◌≡◌, length, arith, set, slice_index, subst}
 use Rattle.permutations.specs.Perm.{vertex_at, place_of}
 use Rattle.column_counts.specs.Leaves.{AreAncestors, last_of}
 use Rattle.column_counts.proofs.MarkLemmas.{read_at}

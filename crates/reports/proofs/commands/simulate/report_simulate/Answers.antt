@@ -1,4 +1,4 @@
-use Rattle.std.proofs.Common.{ℕ, List, [], ◌∷◌, ◌++◌, subst, length}
+use Rattle.std.proofs.Common.{ℕ, [], ◌∷◌, ◌++◌, subst, length}
 use Rattle.least_peak.specs.Problem.{system_of}
 use Rattle.judging.specs.Judged.{IsStop, IsPriorityOf, IsRefusedRanking}
 use Rattle.judging.specs.Pages.{answer_of}

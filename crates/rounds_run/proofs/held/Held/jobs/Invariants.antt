@@ -1,4 +1,4 @@
-use Rattle.std.proofs.Common.{◌≡◌, ℕ, ◌+◌, ◌<◌, Bool, List, [], length, get_or, take}
+use Rattle.std.proofs.Common.{◌≡◌, ℕ, ◌<◌, Bool, length, get_or, take}
 use Rattle.rounds_run.specs.declared.front.Job.{Job}
 use Rattle.rounds_run.specs.Holding.{Factor, IsFactor, IsHeld, IsJobOf, AreDue, or_in}
 use Rattle.rounds_run.proofs.held.Held.jobs.Given as goal

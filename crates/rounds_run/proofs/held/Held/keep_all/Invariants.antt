@@ -1,6 +1,4 @@
-use Rattle.std.proofs.Common.{◌≡◌, ℕ, ◌≤◌, Bool, ◌||◌, List, length, take, drop}
-use Rattle.std.specs.Prelude.{vec_len}
-use Rattle.patterns.specs.Pattern.{has}
+use Rattle.std.proofs.Common.{◌≡◌, ℕ, ◌≤◌, Bool, length, take, drop}
 use Rattle.rounds_run.specs.Holding.{Factor, IsHeld, AreMadeOf, or_in}
 use Rattle.rounds_run.proofs.held.Held.keep_all.Given as goal
 
